@@ -5,3 +5,5 @@ pub mod Numeral
 pub mod Quantity
 pub mod Chain
 pub mod Integers
+pub mod Cut
+pub mod Roots
