@@ -15,8 +15,12 @@ pub struct Cut {
     pub exact: bool,
 }
 
-const FULL: u64 = 0x8000_0000_0000_0000;
-const HALF: u64 = 0x4000_0000_0000_0000;
+// Mantissas lie from 2^62 to below 2^63, and products of two below 2^126.
+const LEAST: u64 = 0x4000_0000_0000_0000;
+const END: u64 = 0x8000_0000_0000_0000;
+const TWO_TO_62: u128 = 0x4000_0000_0000_0000;
+const TWO_TO_63: u128 = 0x8000_0000_0000_0000;
+const TWO_TO_125: u128 = 0x2000_0000_0000_0000_0000_0000_0000_0000;
 
 /// The binary number of this mantissa and exponent.
 pub fn scaled(mant: u64, exp: i32) -> Scaled
@@ -45,8 +49,8 @@ pub fn next(s: Scaled) -> Scaled
     ensures above { IsNext s result }
     ensures near { reach result ≤ reach s + 1 }
 {
-    if s.mant + 1 == FULL {
-        return scaled(HALF, s.exp + 1);
+    if s.mant + 1 == END {
+        return scaled(LEAST, s.exp + 1);
     }
     scaled(s.mant + 1, s.exp)
 }
@@ -71,12 +75,12 @@ pub fn product(a: Scaled, b: Scaled) -> Cut
 {
     let product = u128::from(a.mant) * u128::from(b.mant);
     let exp = a.exp + b.exp;
-    if product < 0x2000_0000_0000_0000_0000_0000_0000_0000 {
-        let mant = product / 0x4000_0000_0000_0000;
-        return cut_at(mant as u64, exp + 62, product % 0x4000_0000_0000_0000 == 0);
+    if product < TWO_TO_125 {
+        let mant = product / TWO_TO_62;
+        return cut_at(mant as u64, exp + 62, product % TWO_TO_62 == 0);
     }
-    let mant = product / 0x8000_0000_0000_0000;
-    cut_at(mant as u64, exp + 63, product % 0x8000_0000_0000_0000 == 0)
+    let mant = product / TWO_TO_63;
+    cut_at(mant as u64, exp + 63, product % TWO_TO_63 == 0)
 }
 
 /// The quotient of two numbers, rounded down.
@@ -88,11 +92,11 @@ pub fn quotient(a: Scaled, b: Scaled) -> Cut
     let divisor = u128::from(b.mant);
     let exp = a.exp - b.exp;
     if a.mant >= b.mant {
-        let dividend = u128::from(a.mant) * 0x4000_0000_0000_0000;
+        let dividend = u128::from(a.mant) * TWO_TO_62;
         let mant = dividend / divisor;
         return cut_at(mant as u64, exp - 62, dividend % divisor == 0);
     }
-    let dividend = u128::from(a.mant) * 0x8000_0000_0000_0000;
+    let dividend = u128::from(a.mant) * TWO_TO_63;
     let mant = dividend / divisor;
     cut_at(mant as u64, exp - 63, dividend % divisor == 0)
 }
