@@ -7,3 +7,5 @@ pub mod Chain
 pub mod Integers
 pub mod Cut
 pub mod Roots
+pub mod Decimals
+pub mod Rational
