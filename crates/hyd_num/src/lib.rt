@@ -6,6 +6,7 @@ mod binary;
 mod capacities;
 mod cuts;
 mod decimals;
+mod fractions;
 mod pairs;
 mod quotients;
 mod roots;
