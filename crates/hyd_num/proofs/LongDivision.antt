@@ -1,5 +1,5 @@
 -- How often a divisor is doubled, and how many digits a long division has.
-use Rattle.std.proofs.Common.{◌≡◌, ℕ, suc, ◌+◌, ◌*◌, ◌/◌, ◌^◌, ◌-◌, ◌<◌, ◌≤◌, refl, ap, sym, ◌∙◌, arith, mul-le-mul_right, le-div_iff_mul-le, pow-suc, add-one, pow_pos}
+use Rattle.std.proofs.Common.{◌≡◌, ℕ, ◌+◌, ◌*◌, ◌/◌, ◌^◌, ◌-◌, ◌<◌, ◌≤◌, arith, mul-le-mul_right, le-div_iff_mul-le, pow-suc, add-one, pow_pos}
 use Rattle.hyd_num.proofs.Rounding.{power_below}
 
 -- twice a power of two, times a factor

@@ -8,6 +8,7 @@ ghost use Rattle.hyd_num.specs.Cut.{IsCut};
 use crate::cuts::{Cut, cut_at};
 
 const TWO_TO_62: u128 = 0x4000_0000_0000_0000;
+
 const TWO_TO_63: u128 = 0x8000_0000_0000_0000;
 
 // `q * 2^doublings`.
@@ -77,7 +78,11 @@ fn divided(p: u128, divisor: u128) -> Division
         (mant, rest) = with_digit(mant, rest, divisor);
         digits += 1;
     }
-    Division { mant: mant as u64, rest, digits }
+    Division {
+        mant: mant as u64,
+        rest,
+        digits,
+    }
 }
 
 // The quotient and the rest with one binary digit more.

@@ -1,4 +1,4 @@
-use Rattle.std.proofs.Common.{ℕ, ◌≤◌, ◌+◌, ◌*◌, ◌^◌, arith}
+use Rattle.std.proofs.Common.{◌≤◌, arith}
 use Rattle.hyd_num.proofs.LongDivision.{doubled_power, few_doublings, room_to_double}
 use Rattle.hyd_num.proofs.fractions.doubled.Goals as goal
 
@@ -11,7 +11,7 @@ pub loop-value-preserved : goal.loop-value-preserved
 loop-value-preserved c = record {
   value_is = omega (arith, doubled_power c.args.q c.loop-value.doublings, c.loop-value.invariant.value_is);
   short = room_to_double c.args.p c.loop-value.value c.requires.p_short c.loop-value.invariant.positive c.loop-value-test.true;
-  positive = omega arith
+  positive = omega arith;
 }
 
 pub returns-clause-few : goal.returns-clause-few
