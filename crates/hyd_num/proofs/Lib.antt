@@ -3,3 +3,5 @@ pub mod Rounding
 pub mod LongDivision
 pub mod Ends
 pub mod CapacityRoots
+pub mod Digits
+pub mod NumeralParts
