@@ -7,6 +7,7 @@ mod capacities;
 mod cuts;
 mod decimals;
 mod fractions;
+mod hundredth_roots;
 mod numerals;
 mod operations;
 mod pairs;
