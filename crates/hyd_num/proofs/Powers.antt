@@ -1,14 +1,14 @@
 -- The ends of powers: they rise with the number, enclose its exact power, and powers of two stay within powers of two.
-use Rattle.std.proofs.Common.{◌≡◌, ℕ, zero, suc, ◌+◌, ◌*◌, ◌^◌, ◌<◌, ◌≤◌, ℤ, pos, ◌+ℤ◌, ◌-ℤ◌, refl, ap, subst, sym, ◌∙◌, arith, lit≤, lit<, mul-le-mul, mul-le-mul_right, mul-pos, le_of_mul-le-mul_right, pow-suc, mul-one, one-mul, add-one, le_refl}
+use Rattle.std.proofs.Common.{◌≡◌, ℕ, ◌+◌, ◌*◌, ◌^◌, ◌<◌, ◌≤◌, ℤ, pos, ◌-ℤ◌, refl, ap, subst, ◌∙◌, arith, lit≤, lit<, mul-le-mul, mul-le-mul_right, mul-pos, le_of_mul-le-mul_right, pow-suc, one-mul, add-one, le_refl}
 use Rattle.std.proofs.lemmas.Nat.{pow_pos, pow-add}
-use Rattle.std.proofs.Math.Nat.{pow-zero, pow-le-pow_left, pow-lt-pow_left}
+use Rattle.std.proofs.Math.Nat.{pow-zero}
 use Rattle.std.proofs.lemmas.Int.{ints}
 use borrow.Author.Differences.{up, down}
 use Rattle.hyd_num.specs.declared.binary.Scaled.{Scaled}
 use Rattle.hyd_num.specs.declared.pairs.Pair.{Pair}
 use Rattle.hyd_num.specs.Scaled.{numerator, denominator, IsDown, IsUp}
 use Rattle.hyd_num.specs.Pairs.{IsProduct, IsPower, once, even, odd}
-use Rattle.hyd_num.proofs.Ends.{numerator_positive, denominator_positive}
+use Rattle.hyd_num.proofs.Ends.{denominator_positive}
 
 -- s is at most t
 pub record Below (s t : Scaled) : Type 0 where
@@ -16,17 +16,19 @@ pub record Below (s t : Scaled) : Type 0 where
 
 -- what is rounded up rises
 up_rises : (p q u v : ℕ) (s t : Scaled) → 0 < v → p * v ≤ u * q → IsUp p q s → IsUp u v t → Below s t
-up_rises p q u v s t v_above le a b = record { crossed = a.least t (
-    let x : p * v * denominator t ≤ u * q * denominator t = mul-le-mul_right (denominator t) le in
-    let y : u * denominator t * q ≤ numerator t * v * q = mul-le-mul_right q b.at_least in
-    let l : p * denominator t * v ≤ numerator t * q * v = omega (arith, x, y) in
-    le_of_mul-le-mul_right l v_above) }
+up_rises p q u v s t v_above le a b = record {
+  crossed = a.least t (
+      let x : p * v * denominator t ≤ u * q * denominator t = mul-le-mul_right (denominator t) le in
+      let y : u * denominator t * q ≤ numerator t * v * q = mul-le-mul_right q b.at_least in
+      let l : p * denominator t * v ≤ numerator t * q * v = omega (arith, x, y) in
+      le_of_mul-le-mul_right l v_above);
+}
 
 high_product : (x y r u v s : Pair) → Below x.hi u.hi → Below y.hi v.hi → IsProduct x y r → IsProduct u v s → Below r.hi s.hi
 high_product x y r u v s a b p q =
     let m : numerator x.hi * denominator u.hi * (numerator y.hi * denominator v.hi) ≤ numerator u.hi * denominator x.hi * (numerator v.hi * denominator y.hi) = mul-le-mul a.crossed b.crossed in
     up_rises (numerator x.hi * numerator y.hi) (denominator x.hi * denominator y.hi) (numerator u.hi * numerator v.hi) (denominator u.hi * denominator v.hi) r.hi s.hi
-      (mul-pos (denominator_positive u.hi) (denominator_positive v.hi)) (omega (arith, m)) p.high q.high
+    (mul-pos (denominator_positive u.hi) (denominator_positive v.hi)) (omega (arith, m)) p.high q.high
 
 pow_one : (a : ℕ) → a ^ 1 ≡ a
 pow_one a = pow-suc a 0 ∙ ap (λ x. x * a) (pow-zero a) ∙ one-mul a
@@ -76,7 +78,7 @@ high_two a b c d u v x y r h g up_is down_is p =
     let i : 2 ^ u ≡ 2 ^ a * 2 ^ c = rw up_is (pow-add 2 a c) in
     let j : 2 ^ v ≡ 2 ^ b * 2 ^ d = rw down_is (pow-add 2 b d) in
     let n : numerator x.hi * numerator y.hi * 2 ^ v ≤ 2 ^ u * (denominator x.hi * denominator y.hi) =
-      omega (arith, m, ap (λ w. numerator x.hi * numerator y.hi * w) j, ap (λ w. w * (denominator x.hi * denominator y.hi)) i) in
+    omega (arith, m, ap (λ w. numerator x.hi * numerator y.hi * w) j, ap (λ w. w * (denominator x.hi * denominator y.hi)) i) in
     let k : numerator x.hi * numerator y.hi * 2 ^ v * denominator t.0 ≤ 2 ^ u * (denominator x.hi * denominator y.hi) * denominator t.0 = mul-le-mul_right (denominator t.0) n in
     let o : numerator t.0 * 2 ^ v * (denominator x.hi * denominator y.hi) ≡ 2 ^ u * denominator t.0 * (denominator x.hi * denominator y.hi) = ap (λ w. w * (denominator x.hi * denominator y.hi)) t.1 in
     let l : numerator x.hi * numerator y.hi * denominator t.0 * 2 ^ v ≤ numerator t.0 * (denominator x.hi * denominator y.hi) * 2 ^ v = omega (arith, k, o) in
@@ -110,38 +112,40 @@ high_encloses x _ _ once = rw (pow_one (numerator x.hi), pow_one (denominator x.
 high_encloses x _ _ (even n k r s e p q) =
     let h : numerator x.hi ^ n * denominator r.hi ≤ numerator r.hi * denominator x.hi ^ n = high_encloses x n r p in
     rw (e, pow_twice (numerator x.hi) n, pow_twice (denominator x.hi) n)
-      (squares (numerator x.hi ^ n) (denominator x.hi ^ n) (numerator r.hi) (denominator r.hi) (numerator s.hi) (denominator s.hi) (denominator_positive r.hi) h q.high.at_least)
+    (squares (numerator x.hi ^ n) (denominator x.hi ^ n) (numerator r.hi) (denominator r.hi) (numerator s.hi) (denominator s.hi) (denominator_positive r.hi) h q.high.at_least)
 high_encloses x _ _ (odd n k r s t e p q o) =
     let h : numerator x.hi ^ n * denominator r.hi ≤ numerator r.hi * denominator x.hi ^ n = high_encloses x n r p in
     let g : numerator x.hi ^ n * numerator x.hi ^ n * denominator s.hi ≤ numerator s.hi * (denominator x.hi ^ n * denominator x.hi ^ n) =
-      squares (numerator x.hi ^ n) (denominator x.hi ^ n) (numerator r.hi) (denominator r.hi) (numerator s.hi) (denominator s.hi) (denominator_positive r.hi) h q.high.at_least in
+    squares (numerator x.hi ^ n) (denominator x.hi ^ n) (numerator r.hi) (denominator r.hi) (numerator s.hi) (denominator s.hi) (denominator_positive r.hi) h q.high.at_least in
     rw (e, pow_twice_more (numerator x.hi) n, pow_twice_more (denominator x.hi) n)
-      (once_more (numerator x.hi ^ n * numerator x.hi ^ n) (denominator x.hi ^ n * denominator x.hi ^ n) (numerator x.hi) (denominator x.hi) (numerator s.hi) (denominator s.hi) (numerator t.hi) (denominator t.hi) (denominator_positive s.hi) g o.high.at_least)
+    (once_more (numerator x.hi ^ n * numerator x.hi ^ n) (denominator x.hi ^ n * denominator x.hi ^ n) (numerator x.hi) (denominator x.hi) (numerator s.hi) (denominator s.hi) (numerator t.hi) (denominator t.hi) (denominator_positive s.hi) g o.high.at_least)
 
 -- a power of two stays at most the power's power of two
 pub high_of_two : (x : Pair) (u d n : ℕ) (r : Pair) → numerator x.hi * 2 ^ d ≤ 2 ^ u * denominator x.hi → IsPower x n r → numerator r.hi * 2 ^ (n * d) ≤ 2 ^ (n * u) * denominator r.hi
 high_of_two x u d _ _ h once = rw (one-mul d, one-mul u) h
 high_of_two x u d _ _ h (even n k r s e p q) =
     high_two (n * u) (n * d) (n * u) (n * d) (k * u) (k * d) r r s (high_of_two x u d n r h p) (high_of_two x u d n r h p)
-      (omega (arith, ap (λ m. m * u) e)) (omega (arith, ap (λ m. m * d) e)) q
+    (omega (arith, ap (λ m. m * u) e)) (omega (arith, ap (λ m. m * d) e)) q
 high_of_two x u d _ _ h (odd n k r s t e p q o) =
     high_two (n * u + n * u) (n * d + n * d) u d (k * u) (k * d) s x t
-      (high_two (n * u) (n * d) (n * u) (n * d) (n * u + n * u) (n * d + n * d) r r s (high_of_two x u d n r h p) (high_of_two x u d n r h p) refl refl q) h
-      (omega (arith, ap (λ m. m * u) e)) (omega (arith, ap (λ m. m * d) e)) o
+    (high_two (n * u) (n * d) (n * u) (n * d) (n * u + n * u) (n * d + n * d) r r s (high_of_two x u d n r h p) (high_of_two x u d n r h p) refl refl q) h
+    (omega (arith, ap (λ m. m * u) e)) (omega (arith, ap (λ m. m * d) e)) o
 
 -- the same for lower ends
 down_rises : (p q u v : ℕ) (s t : Scaled) → 0 < q → p * v ≤ u * q → IsDown p q s → IsDown u v t → Below s t
-down_rises p q u v s t q_above le a b = record { crossed = b.greatest s (
-    let x : p * v * denominator s ≤ u * q * denominator s = mul-le-mul_right (denominator s) le in
-    let y : numerator s * q * v ≤ p * denominator s * v = mul-le-mul_right v a.at_most in
-    let l : numerator s * v * q ≤ u * denominator s * q = omega (arith, x, y) in
-    le_of_mul-le-mul_right l q_above) }
+down_rises p q u v s t q_above le a b = record {
+  crossed = b.greatest s (
+      let x : p * v * denominator s ≤ u * q * denominator s = mul-le-mul_right (denominator s) le in
+      let y : numerator s * q * v ≤ p * denominator s * v = mul-le-mul_right v a.at_most in
+      let l : numerator s * v * q ≤ u * denominator s * q = omega (arith, x, y) in
+      le_of_mul-le-mul_right l q_above);
+}
 
 low_product : (x y r u v s : Pair) → Below x.lo u.lo → Below y.lo v.lo → IsProduct x y r → IsProduct u v s → Below r.lo s.lo
 low_product x y r u v s a b p q =
     let m : numerator x.lo * denominator u.lo * (numerator y.lo * denominator v.lo) ≤ numerator u.lo * denominator x.lo * (numerator v.lo * denominator y.lo) = mul-le-mul a.crossed b.crossed in
     down_rises (numerator x.lo * numerator y.lo) (denominator x.lo * denominator y.lo) (numerator u.lo * numerator v.lo) (denominator u.lo * denominator v.lo) r.lo s.lo
-      (mul-pos (denominator_positive x.lo) (denominator_positive y.lo)) (omega (arith, m)) p.low q.low
+    (mul-pos (denominator_positive x.lo) (denominator_positive y.lo)) (omega (arith, m)) p.low q.low
 
 squares_below : (a b r d s f : ℕ) → 0 < d → r * b ≤ a * d → s * (d * d) ≤ r * r * f → s * (b * b) ≤ a * a * f
 squares_below a b r d s f above h g =
@@ -165,7 +169,7 @@ low_two a b c d u v x y r h g up_is down_is p =
     let i : 2 ^ u ≡ 2 ^ a * 2 ^ c = rw up_is (pow-add 2 a c) in
     let j : 2 ^ v ≡ 2 ^ b * 2 ^ d = rw down_is (pow-add 2 b d) in
     let n : 2 ^ u * (denominator x.lo * denominator y.lo) ≤ numerator x.lo * numerator y.lo * 2 ^ v =
-      omega (arith, m, ap (λ w. numerator x.lo * numerator y.lo * w) j, ap (λ w. w * (denominator x.lo * denominator y.lo)) i) in
+    omega (arith, m, ap (λ w. numerator x.lo * numerator y.lo * w) j, ap (λ w. w * (denominator x.lo * denominator y.lo)) i) in
     let k : 2 ^ u * (denominator x.lo * denominator y.lo) * denominator t.0 ≤ numerator x.lo * numerator y.lo * 2 ^ v * denominator t.0 = mul-le-mul_right (denominator t.0) n in
     let o : numerator t.0 * 2 ^ v * (denominator x.lo * denominator y.lo) ≡ 2 ^ u * denominator t.0 * (denominator x.lo * denominator y.lo) = ap (λ w. w * (denominator x.lo * denominator y.lo)) t.1 in
     let l : numerator t.0 * (denominator x.lo * denominator y.lo) * 2 ^ v ≤ numerator x.lo * numerator y.lo * denominator t.0 * 2 ^ v = omega (arith, k, o) in
@@ -199,21 +203,21 @@ low_encloses x _ _ once = rw (pow_one (numerator x.lo), pow_one (denominator x.l
 low_encloses x _ _ (even n k r s e p q) =
     let h : numerator r.lo * denominator x.lo ^ n ≤ numerator x.lo ^ n * denominator r.lo = low_encloses x n r p in
     rw (e, pow_twice (numerator x.lo) n, pow_twice (denominator x.lo) n)
-      (squares_below (numerator x.lo ^ n) (denominator x.lo ^ n) (numerator r.lo) (denominator r.lo) (numerator s.lo) (denominator s.lo) (denominator_positive r.lo) h q.low.at_most)
+    (squares_below (numerator x.lo ^ n) (denominator x.lo ^ n) (numerator r.lo) (denominator r.lo) (numerator s.lo) (denominator s.lo) (denominator_positive r.lo) h q.low.at_most)
 low_encloses x _ _ (odd n k r s t e p q o) =
     let h : numerator r.lo * denominator x.lo ^ n ≤ numerator x.lo ^ n * denominator r.lo = low_encloses x n r p in
     let g : numerator s.lo * (denominator x.lo ^ n * denominator x.lo ^ n) ≤ numerator x.lo ^ n * numerator x.lo ^ n * denominator s.lo =
-      squares_below (numerator x.lo ^ n) (denominator x.lo ^ n) (numerator r.lo) (denominator r.lo) (numerator s.lo) (denominator s.lo) (denominator_positive r.lo) h q.low.at_most in
+    squares_below (numerator x.lo ^ n) (denominator x.lo ^ n) (numerator r.lo) (denominator r.lo) (numerator s.lo) (denominator s.lo) (denominator_positive r.lo) h q.low.at_most in
     rw (e, pow_twice_more (numerator x.lo) n, pow_twice_more (denominator x.lo) n)
-      (once_more_below (numerator x.lo ^ n * numerator x.lo ^ n) (denominator x.lo ^ n * denominator x.lo ^ n) (numerator x.lo) (denominator x.lo) (numerator s.lo) (denominator s.lo) (numerator t.lo) (denominator t.lo) (denominator_positive s.lo) g o.low.at_most)
+    (once_more_below (numerator x.lo ^ n * numerator x.lo ^ n) (denominator x.lo ^ n * denominator x.lo ^ n) (numerator x.lo) (denominator x.lo) (numerator s.lo) (denominator s.lo) (numerator t.lo) (denominator t.lo) (denominator_positive s.lo) g o.low.at_most)
 
 -- a power of two stays at least the power's power of two
 pub low_of_two : (x : Pair) (u d n : ℕ) (r : Pair) → 2 ^ u * denominator x.lo ≤ numerator x.lo * 2 ^ d → IsPower x n r → 2 ^ (n * u) * denominator r.lo ≤ numerator r.lo * 2 ^ (n * d)
 low_of_two x u d _ _ h once = rw (one-mul d, one-mul u) h
 low_of_two x u d _ _ h (even n k r s e p q) =
     low_two (n * u) (n * d) (n * u) (n * d) (k * u) (k * d) r r s (low_of_two x u d n r h p) (low_of_two x u d n r h p)
-      (omega (arith, ap (λ m. m * u) e)) (omega (arith, ap (λ m. m * d) e)) q
+    (omega (arith, ap (λ m. m * u) e)) (omega (arith, ap (λ m. m * d) e)) q
 low_of_two x u d _ _ h (odd n k r s t e p q o) =
     low_two (n * u + n * u) (n * d + n * d) u d (k * u) (k * d) s x t
-      (low_two (n * u) (n * d) (n * u) (n * d) (n * u + n * u) (n * d + n * d) r r s (low_of_two x u d n r h p) (low_of_two x u d n r h p) refl refl q) h
-      (omega (arith, ap (λ m. m * u) e)) (omega (arith, ap (λ m. m * d) e)) o
+    (low_two (n * u) (n * d) (n * u) (n * d) (n * u + n * u) (n * d + n * d) r r s (low_of_two x u d n r h p) (low_of_two x u d n r h p) refl refl q) h
+    (omega (arith, ap (λ m. m * u) e)) (omega (arith, ap (λ m. m * d) e)) o

@@ -22,6 +22,7 @@ pub fn root533(d: Pair) -> Pair
 }
 
 const LEAST: u64 = 0x4000_0000_0000_0000;
+
 const END: u64 = 0x8000_0000_0000_0000;
 
 // The greatest number whose 100th power, rounded up on its way, is at most the bound.

@@ -19,6 +19,7 @@ mod units;
 pub use binary::Scaled;
 pub use capacities::{Capacity, Origin};
 pub use decimals::{Decimal, NumFault, Span};
+pub use hundredth_roots::root533;
 pub use numerals::read_decimal;
 pub use operations::{add, div, mul, pow, ratio};
 pub use pairs::Pair;

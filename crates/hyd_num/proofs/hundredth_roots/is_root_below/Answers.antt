@@ -1,4 +1,3 @@
-use Rattle.hyd_num.proofs.RootSearch.{over_above}
 use Rattle.hyd_num.proofs.hundredth_roots.is_root_below.Goals as goal
 
 pub returns-clause-below : goal.returns-clause-below
