@@ -1,0 +1,32 @@
+//! Numbers of the network simulator: decimals of a file, whole-number roots and quotients, and
+//! pairs of 63-bit binary numbers that enclose a positive real number.
+#![tactic(auto)]
+
+mod binary;
+mod capacities;
+mod cuts;
+mod decimals;
+mod fractions;
+mod hundredth_roots;
+mod numerals;
+mod operations;
+mod pairs;
+mod quotients;
+mod roots;
+mod scaled_roots;
+mod units;
+
+pub use binary::Scaled;
+pub use capacities::{Capacity, Origin};
+pub use decimals::{Decimal, NumFault, Span};
+pub use hundredth_roots::root533;
+pub use numerals::read_decimal;
+pub use operations::{add, div, mul, pow, ratio};
+pub use pairs::Pair;
+pub use quotients::{mul_div_ceil, mul_div_floor};
+pub use roots::isqrt;
+pub use scaled_roots::{sqrt_down, sqrt_up};
+pub use units::FlowUnit;
+
+#[cfg(test)]
+mod tests;
