@@ -1,0 +1,11 @@
+//! The outside: files and standard output as a trait, `Desk`, a desk in memory, a desk on real files, and buffered
+//! reading and writing over any of them.
+#![tactic(auto)]
+
+pub mod desk;
+pub mod input;
+pub mod output;
+
+pub use desk::{Desk, Failed, Faults};
+pub use input::{InFault, read_all};
+pub use output::{Channel, OutFault, Pen};
