@@ -1,0 +1,84 @@
+-- How moves of bytes from a pen to a desk follow one another.
+use Rattle.std.proofs.Common.{◌≡◌, ℕ, ◌+◌, ◌-◌, ◌≤◌, List, [], ◌∷◌, ◌++◌, length, take, drop, Option, Some, None, refl, sym, ap, ◌∙◌, append_assoc, arith}
+use Rattle.std.proofs.lemmas.Grind.{common_steps}
+use Rattle.hyd_io.specs.Told.{append_known, prepend_known, where_told, Moves, PutOut, Took, Files, file_at, IsTold}
+
+-- nothing more after what is out
+pub append_known-nil : (out : Option (List ℕ)) → append_known out [] ≡ out
+append_known-nil None = refl
+append_known-nil (Some xs) = ap Some (grind (arith, common_steps))
+
+-- one piece after another
+pub append_known-append_known : (out : Option (List ℕ)) (a b : List ℕ) → append_known (append_known out a) b ≡ append_known out (a ++ b)
+append_known-append_known None a b = refl
+append_known-append_known (Some xs) a b = ap Some (append_assoc xs a b)
+
+-- one piece before another
+pub prepend_known-prepend_known : (rest : Option (List ℕ)) (a b : List ℕ) → prepend_known a (prepend_known b rest) ≡ prepend_known (a ++ b) rest
+prepend_known-prepend_known None a b = refl
+prepend_known-prepend_known (Some xs) a b = ap Some (sym (append_assoc a b xs))
+
+-- no byte was moved
+pub moves_nothing : (out : Option (List ℕ)) (all : List ℕ) → Moves out out all all
+moves_nothing out all = record { front = []; whole = refl; out = sym (append_known-nil out) }
+
+-- what is held is put in front of further bytes, and moved in its turn
+pub moves_on : (first second third : Option (List ℕ)) (all held more left : List ℕ) → Moves first second all (held ++ more) → Moves second third held left → Moves first third all (left ++ more)
+moves_on first second third all held more left m n = record {
+  front = m.front ++ n.front;
+  whole = m.whole ∙ (ap (λ h. m.front ++ (h ++ more)) n.whole ∙ grind (arith, common_steps));
+  out = n.out ∙ (ap (λ o. append_known o n.front) m.out ∙ append_known-append_known first m.front n.front);
+}
+
+-- the same, where the second move was cut off
+pub put_out_on : (first second third : Option (List ℕ)) (all held more : List ℕ) → Moves first second all (held ++ more) → PutOut second third held → PutOut first third all
+put_out_on first second third all held more m n = (n.0 ++ more, moves_on first second third all held more n.0 m n.1)
+
+-- all of the bytes went out
+pub moves_whole : (old new : Option (List ℕ)) (all : List ℕ) → Moves old new all [] → new ≡ append_known old all
+moves_whole old new all m = m.out ∙ ap (append_known old) (sym (m.whole ∙ grind (arith, common_steps)))
+
+-- a piece that went out whole is a move that holds nothing
+pub moves_all : (old new : Option (List ℕ)) (all : List ℕ) → new ≡ append_known old all → Moves old new all []
+moves_all old new all e = record { front = all; whole = grind (arith, common_steps); out = e }
+
+-- a front of the piece went out
+pub moves_front : (old new : Option (List ℕ)) (piece : List ℕ) (n : ℕ) → new ≡ append_known old (take n piece) → Moves old new piece (drop n piece)
+moves_front old new piece n e = record { front = take n piece; whole = grind (arith, common_steps); out = e }
+
+-- nothing was moved, and what is held is not said
+pub put_out_nothing : (out : Option (List ℕ)) (all : List ℕ) → PutOut out out all
+put_out_nothing out all = (all, moves_nothing out all)
+
+-- the value of `&rest[n..]`, as a slice is seen
+pub take-drop : (rest : List ℕ) (n : ℕ) → take (length rest - n) (drop n rest) ≡ drop n rest
+take-drop rest n = grind (arith, common_steps)
+
+-- a front of what was still to come went out
+pub moves_further : (first second third : Option (List ℕ)) (all rest : List ℕ) (n : ℕ) → Moves first second all rest → third ≡ append_known second (take n rest) → Moves first third all (take (length rest - n) (drop n rest))
+moves_further first second third all rest n m e =
+    let split : rest ≡ take n rest ++ drop n rest = grind (arith, common_steps) in
+    let start : Moves first second all (rest ++ []) = record { front = m.front; whole = m.whole ∙ grind (arith, common_steps); out = m.out } in
+    let step : Moves first third all (drop n rest ++ []) = moves_on first second third all rest [] (drop n rest) start (moves_front second third rest n e) in
+    record { front = step.front; whole = step.whole ∙ ap (λ r. step.front ++ r) (grind (arith, common_steps, take-drop rest n)); out = step.out }
+
+-- what is held is followed by a front of the rest, and moved in its turn
+pub moves_through : (first second third : Option (List ℕ)) (all held rest gathered left : List ℕ) (n : ℕ) → Moves first second all (held ++ rest) → gathered ≡ held ++ take n rest → Moves second third gathered left → Moves first third all (left ++ take (length rest - n) (drop n rest))
+moves_through first second third all held rest gathered left n m e k =
+    let split : held ++ rest ≡ gathered ++ take (length rest - n) (drop n rest) = grind (arith, common_steps, take-drop rest n, e) in
+    moves_on first second third all gathered (take (length rest - n) (drop n rest)) left (record { front = m.front; whole = m.whole ∙ ap (λ r. m.front ++ r) split; out = m.out }) k
+
+-- the same, where the second move was cut off
+pub put_out_through : (first second third : Option (List ℕ)) (all held rest gathered : List ℕ) (n : ℕ) → Moves first second all (held ++ rest) → gathered ≡ held ++ take n rest → PutOut second third gathered → PutOut first third all
+put_out_through first second third all held rest gathered n m e k =
+    (k.0 ++ take (length rest - n) (drop n rest), moves_through first second third all held rest gathered k.0 n m e k.1)
+
+-- what was taken before, and then n bytes more
+pub took_after : (first second third : Option (List ℕ)) (bytes : List ℕ) (n : ℕ) → first ≡ prepend_known bytes second → Took n second third → Took (length bytes + n) first third
+took_after first second third bytes n e t =
+    (bytes ++ t.0, (grind (arith, common_steps, t.1.0), e ∙ (ap (prepend_known bytes) t.1.1 ∙ prepend_known-prepend_known third bytes t.0)))
+
+-- a name that is told to hold a text shows that the files are told
+pub where_told-IsTold : {B : Type 0} (files : Option Files) (name text : List ℕ) (v : B) → IsTold files name text → where_told files v ≡ Some v
+where_told-IsTold None name text v h = cc
+where_told-IsTold (Some f) name text v h = refl
