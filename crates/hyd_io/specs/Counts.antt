@@ -4,9 +4,13 @@ use Rattle.hyd_io.specs.declared.desk.Faults.{Faults}
 use Rattle.hyd_io.specs.declared.input.InFault.{InFault}
 use Rattle.hyd_io.specs.declared.input.InFault.TheVariants.{OutOfMemory, Fault as ReadFault, TooLong}
 
+-- one more, or the last value that a count can have, at which it stays
+abbrev pub next_count : ℕ → ℕ
+next_count n = min (n + 1) (2 ^ 64 - 1)
+
 -- The count rose: it is greater than before, or it stands at 2^64 - 1, its last value.
 abbrev pub Rose : ℕ → ℕ → Type 0
-Rose before now = min (before + 1) (2 ^ 64 - 1) ≤ now
+Rose before now = next_count before ≤ now
 
 -- no count is below what it was
 pub record NeverFall (before now : Faults) : Type 0 where

@@ -1,3 +1,5 @@
 pub mod Told
 pub mod Counts
 pub mod Output
+pub mod Memory
+pub mod MemoryView

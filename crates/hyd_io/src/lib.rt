@@ -4,8 +4,10 @@
 
 pub mod desk;
 pub mod input;
+pub mod memory;
 pub mod output;
 
 pub use desk::{Desk, Failed, Faults};
 pub use input::{InFault, read_all};
+pub use memory::MemDesk;
 pub use output::{Channel, OutFault, Pen};

@@ -1,0 +1,326 @@
+//! A desk in memory, for tests: it tells all, and its calls can be made to fail or to take nothing.
+
+ghost use Rattle.std.specs.Prelude.{◌≡◌, ℕ, ◌+◌, ◌-◌, ◌<◌, ◌≤◌, List, [], ◌∷◌, ◌++◌, length, take, drop, true, false, not, bytes_eq, if◌then◌else◌, Option, Some, None, option_map, option_and_then, IsTrue, IsNone, IsOk, IfOk, IfSome, OnOk, OnErr, OnSome, IfNone, string_bytes, refl};
+ghost use Rattle.std.specs.Map.{update};
+ghost use Rattle.std.specs.Option.{option_map_or};
+ghost use Rattle.hyd_io.specs.Told.{append_known};
+ghost use Rattle.hyd_io.specs.Counts.{next_count};
+ghost use Rattle.hyd_io.specs.Memory.{Memory, file_bytes, is_listed, is_to_fail, empty_memory};
+
+use std::alloc::{AllocError, Global};
+use std::collections::BTreeMap;
+
+use crate::desk::{Desk, Failed, Faults};
+use crate::output::gather;
+
+/// A desk in memory. Contracts see it as its `memory`: the files, what is left to read, what was printed, and so on.
+///
+/// `read` fails exactly where the call is one that is to fail. The other calls fail there, where `open` finds no file
+/// of the name, and for want of memory. A write or print that doesn't fail takes nothing where the call is one that is
+/// to take nothing, else the whole piece. Any name may be opened and created.
+#[derive(Drop)]
+pub struct MemDesk {
+    alloc: Global,
+    files: BTreeMap<String, Vec<u8>>,
+    opened: Vec<u8>,
+    at: usize,
+    target: Option<String>,
+    ready: bool,
+    printed: Vec<u8>,
+    failing: Vec<u32>,
+    starving: Vec<u32>,
+    calls: u64,
+    writes: u64,
+    prints: u64,
+    counts: Faults,
+    ghost within: { at ≤ length opened.items },
+}
+
+impl MemDesk {
+    ghost use Rattle.hyd_io.specs.MemoryView.{memory};
+
+    /// A desk with no files and no calls that are to fail or to take nothing. It takes no memory.
+    pub fn new(alloc: Global) -> MemDesk
+        ensures { memory result ≡ empty_memory }
+    {
+        MemDesk {
+            alloc,
+            files: BTreeMap::new(alloc),
+            opened: Vec::new(alloc),
+            at: 0,
+            target: None,
+            ready: false,
+            printed: Vec::new(alloc),
+            failing: Vec::new(alloc),
+            starving: Vec::new(alloc),
+            calls: 0,
+            writes: 0,
+            prints: 0,
+            counts: Faults {
+                read: 0,
+                write: 0,
+                print: 0,
+                stall: 0,
+            },
+        }
+    }
+
+    /// The bytes of the file of that name, `None` exactly where there is no such file.
+    pub fn file(&self, name: &str) -> Option<&[u8]>
+        ensures { option_map (λ bytes. bytes.now) result ≡ (memory self.now).files name.now }
+    {
+        match self.files.get(name) {
+            Some(bytes) => Some(bytes.as_slice()),
+            None => None,
+        }
+    }
+
+    /// What was printed so far.
+    pub fn printed(&self) -> &[u8]
+        ensures { result.now ≡ (memory self.now).printed }
+    {
+        self.printed.as_slice()
+    }
+
+    /// How many writes there were so far, failed ones among them. It stays at 2^64 - 1 once it is there.
+    pub fn writes(&self) -> u64
+        ensures { result ≡ (memory self.now).writes }
+    {
+        self.writes
+    }
+
+    /// How many prints there were so far, failed ones among them. It stays at 2^64 - 1 once it is there.
+    pub fn prints(&self) -> u64
+        ensures { result ≡ (memory self.now).prints }
+    {
+        self.prints
+    }
+
+    /// Adds a file, in place of one of that name, or leaves all as it was.
+    pub fn add(&mut self, name: &str, bytes: &[u8]) -> Result<(), AllocError>
+        ensures added { OnOk result (memory self.new ≡ record (memory self.old) { files = update bytes_eq (memory self.old).files name.now (Some bytes.now) }) }
+        ensures err { OnErr result (memory self.new ≡ memory self.old) }
+    {
+        let bytes = Vec::from_slice(self.alloc, bytes)?;
+        put_file(self.alloc, &mut self.files, name, bytes)
+    }
+
+    /// Names a call that is to fail, counted from 1 over all calls of the desk, or leaves all as it was.
+    pub fn fail(&mut self, call: u32) -> Result<(), AllocError>
+        ensures listed { OnOk result (memory self.new ≡ record (memory self.old) { failing = (memory self.old).failing ++ call ∷ [] }) }
+        ensures err { OnErr result (memory self.new ≡ memory self.old) }
+    {
+        self.failing.push(call)?;
+        Ok(())
+    }
+
+    /// Names a call that is to take nothing, if it is a write or a print, counted from 1 over all calls of the desk,
+    /// or leaves all as it was.
+    pub fn starve(&mut self, call: u32) -> Result<(), AllocError>
+        ensures listed { OnOk result (memory self.new ≡ record (memory self.old) { starving = (memory self.old).starving ++ call ∷ [] }) }
+        ensures err { OnErr result (memory self.new ≡ memory self.old) }
+    {
+        self.starving.push(call)?;
+        Ok(())
+    }
+
+    /// Counts a call, and says whether it is to fail.
+    fn begin(&mut self) -> bool
+        ensures fails { result ≡ is_to_fail (memory self.old) }
+        ensures counted { memory self.new ≡ record (memory self.old) { calls = next_count (memory self.old).calls } }
+    {
+        self.calls = self.calls.saturating_add(1);
+        lists(&self.failing, self.calls)
+    }
+}
+
+impl Desk for MemDesk {
+    ghost use Rattle.hyd_io.specs.MemoryView.{memory};
+    ghost use Rattle.hyd_io.specs.Memory.{OpensToo, ReadsToo, CreatesToo, WritesToo, PrintsToo};
+
+    ghost files = { λ desk. Some (memory desk).files };
+
+    ghost rest = { λ desk. Some (memory desk).unread };
+
+    ghost written = { λ desk. option_and_then (memory desk).files (memory desk).target };
+
+    ghost printed = { λ desk. Some (memory desk).printed };
+
+    ghost target = { λ desk. (memory desk).target };
+
+    ghost ready = { λ desk. (memory desk).ready };
+
+    ghost counts = { λ desk. (memory desk).counts };
+
+    ghost may_open = { λ _. true };
+
+    ghost may_create = { λ _. true };
+
+    ghost open_also = { λ old name failed new. OpensToo (memory old) name failed (memory new) };
+
+    ghost read_also = { λ old failed new. ReadsToo (memory old) failed (memory new) };
+
+    ghost create_also = { λ old failed new. CreatesToo (memory old) failed (memory new) };
+
+    ghost write_also = { λ old piece taken new. WritesToo (memory old) piece taken (memory new) };
+
+    ghost print_also = { λ old piece taken new. PrintsToo (memory old) piece taken (memory new) };
+
+    ghost is_content = { λ _. refl };
+
+    fn open(&mut self, name: &str) -> Result<(), Failed> {
+        let fails = self.begin();
+        self.at = 0;
+        self.opened.clear();
+        match copy_of_file(self.alloc, &self.files, name, fails) {
+            Some(bytes) => {
+                self.opened = bytes;
+                Ok(())
+            }
+            None => {
+                self.counts.read = self.counts.read.saturating_add(1);
+                Err(Failed)
+            }
+        }
+    }
+
+    fn read(&mut self, buffer: &mut [u8]) -> Result<usize, Failed> {
+        if self.begin() {
+            self.counts.read = self.counts.read.saturating_add(1);
+            return Err(Failed);
+        }
+        let n = gather(buffer, 0, &self.opened[self.at..]);
+        self.at += n;
+        Ok(n)
+    }
+
+    fn create(&mut self, name: &str) -> Result<(), Failed> {
+        let fails = self.begin();
+        match make_empty(self.alloc, &mut self.files, name, fails) {
+            Some(target) => {
+                self.target = Some(target);
+                self.ready = true;
+                Ok(())
+            }
+            None => {
+                self.ready = false;
+                self.counts.write = self.counts.write.saturating_add(1);
+                Err(Failed)
+            }
+        }
+    }
+
+    fn write(&mut self, piece: &[u8]) -> Result<usize, Failed> {
+        let fails = self.begin();
+        self.writes = self.writes.saturating_add(1);
+        let taken = taken_of(&self.starving, self.calls, piece);
+        if !append(&mut self.files, &self.target, taken, fails) {
+            self.counts.write = self.counts.write.saturating_add(1);
+            return Err(Failed);
+        }
+        self.counts.stall = stalls_after(self.counts.stall, taken, piece);
+        Ok(taken.len())
+    }
+
+    fn print(&mut self, piece: &[u8]) -> Result<usize, Failed> {
+        let fails = self.begin();
+        self.prints = self.prints.saturating_add(1);
+        let taken = taken_of(&self.starving, self.calls, piece);
+        if fails || self.printed.extend_from_slice(taken).is_err() {
+            self.counts.print = self.counts.print.saturating_add(1);
+            return Err(Failed);
+        }
+        self.counts.stall = stalls_after(self.counts.stall, taken, piece);
+        Ok(taken.len())
+    }
+}
+
+/// Whether the list names the call of that number.
+fn lists(list: &[u32], call: u64) -> bool
+    ensures { result ≡ is_listed list.now call }
+{
+    list.iter().any(|n| u64::from(*n) == call)
+}
+
+/// What a call takes of the piece: nothing where it is listed, else all.
+fn taken_of<'a>(starving: &[u32], call: u64, piece: &'a [u8]) -> &'a [u8]
+    ensures { result.now ≡ (if is_listed starving.now call then [] else piece.now) }
+{
+    if lists(starving, call) { &[] } else { piece }
+}
+
+/// The stalls after a call that took `taken` of the piece.
+fn stalls_after(stalls: u64, taken: &[u8], piece: &[u8]) -> u64
+    ensures some { 0 < length taken.now → result ≡ stalls }
+    ensures idle { length piece.now ≡ 0 → result ≡ stalls }
+    ensures stalled { length taken.now ≡ 0 → 0 < length piece.now → result ≡ next_count stalls }
+    ensures never_fall { stalls ≤ result }
+{
+    if taken.is_empty() && !piece.is_empty() {
+        stalls.saturating_add(1)
+    } else {
+        stalls
+    }
+}
+
+/// A copy of the file's bytes, or `None`: where the call is to fail, where there is no such file, or for want of
+/// memory.
+fn copy_of_file(alloc: Global, files: &BTreeMap<String, Vec<u8>>, name: &str, fails: bool) -> Option<Vec<u8>>
+    ensures bytes { IfSome result (λ bytes. file_bytes files.now name.now ≡ Some bytes.items) }
+    ensures fails { IsTrue fails → IsNone result }
+    ensures absent { file_bytes files.now name.now ≡ None → IsNone result }
+{
+    if fails {
+        return None;
+    }
+    let bytes = files.get(name)?;
+    Vec::from_slice(alloc, bytes).ok()
+}
+
+/// Puts an empty file into the map and gives a copy of its name, or `None`: where the call is to fail, or for want of
+/// memory. The map is then as it was.
+fn make_empty(alloc: Global, files: &mut BTreeMap<String, Vec<u8>>, name: &str, fails: bool) -> Option<String>
+    ensures name { IfSome result (λ target. string_bytes target ≡ name.now) }
+    ensures made { OnSome result ((other : List ℕ) → file_bytes files.new other ≡ update bytes_eq (file_bytes files.old) name.now (Some []) other) }
+    ensures none { IfNone result ((other : List ℕ) → file_bytes files.new other ≡ file_bytes files.old other) }
+    ensures fails { IsTrue fails → IsNone result }
+{
+    if fails {
+        return None;
+    }
+    let target = String::from_str(alloc, name).ok()?;
+    match put_file(alloc, files, name, Vec::new(alloc)) {
+        Ok(()) => Some(target),
+        Err(_) => None,
+    }
+}
+
+/// Puts a file into the map, in place of one of that name, or leaves the map as it was.
+fn put_file(alloc: Global, files: &mut BTreeMap<String, Vec<u8>>, name: &str, bytes: Vec<u8>) -> Result<(), AllocError>
+    ensures put { OnOk result ((other : List ℕ) → file_bytes files.new other ≡ update bytes_eq (file_bytes files.old) name.now (Some bytes.items) other) }
+    ensures err { OnErr result ((other : List ℕ) → file_bytes files.new other ≡ file_bytes files.old other) }
+{
+    let key = String::from_str(alloc, name)?;
+    files.insert(key, bytes)?;
+    Ok(())
+}
+
+/// Appends to the target's file and says so, or leaves the map as it was: where the call is to fail, where there is no
+/// such file, or for want of memory.
+fn append(files: &mut BTreeMap<String, Vec<u8>>, target: &Option<String>, bytes: &[u8], fails: bool) -> bool
+    ensures appended { IsTrue result → option_and_then (file_bytes files.new) (option_map string_bytes target.now) ≡ append_known (option_and_then (file_bytes files.old) (option_map string_bytes target.now)) bytes.now }
+    ensures others { (other : List ℕ) → ¬ (option_map string_bytes target.now ≡ Some other) → file_bytes files.new other ≡ file_bytes files.old other }
+    ensures kept { result ≡ false → (other : List ℕ) → file_bytes files.new other ≡ file_bytes files.old other }
+    ensures fails { IsTrue fails → result ≡ false }
+{
+    if fails {
+        return false;
+    }
+    let Some(name) = target else {
+        return false;
+    };
+    match files.get_mut(name.as_str()) {
+        Some(file) => file.extend_from_slice(bytes).is_ok(),
+        None => false,
+    }
+}
