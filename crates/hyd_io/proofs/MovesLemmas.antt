@@ -1,6 +1,7 @@
 -- How moves of bytes from a pen to a desk follow one another.
 use Rattle.std.proofs.Common.{◌≡◌, ℕ, ◌+◌, ◌-◌, ◌≤◌, List, [], ◌∷◌, ◌++◌, length, take, drop, Option, Some, None, refl, sym, ap, ◌∙◌, append_assoc, arith}
 use Rattle.std.proofs.lemmas.Grind.{common_steps}
+use Rattle.std.proofs.lemmas.List.{drop-drop, take-append-drop}
 use Rattle.hyd_io.specs.Told.{append_known, prepend_known, where_told, Moves, PutOut, Took, Files, file_at, IsTold}
 
 -- nothing more after what is out
@@ -82,3 +83,9 @@ took_after first second third bytes n e t =
 pub where_told-IsTold : {B : Type 0} (files : Option Files) (name text : List ℕ) (v : B) → IsTold files name text → where_told files v ≡ Some v
 where_told-IsTold None name text v h = cc
 where_told-IsTold (Some f) name text v h = refl
+
+-- what is left from a place on, split at a front of it, where the front came into a buffer
+pub drop-split : (bytes buffer : List ℕ) (at n : ℕ) → n ≤ length bytes - at → take (0 + n) buffer ≡ [] ++ take n (take (length bytes - at) (drop at bytes)) → drop at bytes ≡ take n buffer ++ drop (at + n) bytes
+drop-split bytes buffer at n le e =
+    let front : take n buffer ≡ take n (drop at bytes) = grind (arith, common_steps, e) in
+    rw (front, ← drop-drop n at bytes) (sym (take-append-drop n (drop at bytes)))

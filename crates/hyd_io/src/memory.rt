@@ -1,11 +1,10 @@
 //! A desk in memory, for tests: it tells all, and its calls can be made to fail or to take nothing.
 
-ghost use Rattle.std.specs.Prelude.{◌≡◌, ℕ, ◌+◌, ◌-◌, ◌<◌, ◌≤◌, List, [], ◌∷◌, ◌++◌, length, take, drop, true, false, not, bytes_eq, if◌then◌else◌, Option, Some, None, option_map, option_and_then, IsTrue, IsNone, IsOk, IfOk, IfSome, OnOk, OnErr, OnSome, IfNone, string_bytes, refl};
+ghost use Rattle.std.specs.Prelude.{◌≡◌, ◌≢◌, ℕ, ◌<◌, ◌≤◌, List, [], ◌∷◌, ◌++◌, length, true, bytes_eq, if◌then◌else◌, Some, None, option_map, option_and_then, IsErr, IfOk, OnOk, OnErr, string_bytes, refl};
 ghost use Rattle.std.specs.Map.{update};
-ghost use Rattle.std.specs.Option.{option_map_or};
 ghost use Rattle.hyd_io.specs.Told.{append_known};
 ghost use Rattle.hyd_io.specs.Counts.{next_count};
-ghost use Rattle.hyd_io.specs.Memory.{Memory, file_bytes, is_listed, is_to_fail, empty_memory};
+ghost use Rattle.hyd_io.specs.Memory.{file_bytes, is_listed, empty_memory};
 
 use std::alloc::{AllocError, Global};
 use std::collections::BTreeMap;
@@ -123,15 +122,6 @@ impl MemDesk {
         self.starving.push(call)?;
         Ok(())
     }
-
-    /// Counts a call, and says whether it is to fail.
-    fn begin(&mut self) -> bool
-        ensures fails { result ≡ is_to_fail (memory self.old) }
-        ensures counted { memory self.new ≡ record (memory self.old) { calls = next_count (memory self.old).calls } }
-    {
-        self.calls = self.calls.saturating_add(1);
-        lists(&self.failing, self.calls)
-    }
 }
 
 impl Desk for MemDesk {
@@ -169,23 +159,23 @@ impl Desk for MemDesk {
     ghost is_content = { λ _. refl };
 
     fn open(&mut self, name: &str) -> Result<(), Failed> {
-        let fails = self.begin();
+        let fails = begin(&mut self.calls, &self.failing);
         self.at = 0;
         self.opened.clear();
         match copy_of_file(self.alloc, &self.files, name, fails) {
-            Some(bytes) => {
+            Ok(bytes) => {
                 self.opened = bytes;
                 Ok(())
             }
-            None => {
+            Err(failed) => {
                 self.counts.read = self.counts.read.saturating_add(1);
-                Err(Failed)
+                Err(failed)
             }
         }
     }
 
     fn read(&mut self, buffer: &mut [u8]) -> Result<usize, Failed> {
-        if self.begin() {
+        if begin(&mut self.calls, &self.failing) {
             self.counts.read = self.counts.read.saturating_add(1);
             return Err(Failed);
         }
@@ -195,35 +185,35 @@ impl Desk for MemDesk {
     }
 
     fn create(&mut self, name: &str) -> Result<(), Failed> {
-        let fails = self.begin();
+        let fails = begin(&mut self.calls, &self.failing);
         match make_empty(self.alloc, &mut self.files, name, fails) {
-            Some(target) => {
+            Ok(target) => {
                 self.target = Some(target);
                 self.ready = true;
                 Ok(())
             }
-            None => {
+            Err(failed) => {
                 self.ready = false;
                 self.counts.write = self.counts.write.saturating_add(1);
-                Err(Failed)
+                Err(failed)
             }
         }
     }
 
     fn write(&mut self, piece: &[u8]) -> Result<usize, Failed> {
-        let fails = self.begin();
+        let fails = begin(&mut self.calls, &self.failing);
         self.writes = self.writes.saturating_add(1);
         let taken = taken_of(&self.starving, self.calls, piece);
-        if !append(&mut self.files, &self.target, taken, fails) {
+        if let Err(failed) = append(&mut self.files, &self.target, taken, fails) {
             self.counts.write = self.counts.write.saturating_add(1);
-            return Err(Failed);
+            return Err(failed);
         }
         self.counts.stall = stalls_after(self.counts.stall, taken, piece);
         Ok(taken.len())
     }
 
     fn print(&mut self, piece: &[u8]) -> Result<usize, Failed> {
-        let fails = self.begin();
+        let fails = begin(&mut self.calls, &self.failing);
         self.prints = self.prints.saturating_add(1);
         let taken = taken_of(&self.starving, self.calls, piece);
         if fails || self.printed.extend_from_slice(taken).is_err() {
@@ -233,6 +223,15 @@ impl Desk for MemDesk {
         self.counts.stall = stalls_after(self.counts.stall, taken, piece);
         Ok(taken.len())
     }
+}
+
+/// Counts a call, and says whether it is to fail.
+fn begin(calls: &mut u64, failing: &[u32]) -> bool
+    ensures counted { calls.new ≡ next_count calls.old }
+    ensures fails { result ≡ is_listed failing.now (next_count calls.old) }
+{
+    *calls = calls.saturating_add(1);
+    lists(failing, *calls)
 }
 
 /// Whether the list names the call of that number.
@@ -263,64 +262,84 @@ fn stalls_after(stalls: u64, taken: &[u8], piece: &[u8]) -> u64
     }
 }
 
-/// A copy of the file's bytes, or `None`: where the call is to fail, where there is no such file, or for want of
-/// memory.
-fn copy_of_file(alloc: Global, files: &BTreeMap<String, Vec<u8>>, name: &str, fails: bool) -> Option<Vec<u8>>
-    ensures bytes { IfSome result (λ bytes. file_bytes files.now name.now ≡ Some bytes.items) }
-    ensures fails { IsTrue fails → IsNone result }
-    ensures absent { file_bytes files.now name.now ≡ None → IsNone result }
+/// A copy of the file's bytes. Fails where the call is to fail, where there is no such file, and for want of memory.
+fn copy_of_file(alloc: Global, files: &BTreeMap<String, Vec<u8>>, name: &str, fails: bool) -> Result<Vec<u8>, Failed>
+    ensures bytes { IfOk result (λ bytes. file_bytes files.now name.now ≡ Some bytes.items) }
+    ensures fails { fails ≡ true → IsErr result }
+    ensures absent { file_bytes files.now name.now ≡ None → IsErr result }
 {
     if fails {
-        return None;
+        return Err(Failed);
     }
-    let bytes = files.get(name)?;
-    Vec::from_slice(alloc, bytes).ok()
+    match files.get(name) {
+        Some(bytes) => Vec::from_slice(alloc, bytes).map_err(|_| Failed),
+        None => Err(Failed),
+    }
 }
 
-/// Puts an empty file into the map and gives a copy of its name, or `None`: where the call is to fail, or for want of
-/// memory. The map is then as it was.
-fn make_empty(alloc: Global, files: &mut BTreeMap<String, Vec<u8>>, name: &str, fails: bool) -> Option<String>
-    ensures name { IfSome result (λ target. string_bytes target ≡ name.now) }
-    ensures made { OnSome result ((other : List ℕ) → file_bytes files.new other ≡ update bytes_eq (file_bytes files.old) name.now (Some []) other) }
-    ensures none { IfNone result ((other : List ℕ) → file_bytes files.new other ≡ file_bytes files.old other) }
-    ensures fails { IsTrue fails → IsNone result }
+/// Puts an empty file into the map and gives a copy of its name. Fails where the call is to fail, and for want of
+/// memory, and then leaves the map as it was.
+fn make_empty(alloc: Global, files: &mut BTreeMap<String, Vec<u8>>, name: &str, fails: bool) -> Result<String, Failed>
+    ensures name { IfOk result (λ target. string_bytes target ≡ name.now) }
+    ensures made { OnOk result (file_bytes files.new ≡ update bytes_eq (file_bytes files.old) name.now (Some [])) }
+    ensures kept { OnErr result (file_bytes files.new ≡ file_bytes files.old) }
+    ensures fails { fails ≡ true → IsErr result }
 {
     if fails {
-        return None;
+        return Err(Failed);
     }
-    let target = String::from_str(alloc, name).ok()?;
+    let Ok(target) = String::from_str(alloc, name) else {
+        return Err(Failed);
+    };
     match put_file(alloc, files, name, Vec::new(alloc)) {
-        Ok(()) => Some(target),
-        Err(_) => None,
+        Ok(()) => Ok(target),
+        Err(_) => Err(Failed),
     }
 }
 
 /// Puts a file into the map, in place of one of that name, or leaves the map as it was.
 fn put_file(alloc: Global, files: &mut BTreeMap<String, Vec<u8>>, name: &str, bytes: Vec<u8>) -> Result<(), AllocError>
-    ensures put { OnOk result ((other : List ℕ) → file_bytes files.new other ≡ update bytes_eq (file_bytes files.old) name.now (Some bytes.items) other) }
-    ensures err { OnErr result ((other : List ℕ) → file_bytes files.new other ≡ file_bytes files.old other) }
+    ensures put { OnOk result (file_bytes files.new ≡ update bytes_eq (file_bytes files.old) name.now (Some bytes.items)) }
+    ensures err { OnErr result (file_bytes files.new ≡ file_bytes files.old) }
 {
-    let key = String::from_str(alloc, name)?;
-    files.insert(key, bytes)?;
-    Ok(())
+    let Ok(key) = String::from_str(alloc, name) else {
+        return Err(AllocError);
+    };
+    match files.insert(key, bytes) {
+        Ok(_) => Ok(()),
+        Err(_) => Err(AllocError),
+    }
 }
 
-/// Appends to the target's file and says so, or leaves the map as it was: where the call is to fail, where there is no
-/// such file, or for want of memory.
-fn append(files: &mut BTreeMap<String, Vec<u8>>, target: &Option<String>, bytes: &[u8], fails: bool) -> bool
-    ensures appended { IsTrue result → option_and_then (file_bytes files.new) (option_map string_bytes target.now) ≡ append_known (option_and_then (file_bytes files.old) (option_map string_bytes target.now)) bytes.now }
-    ensures others { (other : List ℕ) → ¬ (option_map string_bytes target.now ≡ Some other) → file_bytes files.new other ≡ file_bytes files.old other }
-    ensures kept { result ≡ false → (other : List ℕ) → file_bytes files.new other ≡ file_bytes files.old other }
-    ensures fails { IsTrue fails → result ≡ false }
+/// Appends to the target's file. Fails where the call is to fail, where there is no such file, and for want of memory,
+/// and then leaves the map as it was.
+fn append(files: &mut BTreeMap<String, Vec<u8>>, target: &Option<String>, bytes: &[u8], fails: bool) -> Result<(), Failed>
+    ensures appended { OnOk result (option_and_then (file_bytes files.new) (option_map string_bytes target.now) ≡ append_known (option_and_then (file_bytes files.old) (option_map string_bytes target.now)) bytes.now) }
+    ensures others { (other : List ℕ) → option_map string_bytes target.now ≢ Some other → file_bytes files.new other ≡ file_bytes files.old other }
+    ensures kept { OnErr result (file_bytes files.new ≡ file_bytes files.old) }
+    ensures fails { fails ≡ true → IsErr result }
 {
     if fails {
-        return false;
+        return Err(Failed);
     }
-    let Some(name) = target else {
-        return false;
+    match target {
+        Some(name) => append_to(files, name.as_str(), bytes),
+        None => Err(Failed),
+    }
+}
+
+/// Appends to the file of that name. Fails where there is none, and for want of memory, and then leaves the map as it
+/// was.
+fn append_to(files: &mut BTreeMap<String, Vec<u8>>, name: &str, bytes: &[u8]) -> Result<(), Failed>
+    ensures appended { OnOk result (file_bytes files.new name.now ≡ append_known (file_bytes files.old name.now) bytes.now) }
+    ensures others { (other : List ℕ) → other ≢ name.now → file_bytes files.new other ≡ file_bytes files.old other }
+    ensures kept { OnErr result (file_bytes files.new ≡ file_bytes files.old) }
+{
+    let Some(file) = files.get_mut(name) else {
+        return Err(Failed);
     };
-    match files.get_mut(name.as_str()) {
-        Some(file) => file.extend_from_slice(bytes).is_ok(),
-        None => false,
+    match file.extend_from_slice(bytes) {
+        Ok(()) => Ok(()),
+        Err(_) => Err(Failed),
     }
 }
