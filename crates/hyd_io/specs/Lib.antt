@@ -3,3 +3,4 @@ pub mod Counts
 pub mod Output
 pub mod Memory
 pub mod MemoryView
+pub mod Standing

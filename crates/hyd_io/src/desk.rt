@@ -4,7 +4,7 @@ ghost use Rattle.std.specs.Prelude.{◌≡◌, ◌≢◌, ℕ, ◌<◌, ◌≤�
 ghost use Rattle.hyd_io.specs.declared.desk.Faults.{Faults};
 ghost use Rattle.hyd_io.specs.Told.{Files, where_told, append_known, prepend_known, file_at, with_empty, content_of};
 ghost use Rattle.std.specs.Result.{result_ok};
-ghost use Rattle.hyd_io.specs.Counts.{Rose, NeverFall};
+ghost use Rattle.hyd_io.specs.Counts.{Rose, NeverFall, next_count};
 
 use thiserror::Error;
 
@@ -150,4 +150,18 @@ pub trait Desk {
 
     // What was written is what the file created last holds.
     ghost is_content: { (desk : Self) → written desk ≡ content_of (files desk) (target desk) };
+}
+
+/// The stalls after a call that took `taken` bytes of the piece.
+pub(crate) fn stalls_after(stalls: u64, taken: usize, piece: &[u8]) -> u64
+    ensures some { 0 < taken → result ≡ stalls }
+    ensures idle { length piece.now ≡ 0 → result ≡ stalls }
+    ensures stalled { taken ≡ 0 → 0 < length piece.now → result ≡ next_count stalls }
+    ensures never_fall { stalls ≤ result }
+{
+    if taken == 0 && !piece.is_empty() {
+        stalls.saturating_add(1)
+    } else {
+        stalls
+    }
 }

@@ -3,11 +3,13 @@
 #![tactic(auto)]
 
 pub mod desk;
+pub mod files;
 pub mod input;
 pub mod memory;
 pub mod output;
 
 pub use desk::{Desk, Failed, Faults};
+pub use files::FileDesk;
 pub use input::{InFault, read_all};
 pub use memory::MemDesk;
 pub use output::{Channel, OutFault, Pen};

@@ -9,7 +9,7 @@ ghost use Rattle.hyd_io.specs.Memory.{file_bytes, is_listed, empty_memory};
 use std::alloc::{AllocError, Global};
 use std::collections::BTreeMap;
 
-use crate::desk::{Desk, Failed, Faults};
+use crate::desk::{Desk, Failed, Faults, stalls_after};
 use crate::output::gather;
 
 /// A desk in memory. Contracts see it as its `memory`: the files, what is left to read, what was printed, and so on.
@@ -208,7 +208,7 @@ impl Desk for MemDesk {
             self.counts.write = self.counts.write.saturating_add(1);
             return Err(failed);
         }
-        self.counts.stall = stalls_after(self.counts.stall, taken, piece);
+        self.counts.stall = stalls_after(self.counts.stall, taken.len(), piece);
         Ok(taken.len())
     }
 
@@ -220,7 +220,7 @@ impl Desk for MemDesk {
             self.counts.print = self.counts.print.saturating_add(1);
             return Err(Failed);
         }
-        self.counts.stall = stalls_after(self.counts.stall, taken, piece);
+        self.counts.stall = stalls_after(self.counts.stall, taken.len(), piece);
         Ok(taken.len())
     }
 }
@@ -246,20 +246,6 @@ fn taken_of<'a>(starving: &[u32], call: u64, piece: &'a [u8]) -> &'a [u8]
     ensures { result.now ≡ (if is_listed starving.now call then [] else piece.now) }
 {
     if lists(starving, call) { &[] } else { piece }
-}
-
-/// The stalls after a call that took `taken` of the piece.
-fn stalls_after(stalls: u64, taken: &[u8], piece: &[u8]) -> u64
-    ensures some { 0 < length taken.now → result ≡ stalls }
-    ensures idle { length piece.now ≡ 0 → result ≡ stalls }
-    ensures stalled { length taken.now ≡ 0 → 0 < length piece.now → result ≡ next_count stalls }
-    ensures never_fall { stalls ≤ result }
-{
-    if taken.is_empty() && !piece.is_empty() {
-        stalls.saturating_add(1)
-    } else {
-        stalls
-    }
 }
 
 /// A copy of the file's bytes. Fails where the call is to fail, where there is no such file, and for want of memory.
