@@ -1,2 +1,2 @@
-pub mod FilesLemmas
-pub mod MovesLemmas
+pub mod MemoryLemmas
+pub mod ToldLemmas

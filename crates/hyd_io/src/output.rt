@@ -1,6 +1,6 @@
 //! Buffered writing to the file created last or to standard output.
 
-ghost use Rattle.std.specs.Prelude.{◌≡◌, ◌≢◌, ℕ, ◌+◌, ◌-◌, ◌<◌, ◌≤◌, List, [], ◌++◌, length, take, drop, min, Option, Some, None, Err, IsTrue, IfOk, IfErr, IfSome, OnOk, OnErr, is_some};
+ghost use Rattle.std.specs.Prelude.{◌≡◌, ◌≢◌, ℕ, ◌+◌, ◌-◌, ◌<◌, ◌≤◌, List, [], ◌++◌, length, take, drop, min, Option, Some, None, Err, IsTrue, IfOk, IfErr, IfSome, IsSome, OnOk, OnErr, is_some};
 ghost use Rattle.hyd_io.specs.Told.{append_known, file_at, Moves, PutOut};
 ghost use Rattle.hyd_io.specs.Counts.{Rose, NeverFall};
 ghost use Rattle.hyd_io.specs.Output.{by_channel, OnCert, OnReport, HasOutCause, PenState};
@@ -76,19 +76,26 @@ impl Pen {
     /// call on the desk.
     pub fn put<D: Desk>(&mut self, desk: &mut D, piece: &[u8]) -> Result<(), OutFault>
         requires { OnCert self.old.to (IsTrue (D.ready desk.old)) }
-        ensures moves { OnOk result (Moves (by_channel self.old.to (D.written desk.old) (D.printed desk.old)) (by_channel self.old.to (D.written desk.new) (D.printed desk.new)) (self.old.held ++ piece.now) self.new.held) }
-        ensures prefix { OnErr result (PutOut (by_channel self.old.to (D.written desk.old) (D.printed desk.old)) (by_channel self.old.to (D.written desk.new) (D.printed desk.new)) (self.old.held ++ piece.now)) }
+        ensures moves { OnOk result (Moves (by_channel self.old.to (D.written desk.old) (D.printed desk.old))
+            (by_channel self.old.to (D.written desk.new) (D.printed desk.new))
+            (self.old.held ++ piece.now) self.new.held) }
+        ensures prefix { OnErr result (PutOut (by_channel self.old.to (D.written desk.old) (D.printed desk.old))
+            (by_channel self.old.to (D.written desk.new) (D.printed desk.new))
+            (self.old.held ++ piece.now)) }
         ensures to_stays { self.new.to ≡ self.old.to }
         ensures no_fault { OnOk result (self.new.fault ≡ None) }
         ensures keeps_fault { IfErr result (λ fault. self.new.fault ≡ Some fault) }
-        ensures again { IfSome self.old.fault (λ fault. (result ≡ Err fault) × (self.new ≡ self.old) × (desk.new ≡ desk.old)) }
-        ensures cause { self.old.fault ≡ None → IfErr result (λ fault. HasOutCause self.old.to fault (D.counts desk.old) (D.counts desk.new)) }
+        ensures again { IfSome self.old.fault (λ fault. result ≡ Err fault) }
+        ensures does_nothing { IsSome self.old.fault → (self.new ≡ self.old) × (desk.new ≡ desk.old) }
+        ensures cause { self.old.fault ≡ None
+            → IfErr result (λ fault. HasOutCause self.old.to fault (D.counts desk.old) (D.counts desk.new)) }
         ensures steady { OnOk result (D.counts desk.new ≡ D.counts desk.old) }
         ensures never_fall { NeverFall (D.counts desk.old) (D.counts desk.new) }
         ensures report_files { OnReport self.old.to (D.files desk.new ≡ D.files desk.old) }
         ensures report_written { OnReport self.old.to (D.written desk.new ≡ D.written desk.old) }
         ensures cert_printed { OnCert self.old.to (D.printed desk.new ≡ D.printed desk.old) }
-        ensures others { (other : List ℕ) → D.target desk.old ≢ Some other → file_at (D.files desk.new) other ≡ file_at (D.files desk.old) other }
+        ensures others { (other : List ℕ) → D.target desk.old ≢ Some other
+            → file_at (D.files desk.new) other ≡ file_at (D.files desk.old) other }
         ensures still_told { is_some (D.files desk.new) ≡ is_some (D.files desk.old) }
         ensures rest_stays { D.rest desk.new ≡ D.rest desk.old }
         ensures target_stays { D.target desk.new ≡ D.target desk.old }
@@ -112,20 +119,25 @@ impl Pen {
     /// Puts out all that the pen holds. Its faults are those of `put`.
     pub fn flush<D: Desk>(&mut self, desk: &mut D) -> Result<(), OutFault>
         requires { OnCert self.old.to (IsTrue (D.ready desk.old)) }
-        ensures whole { OnOk result (by_channel self.old.to (D.written desk.new) (D.printed desk.new) ≡ append_known (by_channel self.old.to (D.written desk.old) (D.printed desk.old)) self.old.held) }
+        ensures whole { OnOk result (by_channel self.old.to (D.written desk.new) (D.printed desk.new)
+            ≡ append_known (by_channel self.old.to (D.written desk.old) (D.printed desk.old)) self.old.held) }
         ensures empty { OnOk result (self.new.held ≡ []) }
-        ensures prefix { OnErr result (PutOut (by_channel self.old.to (D.written desk.old) (D.printed desk.old)) (by_channel self.old.to (D.written desk.new) (D.printed desk.new)) self.old.held) }
+        ensures prefix { OnErr result (PutOut (by_channel self.old.to (D.written desk.old) (D.printed desk.old))
+            (by_channel self.old.to (D.written desk.new) (D.printed desk.new)) self.old.held) }
         ensures to_stays { self.new.to ≡ self.old.to }
         ensures no_fault { OnOk result (self.new.fault ≡ None) }
         ensures keeps_fault { IfErr result (λ fault. self.new.fault ≡ Some fault) }
-        ensures again { IfSome self.old.fault (λ fault. (result ≡ Err fault) × (self.new ≡ self.old) × (desk.new ≡ desk.old)) }
-        ensures cause { self.old.fault ≡ None → IfErr result (λ fault. HasOutCause self.old.to fault (D.counts desk.old) (D.counts desk.new)) }
+        ensures again { IfSome self.old.fault (λ fault. result ≡ Err fault) }
+        ensures does_nothing { IsSome self.old.fault → (self.new ≡ self.old) × (desk.new ≡ desk.old) }
+        ensures cause { self.old.fault ≡ None
+            → IfErr result (λ fault. HasOutCause self.old.to fault (D.counts desk.old) (D.counts desk.new)) }
         ensures steady { OnOk result (D.counts desk.new ≡ D.counts desk.old) }
         ensures never_fall { NeverFall (D.counts desk.old) (D.counts desk.new) }
         ensures report_files { OnReport self.old.to (D.files desk.new ≡ D.files desk.old) }
         ensures report_written { OnReport self.old.to (D.written desk.new ≡ D.written desk.old) }
         ensures cert_printed { OnCert self.old.to (D.printed desk.new ≡ D.printed desk.old) }
-        ensures others { (other : List ℕ) → D.target desk.old ≢ Some other → file_at (D.files desk.new) other ≡ file_at (D.files desk.old) other }
+        ensures others { (other : List ℕ) → D.target desk.old ≢ Some other
+            → file_at (D.files desk.new) other ≡ file_at (D.files desk.old) other }
         ensures still_told { is_some (D.files desk.new) ≡ is_some (D.files desk.old) }
         ensures rest_stays { D.rest desk.new ≡ D.rest desk.old }
         ensures target_stays { D.target desk.new ≡ D.target desk.old }
@@ -134,16 +146,12 @@ impl Pen {
         if let Some(fault) = self.fault {
             return Err(fault);
         }
-        match put_all(self.to, desk, &self.buffer[..self.used]) {
-            Ok(()) => {
-                self.used = 0;
-                Ok(())
-            }
-            Err(fault) => {
-                self.fault = Some(fault);
-                Err(fault)
-            }
+        let flushed = put_all(self.to, desk, &self.buffer[..self.used]);
+        self.fault = flushed.err();
+        if flushed.is_ok() {
+            self.used = 0;
         }
+        flushed
     }
 }
 
@@ -158,15 +166,19 @@ fn put_through<D: Desk>(
     requires ready { OnCert to (IsTrue (D.ready desk.old)) }
     requires room { used < SIZE }
     ensures within { IfOk result (λ left. left < SIZE) }
-    ensures moves { IfOk result (λ left. Moves (by_channel to (D.written desk.old) (D.printed desk.old)) (by_channel to (D.written desk.new) (D.printed desk.new)) (take used buffer.old ++ piece.now) (take left buffer.new)) }
-    ensures prefix { OnErr result (PutOut (by_channel to (D.written desk.old) (D.printed desk.old)) (by_channel to (D.written desk.new) (D.printed desk.new)) (take used buffer.old ++ piece.now)) }
+    ensures moves { IfOk result (λ left. Moves (by_channel to (D.written desk.old) (D.printed desk.old))
+        (by_channel to (D.written desk.new) (D.printed desk.new))
+        (take used buffer.old ++ piece.now) (take left buffer.new)) }
+    ensures prefix { OnErr result (PutOut (by_channel to (D.written desk.old) (D.printed desk.old))
+        (by_channel to (D.written desk.new) (D.printed desk.new)) (take used buffer.old ++ piece.now)) }
     ensures cause { IfErr result (λ fault. HasOutCause to fault (D.counts desk.old) (D.counts desk.new)) }
     ensures steady { OnOk result (D.counts desk.new ≡ D.counts desk.old) }
     ensures never_fall { NeverFall (D.counts desk.old) (D.counts desk.new) }
     ensures report_files { OnReport to (D.files desk.new ≡ D.files desk.old) }
     ensures report_written { OnReport to (D.written desk.new ≡ D.written desk.old) }
     ensures cert_printed { OnCert to (D.printed desk.new ≡ D.printed desk.old) }
-    ensures others { (other : List ℕ) → D.target desk.old ≢ Some other → file_at (D.files desk.new) other ≡ file_at (D.files desk.old) other }
+    ensures others { (other : List ℕ) → D.target desk.old ≢ Some other
+        → file_at (D.files desk.new) other ≡ file_at (D.files desk.old) other }
     ensures still_told { is_some (D.files desk.new) ≡ is_some (D.files desk.old) }
     ensures rest_stays { D.rest desk.new ≡ D.rest desk.old }
     ensures target_stays { D.target desk.new ≡ D.target desk.old }
@@ -197,15 +209,18 @@ fn put_when_full<D: Desk>(to: Channel, desk: &mut D, buffer: &[u8; SIZE], used: 
     requires ready { OnCert to (IsTrue (D.ready desk.old)) }
     requires room { used ≤ SIZE }
     ensures within { IfOk result (λ left. left < SIZE) }
-    ensures moves { IfOk result (λ left. Moves (by_channel to (D.written desk.old) (D.printed desk.old)) (by_channel to (D.written desk.new) (D.printed desk.new)) (take used buffer.now) (take left buffer.now)) }
-    ensures prefix { OnErr result (PutOut (by_channel to (D.written desk.old) (D.printed desk.old)) (by_channel to (D.written desk.new) (D.printed desk.new)) (take used buffer.now)) }
+    ensures moves { IfOk result (λ left. Moves (by_channel to (D.written desk.old) (D.printed desk.old))
+        (by_channel to (D.written desk.new) (D.printed desk.new)) (take used buffer.now) (take left buffer.now)) }
+    ensures prefix { OnErr result (PutOut (by_channel to (D.written desk.old) (D.printed desk.old))
+        (by_channel to (D.written desk.new) (D.printed desk.new)) (take used buffer.now)) }
     ensures cause { IfErr result (λ fault. HasOutCause to fault (D.counts desk.old) (D.counts desk.new)) }
     ensures steady { OnOk result (D.counts desk.new ≡ D.counts desk.old) }
     ensures never_fall { NeverFall (D.counts desk.old) (D.counts desk.new) }
     ensures report_files { OnReport to (D.files desk.new ≡ D.files desk.old) }
     ensures report_written { OnReport to (D.written desk.new ≡ D.written desk.old) }
     ensures cert_printed { OnCert to (D.printed desk.new ≡ D.printed desk.old) }
-    ensures others { (other : List ℕ) → D.target desk.old ≢ Some other → file_at (D.files desk.new) other ≡ file_at (D.files desk.old) other }
+    ensures others { (other : List ℕ) → D.target desk.old ≢ Some other
+        → file_at (D.files desk.new) other ≡ file_at (D.files desk.old) other }
     ensures still_told { is_some (D.files desk.new) ≡ is_some (D.files desk.old) }
     ensures rest_stays { D.rest desk.new ≡ D.rest desk.old }
     ensures target_stays { D.target desk.new ≡ D.target desk.old }
@@ -223,24 +238,27 @@ fn put_when_full<D: Desk>(to: Channel, desk: &mut D, buffer: &[u8; SIZE], used: 
 /// Puts all the bytes out, in as many calls as the desk takes.
 fn put_all<D: Desk>(to: Channel, desk: &mut D, bytes: &[u8]) -> Result<(), OutFault>
     requires { OnCert to (IsTrue (D.ready desk.old)) }
-    ensures whole { OnOk result (by_channel to (D.written desk.new) (D.printed desk.new) ≡ append_known (by_channel to (D.written desk.old) (D.printed desk.old)) bytes.now) }
-    ensures prefix { OnErr result (PutOut (by_channel to (D.written desk.old) (D.printed desk.old)) (by_channel to (D.written desk.new) (D.printed desk.new)) bytes.now) }
+    ensures whole { OnOk result (by_channel to (D.written desk.new) (D.printed desk.new)
+        ≡ append_known (by_channel to (D.written desk.old) (D.printed desk.old)) bytes.now) }
+    ensures prefix { OnErr result (PutOut (by_channel to (D.written desk.old) (D.printed desk.old))
+        (by_channel to (D.written desk.new) (D.printed desk.new)) bytes.now) }
     ensures cause { IfErr result (λ fault. HasOutCause to fault (D.counts desk.old) (D.counts desk.new)) }
     ensures steady { OnOk result (D.counts desk.new ≡ D.counts desk.old) }
     ensures never_fall { NeverFall (D.counts desk.old) (D.counts desk.new) }
     ensures report_files { OnReport to (D.files desk.new ≡ D.files desk.old) }
     ensures report_written { OnReport to (D.written desk.new ≡ D.written desk.old) }
     ensures cert_printed { OnCert to (D.printed desk.new ≡ D.printed desk.old) }
-    ensures others { (other : List ℕ) → D.target desk.old ≢ Some other → file_at (D.files desk.new) other ≡ file_at (D.files desk.old) other }
+    ensures others { (other : List ℕ) → D.target desk.old ≢ Some other
+        → file_at (D.files desk.new) other ≡ file_at (D.files desk.old) other }
     ensures still_told { is_some (D.files desk.new) ≡ is_some (D.files desk.old) }
     ensures rest_stays { D.rest desk.new ≡ D.rest desk.old }
     ensures target_stays { D.target desk.new ≡ D.target desk.old }
     ensures ready_stays { D.ready desk.new ≡ D.ready desk.old }
 {
-    let mut rest = bytes;
-    while !rest.is_empty() {
-        let n = put_front(to, desk, rest)?;
-        rest = &rest[n..];
+    let mut left = bytes;
+    while !left.is_empty() {
+        let n = put_front(to, desk, left)?;
+        left = &left[n..];
     }
     Ok(())
 }
@@ -251,15 +269,18 @@ fn put_front<D: Desk>(to: Channel, desk: &mut D, piece: &[u8]) -> Result<usize, 
     requires some { 0 < length piece.now }
     ensures within { IfOk result (λ n. n ≤ length piece.now) }
     ensures moved { IfOk result (λ n. 0 < n) }
-    ensures front { IfOk result (λ n. by_channel to (D.written desk.new) (D.printed desk.new) ≡ append_known (by_channel to (D.written desk.old) (D.printed desk.old)) (take n piece.now)) }
-    ensures nothing { OnErr result (by_channel to (D.written desk.new) (D.printed desk.new) ≡ by_channel to (D.written desk.old) (D.printed desk.old)) }
+    ensures front { IfOk result (λ n. by_channel to (D.written desk.new) (D.printed desk.new)
+        ≡ append_known (by_channel to (D.written desk.old) (D.printed desk.old)) (take n piece.now)) }
+    ensures nothing { OnErr result (by_channel to (D.written desk.new) (D.printed desk.new)
+        ≡ by_channel to (D.written desk.old) (D.printed desk.old)) }
     ensures cause { IfErr result (λ fault. HasOutCause to fault (D.counts desk.old) (D.counts desk.new)) }
     ensures steady { OnOk result (D.counts desk.new ≡ D.counts desk.old) }
     ensures never_fall { NeverFall (D.counts desk.old) (D.counts desk.new) }
     ensures report_files { OnReport to (D.files desk.new ≡ D.files desk.old) }
     ensures report_written { OnReport to (D.written desk.new ≡ D.written desk.old) }
     ensures cert_printed { OnCert to (D.printed desk.new ≡ D.printed desk.old) }
-    ensures others { (other : List ℕ) → D.target desk.old ≢ Some other → file_at (D.files desk.new) other ≡ file_at (D.files desk.old) other }
+    ensures others { (other : List ℕ) → D.target desk.old ≢ Some other
+        → file_at (D.files desk.new) other ≡ file_at (D.files desk.old) other }
     ensures still_told { is_some (D.files desk.new) ≡ is_some (D.files desk.old) }
     ensures rest_stays { D.rest desk.new ≡ D.rest desk.old }
     ensures target_stays { D.target desk.new ≡ D.target desk.old }

@@ -1,5 +1,5 @@
 use Rattle.std.proofs.Common.{◌≡◌, string_bytes}
-use Rattle.hyd_io.proofs.FilesLemmas.{file_bytes-updated}
+use Rattle.hyd_io.proofs.MemoryLemmas.{file_bytes-updated}
 use Rattle.hyd_io.proofs.memory.put_file.Goals as goal
 
 -- the key has the name's bytes, so `insert` set the file of that name

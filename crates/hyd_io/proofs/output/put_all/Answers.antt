@@ -1,10 +1,10 @@
 use Rattle.std.proofs.Common.{rules}
-use Rattle.hyd_io.proofs.MovesLemmas.{moves_further}
+use Rattle.hyd_io.proofs.ToldLemmas.{moves_further}
 use Rattle.hyd_io.proofs.output.put_all.Goals as goal
 
-pub loop-rest-preserved : goal.loop-rest-preserved
-loop-rest-preserved g c = record {
-  moves = moves_further _ _ _ _ _ _ c.loop-rest.invariant.moves c.in_ok-n.ensures.front;
+pub loop-left-preserved : goal.loop-left-preserved
+loop-left-preserved g c = record {
+  moves = moves_further _ _ _ _ _ _ c.loop-left.invariant.moves c.in_ok-n.ensures.front;
   steady = search rules;
   report_files = search rules;
   report_written = search rules;

@@ -4,9 +4,9 @@ use Rattle.hyd_io.specs.Output.{by_channel, OnCert, OnReport}
 use Rattle.hyd_io.proofs.output.put_all.Given as goal
 
 -- a front of the bytes is out, and the desk is else as it was
-abbrev pub invariant-loop-rest : goal.invariant-loop-rest
-invariant-loop-rest g l = record {
-  moves : Moves (by_channel l.to (g.D.Desk.written l.fn.desk) (g.D.Desk.printed l.fn.desk)) (by_channel l.to (g.D.Desk.written l.desk) (g.D.Desk.printed l.desk)) l.bytes l.rest;
+abbrev pub invariant-loop-left : goal.invariant-loop-left
+invariant-loop-left g l = record {
+  moves : Moves (by_channel l.to (g.D.Desk.written l.fn.desk) (g.D.Desk.printed l.fn.desk)) (by_channel l.to (g.D.Desk.written l.desk) (g.D.Desk.printed l.desk)) l.bytes l.left;
   steady : g.D.Desk.counts l.desk ≡ g.D.Desk.counts l.fn.desk;
   report_files : OnReport l.to (g.D.Desk.files l.desk ≡ g.D.Desk.files l.fn.desk);
   report_written : OnReport l.to (g.D.Desk.written l.desk ≡ g.D.Desk.written l.fn.desk);
@@ -18,5 +18,5 @@ invariant-loop-rest g l = record {
   ready_stays : g.D.Desk.ready l.desk ≡ g.D.Desk.ready l.fn.desk;
 }
 
-abbrev pub decreases-loop-rest : goal.decreases-loop-rest
-decreases-loop-rest g l = length l.rest
+abbrev pub decreases-loop-left : goal.decreases-loop-left
+decreases-loop-left g l = length l.left

@@ -1,6 +1,6 @@
 use Rattle.std.proofs.Common.{rules}
 use Rattle.std.proofs.lemmas.Result.{err_from_is_err_and}
-use Rattle.hyd_io.proofs.MovesLemmas.{moves_through, put_out_through}
+use Rattle.hyd_io.proofs.ToldLemmas.{moves_through, put_out_through}
 use Rattle.hyd_io.proofs.output.put_through.Goals as goal
 
 pub returns-in_err-used-clause-prefix : goal.returns-in_err-used-clause-prefix

@@ -1,4 +1,4 @@
-use Rattle.hyd_io.proofs.MovesLemmas.{put_out_nothing}
+use Rattle.hyd_io.proofs.ToldLemmas.{put_out_nothing}
 use Rattle.hyd_io.proofs.output.Pen.put.Goals as goal
 
 pub returns-in-Some-clause-prefix : goal.returns-in-Some-clause-prefix
