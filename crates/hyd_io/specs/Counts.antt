@@ -19,8 +19,8 @@ pub record NeverFall (before now : Faults) : Type 0 where
   pub print : before.print ≤ now.print
   pub stall : before.stall ≤ now.stall
 
--- what the counts say of an error of `read_all`: a fault comes only where the read faults rose,
--- and the others leave all counts as they were
+-- what the counts say of an error of `read_all`: a fault comes only where the read faults rose, and
+-- the others leave all counts as they were
 abbrev pub HasInCause : InFault → Faults → Faults → Type 0
 HasInCause OutOfMemory before now = now ≡ before
 HasInCause ReadFault before now = Rose before.read now.read

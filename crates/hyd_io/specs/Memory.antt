@@ -10,9 +10,9 @@ use Rattle.hyd_io.specs.Counts.{next_count}
 abbrev pub file_bytes : {A B : Type 0} → BTreeMap (String A) (Vec ℕ B) → Files
 file_bytes files name = option_map (λ file. file.items) (get_by_text files name)
 
--- A desk in memory: its files, what is left to read, the name created last, whether it may be written, what was
--- printed, the numbers of the calls that are to fail and of those that are to take nothing, how many calls, writes
--- and prints there were, and the counts of its faults.
+-- A desk in memory: its files, what is left to read, the name created last, whether it may be
+-- written, what was printed, the numbers of the calls that are to fail and of those that are to
+-- take nothing, how many calls, writes and prints there were, and the counts of its faults.
 pub record Memory : Type 0 where
   pub files : Files
   pub unread : List ℕ
@@ -82,7 +82,8 @@ pub record CreatesToo (old : Memory) (failed : Bool) (new : Memory) : Type 0 whe
   pub writes : new.writes ≡ old.writes
   pub prints : new.prints ≡ old.prints
 
--- a call that takes of the piece and doesn't fail takes nothing where it is to starve, else the whole piece
+-- a call that takes of the piece and doesn't fail takes nothing where it is to starve, else the
+-- whole piece
 abbrev pub TakesWhole : Memory → List ℕ → Option ℕ → Type 0
 TakesWhole old piece taken = IfSome taken (λ n. n ≡ (if is_to_starve old then 0 else length piece))
 

@@ -13,8 +13,8 @@ use thiserror::Error;
 #[error("a call on the desk failed")]
 pub struct Failed;
 
-/// How many calls of a desk failed, by kind, and how many took nothing of a nonempty piece. Each count stays at
-/// 2^64 - 1 once it is there.
+/// How many calls of a desk failed, by kind, and how many took nothing of a nonempty piece. Each
+/// count stays at 2^64 - 1 once it is there.
 #[derive(Clone, Copy, Debug, PartialEq, Eq)]
 pub struct Faults {
     /// Calls of `open` and `read` that failed.
@@ -29,8 +29,8 @@ pub struct Faults {
 
 /// A desk: files by name, one of them being read and one being written, and standard output.
 ///
-/// Contracts see what the desk tells of these. A desk on real files tells no bytes, and its clauses on bytes then
-/// claim nothing; its counts, and whether `write` may be called, are always told.
+/// Contracts see what the desk tells of these. A desk on real files tells no bytes, and its clauses
+/// on bytes then claim nothing; its counts, and whether `write` may be called, are always told.
 pub trait Desk {
     // The files by name.
     ghost files: { Self → Option Files };
@@ -48,17 +48,22 @@ pub trait Desk {
     ghost counts: { Self → Faults };
     // Whether a name may be opened, and whether it may be created. No call changes these.
     ghost may_open: { List ℕ → Bool };
+
     ghost may_create: { List ℕ → Bool };
-    // What one kind of desk says besides of a call: of the desk before and after, and whether the call failed.
+    // What one kind of desk says besides of a call: of the desk before and after, and whether the
+    // call failed.
     ghost open_also: { Self → List ℕ → Bool → Self → Type 0 } = { λ _ _ _ _. Unit {0} };
+
     ghost read_also: { Self → Bool → Self → Type 0 } = { λ _ _ _. Unit {0} };
+
     ghost create_also: { Self → Bool → Self → Type 0 } = { λ _ _ _. Unit {0} };
     // Of a write or print also its piece, and how many bytes it took, 0 where it failed.
     ghost write_also: { Self → List ℕ → Option ℕ → Self → Type 0 } = { λ _ _ _ _. Unit {0} };
+
     ghost print_also: { Self → List ℕ → Option ℕ → Self → Type 0 } = { λ _ _ _ _. Unit {0} };
 
-    /// Opens the file of that name: `read` then gives its bytes from the first. Fails only where the read faults
-    /// rose, and then nothing is left to read.
+    /// Opens the file of that name: `read` then gives its bytes from the first. Fails only where
+    /// the read faults rose, and then nothing is left to read.
     fn open(&mut self, name: &str) -> Result<(), Failed>
         requires allowed { IsTrue (may_open name.now) }
         ensures told { OnOk result (rest self.new ≡ file_at (files self.old) name.now) }
@@ -73,12 +78,13 @@ pub trait Desk {
         ensures ready_stays { ready self.new ≡ ready self.old }
         ensures besides { open_also self.old name.now (is_err result) self.new };
 
-    /// Takes the front of what is left to read into the front of `buffer`, and returns how many bytes; 0 means that
-    /// nothing is left. Fails only where the read faults rose.
+    /// Takes the front of what is left to read into the front of `buffer`, and returns how many
+    /// bytes; 0 means that nothing is left. Fails only where the read faults rose.
     fn read(&mut self, buffer: &mut [u8]) -> Result<usize, Failed>
         requires room { 0 < length buffer.old }
         ensures within { IfOk result (λ n. n ≤ length buffer.new) }
-        ensures front { IfOk result (λ n. rest self.old ≡ prepend_known (take n buffer.new) (rest self.new)) }
+        ensures front { IfOk result (λ n.
+            rest self.old ≡ prepend_known (take n buffer.new) (rest self.new)) }
         ensures end { IfOk result (λ n. n ≡ 0 → rest self.old ≡ where_told (rest self.old) []) }
         ensures fault { OnErr result (Rose (counts self.old).read (counts self.new).read) }
         ensures steady { OnOk result (counts self.new ≡ counts self.old) }
@@ -90,8 +96,9 @@ pub trait Desk {
         ensures ready_stays { ready self.new ≡ ready self.old }
         ensures besides { read_also self.old (is_err result) self.new };
 
-    /// Makes an empty file of that name, in place of one that is there, and directs `write` to it. Fails only where
-    /// the write faults rose. After a failed call `write` may not be called, and what was written before stays.
+    /// Makes an empty file of that name, in place of one that is there, and directs `write` to it.
+    /// Fails only where the write faults rose. After a failed call `write` may not be called, and
+    /// what was written before stays.
     fn create(&mut self, name: &str) -> Result<(), Failed>
         requires allowed { IsTrue (may_create name.now) }
         ensures emptied { OnOk result (files self.new ≡ with_empty (files self.old) name.now) }
@@ -101,7 +108,8 @@ pub trait Desk {
         ensures closed { OnErr result (ready self.new ≡ false) }
         ensures target_kept { OnErr result (target self.new ≡ target self.old) }
         ensures written_kept { OnErr result (written self.new ≡ written self.old) }
-        ensures others { (other : List ℕ) → other ≢ name.now → file_at (files self.new) other ≡ file_at (files self.old) other }
+        ensures others { (other : List ℕ) → other ≢ name.now
+            → file_at (files self.new) other ≡ file_at (files self.old) other }
         ensures still_told { is_some (files self.new) ≡ is_some (files self.old) }
         ensures fault { OnErr result (Rose (counts self.old).write (counts self.new).write) }
         ensures steady { OnOk result (counts self.new ≡ counts self.old) }
@@ -110,19 +118,23 @@ pub trait Desk {
         ensures printed_stays { printed self.new ≡ printed self.old }
         ensures besides { create_also self.old (is_err result) self.new };
 
-    /// Appends a front of `piece` to the file created last, and returns its length. It is 0 for a nonempty piece
-    /// only where the stalls rose. Fails only where the write faults rose, and then nothing was appended.
+    /// Appends a front of `piece` to the file created last, and returns its length. It is 0 for a
+    /// nonempty piece only where the stalls rose. Fails only where the write faults rose, and then
+    /// nothing was appended.
     fn write(&mut self, piece: &[u8]) -> Result<usize, Failed>
         requires created { IsTrue (ready self.old) }
         ensures within { IfOk result (λ n. n ≤ length piece.now) }
-        ensures appended { IfOk result (λ n. written self.new ≡ append_known (written self.old) (take n piece.now)) }
+        ensures appended { IfOk result (λ n.
+            written self.new ≡ append_known (written self.old) (take n piece.now)) }
         ensures nothing { OnErr result (written self.new ≡ written self.old) }
         ensures fault { OnErr result (Rose (counts self.old).write (counts self.new).write) }
-        ensures stalled { IfOk result (λ n. n ≡ 0 → piece.now ≢ [] → Rose (counts self.old).stall (counts self.new).stall) }
+        ensures stalled { IfOk result (λ n. n ≡ 0 → piece.now ≢ []
+            → Rose (counts self.old).stall (counts self.new).stall) }
         ensures steady { IfOk result (λ n. 0 < n → counts self.new ≡ counts self.old) }
         ensures idle { OnOk result (piece.now ≡ [] → counts self.new ≡ counts self.old) }
         ensures never_fall { NeverFall (counts self.old) (counts self.new) }
-        ensures others { (other : List ℕ) → target self.old ≢ Some other → file_at (files self.new) other ≡ file_at (files self.old) other }
+        ensures others { (other : List ℕ) → target self.old ≢ Some other
+            → file_at (files self.new) other ≡ file_at (files self.old) other }
         ensures still_told { is_some (files self.new) ≡ is_some (files self.old) }
         ensures rest_stays { rest self.new ≡ rest self.old }
         ensures printed_stays { printed self.new ≡ printed self.old }
@@ -130,14 +142,16 @@ pub trait Desk {
         ensures ready_stays { ready self.new ≡ ready self.old }
         ensures besides { write_also self.old piece.now (result_ok result) self.new };
 
-    /// Prints a front of `piece`, and returns its length. It is 0 for a nonempty piece only where the stalls rose.
-    /// Fails only where the print faults rose, and then nothing was printed.
+    /// Prints a front of `piece`, and returns its length. It is 0 for a nonempty piece only where
+    /// the stalls rose. Fails only where the print faults rose, and then nothing was printed.
     fn print(&mut self, piece: &[u8]) -> Result<usize, Failed>
         ensures within { IfOk result (λ n. n ≤ length piece.now) }
-        ensures appended { IfOk result (λ n. printed self.new ≡ append_known (printed self.old) (take n piece.now)) }
+        ensures appended { IfOk result (λ n.
+            printed self.new ≡ append_known (printed self.old) (take n piece.now)) }
         ensures nothing { OnErr result (printed self.new ≡ printed self.old) }
         ensures fault { OnErr result (Rose (counts self.old).print (counts self.new).print) }
-        ensures stalled { IfOk result (λ n. n ≡ 0 → piece.now ≢ [] → Rose (counts self.old).stall (counts self.new).stall) }
+        ensures stalled { IfOk result (λ n. n ≡ 0 → piece.now ≢ []
+            → Rose (counts self.old).stall (counts self.new).stall) }
         ensures steady { IfOk result (λ n. 0 < n → counts self.new ≡ counts self.old) }
         ensures idle { OnOk result (piece.now ≡ [] → counts self.new ≡ counts self.old) }
         ensures never_fall { NeverFall (counts self.old) (counts self.new) }

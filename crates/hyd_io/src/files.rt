@@ -2,16 +2,15 @@
 
 ghost use Rattle.std.specs.Prelude.{◌≡◌, false, true, None, refl};
 
+use crate::desk::{Desk, Failed, Faults, stalls_after};
 use std::fs;
 use std::io::{Read, Write};
 use std::marker::Model;
 use std::rt::Files;
 
-use crate::desk::{Desk, Failed, Faults, stalls_after};
-
-/// A desk on the files and the standard output of a runtime. It tells no bytes, since no contract can say what a file
-/// holds; contracts see whether a file was created, and how many calls failed or took nothing. Any name may be opened
-/// and created.
+/// A desk on the files and the standard output of a runtime. It tells no bytes, since no contract
+/// can say what a file holds; contracts see whether a file was created, and how many calls failed
+/// or took nothing. Any name may be opened and created.
 #[derive(Drop)]
 pub struct FileDesk<R: Files + Print + Drop> {
     rt: R,

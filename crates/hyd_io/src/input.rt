@@ -5,11 +5,9 @@ ghost use Rattle.hyd_io.specs.Told.{where_told, prepend_known, Took};
 ghost use Rattle.hyd_io.specs.Counts.{Rose, NeverFall, HasInCause};
 ghost use Rattle.hyd_io.specs.declared.input.InFault.TheVariants.{OutOfMemory};
 
-use std::alloc::{AllocError, Global};
-
-use thiserror::Error;
-
 use crate::desk::Desk;
+use std::alloc::{AllocError, Global};
+use thiserror::Error;
 
 /// How many bytes one read asks for at most.
 const BLOCK: usize = 4096;
@@ -42,11 +40,14 @@ impl From<AllocError> for InFault {
 /// - `Fault`: a read failed, and the read faults rose.
 /// - `TooLong`: exactly `limit` + 1 bytes were read, so there are more than `limit`.
 pub fn read_all<D: Desk>(alloc: Global, desk: &mut D, limit: usize) -> Result<Vec<u8>, InFault>
-    ensures whole { IfOk result (λ bytes. D.rest desk.old ≡ where_told (D.rest desk.old) bytes.items) }
+    ensures whole { IfOk result (λ bytes.
+        D.rest desk.old ≡ where_told (D.rest desk.old) bytes.items) }
     ensures end { OnOk result (D.rest desk.new ≡ where_told (D.rest desk.old) []) }
     ensures within { IfOk result (λ bytes. length bytes.items ≤ limit) }
-    ensures too_long { IsErrOf result InFault.TooLong → Took (limit + 1) (D.rest desk.old) (D.rest desk.new) }
-    ensures cause { IfErr result (λ fault. HasInCause fault (D.counts desk.old) (D.counts desk.new)) }
+    ensures too_long { IsErrOf result InFault.TooLong
+        → Took (limit + 1) (D.rest desk.old) (D.rest desk.new) }
+    ensures cause { IfErr result (λ fault.
+        HasInCause fault (D.counts desk.old) (D.counts desk.new)) }
     ensures steady { OnOk result (D.counts desk.new ≡ D.counts desk.old) }
     ensures never_fall { NeverFall (D.counts desk.old) (D.counts desk.new) }
     ensures files_stay { D.files desk.new ≡ D.files desk.old }
@@ -66,15 +67,18 @@ pub fn read_all<D: Desk>(alloc: Global, desk: &mut D, limit: usize) -> Result<Ve
     }
 }
 
-/// Reads into the front of `block`: at most as many bytes as there is room for, 0 at the end. One more is asked
-/// for, since only a read tells whether the input ends.
+/// Reads into the front of `block`: at most as many bytes as there is room for, 0 at the end. One
+/// more is asked for, since only a read tells whether the input ends.
 fn read_block<D: Desk>(desk: &mut D, block: &mut [u8; BLOCK], room: usize) -> Result<usize, InFault>
     ensures within { IfOk result (λ n. n ≤ room) }
     ensures fits { IfOk result (λ n. n ≤ BLOCK) }
-    ensures front { IfOk result (λ n. D.rest desk.old ≡ prepend_known (take n block.new) (D.rest desk.new)) }
+    ensures front { IfOk result (λ n.
+        D.rest desk.old ≡ prepend_known (take n block.new) (D.rest desk.new)) }
     ensures end { IfOk result (λ n. n ≡ 0 → D.rest desk.old ≡ where_told (D.rest desk.old) []) }
-    ensures too_long { IsErrOf result InFault.TooLong → Took (room + 1) (D.rest desk.old) (D.rest desk.new) }
-    ensures cause { IfErr result (λ fault. HasInCause fault (D.counts desk.old) (D.counts desk.new)) }
+    ensures too_long { IsErrOf result InFault.TooLong
+        → Took (room + 1) (D.rest desk.old) (D.rest desk.new) }
+    ensures cause { IfErr result (λ fault.
+        HasInCause fault (D.counts desk.old) (D.counts desk.new)) }
     ensures steady { OnOk result (D.counts desk.new ≡ D.counts desk.old) }
     ensures never_fall { NeverFall (D.counts desk.old) (D.counts desk.new) }
     ensures files_stay { D.files desk.new ≡ D.files desk.old }

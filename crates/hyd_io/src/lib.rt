@@ -1,5 +1,5 @@
-//! The outside: files and standard output as a trait, `Desk`, a desk in memory, a desk on real files, and buffered
-//! reading and writing over any of them.
+//! The outside: files and standard output as a trait, `Desk`, a desk in memory, a desk on real
+//! files, and buffered reading and writing over any of them.
 #![tactic(auto)]
 
 pub mod desk;

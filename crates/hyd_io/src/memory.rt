@@ -6,17 +6,18 @@ ghost use Rattle.hyd_io.specs.Told.{append_known};
 ghost use Rattle.hyd_io.specs.Counts.{next_count};
 ghost use Rattle.hyd_io.specs.Memory.{file_bytes, is_listed, empty_memory};
 
+use crate::desk::{Desk, Failed, Faults, stalls_after};
+use crate::output::gather;
 use std::alloc::{AllocError, Global};
 use std::collections::BTreeMap;
 
-use crate::desk::{Desk, Failed, Faults, stalls_after};
-use crate::output::gather;
-
-/// A desk in memory. Contracts see it as its `memory`: the files, what is left to read, what was printed, and so on.
+/// A desk in memory. Contracts see it as its `memory`: the files, what is left to read, what was
+/// printed, and so on.
 ///
-/// `read` fails exactly where the call is one that is to fail. The other calls fail there, where `open` finds no file
-/// of the name, and for want of memory. A write or print that doesn't fail takes nothing where the call is one that is
-/// to take nothing, else the whole piece. Any name may be opened and created.
+/// `read` fails exactly where the call is one that is to fail. The other calls fail there, where
+/// `open` finds no file of the name, and for want of memory. A write or print that doesn't fail
+/// takes nothing where the call is one that is to take nothing, else the whole piece. Any name may
+/// be opened and created.
 #[derive(Drop)]
 pub struct MemDesk {
     alloc: Global,
@@ -81,14 +82,16 @@ impl MemDesk {
         self.printed.as_slice()
     }
 
-    /// How many writes there were so far, failed ones among them. It stays at 2^64 - 1 once it is there.
+    /// How many writes there were so far, failed ones among them. It stays at 2^64 - 1 once it is
+    /// there.
     pub fn writes(&self) -> u64
         ensures { result ≡ (memory self.now).writes }
     {
         self.writes
     }
 
-    /// How many prints there were so far, failed ones among them. It stays at 2^64 - 1 once it is there.
+    /// How many prints there were so far, failed ones among them. It stays at 2^64 - 1 once it is
+    /// there.
     pub fn prints(&self) -> u64
         ensures { result ≡ (memory self.now).prints }
     {
@@ -97,26 +100,33 @@ impl MemDesk {
 
     /// Adds a file, in place of one of that name, or leaves all as it was.
     pub fn add(&mut self, name: &str, bytes: &[u8]) -> Result<(), AllocError>
-        ensures added { OnOk result (memory self.new ≡ record (memory self.old) { files = update bytes_eq (memory self.old).files name.now (Some bytes.now) }) }
+        ensures added { OnOk result (memory self.new ≡ record (memory self.old) {
+          files = update bytes_eq (memory self.old).files name.now (Some bytes.now);
+        }) }
         ensures err { OnErr result (memory self.new ≡ memory self.old) }
     {
         let bytes = Vec::from_slice(self.alloc, bytes)?;
         put_file(self.alloc, &mut self.files, name, bytes)
     }
 
-    /// Names a call that is to fail, counted from 1 over all calls of the desk, or leaves all as it was.
+    /// Names a call that is to fail, counted from 1 over all calls of the desk, or leaves all as it
+    /// was.
     pub fn fail(&mut self, call: u32) -> Result<(), AllocError>
-        ensures listed { OnOk result (memory self.new ≡ record (memory self.old) { failing = (memory self.old).failing ++ call ∷ [] }) }
+        ensures listed { OnOk result (memory self.new ≡ record (memory self.old) {
+          failing = (memory self.old).failing ++ call ∷ [];
+        }) }
         ensures err { OnErr result (memory self.new ≡ memory self.old) }
     {
         self.failing.push(call)?;
         Ok(())
     }
 
-    /// Names a call that is to take nothing, if it is a write or a print, counted from 1 over all calls of the desk,
-    /// or leaves all as it was.
+    /// Names a call that is to take nothing, if it is a write or a print, counted from 1 over all
+    /// calls of the desk, or leaves all as it was.
     pub fn starve(&mut self, call: u32) -> Result<(), AllocError>
-        ensures listed { OnOk result (memory self.new ≡ record (memory self.old) { starving = (memory self.old).starving ++ call ∷ [] }) }
+        ensures listed { OnOk result (memory self.new ≡ record (memory self.old) {
+          starving = (memory self.old).starving ++ call ∷ [];
+        }) }
         ensures err { OnErr result (memory self.new ≡ memory self.old) }
     {
         self.starving.push(call)?;
@@ -248,8 +258,14 @@ fn taken_of<'a>(starving: &[u32], call: u64, piece: &'a [u8]) -> &'a [u8]
     if lists(starving, call) { &[] } else { piece }
 }
 
-/// A copy of the file's bytes. Fails where the call is to fail, where there is no such file, and for want of memory.
-fn copy_of_file(alloc: Global, files: &BTreeMap<String, Vec<u8>>, name: &str, fails: bool) -> Result<Vec<u8>, Failed>
+/// A copy of the file's bytes. Fails where the call is to fail, where there is no such file, and
+/// for want of memory.
+fn copy_of_file(
+    alloc: Global,
+    files: &BTreeMap<String, Vec<u8>>,
+    name: &str,
+    fails: bool,
+) -> Result<Vec<u8>, Failed>
     ensures bytes { IfOk result (λ bytes. file_bytes files.now name.now ≡ Some bytes.items) }
     ensures fails { fails ≡ true → IsErr result }
     ensures absent { file_bytes files.now name.now ≡ None → IsErr result }
@@ -263,11 +279,17 @@ fn copy_of_file(alloc: Global, files: &BTreeMap<String, Vec<u8>>, name: &str, fa
     }
 }
 
-/// Puts an empty file into the map and gives a copy of its name. Fails where the call is to fail, and for want of
-/// memory, and then leaves the map as it was.
-fn make_empty(alloc: Global, files: &mut BTreeMap<String, Vec<u8>>, name: &str, fails: bool) -> Result<String, Failed>
+/// Puts an empty file into the map and gives a copy of its name. Fails where the call is to fail,
+/// and for want of memory, and then leaves the map as it was.
+fn make_empty(
+    alloc: Global,
+    files: &mut BTreeMap<String, Vec<u8>>,
+    name: &str,
+    fails: bool,
+) -> Result<String, Failed>
     ensures name { IfOk result (λ target. string_bytes target ≡ name.now) }
-    ensures made { OnOk result (file_bytes files.new ≡ update bytes_eq (file_bytes files.old) name.now (Some [])) }
+    ensures made { OnOk result (file_bytes files.new
+        ≡ update bytes_eq (file_bytes files.old) name.now (Some [])) }
     ensures kept { OnErr result (file_bytes files.new ≡ file_bytes files.old) }
     ensures fails { fails ≡ true → IsErr result }
 {
@@ -284,8 +306,14 @@ fn make_empty(alloc: Global, files: &mut BTreeMap<String, Vec<u8>>, name: &str, 
 }
 
 /// Puts a file into the map, in place of one of that name, or leaves the map as it was.
-fn put_file(alloc: Global, files: &mut BTreeMap<String, Vec<u8>>, name: &str, bytes: Vec<u8>) -> Result<(), AllocError>
-    ensures put { OnOk result (file_bytes files.new ≡ update bytes_eq (file_bytes files.old) name.now (Some bytes.items)) }
+fn put_file(
+    alloc: Global,
+    files: &mut BTreeMap<String, Vec<u8>>,
+    name: &str,
+    bytes: Vec<u8>,
+) -> Result<(), AllocError>
+    ensures put { OnOk result (file_bytes files.new
+        ≡ update bytes_eq (file_bytes files.old) name.now (Some bytes.items)) }
     ensures err { OnErr result (file_bytes files.new ≡ file_bytes files.old) }
 {
     let Ok(key) = String::from_str(alloc, name) else {
@@ -297,11 +325,19 @@ fn put_file(alloc: Global, files: &mut BTreeMap<String, Vec<u8>>, name: &str, by
     }
 }
 
-/// Appends to the target's file. Fails where the call is to fail, where there is no such file, and for want of memory,
-/// and then leaves the map as it was.
-fn append(files: &mut BTreeMap<String, Vec<u8>>, target: &Option<String>, bytes: &[u8], fails: bool) -> Result<(), Failed>
-    ensures appended { OnOk result (option_and_then (file_bytes files.new) (option_map string_bytes target.now) ≡ append_known (option_and_then (file_bytes files.old) (option_map string_bytes target.now)) bytes.now) }
-    ensures others { (other : List ℕ) → option_map string_bytes target.now ≢ Some other → file_bytes files.new other ≡ file_bytes files.old other }
+/// Appends to the target's file. Fails where the call is to fail, where there is no such file, and
+/// for want of memory, and then leaves the map as it was.
+fn append(
+    files: &mut BTreeMap<String, Vec<u8>>,
+    target: &Option<String>,
+    bytes: &[u8],
+    fails: bool,
+) -> Result<(), Failed>
+    ensures appended { let name = option_map string_bytes target.now in
+        OnOk result (option_and_then (file_bytes files.new) name
+        ≡ append_known (option_and_then (file_bytes files.old) name) bytes.now) }
+    ensures others { (other : List ℕ) → option_map string_bytes target.now ≢ Some other
+        → file_bytes files.new other ≡ file_bytes files.old other }
     ensures kept { OnErr result (file_bytes files.new ≡ file_bytes files.old) }
     ensures fails { fails ≡ true → IsErr result }
 {
@@ -314,11 +350,13 @@ fn append(files: &mut BTreeMap<String, Vec<u8>>, target: &Option<String>, bytes:
     }
 }
 
-/// Appends to the file of that name. Fails where there is none, and for want of memory, and then leaves the map as it
-/// was.
+/// Appends to the file of that name. Fails where there is none, and for want of memory, and then
+/// leaves the map as it was.
 fn append_to(files: &mut BTreeMap<String, Vec<u8>>, name: &str, bytes: &[u8]) -> Result<(), Failed>
-    ensures appended { OnOk result (file_bytes files.new name.now ≡ append_known (file_bytes files.old name.now) bytes.now) }
-    ensures others { (other : List ℕ) → other ≢ name.now → file_bytes files.new other ≡ file_bytes files.old other }
+    ensures appended { OnOk result (file_bytes files.new name.now
+        ≡ append_known (file_bytes files.old name.now) bytes.now) }
+    ensures others { (other : List ℕ) → other ≢ name.now
+        → file_bytes files.new other ≡ file_bytes files.old other }
     ensures kept { OnErr result (file_bytes files.new ≡ file_bytes files.old) }
 {
     let Some(file) = files.get_mut(name) else {

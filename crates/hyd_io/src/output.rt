@@ -5,11 +5,9 @@ ghost use Rattle.hyd_io.specs.Told.{append_known, file_at, Moves, PutOut};
 ghost use Rattle.hyd_io.specs.Counts.{Rose, NeverFall};
 ghost use Rattle.hyd_io.specs.Output.{by_channel, OnCert, OnReport, HasOutCause, PenState};
 
-use std::marker::Model;
-
-use thiserror::Error;
-
 use crate::desk::Desk;
+use std::marker::Model;
+use thiserror::Error;
 
 /// How many bytes a pen gathers before it writes them.
 const SIZE: usize = 8192;
@@ -67,28 +65,33 @@ impl Pen {
         }
     }
 
-    /// Puts the piece in: a front of what the pen held and of the piece goes out, and the pen holds the rest.
+    /// Puts the piece in: a front of what the pen held and of the piece goes out, and the pen holds
+    /// the rest.
     ///
     /// - `Fault`: a call on the desk failed, and the channel's fault count rose.
     /// - `Stalled`: a call on the desk took nothing, and the stalls rose.
     ///
-    /// After either, what went out is a front of what was put in, and each later call answers the same and makes no
-    /// call on the desk.
+    /// After either, what went out is a front of what was put in, and each later call answers the
+    /// same and makes no call on the desk.
     pub fn put<D: Desk>(&mut self, desk: &mut D, piece: &[u8]) -> Result<(), OutFault>
         requires { OnCert self.old.to (IsTrue (D.ready desk.old)) }
-        ensures moves { OnOk result (Moves (by_channel self.old.to (D.written desk.old) (D.printed desk.old))
+        ensures moves { OnOk result (Moves
+            (by_channel self.old.to (D.written desk.old) (D.printed desk.old))
             (by_channel self.old.to (D.written desk.new) (D.printed desk.new))
             (self.old.held ++ piece.now) self.new.held) }
-        ensures prefix { OnErr result (PutOut (by_channel self.old.to (D.written desk.old) (D.printed desk.old))
+        ensures prefix { OnErr result (PutOut
+            (by_channel self.old.to (D.written desk.old) (D.printed desk.old))
             (by_channel self.old.to (D.written desk.new) (D.printed desk.new))
             (self.old.held ++ piece.now)) }
         ensures to_stays { self.new.to ≡ self.old.to }
         ensures no_fault { OnOk result (self.new.fault ≡ None) }
         ensures keeps_fault { IfErr result (λ fault. self.new.fault ≡ Some fault) }
         ensures again { IfSome self.old.fault (λ fault. result ≡ Err fault) }
-        ensures does_nothing { IsSome self.old.fault → (self.new ≡ self.old) × (desk.new ≡ desk.old) }
+        ensures does_nothing { IsSome self.old.fault
+            → (self.new ≡ self.old) × (desk.new ≡ desk.old) }
         ensures cause { self.old.fault ≡ None
-            → IfErr result (λ fault. HasOutCause self.old.to fault (D.counts desk.old) (D.counts desk.new)) }
+            → IfErr result (λ fault.
+            HasOutCause self.old.to fault (D.counts desk.old) (D.counts desk.new)) }
         ensures steady { OnOk result (D.counts desk.new ≡ D.counts desk.old) }
         ensures never_fall { NeverFall (D.counts desk.old) (D.counts desk.new) }
         ensures report_files { OnReport self.old.to (D.files desk.new ≡ D.files desk.old) }
@@ -120,17 +123,21 @@ impl Pen {
     pub fn flush<D: Desk>(&mut self, desk: &mut D) -> Result<(), OutFault>
         requires { OnCert self.old.to (IsTrue (D.ready desk.old)) }
         ensures whole { OnOk result (by_channel self.old.to (D.written desk.new) (D.printed desk.new)
-            ≡ append_known (by_channel self.old.to (D.written desk.old) (D.printed desk.old)) self.old.held) }
+            ≡ append_known
+            (by_channel self.old.to (D.written desk.old) (D.printed desk.old)) self.old.held) }
         ensures empty { OnOk result (self.new.held ≡ []) }
-        ensures prefix { OnErr result (PutOut (by_channel self.old.to (D.written desk.old) (D.printed desk.old))
+        ensures prefix { OnErr result (PutOut
+            (by_channel self.old.to (D.written desk.old) (D.printed desk.old))
             (by_channel self.old.to (D.written desk.new) (D.printed desk.new)) self.old.held) }
         ensures to_stays { self.new.to ≡ self.old.to }
         ensures no_fault { OnOk result (self.new.fault ≡ None) }
         ensures keeps_fault { IfErr result (λ fault. self.new.fault ≡ Some fault) }
         ensures again { IfSome self.old.fault (λ fault. result ≡ Err fault) }
-        ensures does_nothing { IsSome self.old.fault → (self.new ≡ self.old) × (desk.new ≡ desk.old) }
+        ensures does_nothing { IsSome self.old.fault
+            → (self.new ≡ self.old) × (desk.new ≡ desk.old) }
         ensures cause { self.old.fault ≡ None
-            → IfErr result (λ fault. HasOutCause self.old.to fault (D.counts desk.old) (D.counts desk.new)) }
+            → IfErr result (λ fault.
+            HasOutCause self.old.to fault (D.counts desk.old) (D.counts desk.new)) }
         ensures steady { OnOk result (D.counts desk.new ≡ D.counts desk.old) }
         ensures never_fall { NeverFall (D.counts desk.old) (D.counts desk.new) }
         ensures report_files { OnReport self.old.to (D.files desk.new ≡ D.files desk.old) }
@@ -155,7 +162,8 @@ impl Pen {
     }
 }
 
-/// Puts the piece in through the buffer, of which `used` bytes are held, and returns how many are held then.
+/// Puts the piece in through the buffer, of which `used` bytes are held, and returns how many are
+/// held then.
 fn put_through<D: Desk>(
     to: Channel,
     desk: &mut D,
@@ -171,7 +179,8 @@ fn put_through<D: Desk>(
         (take used buffer.old ++ piece.now) (take left buffer.new)) }
     ensures prefix { OnErr result (PutOut (by_channel to (D.written desk.old) (D.printed desk.old))
         (by_channel to (D.written desk.new) (D.printed desk.new)) (take used buffer.old ++ piece.now)) }
-    ensures cause { IfErr result (λ fault. HasOutCause to fault (D.counts desk.old) (D.counts desk.new)) }
+    ensures cause { IfErr result (λ fault.
+        HasOutCause to fault (D.counts desk.old) (D.counts desk.new)) }
     ensures steady { OnOk result (D.counts desk.new ≡ D.counts desk.old) }
     ensures never_fall { NeverFall (D.counts desk.old) (D.counts desk.new) }
     ensures report_files { OnReport to (D.files desk.new ≡ D.files desk.old) }
@@ -193,7 +202,8 @@ fn put_through<D: Desk>(
     Ok(used)
 }
 
-/// Copies as much of the piece as fits behind the first `used` bytes of the buffer, and returns how much.
+/// Copies as much of the piece as fits behind the first `used` bytes of the buffer, and returns how
+/// much.
 pub(crate) fn gather(buffer: &mut [u8], used: usize, piece: &[u8]) -> usize
     requires { used ≤ length buffer.old }
     ensures fits { result ≡ min (length piece.now) (length buffer.old - used) }
@@ -205,7 +215,12 @@ pub(crate) fn gather(buffer: &mut [u8], used: usize, piece: &[u8]) -> usize
 }
 
 /// Puts the buffer out if `used` is its whole size, and returns how many bytes are held then.
-fn put_when_full<D: Desk>(to: Channel, desk: &mut D, buffer: &[u8; SIZE], used: usize) -> Result<usize, OutFault>
+fn put_when_full<D: Desk>(
+    to: Channel,
+    desk: &mut D,
+    buffer: &[u8; SIZE],
+    used: usize,
+) -> Result<usize, OutFault>
     requires ready { OnCert to (IsTrue (D.ready desk.old)) }
     requires room { used ≤ SIZE }
     ensures within { IfOk result (λ left. left < SIZE) }
@@ -213,7 +228,8 @@ fn put_when_full<D: Desk>(to: Channel, desk: &mut D, buffer: &[u8; SIZE], used: 
         (by_channel to (D.written desk.new) (D.printed desk.new)) (take used buffer.now) (take left buffer.now)) }
     ensures prefix { OnErr result (PutOut (by_channel to (D.written desk.old) (D.printed desk.old))
         (by_channel to (D.written desk.new) (D.printed desk.new)) (take used buffer.now)) }
-    ensures cause { IfErr result (λ fault. HasOutCause to fault (D.counts desk.old) (D.counts desk.new)) }
+    ensures cause { IfErr result (λ fault.
+        HasOutCause to fault (D.counts desk.old) (D.counts desk.new)) }
     ensures steady { OnOk result (D.counts desk.new ≡ D.counts desk.old) }
     ensures never_fall { NeverFall (D.counts desk.old) (D.counts desk.new) }
     ensures report_files { OnReport to (D.files desk.new ≡ D.files desk.old) }
@@ -242,7 +258,8 @@ fn put_all<D: Desk>(to: Channel, desk: &mut D, bytes: &[u8]) -> Result<(), OutFa
         ≡ append_known (by_channel to (D.written desk.old) (D.printed desk.old)) bytes.now) }
     ensures prefix { OnErr result (PutOut (by_channel to (D.written desk.old) (D.printed desk.old))
         (by_channel to (D.written desk.new) (D.printed desk.new)) bytes.now) }
-    ensures cause { IfErr result (λ fault. HasOutCause to fault (D.counts desk.old) (D.counts desk.new)) }
+    ensures cause { IfErr result (λ fault.
+        HasOutCause to fault (D.counts desk.old) (D.counts desk.new)) }
     ensures steady { OnOk result (D.counts desk.new ≡ D.counts desk.old) }
     ensures never_fall { NeverFall (D.counts desk.old) (D.counts desk.new) }
     ensures report_files { OnReport to (D.files desk.new ≡ D.files desk.old) }
@@ -273,7 +290,8 @@ fn put_front<D: Desk>(to: Channel, desk: &mut D, piece: &[u8]) -> Result<usize, 
         ≡ append_known (by_channel to (D.written desk.old) (D.printed desk.old)) (take n piece.now)) }
     ensures nothing { OnErr result (by_channel to (D.written desk.new) (D.printed desk.new)
         ≡ by_channel to (D.written desk.old) (D.printed desk.old)) }
-    ensures cause { IfErr result (λ fault. HasOutCause to fault (D.counts desk.old) (D.counts desk.new)) }
+    ensures cause { IfErr result (λ fault.
+        HasOutCause to fault (D.counts desk.old) (D.counts desk.new)) }
     ensures steady { OnOk result (D.counts desk.new ≡ D.counts desk.old) }
     ensures never_fall { NeverFall (D.counts desk.old) (D.counts desk.new) }
     ensures report_files { OnReport to (D.files desk.new ≡ D.files desk.old) }

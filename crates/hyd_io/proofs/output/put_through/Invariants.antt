@@ -3,7 +3,8 @@ use Rattle.hyd_io.specs.Told.{file_at, Moves}
 use Rattle.hyd_io.specs.Output.{by_channel, OnCert, OnReport}
 use Rattle.hyd_io.proofs.output.put_through.Given as goal
 
--- a front of what was held and of the piece is out, the buffer holds what follows, and the desk is else as it was
+-- a front of what was held and of the piece is out, the buffer holds what follows, and the desk is
+-- else as it was
 abbrev pub invariant-loop-rest : goal.invariant-loop-rest
 invariant-loop-rest g l = record {
   room : l.used < 8192;
