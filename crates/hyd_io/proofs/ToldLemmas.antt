@@ -89,3 +89,35 @@ pub drop-split : (bytes buffer : List ℕ) (at n : ℕ) → n ≤ length bytes -
 drop-split bytes buffer at n le e =
     let front : take n buffer ≡ take n (drop at bytes) = grind (arith, common_steps, e) in
     rw (front, ← drop-drop n at bytes) (sym (take-append-drop n (drop at bytes)))
+
+-- more is put in behind what is held
+pub moves_more : (old new : Option (List ℕ)) (all held more : List ℕ) → Moves old new all held → Moves old new (all ++ more) (held ++ more)
+moves_more old new all held more m = record { front = m.front; whole = ap (λ xs. xs ++ more) m.whole ∙ append_assoc m.front held more; out = m.out }
+
+-- one move after another of what was held
+pub moves_moves : (first second third : Option (List ℕ)) (all held left : List ℕ) → Moves first second all held → Moves second third held left → Moves first third all left
+moves_moves first second third all held left m n = record {
+  front = m.front ++ n.front;
+  whole = m.whole ∙ (ap (λ h. m.front ++ h) n.whole ∙ sym (append_assoc m.front n.front left));
+  out = n.out ∙ (ap (λ o. append_known o n.front) m.out ∙ append_known-append_known first m.front n.front);
+}
+
+-- one piece and then another are put in
+pub moves_then : (first second third : Option (List ℕ)) (all held more left : List ℕ) → Moves first second all held → Moves second third (held ++ more) left → Moves first third (all ++ more) left
+moves_then first second third all held more left m n = moves_moves first second third (all ++ more) (held ++ more) left (moves_more first second all held more m) n
+
+-- one piece is put in, and the next one is cut off
+pub put_out_then : (first second third : Option (List ℕ)) (all held more : List ℕ) → Moves first second all held → PutOut second third (held ++ more) → PutOut first third (all ++ more)
+put_out_then first second third all held more m n = (n.0, moves_then first second third all held more n.0 m n.1)
+
+-- all that is held goes out at last
+pub moves_flush : (first second third : Option (List ℕ)) (all held : List ℕ) → Moves first second all held → third ≡ append_known second held → third ≡ append_known first all
+moves_flush first second third all held m e = moves_whole first third all (moves_moves first second third all held [] m (moves_all second third held e))
+
+-- that is cut off
+pub put_out_flush : (first second third : Option (List ℕ)) (all held : List ℕ) → Moves first second all held → PutOut second third held → PutOut first third all
+put_out_flush first second third all held m n = (n.0, moves_moves first second third all held n.0 m n.1)
+
+-- what would have come after is not put out either
+pub put_out_more : (old new : Option (List ℕ)) (all more : List ℕ) → PutOut old new all → PutOut old new (all ++ more)
+put_out_more old new all more m = (m.0 ++ more, moves_more old new all m.0 more m.1)

@@ -140,3 +140,29 @@ impl<R: Files + Print + Drop> Desk for FileDesk<R> {
         }
     }
 }
+
+#[cfg(test)]
+mod tests {
+    use super::*;
+    use crate::input::read_all;
+    use crate::output::{Channel, Pen};
+    use std::test::Fail;
+
+    #[test]
+    fn keeps_a_file(rt: HostRuntime) -> Result<(), Fail> {
+        let name = "hyd_io_file_desk.tmp";
+        let mut desk = FileDesk::new(rt.clone()?);
+        desk.create(name)?;
+        let mut pen = Pen::new(Channel::Cert);
+        pen.put(&mut desk, b"one line\n")?;
+        pen.flush(&mut desk)?;
+        desk.open(name)?;
+        let bytes = read_all(rt.alloc(), &mut desk, 100)?;
+        fs::remove_file(&rt, name)?;
+        assert_eq!(rt; bytes.as_slice(), b"one line\n".as_slice());
+        assert_eq!(rt; desk.counts.read, 0);
+        assert!(rt; desk.open("hyd_io_no_such_file.tmp").is_err());
+        assert_eq!(rt; desk.counts.read, 1);
+        Ok(())
+    }
+}

@@ -13,3 +13,6 @@ pub use files::FileDesk;
 pub use input::{InFault, read_all};
 pub use memory::MemDesk;
 pub use output::{Channel, OutFault, Pen};
+
+#[cfg(test)]
+mod tests;
