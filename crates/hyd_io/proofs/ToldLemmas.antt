@@ -1,8 +1,8 @@
 -- How moves of bytes from a pen to a desk follow one another.
-use Rattle.std.proofs.Common.{◌≡◌, ℕ, ◌+◌, ◌-◌, ◌≤◌, List, [], ◌∷◌, ◌++◌, length, take, drop, Option, Some, None, refl, sym, ap, ◌∙◌, append_assoc, arith}
+use Rattle.std.proofs.Common.{◌≡◌, ℕ, ◌+◌, ◌-◌, ◌≤◌, List, [], ◌++◌, length, take, drop, Option, Some, None, refl, sym, ap, ◌∙◌, append_assoc, arith}
 use Rattle.std.proofs.lemmas.Grind.{common_steps}
 use Rattle.std.proofs.lemmas.List.{drop-drop, take-append-drop}
-use Rattle.hyd_io.specs.Told.{append_known, prepend_known, where_told, Moves, PutOut, Took, Files, file_at, IsTold}
+use Rattle.hyd_io.specs.Told.{append_known, prepend_known, where_told, Moves, PutOut, Took, Files, IsTold}
 
 -- nothing more after what is out
 pub append_known-nil : (out : Option (List ℕ)) → append_known out [] ≡ out
