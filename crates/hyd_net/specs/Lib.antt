@@ -1,3 +1,4 @@
 pub mod Ids
 pub mod Lending
 pub mod ListView
+pub mod Views

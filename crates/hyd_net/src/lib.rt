@@ -3,6 +3,7 @@
 #![tactic(auto)]
 
 mod cause;
+mod comparison;
 mod controls;
 mod links;
 mod list;
@@ -14,6 +15,7 @@ mod project;
 mod rules;
 
 pub use cause::Cause;
+pub use comparison::same;
 pub use controls::{Control, When};
 pub use links::{Link, LinkKind, LinkState, OpenValve, ShutoffHead};
 pub use list::List;
