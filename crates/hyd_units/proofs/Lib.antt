@@ -1,3 +1,4 @@
 mod Digits
 mod Examples
+mod Rounding
 mod Writing

@@ -11,4 +11,4 @@ pub returns : goal.returns
 returns t c =
     let places : 0 < c.args.places = omega arith in
     Writes-equal _ _ _ _ _ _ (last_digits_front c.args.places c.args.n places)
-      (Writes-append _ _ _ _ _ _ _ _ c.write_last_digits-ones.ensures c.write_byte.ensures)
+    (Writes-append _ _ _ _ _ _ _ _ c.write_last_digits-ones.ensures c.write_byte.ensures)

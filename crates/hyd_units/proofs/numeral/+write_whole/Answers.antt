@@ -21,4 +21,4 @@ write_byte-requires-2 t c =
 pub returns : goal.returns
 returns t c =
     Writes-equal _ _ _ _ _ _ (decimal_front c.args.n c.if-n-lt10.false c.ranges.n.fits)
-      (Writes-append _ _ _ _ _ _ _ _ c.write_whole-ones.ensures c.write_byte-2.ensures)
+    (Writes-append _ _ _ _ _ _ _ _ c.write_whole-ones.ensures c.write_byte-2.ensures)

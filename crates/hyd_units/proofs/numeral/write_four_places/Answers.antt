@@ -18,4 +18,4 @@ pub returns : goal.returns
 unfolding fixed_point
 returns c =
     Writes-append _ _ _ _ _ _ _ _ c.write_whole-point.ensures
-      (Writes-append _ _ _ _ _ _ _ _ c.write_byte-places.ensures c.write_last_digits.ensures)
+    (Writes-append _ _ _ _ _ _ _ _ c.write_byte-places.ensures c.write_last_digits.ensures)
