@@ -31,10 +31,9 @@ pub fn pressure_ticks(v: Decimal, us: bool) -> Span
     ensures ceiling { IsCeiling (pressure_numerator us v.nano) (pos (pressure_denominator us)) result.hi }
 {
     if us {
-        return Span {
-            lo: mul_div_floor(30_480_000, v.nano, 4_333),
-            hi: mul_div_ceil(30_480_000, v.nano, 4_333),
-        };
+        let lo = mul_div_floor(30_480_000, v.nano, 4_333);
+        let hi = mul_div_ceil(30_480_000, v.nano, 4_333);
+        return Span { lo, hi };
     }
     let ticks = v.nano * 10_000;
     Span {
