@@ -1,0 +1,11 @@
+pub mod Fraction
+pub mod Scaled
+pub mod Pairs
+pub mod Numeral
+pub mod Quantity
+pub mod Chain
+pub mod Integers
+pub mod Cut
+pub mod Roots
+pub mod Decimals
+pub mod Rational
