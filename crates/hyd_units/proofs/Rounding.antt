@@ -1,10 +1,8 @@
 -- What a flow in ticks, divided by the ticks in a ten-thousandth of a unit, says of the flow in units.
 use Rattle.std.proofs.Common.{◌≡◌, ℕ, ◌*◌, ◌^◌, ℤ, pos, ◌*ℤ◌, ◌≤ℤ◌, arith}
 use Rattle.std.proofs.lemmas.Int.{ints}
-use Rattle.hyd_num.specs.Roots.{IsFloor, IsCeiling}
 use Rattle.hyd_units.specs.declared.printing.Way.{Way}
 use Rattle.hyd_units.specs.declared.printing.Way.TheVariants.{Down, Up}
-use Rattle.hyd_units.specs.Decimals.{SignedFraction}
 use Rattle.hyd_units.specs.Rounding.{IsWhole, IsRounded}
 
 crossed : (d : ℕ) (k : ℤ) → k *ℤ pos (10 ^ 7 * d) ≡ pos (10 ^ 4) *ℤ (k *ℤ pos (1000 * d))

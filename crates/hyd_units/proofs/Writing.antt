@@ -1,5 +1,5 @@
 -- One text written after another.
-use Rattle.std.proofs.Common.{◌≡◌, ℕ, ◌+◌, ◌-◌, ◌≤◌, List, ◌++◌, length, take, drop, ap, ◌∙◌, sym, arith, append_assoc, length-append, subst}
+use Rattle.std.proofs.Common.{◌≡◌, ℕ, ◌+◌, ◌-◌, ◌≤◌, List, ◌++◌, drop, ap, ◌∙◌, arith, append_assoc, length-append, subst}
 use Rattle.std.proofs.lemmas.List.{drop-drop}
 use Rattle.hyd_units.specs.Writing.{Writes}
 

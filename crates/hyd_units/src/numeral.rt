@@ -1,7 +1,7 @@
 // The decimal text of a number of ten-thousandths, in a buffer of the caller's.
 ghost use Rattle.std.specs.Fmt.{decimal, sign_text};
 ghost use Rattle.std.specs.Prelude.{◌≡◌, ◌+◌, ◌<◌, ◌≤◌, ◌^◌, ◌∷◌, [], length};
-ghost use Rattle.hyd_units.specs.Decimals.{decimal_text, fixed_point, last_digits};
+ghost use Rattle.hyd_num.specs.Decimals.{decimal_text, fixed_point, last_digits};
 ghost use Rattle.hyd_units.specs.Writing.{Writes};
 
 /// The length of a buffer that takes each decimal: a sign, 39 digits and a point are 41 bytes.

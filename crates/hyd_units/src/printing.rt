@@ -1,5 +1,5 @@
 // From ticks to decimals of the file's units.
-ghost use Rattle.hyd_units.specs.Decimals.{flow_quantity, head_quantity, pressure_quantity};
+ghost use Rattle.hyd_num.specs.Decimals.{flow_quantity, head_quantity, pressure_quantity};
 ghost use Rattle.hyd_units.specs.Rounding.{IsDecimalOf, IsRounded, IsWhole};
 ghost use Rattle.std.specs.Prelude.{◌≡◌, ◌≤◌, ◌<◌, ◌^◌, drop, take, unsigned_abs, pos, ◌*ℤ◌, ◌*◌};
 

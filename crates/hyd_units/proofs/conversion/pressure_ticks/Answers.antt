@@ -1,4 +1,4 @@
-use Rattle.std.proofs.Common.{FitsSigned, ◌≤ℤ◌, ◌<◌, ◌*◌, ◌^◌, pos, arith, unsigned_abs}
+use Rattle.std.proofs.Common.{FitsSigned, arith}
 use Rattle.std.specs.Int.{w128}
 use Rattle.std.proofs.lemmas.Int.{to_z-of_z, ints, fits_signed_from_abs}
 use Rattle.hyd_units.proofs.conversion.pressure_ticks.Goals as goal

@@ -1,6 +1,5 @@
-use Rattle.std.proofs.Common.{◌≡◌, ◌+◌, ◌<◌, ◌≤◌, ◌/◌, length, ap, sym, arith}
+use Rattle.std.proofs.Common.{length, ap, sym, arith}
 use Rattle.std.proofs.lemmas.Fmt.{decimal_digit}
-use Rattle.std.specs.Fmt.{decimal}
 use Rattle.hyd_units.proofs.Digits.{decimal_front, length-decimal_front}
 use Rattle.hyd_units.proofs.Writing.{Writes-append, Writes-equal}
 use Rattle.hyd_units.proofs.numeral.+write_whole.Goals as goal

@@ -1,4 +1,4 @@
-use Rattle.std.proofs.Common.{◌≡◌, ◌+◌, ◌<◌, ◌≤◌, length, arith}
+use Rattle.std.proofs.Common.{◌+◌, ◌≤◌, arith}
 use Rattle.hyd_units.proofs.Digits.{short_four_places, short_sign}
 use Rattle.hyd_units.proofs.numeral.write_decimal.Goals as goal
 

@@ -1,5 +1,5 @@
-use Rattle.std.proofs.Common.{◌≡◌, ◌+◌, ◌<◌, ◌≤◌, ◌/◌, length, sym, arith}
-use Rattle.hyd_units.specs.Decimals.{fixed_point}
+use Rattle.std.proofs.Common.{arith}
+use Rattle.hyd_num.specs.Decimals.{fixed_point}
 use Rattle.hyd_units.proofs.Digits.{length-four_places}
 use Rattle.hyd_units.proofs.Writing.{Writes-append}
 use Rattle.hyd_units.proofs.numeral.write_four_places.Goals as goal
