@@ -12,4 +12,5 @@ mod printing;
 mod tests;
 
 pub use conversion::{flow_ticks, head_ticks, pressure_ticks};
+pub use numeral::BUFFER_SIZE;
 pub use printing::{Way, print_flow, print_head, print_pressure};

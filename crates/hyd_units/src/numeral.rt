@@ -4,8 +4,8 @@ ghost use Rattle.std.specs.Prelude.{◌≡◌, ◌+◌, ◌<◌, ◌≤◌, ◌^
 ghost use Rattle.hyd_num.specs.Decimals.{decimal_text, fixed_point, last_digits};
 ghost use Rattle.hyd_units.specs.Writing.{Writes};
 
-/// The length of a buffer that takes each decimal: a sign, 39 digits and a point are 41 bytes.
-pub const BUFFER: usize = 48;
+/// The size of a buffer that takes each decimal: a sign, 39 digits and a point are 41 bytes.
+pub const BUFFER_SIZE: usize = 48;
 
 // Each `write_` function writes from `at` on, and returns where its text ends.
 
@@ -59,7 +59,7 @@ fn write_four_places(n: u128, out: &mut [u8], at: usize) -> usize
 }
 
 /// Writes a number of ten-thousandths at the front, and returns the length of the text.
-pub fn write_decimal(count: i128, out: &mut [u8; BUFFER]) -> usize
+pub fn write_decimal(count: i128, out: &mut [u8; BUFFER_SIZE]) -> usize
     ensures { Writes out.old out.new 0 result (decimal_text count) }
 {
     let start = write_sign(count < 0, out, 0);

@@ -3,7 +3,7 @@ ghost use Rattle.hyd_num.specs.Decimals.{flow_quantity, head_quantity, pressure_
 ghost use Rattle.hyd_units.specs.Rounding.{IsDecimalOf, IsRounded, IsWhole};
 ghost use Rattle.std.specs.Prelude.{◌≡◌, ◌≤◌, ◌<◌, ◌^◌, drop, take, unsigned_abs, pos, ◌*ℤ◌, ◌*◌};
 
-use crate::numeral::{BUFFER, write_decimal};
+use crate::numeral::{BUFFER_SIZE, write_decimal};
 use hyd_num::{FlowUnit, mul_div_ceil, mul_div_floor};
 
 const TICKS_PER_METRE: u64 = 10_000_000_000_000;
@@ -19,34 +19,34 @@ pub enum Way {
     Up,
 }
 
-/// Prints a head or a level with four decimals at the front of the buffer, in feet where `us` says
-/// so, else in metres. The length of the text is returned.
-pub fn print_head(ticks: i128, us: bool, way: Way, out: &mut [u8; BUFFER]) -> usize
+/// Prints a head or a level of at most 10^27 head ticks in magnitude with four decimals, in feet
+/// where `us` says so, else in metres. The text stands at the front of the buffer, whose rest stays
+/// as it was, and its length is returned.
+pub fn print_head(ticks: i128, us: bool, way: Way, out: &mut [u8; BUFFER_SIZE]) -> usize
     requires { unsigned_abs ticks ≤ 10 ^ 27 }
     ensures text { IsDecimalOf way (head_quantity us ticks) (take result out.new) }
-    ensures within { result ≤ 48 }
+    ensures within { result ≤ BUFFER_SIZE }
     ensures rest { drop result out.new ≡ drop result out.old }
 {
     write_decimal(head_decimal(ticks, us, way), out)
 }
 
-/// Prints a pressure, given as a height of water, with four decimals at the front of the buffer, in
-/// pounds a square inch where `us` says so, else in metres. The length of the text is returned.
-pub fn print_pressure(ticks: i128, us: bool, way: Way, out: &mut [u8; BUFFER]) -> usize
+/// Prints a pressure, given as a height of water in head ticks, as [`print_head`] does, but in pounds
+/// a square inch where `us` says so. A foot of water is 0.4333 of them.
+pub fn print_pressure(ticks: i128, us: bool, way: Way, out: &mut [u8; BUFFER_SIZE]) -> usize
     requires { unsigned_abs ticks ≤ 10 ^ 27 }
     ensures text { IsDecimalOf way (pressure_quantity us ticks) (take result out.new) }
-    ensures within { result ≤ 48 }
+    ensures within { result ≤ BUFFER_SIZE }
     ensures rest { drop result out.new ≡ drop result out.old }
 {
     write_decimal(pressure_decimal(ticks, us, way), out)
 }
 
-/// Prints a flow in its unit with four decimals at the front of the buffer. The length of the text
-/// is returned.
-pub fn print_flow(ticks: i128, unit: FlowUnit, way: Way, out: &mut [u8; BUFFER]) -> usize
+/// Prints a flow of at most 10^27 flow ticks in magnitude in its unit, as [`print_head`] does.
+pub fn print_flow(ticks: i128, unit: FlowUnit, way: Way, out: &mut [u8; BUFFER_SIZE]) -> usize
     requires { unsigned_abs ticks ≤ 10 ^ 27 }
     ensures text { IsDecimalOf way (flow_quantity unit ticks) (take result out.new) }
-    ensures within { result ≤ 48 }
+    ensures within { result ≤ BUFFER_SIZE }
     ensures rest { drop result out.new ≡ drop result out.old }
 {
     write_decimal(flow_decimal(ticks, unit, way), out)

@@ -138,7 +138,7 @@ fn heads_and_pressures_are_printed_outward(rt: HostRuntime) {
     for row in rows {
         let ticks = row.ticks;
         assert!(rt; ticks.unsigned_abs() <= 1_000_000_000_000_000_000_000_000_000);
-        let mut out = [b'x'; 48];
+        let mut out = [b'x'; BUFFER_SIZE];
         let length = print_head(ticks, false, row.way, &mut out);
         assert_eq!(rt; &out[..length], row.metres.as_bytes());
         let length = print_head(ticks, true, row.way, &mut out);
@@ -277,7 +277,7 @@ fn flows_are_printed_outward(rt: HostRuntime) {
     for row in rows {
         let ticks = row.ticks;
         assert!(rt; ticks.unsigned_abs() <= 1_000_000_000_000_000_000_000_000_000);
-        let mut out = [b'x'; 48];
+        let mut out = [b'x'; BUFFER_SIZE];
         let length = print_flow(ticks, row.unit, row.way, &mut out);
         assert_eq!(rt; &out[..length], row.text.as_bytes());
     }
