@@ -1,6 +1,6 @@
 -- Rounding to binary numbers, by a number below and whether something was lost.
 use Rattle.std.specs.Prelude.{◌≡◌, ℕ, ◌+◌, ◌*◌, ◌^◌, ◌<◌, ◌≤◌, ◌/◌, ◌%◌, nat_eq, Bool, true, false}
-use borrow.Author.Differences.{up, down}
+use borrow.Author.Differences.{up}
 use Rattle.hyd_num.specs.declared.binary.Scaled.{Scaled}
 use Rattle.hyd_num.specs.Scaled.{numerator, denominator}
 

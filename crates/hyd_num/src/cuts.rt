@@ -17,9 +17,13 @@ pub struct Cut {
 
 // Mantissas lie from 2^62 to below 2^63, and products of two below 2^126.
 const LEAST: u64 = 0x4000_0000_0000_0000;
+
 const END: u64 = 0x8000_0000_0000_0000;
+
 const TWO_TO_62: u128 = 0x4000_0000_0000_0000;
+
 const TWO_TO_63: u128 = 0x8000_0000_0000_0000;
+
 const TWO_TO_125: u128 = 0x2000_0000_0000_0000_0000_0000_0000_0000;
 
 /// The binary number of this mantissa and exponent.
@@ -40,7 +44,10 @@ pub fn cut_at(mant: u64, exp: i32, exact: bool) -> Cut
     ensures exponent { result.down.exp ≡ exp }
     ensures exactness { result.exact ≡ exact }
 {
-    Cut { down: scaled(mant, exp), exact }
+    Cut {
+        down: scaled(mant, exp),
+        exact,
+    }
 }
 
 /// The next greater number.

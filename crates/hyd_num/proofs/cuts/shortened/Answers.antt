@@ -1,4 +1,4 @@
-use Rattle.std.proofs.Common.{◌≤◌, ◌<◌, ◌/◌, ◌^◌, ◌-◌, Fits, w64, arith, Fits-le}
+use Rattle.std.proofs.Common.{◌≤◌, ◌<◌, ◌/◌, ◌^◌, ◌-◌, arith}
 use Rattle.hyd_num.proofs.Rounding.{log_least, first_digits}
 use Rattle.hyd_num.proofs.cuts.shortened.Goals as goal
 
