@@ -1,0 +1,6 @@
+mod Digits
+pub mod DecimalLaws
+mod Examples
+mod Rounding
+pub mod Wholes
+mod Writing
