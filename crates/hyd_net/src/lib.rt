@@ -1,0 +1,28 @@
+//! The network as an input file gives it: its nodes, links, patterns, controls and rules, with all
+//! quantities as whole numbers of ticks, and the two containers that hold them.
+#![tactic(auto)]
+
+mod cause;
+mod controls;
+mod links;
+mod list;
+mod names;
+mod nodes;
+mod options;
+mod patterns;
+mod project;
+mod rules;
+
+pub use cause::Cause;
+pub use controls::{Control, When};
+pub use links::{Link, LinkKind, LinkState, OpenValve, ShutoffHead};
+pub use list::List;
+pub use names::Names;
+pub use nodes::{Demand, Junction, Reservoir, Tank};
+pub use options::{Options, Times};
+pub use patterns::Pattern;
+pub use project::Project;
+pub use rules::{Action, Clause, Joined, Relation, Rule, RuleClause, Value, What};
+
+/// The error of a call that found no memory.
+pub use std::alloc::AllocError as OutOfMemory;

@@ -1,0 +1,75 @@
+//! `Names`, the table of the IDs of nodes or of links.
+ghost use Rattle.std.specs.Prelude.{◌≡◌, ◌+◌, ◌^◌, ◌<◌, ◌↔◌, [], ◌∷◌, ◌++◌, length, position, slice_get, if◌then◌else◌, Contains, IsSome, IfSome, IfOk, OnErr, false};
+ghost use Rattle.std.specs.Str.{bytes_eq};
+ghost use Rattle.hyd_net.specs.Ids.{AreDistinct};
+
+use indexmap::IndexSet;
+use std::alloc::{AllocError as OutOfMemory, Global};
+use std::marker::Model;
+
+/// The IDs of nodes or of links in the order of their numbers, each only once. Contracts see the
+/// list of the IDs' bytes: the ID of number i stands at position i.
+#[derive(Drop)]
+pub struct Names {
+    alloc: Global,
+    ids: IndexSet<Vec<u8>>,
+}
+
+impl Model for Names {
+    ghost use Rattle.std.specs.Prelude.{ℕ, List, map};
+    ghost use Rattle.hyd_net.specs.Ids.{IsTable};
+
+    ghost Value = { List (List ℕ) };
+
+    ghost view = { λ n. map (λ id. id.items) n.ids.keys };
+
+    ghost invariant = { λ n. IsTable (map (λ id. id.items) n.ids.keys) };
+}
+
+impl Names {
+    /// The empty table. It takes no memory.
+    pub fn new(alloc: Global) -> Names
+        ensures empty { result ≡ [] }
+    {
+        Names {
+            alloc,
+            ids: IndexSet::new(alloc),
+        }
+    }
+
+    /// Gives an ID that isn't there the next number, and answers whether it wasn't there.
+    pub fn add(&mut self, id: &[u8]) -> Result<bool, OutOfMemory>
+        requires { length self.old < 2 ^ 31 }
+        ensures present { IfOk result (λ added. (added ≡ false) ↔ Contains self.old id.now) }
+        ensures absent_at_err { OnErr result (¬ Contains self.old id.now) }
+
+        ensures names { IfOk result (λ added. self.new ≡ (if added then self.old ++ id.now ∷ [] else self.old)) }
+        ensures err { OnErr result (self.new ≡ self.old) }
+        ensures distinct { AreDistinct self.new }
+    {
+        if self.ids.contains(id) {
+            return Ok(false);
+        }
+        let owned = Vec::from_slice(self.alloc, id)?;
+        self.ids.insert(owned)?;
+        Ok(true)
+    }
+
+    /// The number of an ID, if it is there.
+    pub fn number(&self, id: &[u8]) -> Option<u32>
+        ensures found { IsSome result ↔ Contains self.now id.now }
+        ensures place { IfSome result (λ number. slice_get self.now number ≡ Some id.now) }
+        ensures value { result ≡ position (bytes_eq id.now) self.now }
+    {
+        let number = self.ids.get_index_of(id)?;
+        Some(number as u32)
+    }
+
+    /// The ID of a number.
+    pub fn id(&self, number: u32) -> &[u8]
+        requires { number < length self.now }
+        ensures { slice_get self.now number ≡ Some result.now }
+    {
+        self.ids.as_slice()[number as usize].as_slice()
+    }
+}
