@@ -2,5 +2,16 @@ pub mod Types
 pub mod Lists
 pub mod Rational
 pub mod Scale
+pub mod Network
+pub mod Quantity
 pub mod Loss
 pub mod Law
+pub mod LinkLaw
+pub mod Outflow
+pub mod Assignment
+pub mod Tank
+pub mod Start
+pub mod Rules
+pub mod Length
+pub mod History
+pub mod Enclosure
