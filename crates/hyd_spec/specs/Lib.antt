@@ -15,3 +15,15 @@ pub mod Rules
 pub mod Length
 pub mod History
 pub mod Enclosure
+pub mod Interval
+pub mod Enclosing
+pub mod Grid
+pub mod Surplus
+pub mod Certificate
+pub mod Boxes
+pub mod Levels
+pub mod Truth
+pub mod Record
+pub mod Decided
+pub mod Valid
+pub mod Narrow
