@@ -1,7 +1,7 @@
 -- Certificates: vectors of heads that lie above, or below, the heads of every assignment; and raises, which
 -- lead to the tight ones.
 -- Source: Ortega and Rheinboldt 1970 (supersolutions and subsolutions), made strict by a margin.
-use Rattle.std.specs.Prelude.{◌≡◌, ℕ, zero, suc, ◌+◌, ◌^◌, ℤ, pos, neg_ℤ, ◌+ℤ◌, ◌≤ℤ◌, List, [], ◌∷◌, length, All, slice_set, slice_index_or, Option, Some, slice_get}
+use Rattle.std.specs.Prelude.{◌≡◌, ℕ, suc, ◌^◌, ℤ, pos, neg_ℤ, ◌+ℤ◌, ◌≤ℤ◌, List, length, All, slice_set}
 use Rattle.hyd_spec.specs.Types.{Problem, Side, Upper, Lower}
 use Rattle.hyd_spec.specs.Lists.{Each}
 use Rattle.hyd_spec.specs.Assignment.{head_at}

@@ -1,12 +1,11 @@
 -- Decided matters: what certificates leave no doubt about. A matter is decided where it has one answer for all
 -- points of the intervals.
-use Rattle.std.specs.Prelude.{◌≡◌, ◌≢◌, ℕ, suc, ◌+◌, ◌-◌, ◌%◌, ◌<◌, ◌≤◌, ℤ, pos, neg_ℤ, ◌+ℤ◌, Bool, true, false, ◌&&◌, not, IsTrue, IsFalse, ◌⊎◌, List, [], ◌∷◌, ◌++◌, Option, Some, None, map, slice_get, slice_index_or, if◌then◌else◌, int_le, unsigned_abs, ◌==◌, Contains, position}
+use Rattle.std.specs.Prelude.{◌≡◌, ◌≢◌, ℕ, suc, ◌+◌, ◌%◌, ◌<◌, ◌≤◌, ℤ, pos, neg_ℤ, Bool, true, false, IsTrue, IsFalse, ◌⊎◌, List, [], ◌∷◌, ◌++◌, Option, Some, None, map, slice_get, slice_index_or, if◌then◌else◌, int_le, unsigned_abs, Contains, position}
 use Rattle.std.specs.Int.{int_max}
-use Rattle.std.specs.List.{list_any, list_all, filter_map}
-use Rattle.std.specs.Option.{option_map_or}
-use Rattle.hyd_spec.specs.Types.{Project, Tank, TankState, Full, Empty, Link, LinkState, Control, When, AtLevel, AtTime, AtClock, Rule, RuleClause, Clause, What, Problem, Main, Pinned, Side, Upper, Lower}
-use Rattle.hyd_spec.specs.Lists.{Each, map_from, joined, present}
-use Rattle.hyd_spec.specs.Rational.{Rational, whole}
+use Rattle.std.specs.List.{list_any}
+use Rattle.hyd_spec.specs.Types.{Project, Tank, TankState, LinkState, Control, When, AtLevel, Rule, RuleClause, Clause, Main, Upper, Lower}
+use Rattle.hyd_spec.specs.Lists.{map_from, present}
+use Rattle.hyd_num.specs.Rational.{Rational, whole}
 use Rattle.hyd_spec.specs.Interval.{Interval, exactly}
 use Rattle.hyd_spec.specs.Network.{tank_node}
 use Rattle.hyd_spec.specs.Tank.{reaches}
@@ -14,11 +13,11 @@ use Rattle.hyd_spec.specs.LinkLaw.{is_full, is_empty}
 use Rattle.hyd_spec.specs.Start.{started}
 use Rattle.hyd_spec.specs.Rules.{Readings, Change, clause_holds, groups_of, rule_changes, measured}
 use Rattle.hyd_spec.specs.Length.{IsLeast, EndsByClock}
-use Rattle.hyd_spec.specs.Grid.{Grid, GridLink, all_heads}
+use Rattle.hyd_spec.specs.Grid.{Grid, all_heads}
 use Rattle.hyd_spec.specs.Boxes.{flow_box, inflow_box}
 use Rattle.hyd_spec.specs.Record.{Record, Standing}
-use Rattle.hyd_spec.specs.Levels.{carried_levels, next_levels, state_of, may_reach, must_reach}
-use Rattle.hyd_spec.specs.Truth.{Truth, Yes, No, Unknown, at_both_ends, is_yes, is_unknown, some_holds, all_hold}
+use Rattle.hyd_spec.specs.Levels.{carried_levels, may_reach, must_reach}
+use Rattle.hyd_spec.specs.Truth.{Truth, at_both_ends, is_yes, is_unknown, some_holds, all_hold}
 
 -- ---- intervals of a period
 
@@ -74,8 +73,8 @@ tank_watches k [] states = []
 tank_watches k (tank ∷ tanks) [] = []
 tank_watches k (tank ∷ tanks) (state ∷ states) =
     (if is_full state then [] else record { tank = k; target = tank.maximum; rising = true } ∷ [])
-      ++ ((if is_empty state then [] else record { tank = k; target = tank.minimum; rising = false } ∷ [])
-      ++ tank_watches (suc k) tanks states)
+    ++ ((if is_empty state then [] else record { tank = k; target = tank.minimum; rising = false } ∷ [])
+    ++ tank_watches (suc k) tanks states)
 
 -- A level control that doesn't hold at the start.
 abbrev pub watch_of : List Interval → Control → Option Watch
@@ -90,7 +89,7 @@ watch_of levels control = by_when control.when
 abbrev pub watches : Project → Standing → List Watch
 watches network standing =
     tank_watches 0 network.tanks.list standing.tanks
-      ++ present (map (watch_of standing.levels) network.controls.list)
+    ++ present (map (watch_of standing.levels) network.controls.list)
 
 -- A watched level may, or must, have reached its target some seconds after the start.
 pub record SomeMayReach (network : Project) (grid : Grid) (standing : Standing) (row : Record) (seconds : ℕ) : Type 0 where
@@ -140,27 +139,27 @@ carried_at network grid standing row seconds =
 
 -- What the rules look at, from below and from above.
 abbrev pub readings_below : Project → Grid → Standing → Record → ℕ → Readings
-readings_below network grid standing row seconds = record
-  { heads = heads_below grid row
-  ; levels = map (λ level. whole level.lo) (carried_at network grid standing row seconds)
-  ; flows = map least_magnitude (flow_boxes grid row)
-  ; links = links_at network standing
-  }
+readings_below network grid standing row seconds = record {
+  heads = heads_below grid row;
+  levels = map (λ level. whole level.lo) (carried_at network grid standing row seconds);
+  flows = map least_magnitude (flow_boxes grid row);
+  links = links_at network standing;
+}
 
 abbrev pub readings_above : Project → Grid → Standing → Record → ℕ → Readings
-readings_above network grid standing row seconds = record
-  { heads = heads_above grid row
-  ; levels = map (λ level. whole level.hi) (carried_at network grid standing row seconds)
-  ; flows = map greatest_magnitude (flow_boxes grid row)
-  ; links = links_at network standing
-  }
+readings_above network grid standing row seconds = record {
+  heads = heads_above grid row;
+  levels = map (λ level. whole level.hi) (carried_at network grid standing row seconds);
+  flows = map greatest_magnitude (flow_boxes grid row);
+  links = links_at network standing;
+}
 
 -- A clause at an instant, `seconds` after the start. Comparisons go one way, so that both ends decide.
 abbrev pub clause_truth : Project → Grid → Standing → Record → ℕ → Clause → Truth
 clause_truth network grid standing row seconds clause =
     at_both_ends
-      (clause_holds network 1 (standing.time + seconds) (readings_below network grid standing row seconds) clause)
-      (clause_holds network 1 (standing.time + seconds) (readings_above network grid standing row seconds) clause)
+    (clause_holds network 1 (standing.time + seconds) (readings_below network grid standing row seconds) clause)
+    (clause_holds network 1 (standing.time + seconds) (readings_above network grid standing row seconds) clause)
 
 abbrev pub rule_truth : Project → Grid → Standing → Record → ℕ → Rule → Truth
 rule_truth network grid standing row seconds rule =

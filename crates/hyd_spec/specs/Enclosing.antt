@@ -1,11 +1,11 @@
 -- Enclosing functions: for each law, a whole number of flow ticks below and one above the exact
 -- flow at a head difference of a whole number of head ticks. Both never fall as the difference rises.
-use Rattle.std.specs.Prelude.{ℕ, zero, suc, ◌*◌, ◌^◌, ℤ, pos, negsuc, neg_ℤ, ◌+ℤ◌, ◌-ℤ◌, ◌*ℤ◌, Bool, nat_le, int_le, ◌==◌, ◌+◌, if◌then◌else◌, Option, Some, None}
+use Rattle.std.specs.Prelude.{ℕ, zero, suc, ◌*◌, ◌^◌, ℤ, pos, negsuc, neg_ℤ, ◌+ℤ◌, ◌-ℤ◌, ◌*ℤ◌, nat_le, int_le, ◌==◌, ◌+◌, if◌then◌else◌, Option}
 use Rattle.std.specs.Int.{int_max, int_min}
 use Rattle.std.specs.Option.{option_map_or}
 use Rattle.hyd_num.specs.Scaled.{numerator, denominator}
 use Rattle.hyd_spec.specs.Types.{Capacity}
-use Rattle.hyd_spec.specs.Rational.{Rational, floor, ceiling}
+use Rattle.hyd_num.specs.Rational.{Rational, floor, ceiling}
 use Rattle.hyd_spec.specs.Law.{Law, Shut, Quad, Straight, Lifted, ForwardOnly, ReverseOnly, Capped}
 
 -- ---- roots

@@ -1,11 +1,10 @@
 -- The network of one period as certificates see it: laws of links and outflows, the heads of
 -- reservoirs, and an interval for each tank's head. Heads are in head ticks.
-use Rattle.std.specs.Prelude.{◌≡◌, ℕ, suc, ◌+◌, ℤ, pos, ◌+ℤ◌, Bool, List, [], ◌∷◌, ◌++◌, map, Option, MatchBool, ◌==◌, if◌then◌else◌}
+use Rattle.std.specs.Prelude.{◌≡◌, ℕ, ℤ, List, [], ◌∷◌, ◌++◌, map, Option, MatchBool, ◌==◌, if◌then◌else◌}
 use Rattle.std.specs.List.{AllZip}
 use Rattle.hyd_num.specs.Chain.{IsMade}
 use Rattle.hyd_spec.specs.Types.{Project, Junction, Link, LinkState, Tank, TankState, Capacity, PressureDemand, Problem, Main, Pinned, Side, Upper, Lower}
 use Rattle.hyd_spec.specs.Lists.{map_from}
-use Rattle.hyd_spec.specs.Rational.{Rational}
 use Rattle.hyd_spec.specs.Interval.{Interval, shifted}
 use Rattle.hyd_spec.specs.Quantity.{is_us, demand_of, reservoir_head, minimum_pressure, required_pressure}
 use Rattle.hyd_spec.specs.Law.{Law}
@@ -52,7 +51,7 @@ grid_links network tanks [] states = []
 grid_links network tanks (link ∷ links) [] = []
 grid_links network tanks (link ∷ links) (state ∷ states) =
     record { from = link.from; to = link.to; law = law_of network tanks link state }
-      ∷ grid_links network tanks links states
+    ∷ grid_links network tanks links states
 
 -- The head interval of a tank: its bottom plus its level.
 abbrev pub tank_intervals : List Tank → List Interval → List Interval

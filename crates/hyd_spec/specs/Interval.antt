@@ -1,5 +1,5 @@
 -- Intervals of whole numbers.
-use Rattle.std.specs.Prelude.{ℤ, pos, ◌+ℤ◌, ◌-ℤ◌, ◌≤ℤ◌}
+use Rattle.std.specs.Prelude.{ℤ, ◌+ℤ◌, ◌-ℤ◌}
 
 -- All numbers from lo to hi.
 pub record Interval : Type 0 where

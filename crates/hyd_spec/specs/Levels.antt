@@ -1,9 +1,9 @@
 -- Level intervals: what a tank's level interval becomes under an interval of inflow, and when it
 -- reaches a target. Levels are in head ticks, inflows in flow ticks.
-use Rattle.std.specs.Prelude.{◌≡◌, ℕ, suc, ◌+◌, ◌<◌, ◌≤◌, ℤ, pos, ◌+ℤ◌, ◌-ℤ◌, Bool, true, false, ◌&&◌, IsTrue, IsFalse, List, [], ◌∷◌, Option, Some, None, if◌then◌else◌, not}
+use Rattle.std.specs.Prelude.{ℕ, ◌<◌, ◌≤◌, ℤ, pos, ◌+ℤ◌, ◌-ℤ◌, Bool, true, false, IsTrue, IsFalse, Option, Some, None, if◌then◌else◌}
 use Rattle.std.specs.Int.{int_max, int_min}
 use Rattle.hyd_spec.specs.Types.{Tank, TankState, Full, Between, Empty}
-use Rattle.hyd_spec.specs.Rational.{Rational, floor, ceiling}
+use Rattle.hyd_num.specs.Rational.{Rational, floor, ceiling}
 use Rattle.hyd_spec.specs.Interval.{Interval}
 use Rattle.hyd_spec.specs.Tank.{exact_level, is_at_maximum, is_at_minimum, reaches, tank_state}
 
@@ -22,10 +22,10 @@ upper_end tank x room = end_of tank x (int_min tank.maximum (ceiling x +ℤ room
 
 -- The levels after some seconds, each end rounded outward and moved outward by `room` ticks.
 abbrev pub levels_after : ℤ → Tank → Interval → Interval → ℕ → Interval
-levels_after room tank level inflow seconds = record
-  { lo = lower_end tank (exact_level tank level.lo inflow.lo seconds) room
-  ; hi = upper_end tank (exact_level tank level.hi inflow.hi seconds) room
-  }
+levels_after room tank level inflow seconds = record {
+  lo = lower_end tank (exact_level tank level.lo inflow.lo seconds) room;
+  hi = upper_end tank (exact_level tank level.hi inflow.hi seconds) room;
+}
 
 -- The carried levels, and the levels at which the next period begins.
 abbrev pub carried_levels : Tank → Interval → Interval → ℕ → Interval

@@ -1,6 +1,5 @@
 pub mod Types
 pub mod Lists
-pub mod Rational
 pub mod Scale
 pub mod Network
 pub mod Quantity
@@ -27,3 +26,9 @@ pub mod Record
 pub mod Decided
 pub mod Valid
 pub mod Narrow
+pub mod CertificateText
+pub mod Stops
+pub mod ReportLine
+pub mod Report
+pub mod Claims
+pub mod Headline

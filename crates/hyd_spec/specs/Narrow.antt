@@ -1,7 +1,6 @@
 -- Narrow records: how wide the intervals of a period may be for its vectors to be taken as they are.
-use Rattle.std.specs.Prelude.{◌≡◌, ℕ, ◌*◌, ◌≤◌, ℤ, pos, ◌+ℤ◌, ◌-ℤ◌, ◌*ℤ◌, ◌≤ℤ◌, List, [], ◌∷◌}
+use Rattle.std.specs.Prelude.{ℤ, pos, ◌+ℤ◌, ◌-ℤ◌, ◌*ℤ◌, ◌≤ℤ◌, List, [], ◌∷◌}
 use Rattle.std.specs.Int.{int_max}
-use Rattle.hyd_spec.specs.Types.{Project}
 use Rattle.hyd_spec.specs.Lists.{Each}
 use Rattle.hyd_spec.specs.Interval.{Interval, width}
 use Rattle.hyd_spec.specs.Assignment.{head_at}

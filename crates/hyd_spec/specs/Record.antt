@@ -1,6 +1,6 @@
 -- Records of a certificate, and what is carried from one period to the next.
-use Rattle.std.specs.Prelude.{◌≡◌, ℕ, ℤ, pos, Bool, true, false, List, [], map, slice_index_or}
-use Rattle.hyd_spec.specs.Types.{Project, Tank, TankState, LinkState, Link, Problem, Main, Pinned, Side, Upper, Lower}
+use Rattle.std.specs.Prelude.{ℕ, ℤ, Bool, false, List, [], map, slice_index_or}
+use Rattle.hyd_spec.specs.Types.{Project, TankState, LinkState, Problem, Main, Pinned, Side, Upper, Lower}
 use Rattle.hyd_spec.specs.Interval.{Interval, exactly}
 use Rattle.hyd_spec.specs.Tank.{tank_state}
 
@@ -46,11 +46,11 @@ pub record Standing : Type 0 where
 
 -- What is known at the start of the run.
 abbrev pub initial_standing : Project → Standing
-initial_standing network = record
-  { number = 0
-  ; time = 0
-  ; levels = map (λ tank. exactly tank.initial) network.tanks.list
-  ; tanks = map (λ tank. tank_state 1 tank tank.initial) network.tanks.list
-  ; commanded = map (λ link. link.start) network.links.list
-  ; finished = false
-  }
+initial_standing network = record {
+  number = 0;
+  time = 0;
+  levels = map (λ tank. exactly tank.initial) network.tanks.list;
+  tanks = map (λ tank. tank_state 1 tank tank.initial) network.tanks.list;
+  commanded = map (λ link. link.start) network.links.list;
+  finished = false;
+}

@@ -2,12 +2,12 @@
 -- OR binds tighter than AND: a premise is a row of groups joined by AND, each a row of clauses joined by OR.
 -- Source: EPANET 2.2 User Manual, chapter 3 (rule-based controls) and appendix C ([RULES]); the order of
 -- AND and OR is this profile's.
-use Rattle.std.specs.Prelude.{ℕ, suc, ◌+◌, ◌*◌, ◌-◌, ◌%◌, ℤ, pos, ◌+ℤ◌, ◌-ℤ◌, ◌*ℤ◌, Bool, true, false, ◌&&◌, not, nat_lt, nat_le, List, [], ◌∷◌, ◌++◌, Option, Some, None, map, slice_get, slice_index_or, int_lt, int_le, unsigned_abs, if◌then◌else◌, ◌==◌}
+use Rattle.std.specs.Prelude.{ℕ, suc, ◌+◌, ◌*◌, ◌-◌, ◌%◌, ℤ, pos, ◌-ℤ◌, Bool, true, false, ◌&&◌, not, nat_lt, nat_le, List, [], ◌∷◌, ◌++◌, Option, Some, None, map, slice_get, slice_index_or, int_lt, int_le, unsigned_abs, if◌then◌else◌, ◌==◌}
 use Rattle.std.specs.List.{list_any, list_all}
 use Rattle.std.specs.Option.{option_map_or, option_and_then}
-use Rattle.hyd_spec.specs.Types.{Project, Junction, Tank, Rule, RuleClause, Joined, And, Or, Clause, What, Head, Pressure, Level, Flow, Setting, Status, Time, Clock, Relation, Less, NotMore, More, NotLess, Equal, Unequal, Value, Amount, ValueOpen, ValueClosed, ValueActive, Action, LinkState, Open, Closed, Speed, Throttle, Limit}
-use Rattle.hyd_spec.specs.Lists.{map_from, joined, present}
-use Rattle.hyd_spec.specs.Rational.{Rational, whole, total_of, is_less, is_at_most}
+use Rattle.hyd_spec.specs.Types.{Project, Rule, RuleClause, Joined, And, Or, Clause, What, Head, Pressure, Level, Flow, Setting, Status, Time, Clock, Relation, Less, NotMore, More, NotLess, Equal, Unequal, Value, Amount, ValueOpen, ValueClosed, ValueActive, Action, LinkState, Open, Closed, Speed, Throttle, Limit}
+use Rattle.hyd_spec.specs.Lists.{map_from, present}
+use Rattle.hyd_num.specs.Rational.{Rational, whole, total_of, is_less, is_at_most}
 use Rattle.hyd_spec.specs.Scale.{at_scale}
 use Rattle.hyd_spec.specs.Network.{is_tank, tank_number}
 use Rattle.hyd_spec.specs.Quantity.{is_us, pressure_value}

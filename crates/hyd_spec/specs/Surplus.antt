@@ -1,9 +1,8 @@
 -- The surplus of a junction under a vector of heads: the low flows out of it, less the high flows
 -- into it, plus the low outflows; and its mirror.
 -- Source: Rheinboldt 1970 (M-functions and network flows).
-use Rattle.std.specs.Prelude.{ℕ, zero, suc, ◌+◌, ◌*◌, ℤ, pos, ◌+ℤ◌, ◌-ℤ◌, Bool, true, false, List, [], ◌∷◌, length, Option, Some, None, slice_get, ◌==◌}
-use Rattle.std.specs.Option.{option_map_or}
-use Rattle.hyd_spec.specs.Types.{Problem, Side, Upper, Lower}
+use Rattle.std.specs.Prelude.{ℕ, ◌+◌, ◌*◌, ℤ, pos, ◌+ℤ◌, ◌-ℤ◌, Bool, true, false, List, [], ◌∷◌, ◌==◌}
+use Rattle.hyd_spec.specs.Types.{Problem, Upper, Lower}
 use Rattle.hyd_spec.specs.Assignment.{head_at, where_so}
 use Rattle.hyd_spec.specs.Law.{Law}
 use Rattle.hyd_spec.specs.Enclosing.{low, high, demand_low, demand_high, emitter_low, emitter_high}
@@ -14,8 +13,8 @@ abbrev pub net : (Law → ℤ → ℤ) → (Law → ℤ → ℤ) → List ℤ �
 net out into heads node [] = pos 0
 net out into heads node (link ∷ links) =
     (where_so (link.from == node) (out link.law (head_at heads node -ℤ head_at heads link.to))
-        -ℤ where_so (link.to == node) (into link.law (head_at heads link.from -ℤ head_at heads node)))
-      +ℤ net out into heads node links
+    -ℤ where_so (link.to == node) (into link.law (head_at heads link.from -ℤ head_at heads node)))
+    +ℤ net out into heads node links
 
 -- The outflows of a junction at a head, at least and at most.
 abbrev pub outflow_low : GridJunction → ℤ → ℤ

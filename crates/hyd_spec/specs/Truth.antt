@@ -1,5 +1,5 @@
 -- Three-valued truth: what holds of all points of the intervals, of none, or is open.
-use Rattle.std.specs.Prelude.{ℕ, Bool, true, false, ◌&&◌, ◌||◌, List, [], ◌∷◌, if◌then◌else◌, map}
+use Rattle.std.specs.Prelude.{Bool, true, false, List, [], ◌∷◌}
 
 pub data Truth : Type 0 where
   Yes : Truth

@@ -1,7 +1,7 @@
 -- Valid records: what a record claims at a standing, and the standing that it leads on to.
-use Rattle.std.specs.Prelude.{◌≡◌, ◌≢◌, ℕ, suc, ◌+◌, ◌<◌, ◌≤◌, ◌^◌, ℤ, pos, Bool, true, false, IsFalse, List, [], ◌∷◌, Option, Some, map, length, slice_get, slice_index_or, unsigned_abs, All, Contains, ⊤}
-use Rattle.hyd_spec.specs.Types.{Project, Tank, TankState, LinkState, Control, AtLevel, Problem, Main, Pinned, Side}
-use Rattle.hyd_spec.specs.Lists.{Each, map_from}
+use Rattle.std.specs.Prelude.{◌≡◌, ◌≢◌, ℕ, suc, ◌+◌, ◌<◌, ◌≤◌, ◌^◌, ℤ, Bool, true, false, IsFalse, List, [], ◌∷◌, Some, map, length, slice_index_or, unsigned_abs, All, Contains, ⊤}
+use Rattle.hyd_spec.specs.Types.{Project, TankState, LinkState, Control, AtLevel, Problem, Main, Pinned, Side}
+use Rattle.hyd_spec.specs.Lists.{map_from}
 use Rattle.hyd_spec.specs.Interval.{Interval}
 use Rattle.hyd_spec.specs.Network.{tank_count}
 use Rattle.hyd_spec.specs.Quantity.{demand_of}
@@ -46,7 +46,7 @@ pub record AreCertificates (network : Project) (grid : Grid) (row : Record) : Ty
 pub data LeavesLinks (network : Project) (grid : Grid) (standing : Standing) (row : Record) : ℕ → List LinkState → Type 0 where
   by_rules : {seconds : ℕ} → EndsBy network grid standing row (ByRules seconds)
       → LeavesLinks network grid standing row seconds
-          (acted network (map is_yes (rule_truths network grid standing row seconds)) (links_at network standing))
+      (acted network (map is_yes (rule_truths network grid standing row seconds)) (links_at network standing))
   by_clock : {seconds : ℕ} → EndsBy network grid standing row (ByClock seconds)
       → LeavesLinks network grid standing row seconds (links_at network standing)
 
@@ -64,8 +64,8 @@ AreStates network levels states =
 abbrev pub ControlsAreDecided : Project → List Interval → Type 0
 ControlsAreDecided network levels =
     (control : Control) (tank : ℕ) (above : Bool) (ticks : ℤ) → Contains network.controls.list control
-      → control.when ≡ AtLevel tank above ticks
-      → IsFalse (is_unknown (control_truth (slice_index_or levels tank nowhere) above ticks))
+    → control.when ≡ AtLevel tank above ticks
+    → IsFalse (is_unknown (control_truth (slice_index_or levels tank nowhere) above ticks))
 
 -- A record leads on from a standing to the next one: its length is the decided one, and each matter of its end is
 -- decided. At the end of the run it has length 0 and no matters.

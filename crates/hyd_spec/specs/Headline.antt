@@ -1,0 +1,128 @@
+-- The headline: what a run's certificate and report promise of every history.
+use Rattle.std.specs.Prelude.{◌≡◌, ℕ, ◌≤◌, ◌<ℤ◌, Bool, true, false, List, [], ◌∷◌, length, map, ⊤}
+use Rattle.std.specs.List.{AllByRecursion}
+use Rattle.hyd_spec.specs.Types.{Project, LinkState, Problem, Side}
+use Rattle.hyd_spec.specs.Lists.{Each, joined}
+use Rattle.hyd_spec.specs.Scale.{at_scale}
+use Rattle.hyd_spec.specs.Network.{junction_count, tank_count}
+use Rattle.hyd_spec.specs.Assignment.{head_at}
+use Rattle.hyd_spec.specs.Length.{Period}
+use Rattle.hyd_spec.specs.History.{IsHistory, initial_links, commanded_after}
+use Rattle.hyd_spec.specs.Grid.{Grid}
+use Rattle.hyd_spec.specs.Certificate.{IsTight}
+use Rattle.hyd_spec.specs.Record.{Record, Standing, initial_standing, vector_of}
+use Rattle.hyd_spec.specs.Decided.{links_at}
+use Rattle.hyd_spec.specs.Valid.{IsValid, IsProblem}
+use Rattle.hyd_spec.specs.CertificateText.{IsCertificateText}
+use Rattle.hyd_spec.specs.Stops.{StopCause, Stops}
+use Rattle.hyd_spec.specs.Report.{IsReport}
+use Rattle.hyd_spec.specs.ReportLine.{ReportLine, report_text, stop_line, done_line, partial_line}
+use Rattle.hyd_spec.specs.Claims.{LineHolds}
+
+-- ---- a run
+
+-- What is known of one period: the standing at its start, its record, and the lines of its report.
+pub record Found : Type 0 where
+  pub standing : Standing
+  pub row : Record
+  pub lines : List ReportLine
+
+-- From one standing to another, each record is valid at its standing and has its report.
+pub data IsRunFrom (network : Project) : Standing → List Found → Standing → Type 0 where
+  none : {standing : Standing} → IsRunFrom network standing [] standing
+  more : {next last : Standing} {found : Found} {rest : List Found} (grid : Grid)
+      → IsValid network found.standing grid found.row next → IsReport network grid found.standing found.row found.lines
+      → IsRunFrom network next rest last
+      → IsRunFrom network found.standing (found ∷ rest) last
+
+-- A run of the network, that leaves a standing.
+abbrev pub IsRun : Project → List Found → Standing → Type 0
+IsRun network founds last = IsRunFrom network (initial_standing network) founds last
+
+abbrev pub rows_of : List Found → List Record
+rows_of founds = map (λ found. found.row) founds
+
+abbrev pub lines_of : List Found → List ReportLine
+lines_of founds = joined (map (λ found. found.lines) founds)
+
+-- ---- every history
+
+-- A period of a history agrees with what was found: it begins at the record's time, has its length and its states,
+-- has its heads strictly between the record's vectors, and each line of its report holds.
+pub record Agrees (network : Project) (S : ℕ) (commanded : List LinkState) (period : Period) (found : Found) : Type 0 where
+  pub time : period.time ≡ found.row.time
+  pub length_is : period.length ≡ found.row.length
+  pub tanks : period.tanks ≡ found.standing.tanks
+  pub links : period.links ≡ links_at network found.standing
+  pub above_lower : Each period.given.heads (λ j h. at_scale S (head_at found.row.main.lower j) <ℤ h)
+  pub below_upper : Each period.given.heads (λ j h. h <ℤ at_scale S (head_at found.row.main.upper j))
+  pub lines_hold : AllByRecursion (LineHolds network S commanded period) found.lines
+
+-- The periods agree with what was found, one after another, as far as both go.
+abbrev pub AllAgree : Project → ℕ → List LinkState → List Period → List Found → Type 0
+AllAgree network S commanded [] founds = ⊤
+AllAgree network S commanded (period ∷ periods) [] = ⊤
+AllAgree network S commanded (period ∷ periods) (found ∷ founds) =
+    Agrees network S commanded period found
+    × AllAgree network S (commanded_after network S period) periods founds
+
+-- Every history of the network, at every scale, agrees with what was found.
+abbrev pub EveryHistoryAgrees : Project → List Found → Type 0
+EveryHistoryAgrees network founds =
+    (S : ℕ) → 1 ≤ S → (history : List Period) → IsHistory network S history
+    → AllAgree network S (initial_links network) history founds
+
+-- ---- sharpness
+
+-- Every vector of the record is the tight one.
+abbrev pub IsTightThroughout : Project → Grid → Record → Type 0
+IsTightThroughout network grid row =
+    (problem : Problem) (side : Side) → IsProblem network problem → IsTight grid problem side (vector_of row problem side)
+
+-- ---- what a run writes and prints
+
+-- How a run ends: finished, or stopped by a cause.
+pub data Outcome : Type 0 where
+  Finished : Outcome
+  Stopped : StopCause → Outcome
+
+-- The last line of a run's report, after n records.
+abbrev pub last_line : Project → Standing → ℕ → Outcome → List ℕ
+last_line network standing n Finished = done_line n
+last_line network standing n (Stopped cause) = stop_line network standing.number standing.time cause
+
+abbrev pub is_finished : Outcome → Bool
+is_finished Finished = true
+is_finished (Stopped cause) = false
+
+-- A finished run has done the period at the end of the run; at the standing that a stopped one leaves, its cause
+-- holds for the number of rounds.
+abbrev pub EndsSo : Project → Standing → ℕ → Outcome → Type 0
+EndsSo network standing rounds Finished = standing.finished ≡ true
+EndsSo network standing rounds (Stopped cause) = (standing.finished ≡ false) × Stops network standing rounds cause
+
+-- What was written is the certificate of a run, what was printed its report, and every history agrees with it.
+pub record RunWrites (network : Project) (rounds : ℕ) (outcome : Outcome) (written printed : List ℕ) : Type 0 where
+  pub founds : List Found
+  pub left : Standing
+  pub is_run : IsRun network founds left
+  pub ends_so : EndsSo network left rounds outcome
+  pub certificate : IsCertificateText written (junction_count network) (tank_count network) (rows_of founds)
+      (length founds) (is_finished outcome)
+  pub report : printed ≡ report_text network (lines_of founds) (last_line network left (length founds) outcome)
+  pub every_history : EveryHistoryAgrees network founds
+
+-- What was read was accepted as the certificate of a run, and what was printed is its report: its last line is `DONE n`
+-- for a finished one, `PARTIAL n` for one that was stopped.
+abbrev pub accepted_line : ℕ → Bool → List ℕ
+accepted_line n true = done_line n
+accepted_line n false = partial_line n
+
+pub record CheckAccepts (network : Project) (text printed : List ℕ) : Type 0 where
+  pub founds : List Found
+  pub left : Standing
+  pub is_run : IsRun network founds left
+  pub certificate : IsCertificateText text (junction_count network) (tank_count network) (rows_of founds)
+      (length founds) left.finished
+  pub report : printed ≡ report_text network (lines_of founds) (accepted_line (length founds) left.finished)
+  pub every_history : EveryHistoryAgrees network founds
