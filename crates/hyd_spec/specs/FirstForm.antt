@@ -78,15 +78,15 @@ pub record AreWords (w : Words) : Type 0 where
 abbrev pub form_lines : Words → List (List (List ℕ))
 form_lines w =
     (codes "[OPTIONS]" ∷ [])
-      ∷ ((codes "UNITS" ∷ (codes "CMD" ∷ []))
-      ∷ ((codes "HEADLOSS" ∷ (codes "C-M" ∷ []))
-      ∷ ((codes "[JUNCTIONS]" ∷ [])
-      ∷ ((w.junction ∷ (w.elevation ∷ (w.demand ∷ [])))
-      ∷ ((codes "[RESERVOIRS]" ∷ [])
-      ∷ ((w.reservoir ∷ (w.head ∷ []))
-      ∷ ((codes "[VALVES]" ∷ [])
-      ∷ ((w.valve ∷ (w.reservoir ∷ (w.junction ∷ (w.diameter ∷ (codes "TCV" ∷ (w.setting ∷ (codes "0" ∷ [])))))))
-      ∷ []))))))))
+    ∷ ((codes "UNITS" ∷ (codes "CMD" ∷ []))
+    ∷ ((codes "HEADLOSS" ∷ (codes "C-M" ∷ []))
+    ∷ ((codes "[JUNCTIONS]" ∷ [])
+    ∷ ((w.junction ∷ (w.elevation ∷ (w.demand ∷ [])))
+    ∷ ((codes "[RESERVOIRS]" ∷ [])
+    ∷ ((w.reservoir ∷ (w.head ∷ []))
+    ∷ ((codes "[VALVES]" ∷ [])
+    ∷ ((w.valve ∷ (w.reservoir ∷ (w.junction ∷ (w.diameter ∷ (codes "TCV" ∷ (w.setting ∷ (codes "0" ∷ [])))))))
+    ∷ []))))))))
 
 -- A text has the form with these words. It has no comments and no blank lines, and no line is longer than 1,024
 -- bytes.
@@ -151,6 +151,12 @@ pub record HasParts (network : Project) (w : Words) : Type 0 where
   pub link : Link
   pub links : network.links.list ≡ link ∷ []
   pub link_is : IsValve link (nano_of w.diameter) (nano_of w.setting)
+
+-- A network of the form.
+pub record IsFirstNetwork (network : Project) : Type 0 where
+  pub chosen : Words
+  pub words : AreWords chosen
+  pub has_parts : HasParts network chosen
 
 -- The text has the form, and this is its network.
 pub record IsFirstForm (text : List ℕ) (network : Project) : Type 0 where

@@ -1,5 +1,5 @@
 -- The headline: what a run's certificate and report promise of every history.
-use Rattle.std.specs.Prelude.{◌≡◌, ℕ, ◌≤◌, ◌<ℤ◌, Bool, true, false, List, [], ◌∷◌, length, map, ⊤}
+use Rattle.std.specs.Prelude.{◌≡◌, ℕ, ◌≤◌, ℤ, ◌<ℤ◌, ◌⊎◌, Bool, true, false, MatchBool, List, [], ◌∷◌, length, map, ⊤}
 use Rattle.std.specs.List.{AllByRecursion}
 use Rattle.hyd_spec.specs.Types.{Project, LinkState, Problem, Side}
 use Rattle.hyd_spec.specs.Lists.{Each, joined}
@@ -21,21 +21,27 @@ use Rattle.hyd_spec.specs.Claims.{LineHolds}
 
 -- ---- a run
 
--- What is known of one period: the standing at its start, its record, and the lines of its report.
+-- What is known of one period: the standing at its start, its grid and its record, the lines of its report, and the
+-- standing that it leaves.
 pub record Found : Type 0 where
   pub standing : Standing
+  pub grid : Grid
   pub row : Record
   pub lines : List ReportLine
+  pub next : Standing
 
--- From one standing to another, each record is valid at its standing and has its report.
+-- The record is valid at its standing and leads on to the next one, and the lines are its report.
+pub record IsFound (network : Project) (found : Found) : Type 0 where
+  pub valid : IsValid network found.standing found.grid found.row found.next
+  pub report : IsReport network found.grid found.standing found.row found.lines
+
+-- One period after another, from one standing to another.
 pub data IsRunFrom (network : Project) : Standing → List Found → Standing → Type 0 where
   none : {standing : Standing} → IsRunFrom network standing [] standing
-  more : {next last : Standing} {found : Found} {rest : List Found} (grid : Grid)
-      → IsValid network found.standing grid found.row next → IsReport network grid found.standing found.row found.lines
-      → IsRunFrom network next rest last
-      → IsRunFrom network found.standing (found ∷ rest) last
+  more : {last : Standing} {found : Found} {rest : List Found} → IsFound network found
+      → IsRunFrom network found.next rest last → IsRunFrom network found.standing (found ∷ rest) last
 
--- A run of the network, that leaves a standing.
+-- A run of the network from its start on, that leaves a standing.
 abbrev pub IsRun : Project → List Found → Standing → Type 0
 IsRun network founds last = IsRunFrom network (initial_standing network) founds last
 
@@ -44,6 +50,23 @@ rows_of founds = map (λ found. found.row) founds
 
 abbrev pub lines_of : List Found → List ReportLine
 lines_of founds = joined (map (λ found. found.lines) founds)
+
+-- How sharp a run was asked to be: a width in head ticks, and whether every vector is to be tight.
+pub record Sharpness : Type 0 where
+  pub width : ℤ
+  pub tight : Bool
+
+-- Every vector of the record is the tight one.
+abbrev pub IsTightThroughout : Project → Found → Type 0
+IsTightThroughout network found =
+    (problem : Problem) (side : Side) → IsProblem network problem
+    → IsTight found.grid problem side (vector_of found.row problem side)
+
+-- The record is narrow or its vectors are tight; the latter where that was asked for.
+abbrev pub IsSharpFound : Project → Sharpness → Found → Type 0
+IsSharpFound network sharpness found =
+    MatchBool sharpness.tight (IsTightThroughout network found)
+    (IsTightThroughout network found ⊎ IsNarrow sharpness.width found.standing found.row found.next)
 
 -- ---- every history
 
@@ -72,13 +95,6 @@ EveryHistoryAgrees network founds =
     (S : ℕ) → 1 ≤ S → (history : List Period) → IsHistory network S history
     → AllAgree network S (initial_links network) history founds
 
--- ---- sharpness
-
--- Every vector of the record is the tight one.
-abbrev pub IsTightThroughout : Project → Grid → Record → Type 0
-IsTightThroughout network grid row =
-    (problem : Problem) (side : Side) → IsProblem network problem → IsTight grid problem side (vector_of row problem side)
-
 -- ---- what a run writes and prints
 
 -- How a run ends: finished, or stopped by a cause.
@@ -102,10 +118,11 @@ EndsSo network standing rounds Finished = standing.finished ≡ true
 EndsSo network standing rounds (Stopped cause) = (standing.finished ≡ false) × Stops network standing rounds cause
 
 -- What was written is the certificate of a run, what was printed its report, and every history agrees with it.
-pub record RunWrites (network : Project) (rounds : ℕ) (outcome : Outcome) (written printed : List ℕ) : Type 0 where
+pub record RunWrites (network : Project) (rounds : ℕ) (sharpness : Sharpness) (outcome : Outcome) (written printed : List ℕ) : Type 0 where
   pub founds : List Found
   pub left : Standing
   pub is_run : IsRun network founds left
+  pub sharp : AllByRecursion (IsSharpFound network sharpness) founds
   pub ends_so : EndsSo network left rounds outcome
   pub certificate : IsCertificateText written (junction_count network) (tank_count network) (rows_of founds)
       (length founds) (is_finished outcome)
