@@ -13,6 +13,8 @@ use Rattle.hyd_spec.specs.Certificate.{IsTight}
 use Rattle.hyd_spec.specs.Record.{Record, Standing, initial_standing, vector_of}
 use Rattle.hyd_spec.specs.Decided.{links_at}
 use Rattle.hyd_spec.specs.Valid.{IsValid, IsProblem}
+use Rattle.hyd_spec.specs.Narrow.{IsNarrow}
+use Rattle.hyd_spec.specs.Certificate.{IsTight}
 use Rattle.hyd_spec.specs.CertificateText.{IsCertificateText}
 use Rattle.hyd_spec.specs.Stops.{StopCause, Stops}
 use Rattle.hyd_spec.specs.Report.{IsReport}
