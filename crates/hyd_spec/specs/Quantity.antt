@@ -1,0 +1,81 @@
+-- Exact quantities: what the numbers of the file are worth, in ticks, at a time of the run.
+-- A head tick is 10^-13 m, a flow tick 10^-7 cubic metres a day; `nano` counts billionths of the file's unit.
+-- Source: EPANET 2.2 User Manual, chapter 3 (the network model) and appendix C (sections [DEMANDS],
+-- [PATTERNS], [RESERVOIRS], [CURVES], [TIMES]).
+use Rattle.std.specs.Prelude.{ℕ, ◌+◌, ◌*◌, ◌/◌, ◌%◌, ◌^◌, ℤ, pos, ◌*ℤ◌, Bool, List, [], length, map, slice_get, slice_index_or}
+use Rattle.std.specs.Option.{option_map_or, option_or}
+use Rattle.hyd_num.specs.Quantity.{is_us_unit, head_ticks, pressure_numerator, pressure_denominator}
+use Rattle.hyd_spec.specs.Types.{Project, Junction, Demand, Reservoir, Decimal, ShutoffHead, FourThirds, Given}
+use Rattle.hyd_num.specs.Rational.{Rational}
+use Rattle.hyd_spec.specs.Scale.{cut, total}
+
+-- The numbers of the file are in feet, inches and psi (else in metres and millimetres).
+abbrev pub is_us : Project → Bool
+is_us network = is_us_unit network.options.unit
+
+-- ---- patterns
+
+abbrev pub multipliers_of : Project → ℕ → List ℤ
+multipliers_of network pattern =
+    option_map_or (λ p. p.multipliers.list) (slice_get network.patterns.list pattern) []
+
+-- The multiplier of a pattern at a time, in nano. The pattern's steps are counted from 0 at
+-- time 0 less the pattern start, and the pattern is repeated.
+abbrev pub multiplier_at : Project → ℕ → ℕ → ℤ
+multiplier_at network pattern time =
+    let multipliers = multipliers_of network pattern in
+    let step = (time + network.times.pattern_start) / network.times.pattern in
+    slice_index_or multipliers (step % length multipliers) (pos 0)
+
+-- ---- demands and reservoir heads
+
+-- The multiplier of a demand category, in nano: that of its own pattern, else of the default
+-- pattern, else 1.
+abbrev pub category_multiplier : Project → ℕ → Demand → ℤ
+category_multiplier network time category =
+    option_map_or (λ pattern. multiplier_at network pattern time)
+    (option_or category.pattern network.options.default_pattern) (pos (10 ^ 9))
+
+-- The demand of a category in flow ticks: its base times the product of its multiplier and the
+-- demand multiplier, that product cut after nine decimals, the result cut to whole ticks.
+abbrev pub category_demand : Project → ℕ → Demand → ℤ
+category_demand network time category =
+    let factor = cut (category_multiplier network time category *ℤ network.options.multiplier.nano) (10 ^ 9) in
+    cut (category.base *ℤ factor) (10 ^ 9)
+
+-- The demand of a junction at a time, in flow ticks: the sum over its categories.
+abbrev pub demand_of : Project → ℕ → Junction → ℤ
+demand_of network time junction = total (map (category_demand network time) junction.demands.list)
+
+-- The head of a reservoir at a time, in head ticks: its base head, times its pattern's multiplier
+-- where it has a pattern, cut to whole ticks.
+abbrev pub reservoir_head : Project → ℕ → Reservoir → ℤ
+reservoir_head network time reservoir =
+    option_map_or (λ pattern. cut (reservoir.head *ℤ multiplier_at network pattern time) (10 ^ 9))
+    reservoir.pattern reservoir.head
+
+-- ---- pumps and pressures
+
+-- The shutoff head of a pump, in head ticks: the head at which it no longer delivers. A curve of
+-- one point gives it as 4/3 of the point's head, a curve of three points as its first head.
+abbrev pub shutoff_head : Bool → ShutoffHead → Rational
+shutoff_head us (FourThirds head) = record { num = pos 4 *ℤ head_ticks us head.nano; den = 3 }
+shutoff_head us (Given head) = record { num = head_ticks us head.nano; den = 1 }
+
+-- The lift of a pump at a speed (in nano): the squared speed times the shutoff head, in head ticks.
+abbrev pub lift_of : Bool → ShutoffHead → ℤ → Rational
+lift_of us head speed =
+    let shutoff = shutoff_head us head in
+    record { num = (speed *ℤ speed) *ℤ shutoff.num; den = 10 ^ 18 * shutoff.den }
+
+-- A pressure of the file in head ticks.
+abbrev pub pressure_value : Bool → Decimal → Rational
+pressure_value us pressure = record { num = pressure_numerator us pressure.nano; den = pressure_denominator us }
+
+-- The pressures of pressure-driven demands, in head ticks: below the minimum nothing is
+-- delivered, from the required pressure on the whole demand.
+abbrev pub minimum_pressure : Project → Rational
+minimum_pressure network = pressure_value (is_us network) network.options.p0
+
+abbrev pub required_pressure : Project → Rational
+required_pressure network = pressure_value (is_us network) network.options.pf

@@ -1,0 +1,20 @@
+-- The scale of a history, and what its flows may miss. At scale S heads and levels are whole numbers
+-- of S-th parts of a head tick (10^-13 m), flows of S-th parts of a flow tick (10^-7 cubic metres a day).
+use Rattle.std.specs.Prelude.{ℕ, ℤ, pos, ◌+ℤ◌, ◌*ℤ◌, int_div, List, [], ◌∷◌}
+
+-- A whole number of ticks, in S-th parts of a tick.
+abbrev pub at_scale : ℕ → ℤ → ℤ
+at_scale S ticks = pos S *ℤ ticks
+
+-- What flows, demands and balances may miss: ten flow ticks, in S-th parts of a tick.
+abbrev pub tolerance : ℕ → ℤ
+tolerance S = at_scale S (pos 10)
+
+-- The sum of a list.
+abbrev pub total : List ℤ → ℤ
+total [] = pos 0
+total (x ∷ rest) = x +ℤ total rest
+
+-- z / d cut toward zero.
+abbrev pub cut : ℤ → ℕ → ℤ
+cut z d = int_div z (pos d)
