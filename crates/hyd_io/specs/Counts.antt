@@ -1,0 +1,27 @@
+-- The four counts of a desk, and when one of them rose.
+use Rattle.std.specs.Prelude.{◌≡◌, ℕ, ◌+◌, ◌-◌, ◌^◌, ◌≤◌, min}
+use Rattle.hyd_io.specs.declared.desk.Faults.{Faults}
+use Rattle.hyd_io.specs.declared.input.InFault.{InFault}
+use Rattle.hyd_io.specs.declared.input.InFault.TheVariants.{OutOfMemory, Fault as ReadFault, TooLong}
+
+-- one more, or the last value that a count can have, at which it stays
+abbrev pub next_count : ℕ → ℕ
+next_count n = min (n + 1) (2 ^ 64 - 1)
+
+-- The count rose: it is greater than before, or it stands at 2^64 - 1, its last value.
+abbrev pub Rose : ℕ → ℕ → Type 0
+Rose before now = next_count before ≤ now
+
+-- no count is below what it was
+pub record NeverFall (before now : Faults) : Type 0 where
+  pub read : before.read ≤ now.read
+  pub write : before.write ≤ now.write
+  pub print : before.print ≤ now.print
+  pub stall : before.stall ≤ now.stall
+
+-- what the counts say of an error of `read_all`: a fault comes only where the read faults rose, and
+-- the others leave all counts as they were
+abbrev pub HasInCause : InFault → Faults → Faults → Type 0
+HasInCause OutOfMemory before now = now ≡ before
+HasInCause ReadFault before now = Rose before.read now.read
+HasInCause TooLong before now = now ≡ before

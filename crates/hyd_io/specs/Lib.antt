@@ -1,0 +1,6 @@
+pub mod Told
+pub mod Counts
+pub mod Output
+pub mod Memory
+pub mod MemoryView
+pub mod Standing

@@ -1,0 +1,18 @@
+//! The outside: files and standard output as a trait, `Desk`, a desk in memory, a desk on real
+//! files, and buffered reading and writing over any of them.
+#![tactic(auto)]
+
+pub mod desk;
+pub mod files;
+pub mod input;
+pub mod memory;
+pub mod output;
+
+pub use desk::{Desk, Failed, Faults};
+pub use files::FileDesk;
+pub use input::{InFault, read_all};
+pub use memory::MemDesk;
+pub use output::{Channel, OutFault, Pen};
+
+#[cfg(test)]
+mod tests;

@@ -1,0 +1,316 @@
+//! Buffered writing to the file created last or to standard output.
+
+ghost use Rattle.std.specs.Prelude.{◌≡◌, ◌≢◌, ℕ, ◌+◌, ◌-◌, ◌<◌, ◌≤◌, List, [], ◌++◌, length, take, drop, min, Option, Some, None, Err, IsTrue, IfOk, IfErr, IfSome, IsSome, OnOk, OnErr, is_some};
+ghost use Rattle.hyd_io.specs.Told.{append_known, file_at, Moves, PutOut};
+ghost use Rattle.hyd_io.specs.Counts.{Rose, NeverFall};
+ghost use Rattle.hyd_io.specs.Output.{by_channel, OnCert, OnReport, HasOutCause, PenState};
+
+use crate::desk::Desk;
+use std::marker::Model;
+use thiserror::Error;
+
+/// How many bytes a pen gathers before it writes them.
+const SIZE: usize = 8192;
+
+/// Where a pen writes.
+#[derive(Clone, Copy, Debug, PartialEq, Eq)]
+pub enum Channel {
+    /// The file created last, by `Desk::write`.
+    Cert,
+    /// Standard output, by `Desk::print`.
+    Report,
+}
+
+/// Why a pen stopped. It answers the same from then on.
+#[derive(Clone, Copy, Debug, PartialEq, Eq, Error)]
+pub enum OutFault {
+    /// A call on the desk failed.
+    #[error("a write failed")]
+    Fault,
+    /// A call on the desk took nothing of a nonempty piece.
+    #[error("a write took nothing")]
+    Stalled,
+}
+
+/// A writer that gathers bytes and puts them out when its buffer is full, and at `flush`.
+#[derive(Drop)]
+pub struct Pen {
+    to: Channel,
+    fault: Option<OutFault>,
+    buffer: [u8; SIZE],
+    used: usize,
+}
+
+impl Model for Pen {
+    ghost use Rattle.std.specs.Prelude.{ℕ, ◌<◌, take};
+    ghost use Rattle.hyd_io.specs.Output.{PenState};
+
+    ghost Value = { PenState };
+
+    ghost view = { λ pen. record { to = pen.to; fault = pen.fault; held = take pen.used pen.buffer } };
+
+    ghost invariant = { λ pen. pen.used < 8192 };
+}
+
+impl Pen {
+    /// A pen on that channel that holds nothing and has no fault.
+    pub fn new(to: Channel) -> Pen
+        ensures { result ≡ record { to = to; fault = None; held = [] } }
+    {
+        Pen {
+            to,
+            fault: None,
+            buffer: [0; SIZE],
+            used: 0,
+        }
+    }
+
+    /// Puts the piece in: a front of what the pen held and of the piece goes out, and the pen holds
+    /// the rest.
+    ///
+    /// - `Fault`: a call on the desk failed, and the channel's fault count rose.
+    /// - `Stalled`: a call on the desk took nothing, and the stalls rose.
+    ///
+    /// After either, what went out is a front of what was put in, and each later call answers the
+    /// same and makes no call on the desk.
+    pub fn put<D: Desk>(&mut self, desk: &mut D, piece: &[u8]) -> Result<(), OutFault>
+        requires { OnCert self.old.to (IsTrue (D.ready desk.old)) }
+        ensures moves { OnOk result (Moves
+            (by_channel self.old.to (D.written desk.old) (D.printed desk.old))
+            (by_channel self.old.to (D.written desk.new) (D.printed desk.new))
+            (self.old.held ++ piece.now) self.new.held) }
+        ensures prefix { OnErr result (PutOut
+            (by_channel self.old.to (D.written desk.old) (D.printed desk.old))
+            (by_channel self.old.to (D.written desk.new) (D.printed desk.new))
+            (self.old.held ++ piece.now)) }
+        ensures to_stays { self.new.to ≡ self.old.to }
+        ensures no_fault { OnOk result (self.new.fault ≡ None) }
+        ensures keeps_fault { IfErr result (λ fault. self.new.fault ≡ Some fault) }
+        ensures again { IfSome self.old.fault (λ fault. result ≡ Err fault) }
+        ensures does_nothing { IsSome self.old.fault
+            → (self.new ≡ self.old) × (desk.new ≡ desk.old) }
+        ensures cause { self.old.fault ≡ None
+            → IfErr result (λ fault.
+            HasOutCause self.old.to fault (D.counts desk.old) (D.counts desk.new)) }
+        ensures steady { OnOk result (D.counts desk.new ≡ D.counts desk.old) }
+        ensures never_fall { NeverFall (D.counts desk.old) (D.counts desk.new) }
+        ensures report_files { OnReport self.old.to (D.files desk.new ≡ D.files desk.old) }
+        ensures report_written { OnReport self.old.to (D.written desk.new ≡ D.written desk.old) }
+        ensures cert_printed { OnCert self.old.to (D.printed desk.new ≡ D.printed desk.old) }
+        ensures others { (other : List ℕ) → D.target desk.old ≢ Some other
+            → file_at (D.files desk.new) other ≡ file_at (D.files desk.old) other }
+        ensures still_told { is_some (D.files desk.new) ≡ is_some (D.files desk.old) }
+        ensures rest_stays { D.rest desk.new ≡ D.rest desk.old }
+        ensures target_stays { D.target desk.new ≡ D.target desk.old }
+        ensures ready_stays { D.ready desk.new ≡ D.ready desk.old }
+    {
+        if let Some(fault) = self.fault {
+            return Err(fault);
+        }
+        match put_through(self.to, desk, &mut self.buffer, self.used, piece) {
+            Ok(used) => {
+                self.used = used;
+                Ok(())
+            }
+            Err(fault) => {
+                self.fault = Some(fault);
+                Err(fault)
+            }
+        }
+    }
+
+    /// Puts out all that the pen holds. Its faults are those of `put`.
+    pub fn flush<D: Desk>(&mut self, desk: &mut D) -> Result<(), OutFault>
+        requires { OnCert self.old.to (IsTrue (D.ready desk.old)) }
+        ensures whole { OnOk result (by_channel self.old.to (D.written desk.new) (D.printed desk.new)
+            ≡ append_known
+            (by_channel self.old.to (D.written desk.old) (D.printed desk.old)) self.old.held) }
+        ensures empty { OnOk result (self.new.held ≡ []) }
+        ensures prefix { OnErr result (PutOut
+            (by_channel self.old.to (D.written desk.old) (D.printed desk.old))
+            (by_channel self.old.to (D.written desk.new) (D.printed desk.new)) self.old.held) }
+        ensures to_stays { self.new.to ≡ self.old.to }
+        ensures no_fault { OnOk result (self.new.fault ≡ None) }
+        ensures keeps_fault { IfErr result (λ fault. self.new.fault ≡ Some fault) }
+        ensures again { IfSome self.old.fault (λ fault. result ≡ Err fault) }
+        ensures does_nothing { IsSome self.old.fault
+            → (self.new ≡ self.old) × (desk.new ≡ desk.old) }
+        ensures cause { self.old.fault ≡ None
+            → IfErr result (λ fault.
+            HasOutCause self.old.to fault (D.counts desk.old) (D.counts desk.new)) }
+        ensures steady { OnOk result (D.counts desk.new ≡ D.counts desk.old) }
+        ensures never_fall { NeverFall (D.counts desk.old) (D.counts desk.new) }
+        ensures report_files { OnReport self.old.to (D.files desk.new ≡ D.files desk.old) }
+        ensures report_written { OnReport self.old.to (D.written desk.new ≡ D.written desk.old) }
+        ensures cert_printed { OnCert self.old.to (D.printed desk.new ≡ D.printed desk.old) }
+        ensures others { (other : List ℕ) → D.target desk.old ≢ Some other
+            → file_at (D.files desk.new) other ≡ file_at (D.files desk.old) other }
+        ensures still_told { is_some (D.files desk.new) ≡ is_some (D.files desk.old) }
+        ensures rest_stays { D.rest desk.new ≡ D.rest desk.old }
+        ensures target_stays { D.target desk.new ≡ D.target desk.old }
+        ensures ready_stays { D.ready desk.new ≡ D.ready desk.old }
+    {
+        if let Some(fault) = self.fault {
+            return Err(fault);
+        }
+        let flushed = put_all(self.to, desk, &self.buffer[..self.used]);
+        self.fault = flushed.err();
+        if flushed.is_ok() {
+            self.used = 0;
+        }
+        flushed
+    }
+}
+
+/// Puts the piece in through the buffer, of which `used` bytes are held, and returns how many are
+/// held then.
+fn put_through<D: Desk>(
+    to: Channel,
+    desk: &mut D,
+    buffer: &mut [u8; SIZE],
+    mut used: usize,
+    piece: &[u8],
+) -> Result<usize, OutFault>
+    requires ready { OnCert to (IsTrue (D.ready desk.old)) }
+    requires room { used < SIZE }
+    ensures within { IfOk result (λ left. left < SIZE) }
+    ensures moves { IfOk result (λ left. Moves (by_channel to (D.written desk.old) (D.printed desk.old))
+        (by_channel to (D.written desk.new) (D.printed desk.new))
+        (take used buffer.old ++ piece.now) (take left buffer.new)) }
+    ensures prefix { OnErr result (PutOut (by_channel to (D.written desk.old) (D.printed desk.old))
+        (by_channel to (D.written desk.new) (D.printed desk.new)) (take used buffer.old ++ piece.now)) }
+    ensures cause { IfErr result (λ fault.
+        HasOutCause to fault (D.counts desk.old) (D.counts desk.new)) }
+    ensures steady { OnOk result (D.counts desk.new ≡ D.counts desk.old) }
+    ensures never_fall { NeverFall (D.counts desk.old) (D.counts desk.new) }
+    ensures report_files { OnReport to (D.files desk.new ≡ D.files desk.old) }
+    ensures report_written { OnReport to (D.written desk.new ≡ D.written desk.old) }
+    ensures cert_printed { OnCert to (D.printed desk.new ≡ D.printed desk.old) }
+    ensures others { (other : List ℕ) → D.target desk.old ≢ Some other
+        → file_at (D.files desk.new) other ≡ file_at (D.files desk.old) other }
+    ensures still_told { is_some (D.files desk.new) ≡ is_some (D.files desk.old) }
+    ensures rest_stays { D.rest desk.new ≡ D.rest desk.old }
+    ensures target_stays { D.target desk.new ≡ D.target desk.old }
+    ensures ready_stays { D.ready desk.new ≡ D.ready desk.old }
+{
+    let mut rest = piece;
+    while !rest.is_empty() {
+        let n = gather(buffer, used, rest);
+        rest = &rest[n..];
+        used = put_when_full(to, desk, buffer, used + n)?;
+    }
+    Ok(used)
+}
+
+/// Copies as much of the piece as fits behind the first `used` bytes of the buffer, and returns how
+/// much.
+pub(crate) fn gather(buffer: &mut [u8], used: usize, piece: &[u8]) -> usize
+    requires { used ≤ length buffer.old }
+    ensures fits { result ≡ min (length piece.now) (length buffer.old - used) }
+    ensures held { take (used + result) buffer.new ≡ take used buffer.old ++ take result piece.now }
+{
+    let n = piece.len().min(buffer.len() - used);
+    buffer[used..used + n].copy_from_slice(&piece[..n]);
+    n
+}
+
+/// Puts the buffer out if `used` is its whole size, and returns how many bytes are held then.
+fn put_when_full<D: Desk>(
+    to: Channel,
+    desk: &mut D,
+    buffer: &[u8; SIZE],
+    used: usize,
+) -> Result<usize, OutFault>
+    requires ready { OnCert to (IsTrue (D.ready desk.old)) }
+    requires room { used ≤ SIZE }
+    ensures within { IfOk result (λ left. left < SIZE) }
+    ensures moves { IfOk result (λ left. Moves (by_channel to (D.written desk.old) (D.printed desk.old))
+        (by_channel to (D.written desk.new) (D.printed desk.new)) (take used buffer.now) (take left buffer.now)) }
+    ensures prefix { OnErr result (PutOut (by_channel to (D.written desk.old) (D.printed desk.old))
+        (by_channel to (D.written desk.new) (D.printed desk.new)) (take used buffer.now)) }
+    ensures cause { IfErr result (λ fault.
+        HasOutCause to fault (D.counts desk.old) (D.counts desk.new)) }
+    ensures steady { OnOk result (D.counts desk.new ≡ D.counts desk.old) }
+    ensures never_fall { NeverFall (D.counts desk.old) (D.counts desk.new) }
+    ensures report_files { OnReport to (D.files desk.new ≡ D.files desk.old) }
+    ensures report_written { OnReport to (D.written desk.new ≡ D.written desk.old) }
+    ensures cert_printed { OnCert to (D.printed desk.new ≡ D.printed desk.old) }
+    ensures others { (other : List ℕ) → D.target desk.old ≢ Some other
+        → file_at (D.files desk.new) other ≡ file_at (D.files desk.old) other }
+    ensures still_told { is_some (D.files desk.new) ≡ is_some (D.files desk.old) }
+    ensures rest_stays { D.rest desk.new ≡ D.rest desk.old }
+    ensures target_stays { D.target desk.new ≡ D.target desk.old }
+    ensures ready_stays { D.ready desk.new ≡ D.ready desk.old }
+{
+    if used < SIZE {
+        return Ok(used);
+    }
+    match put_all(to, desk, buffer) {
+        Ok(()) => Ok(0),
+        Err(fault) => Err(fault),
+    }
+}
+
+/// Puts all the bytes out, in as many calls as the desk takes.
+fn put_all<D: Desk>(to: Channel, desk: &mut D, bytes: &[u8]) -> Result<(), OutFault>
+    requires { OnCert to (IsTrue (D.ready desk.old)) }
+    ensures whole { OnOk result (by_channel to (D.written desk.new) (D.printed desk.new)
+        ≡ append_known (by_channel to (D.written desk.old) (D.printed desk.old)) bytes.now) }
+    ensures prefix { OnErr result (PutOut (by_channel to (D.written desk.old) (D.printed desk.old))
+        (by_channel to (D.written desk.new) (D.printed desk.new)) bytes.now) }
+    ensures cause { IfErr result (λ fault.
+        HasOutCause to fault (D.counts desk.old) (D.counts desk.new)) }
+    ensures steady { OnOk result (D.counts desk.new ≡ D.counts desk.old) }
+    ensures never_fall { NeverFall (D.counts desk.old) (D.counts desk.new) }
+    ensures report_files { OnReport to (D.files desk.new ≡ D.files desk.old) }
+    ensures report_written { OnReport to (D.written desk.new ≡ D.written desk.old) }
+    ensures cert_printed { OnCert to (D.printed desk.new ≡ D.printed desk.old) }
+    ensures others { (other : List ℕ) → D.target desk.old ≢ Some other
+        → file_at (D.files desk.new) other ≡ file_at (D.files desk.old) other }
+    ensures still_told { is_some (D.files desk.new) ≡ is_some (D.files desk.old) }
+    ensures rest_stays { D.rest desk.new ≡ D.rest desk.old }
+    ensures target_stays { D.target desk.new ≡ D.target desk.old }
+    ensures ready_stays { D.ready desk.new ≡ D.ready desk.old }
+{
+    let mut left = bytes;
+    while !left.is_empty() {
+        let n = put_front(to, desk, left)?;
+        left = &left[n..];
+    }
+    Ok(())
+}
+
+/// Puts out a front of the nonempty piece by one call, and returns its length, which is not 0.
+fn put_front<D: Desk>(to: Channel, desk: &mut D, piece: &[u8]) -> Result<usize, OutFault>
+    requires ready { OnCert to (IsTrue (D.ready desk.old)) }
+    requires some { 0 < length piece.now }
+    ensures within { IfOk result (λ n. n ≤ length piece.now) }
+    ensures moved { IfOk result (λ n. 0 < n) }
+    ensures front { IfOk result (λ n. by_channel to (D.written desk.new) (D.printed desk.new)
+        ≡ append_known (by_channel to (D.written desk.old) (D.printed desk.old)) (take n piece.now)) }
+    ensures nothing { OnErr result (by_channel to (D.written desk.new) (D.printed desk.new)
+        ≡ by_channel to (D.written desk.old) (D.printed desk.old)) }
+    ensures cause { IfErr result (λ fault.
+        HasOutCause to fault (D.counts desk.old) (D.counts desk.new)) }
+    ensures steady { OnOk result (D.counts desk.new ≡ D.counts desk.old) }
+    ensures never_fall { NeverFall (D.counts desk.old) (D.counts desk.new) }
+    ensures report_files { OnReport to (D.files desk.new ≡ D.files desk.old) }
+    ensures report_written { OnReport to (D.written desk.new ≡ D.written desk.old) }
+    ensures cert_printed { OnCert to (D.printed desk.new ≡ D.printed desk.old) }
+    ensures others { (other : List ℕ) → D.target desk.old ≢ Some other
+        → file_at (D.files desk.new) other ≡ file_at (D.files desk.old) other }
+    ensures still_told { is_some (D.files desk.new) ≡ is_some (D.files desk.old) }
+    ensures rest_stays { D.rest desk.new ≡ D.rest desk.old }
+    ensures target_stays { D.target desk.new ≡ D.target desk.old }
+    ensures ready_stays { D.ready desk.new ≡ D.ready desk.old }
+{
+    let taken = match to {
+        Channel::Cert => desk.write(piece),
+        Channel::Report => desk.print(piece),
+    };
+    match taken {
+        Err(_) => Err(OutFault::Fault),
+        Ok(0) => Err(OutFault::Stalled),
+        Ok(n) => Ok(n),
+    }
+}
