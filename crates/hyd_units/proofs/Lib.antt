@@ -1,0 +1,5 @@
+mod Digits
+pub mod DecimalLaws
+mod Examples
+mod Rounding
+mod Writing

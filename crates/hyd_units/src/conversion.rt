@@ -1,0 +1,43 @@
+// From the numbers of a file to ticks.
+ghost use Rattle.hyd_num.specs.Quantity as quantity;
+ghost use Rattle.hyd_num.specs.Quantity.{pressure_denominator, pressure_numerator};
+ghost use Rattle.hyd_num.specs.Roots.{IsCeiling, IsFloor};
+ghost use Rattle.std.specs.Prelude.{◌≡◌, pos};
+
+use hyd_num::{Decimal, FlowUnit, Span, mul_div_ceil, mul_div_floor};
+
+/// A head or a level in head ticks, exactly. `v` is in feet where `us` says so, else in metres.
+pub fn head_ticks(v: Decimal, us: bool) -> i128
+    ensures { result ≡ quantity.head_ticks us v.nano }
+{
+    if us {
+        return v.nano * 3_048;
+    }
+    v.nano * 10_000
+}
+
+/// A flow in flow ticks, cut toward zero.
+pub fn flow_ticks(v: Decimal, unit: FlowUnit) -> i128
+    ensures { result ≡ quantity.flow_ticks unit v.nano }
+{
+    let (numerator, denominator) = unit.factor();
+    v.nano * i128::from(numerator) / (100 * i128::from(denominator))
+}
+
+/// A pressure in head ticks, from the greatest whole number at most it to the least at least it.
+/// `v` is in pounds a square inch where `us` says so, else in metres.
+pub fn pressure_ticks(v: Decimal, us: bool) -> Span
+    ensures floor { IsFloor (pressure_numerator us v.nano) (pos (pressure_denominator us)) result.lo }
+    ensures ceiling { IsCeiling (pressure_numerator us v.nano) (pos (pressure_denominator us)) result.hi }
+{
+    if us {
+        let lo = mul_div_floor(30_480_000, v.nano, 4_333);
+        let hi = mul_div_ceil(30_480_000, v.nano, 4_333);
+        return Span { lo, hi };
+    }
+    let ticks = v.nano * 10_000;
+    Span {
+        lo: ticks,
+        hi: ticks,
+    }
+}

@@ -1,0 +1,16 @@
+//! Every number that enters or leaves: the conversion of a number of the input file to ticks,
+//! and of ticks to a decimal of the file's units, rounded outward.
+//!
+//! A head tick is 10^-13 m, a flow tick 10^-7 m^3 a day. US customary files have feet and pounds
+//! a square inch, the others metres for both (EPANET 2.2 User Manual, Units of Measurement).
+#![tactic(auto)]
+
+mod conversion;
+mod numeral;
+mod printing;
+#[cfg(test)]
+mod tests;
+
+pub use conversion::{flow_ticks, head_ticks, pressure_ticks};
+pub use numeral::BUFFER_SIZE;
+pub use printing::{Way, print_flow, print_head, print_pressure};
