@@ -1,0 +1,4 @@
+pub mod Fractions
+pub mod Enclosing
+pub mod Losses
+pub mod Manning
