@@ -80,7 +80,7 @@ square_more_is : (a n k : ℕ) → k ≡ 2 * n + 1 → (a ^ n * a ^ n) * a ≡ a
 square_more_is a n k e =
     ap (λ i. i * a) (sym (pow-add a n n)) ∙ sym (pow-suc a (n + n)) ∙ ap (λ i. a ^ i) (omega arith)
 
-turned : (r : Pair) (p q s t : ℕ) → p ≡ s → q ≡ t → Encloses r (fraction p q) → Encloses r (fraction s t)
+pub turned : (r : Pair) (p q s t : ℕ) → p ≡ s → q ≡ t → Encloses r (fraction p q) → Encloses r (fraction s t)
 turned r p q s t e f h = subst (λ (x : ℕ). Encloses r (fraction s x)) f (subst (λ (x : ℕ). Encloses r (fraction x q)) e h)
 
 pub power-encloses : (x r : Pair) (n : ℕ) (a : Fraction) → Encloses x a → IsPower x n r → Encloses r (power a n)
