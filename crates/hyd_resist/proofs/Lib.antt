@@ -4,3 +4,4 @@ pub mod Losses
 pub mod Manning
 pub mod Squares
 pub mod Enclosures
+pub mod Grains
