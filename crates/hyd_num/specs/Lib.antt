@@ -5,3 +5,7 @@ pub mod Numeral
 pub mod Quantity
 pub mod Chain
 pub mod Integers
+pub mod Cut
+pub mod Roots
+pub mod Decimals
+pub mod Rational

@@ -4,12 +4,20 @@
 
 mod binary;
 mod capacities;
+mod cuts;
 mod decimals;
+mod fractions;
+mod operations;
 mod pairs;
+mod quotients;
+mod roots;
 mod units;
 
 pub use binary::Scaled;
 pub use capacities::{Capacity, Origin};
 pub use decimals::{Decimal, NumFault, Span};
+pub use operations::{add, div, mul, pow, ratio};
 pub use pairs::Pair;
+pub use quotients::{mul_div_ceil, mul_div_floor};
+pub use roots::isqrt;
 pub use units::FlowUnit;
