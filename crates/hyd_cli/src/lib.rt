@@ -1,0 +1,6 @@
+//! The command `hyd`: its words, its statuses, and the call `tool` that the program makes.
+#![tactic(auto)]
+
+mod status;
+
+pub use status::Status;
