@@ -2,4 +2,5 @@ mod Digits
 pub mod DecimalLaws
 mod Examples
 mod Rounding
+pub mod Wholes
 mod Writing
