@@ -6,3 +6,4 @@ pub mod SquaredFlows
 pub mod Enclosures
 pub mod Grains
 pub mod Exponents
+pub mod PressurePairs

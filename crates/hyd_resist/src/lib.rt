@@ -5,6 +5,8 @@
 mod manning;
 mod parts;
 mod range;
+mod squares;
 
 pub use manning::valve_capacity;
 pub use range::CapRange;
+pub use squares::{emitter_capacity, pda_capacity, pump_capacity};

@@ -9,7 +9,7 @@ ghost use Rattle.hyd_resist.specs.Ranges.{IsPositiveUpTo};
 
 use hyd_num::{Decimal, Pair, div, ratio};
 
-const BILLION: u128 = 1_000_000_000;
+pub const BILLION: u128 = 1_000_000_000;
 
 /// The billionths of a number that isn't negative.
 pub fn nano(number: Decimal) -> u128

@@ -43,6 +43,18 @@ pub fn capacity(pair: Pair, origin: Origin) -> Result<Capacity, CapRange>
     })
 }
 
+/// The capacity of this pair, which is in range.
+pub fn capacity_inside(pair: Pair, origin: Origin) -> Capacity
+    requires pair { StandsFor origin pair }
+    requires least { denominator pair.lo ≤ numerator pair.lo * 2 ^ 61 }
+    requires greatest { numerator pair.hi < 2 ^ 66 * denominator pair.hi }
+    ensures origin { result.origin ≡ origin }
+    ensures made { IsMade result }
+    ensures encloses { IsEnclosure result }
+{
+    Capacity { lo: pair.lo, hi: pair.hi, origin }
+}
+
 fn is_below_least(low: Scaled) -> bool
     ensures below { OnTrue result (numerator low * 2 ^ 61 < denominator low) }
     ensures from { OnFalse result (denominator low ≤ numerator low * 2 ^ 61) }
