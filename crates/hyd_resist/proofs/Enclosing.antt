@@ -69,13 +69,13 @@ sum-high x y r a b made p q =
     (plus-rises a (as_fraction x.hi) b (as_fraction y.hi) p q)
 
 -- the powers of a fraction, digit by digit
-square_is : (a n k : ℕ) → k ≡ 2 * n → a ^ n * a ^ n ≡ a ^ k
+pub square_is : (a n k : ℕ) → k ≡ 2 * n → a ^ n * a ^ n ≡ a ^ k
 square_is a n k e = sym (pow-add a n n) ∙ ap (λ i. a ^ i) (omega arith)
 
 pub pow_once : (a : ℕ) → a ^ 1 ≡ a
 pow_once a = omega (arith, pow-suc a 0, ap (λ x. x * a) (pow-zero a))
 
-square_more_is : (a n k : ℕ) → k ≡ 2 * n + 1 → (a ^ n * a ^ n) * a ≡ a ^ k
+pub square_more_is : (a n k : ℕ) → k ≡ 2 * n + 1 → (a ^ n * a ^ n) * a ≡ a ^ k
 square_more_is a n k e =
     ap (λ i. i * a) (sym (pow-add a n n)) ∙ sym (pow-suc a (n + n)) ∙ ap (λ i. a ^ i) (omega arith)
 

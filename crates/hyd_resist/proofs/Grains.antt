@@ -1,5 +1,5 @@
 -- How much a rounding adds: a number rounded down or up is within one part in 2^62 of what was rounded.
-use Rattle.std.proofs.Common.{◌≡◌, ℕ, ◌+◌, ◌-◌, ◌*◌, ◌^◌, ◌<◌, ◌≤◌, ℤ, pos, ◌+ℤ◌, ◌-ℤ◌, sym, ap, ◌∙◌, arith, mul-pos, inl, inr, lit<, lit≤}
+use Rattle.std.proofs.Common.{refl, ◌≡◌, ℕ, ◌+◌, ◌-◌, ◌*◌, ◌^◌, ◌<◌, ◌≤◌, ℤ, pos, ◌+ℤ◌, ◌-ℤ◌, sym, ap, ◌∙◌, arith, mul-pos, inl, inr, lit<, lit≤}
 use Rattle.std.proofs.Math.Nat.{mul-le-mul_right, le_of_mul-le-mul_right}
 use Rattle.std.proofs.lemmas.Nat.{pow_pos, pow-add}
 use Rattle.std.proofs.lemmas.Bool.{cases_lt, cases_eq}
@@ -11,6 +11,10 @@ use Rattle.hyd_num.specs.Scaled.{numerator, denominator, IsDown, IsUp}
 -- the least mantissa, which is the number of grains in a number of that mantissa
 pub grain : ℕ
 grain = 2 ^ 62
+
+pub grain_is : grain ≡ 2 ^ 62
+unfolding grain
+grain_is = refl
 
 pub grain_above : 0 < grain
 unfolding grain

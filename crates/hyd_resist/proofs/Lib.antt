@@ -7,3 +7,4 @@ pub mod Enclosures
 pub mod Grains
 pub mod Exponents
 pub mod PressurePairs
+pub mod Widths
