@@ -1,31 +1,46 @@
 //! The lines of a first run's report.
 #![tactic(auto)]
 
-ghost use Rattle.std.specs.Prelude.{◌≤◌, ◌^◌, ◌+◌, ◌*◌, unsigned_abs, OnOk};
+ghost use Rattle.std.specs.Prelude.{◌≡◌, ◌≤◌, ◌^◌, ◌-ℤ◌, unsigned_abs, OnOk};
 ghost use Rattle.hyd_cli.specs.Lines.{AppendsJunction, AppendsReservoir, AppendsValve};
 
 use crate::printed::{print_ends, push_all, Quantity};
 use std::alloc::AllocError;
 
 /// What a demand flow may miss, in flow ticks.
-const TOLERANCE: i128 = 10;
+const TOLERANCE: i64 = 10;
+
+/// How far a value is above a base.
+fn above(value: i64, base: i64) -> i128
+    ensures difference { result ≡ value -ℤ base }
+    ensures in_range { unsigned_abs result ≤ 2 ^ 64 }
+{
+    i128::from(value) - i128::from(base)
+}
 
 /// Appends the line of a junction, by its head interval, elevation and demand in ticks.
 pub(crate) fn push_junction(
     out: &mut Vec<u8>,
     id: &[u8],
-    heads: (i64, i64),
+    lower: i64,
+    upper: i64,
     elevation: i64,
     demand: i64,
 ) -> Result<(), AllocError>
     ensures { OnOk result
-        (AppendsJunction out.old.items out.new.items id.now heads.0 heads.1 elevation demand) }
+        (AppendsJunction out.old.items out.new.items id.now lower upper elevation demand) }
 {
-    let (lower, upper) = (i128::from(heads.0), i128::from(heads.1));
-    let (elevation, demand) = (i128::from(elevation), i128::from(demand));
-    let head = print_ends(Quantity::Head, lower, upper);
-    let pressure = print_ends(Quantity::Pressure, lower - elevation, upper - elevation);
-    let outflow = print_ends(Quantity::Flow, demand - TOLERANCE, demand + TOLERANCE);
+    let head = print_ends(Quantity::Head, above(lower, 0), above(upper, 0));
+    let pressure = print_ends(
+        Quantity::Pressure,
+        above(lower, elevation),
+        above(upper, elevation),
+    );
+    let outflow = print_ends(
+        Quantity::Flow,
+        above(demand, TOLERANCE),
+        above(demand, -TOLERANCE),
+    );
     push_all(
         out,
         &[
@@ -52,8 +67,7 @@ pub(crate) fn push_junction(
 pub(crate) fn push_reservoir(out: &mut Vec<u8>, id: &[u8], height: i64) -> Result<(), AllocError>
     ensures { OnOk result (AppendsReservoir out.old.items out.new.items id.now height) }
 {
-    let height = i128::from(height);
-    let head = print_ends(Quantity::Head, height, height);
+    let head = print_ends(Quantity::Head, above(height, 0), above(height, 0));
     push_all(
         out,
         &[
