@@ -2,3 +2,4 @@ pub mod Floors
 pub mod Rounding
 pub mod LongDivision
 pub mod Ends
+pub mod CapacityRoots

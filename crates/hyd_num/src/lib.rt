@@ -11,6 +11,7 @@ mod operations;
 mod pairs;
 mod quotients;
 mod roots;
+mod scaled_roots;
 mod units;
 
 pub use binary::Scaled;
@@ -20,4 +21,5 @@ pub use operations::{add, div, mul, pow, ratio};
 pub use pairs::Pair;
 pub use quotients::{mul_div_ceil, mul_div_floor};
 pub use roots::isqrt;
+pub use scaled_roots::{sqrt_down, sqrt_up};
 pub use units::FlowUnit;
