@@ -1,2 +1,4 @@
 pub mod Command
 pub mod Answers
+pub mod SingleValve
+pub mod Solution

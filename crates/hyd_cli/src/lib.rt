@@ -1,6 +1,10 @@
 //! The command `hyd`: its words, its statuses, and the call `tool` that the program makes.
 #![tactic(auto)]
 
+mod law;
+mod solve;
 mod status;
+mod valve;
 
+pub use solve::Solution;
 pub use status::Status;

@@ -1,0 +1,6 @@
+pub mod Roots
+pub mod Quadratic
+pub mod Heads
+pub mod FirstGrid
+pub mod Certificates
+pub mod FirstSolution
