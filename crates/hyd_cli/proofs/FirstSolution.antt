@@ -16,7 +16,7 @@ use Rattle.hyd_spec.specs.FirstForm.{IsFirstNetwork}
 use Rattle.hyd_cli.specs.declared.valve.SingleValve.{SingleValve}
 use Rattle.hyd_cli.specs.SingleValve.{IsValveOf, IsNearest, NonePasses}
 use Rattle.hyd_cli.specs.Solution.{IsTightHead}
-use Rattle.hyd_cli.proofs.FirstGrid.{grid_is, demand_read}
+use Rattle.hyd_cli.proofs.FirstGrid.{grid_is, has_grid, demand_read}
 use Rattle.hyd_cli.proofs.Certificates.{tight, no_certificate}
 
 pub tight_head : (network : Project) (valve : SingleValve) → IsFirstNetwork network → IsValveOf network valve
@@ -40,10 +40,14 @@ demands_in_range network valve first is =
 
 pub lacks_certificate : (network : Project) (valve : SingleValve) → IsFirstNetwork network → IsValveOf network valve
     → (side : Side) → NonePasses valve side → HasNoCertificate network (initial_standing network) Main side
-lacks_certificate network valve first is side none = record {
-  in_range = demands_in_range network valve first is;
-  is_problem = tt;
-  none = λ grid at u certificate.
-      let found = grid_is network valve first is grid at in
-      no_certificate found.0 valve side none u (subst (λ (g : Grid). IsCertificate g Main side u) found.1 certificate);
-}
+lacks_certificate network valve first is side none =
+    let one = has_grid network first in
+    let found = grid_is network valve first is one.0 one.1 in
+    record {
+      in_range = demands_in_range network valve first is;
+      is_problem = tt;
+      grid = one.0;
+      is_grid = one.1;
+      none = λ u certificate.
+          no_certificate found.0 valve side none u (subst (λ (g : Grid). IsCertificate g Main side u) found.1 certificate);
+    }
