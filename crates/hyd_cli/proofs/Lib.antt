@@ -1,2 +1,8 @@
 pub mod Joining
 pub mod LineTexts
+pub mod Roots
+pub mod Quadratic
+pub mod Heads
+pub mod FirstGrid
+pub mod Certificates
+pub mod FirstSolution

@@ -2,3 +2,5 @@ pub mod Command
 pub mod Answers
 pub mod Printing
 pub mod Lines
+pub mod SingleValve
+pub mod Solution

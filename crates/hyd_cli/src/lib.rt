@@ -4,6 +4,10 @@
 mod lines;
 mod printed;
 mod shown;
+mod law;
+mod solve;
 mod status;
+mod valve;
 
+pub use solve::Solution;
 pub use status::Status;
