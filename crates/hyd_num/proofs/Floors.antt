@@ -1,10 +1,10 @@
 -- Euclid's quotient is the floor, and the negated floor of the negated number the ceiling.
-use Rattle.std.proofs.Common.{◌≡◌, ℕ, zero, suc, ◌+◌, ◌*◌, ◌/◌, ◌%◌, ◌<◌, ◌≤◌, ℤ, pos, negsuc, ◌+ℤ◌, ◌-ℤ◌, ◌*ℤ◌, ◌≤ℤ◌, ◌<ℤ◌, neg_ℤ, ◌^◌, unsigned_abs, FitsSigned, le-mul_of_pos_right, ◌-◌, refl, ap, sym, subst, ◌∙◌, arith}
+use Rattle.std.proofs.Common.{◌≡◌, ℕ, suc, ◌*◌, ◌<◌, ◌≤◌, ℤ, pos, negsuc, ◌+ℤ◌, ◌-ℤ◌, ◌*ℤ◌, ◌≤ℤ◌, ◌<ℤ◌, neg_ℤ, ◌^◌, unsigned_abs, FitsSigned, le-mul_of_pos_right, ◌-◌, ap, ◌∙◌, arith}
 use mir.Syntax.{w128}
 use Rattle.std.proofs.Math.IntN.{*ℤ_comm}
 use Rattle.std.proofs.lemmas.Int.{ints, by_lt_z}
 use Rattle.std.specs.Int.{int_div_euclid}
-use Rattle.hyd_num.specs.Integers.{times_neg, times_plus, times_rises, times_reflects, times_one}
+use Rattle.hyd_num.specs.Integers.{times_neg, times_plus, times_rises, times_one}
 use Rattle.hyd_num.specs.Roots.{IsFloor, IsCeiling}
 
 -- n lies between r and the next multiple of d
@@ -20,10 +20,10 @@ floor_at : (n : ℤ) (d : ℕ) (r : ℤ) → 0 < d → Euclid n d r → IsFloor 
 floor_at n d r above e = record {
   at_most = rw *ℤ_comm e.from;
   greatest = λ k h. by_lt_z r k (λ lt.
-    let more : (r +ℤ pos 1) ≤ℤ k = omega (arith, ints) in
-    let most : (pos d *ℤ (r +ℤ pos 1)) ≤ℤ (pos d *ℤ k) = times_rises d _ _ more in
-    let below : (pos d *ℤ k) ≤ℤ n = rw *ℤ_comm h in
-    omega (arith, ints, most, below, e.to, times_plus d r (pos 1), times_one d)) (λ ge. ge)
+      let more : (r +ℤ pos 1) ≤ℤ k = omega (arith, ints) in
+      let most : (pos d *ℤ (r +ℤ pos 1)) ≤ℤ (pos d *ℤ k) = times_rises d _ _ more in
+      let below : (pos d *ℤ k) ≤ℤ n = rw *ℤ_comm h in
+      omega (arith, ints, most, below, e.to, times_plus d r (pos 1), times_one d)) (λ ge. ge);
 }
 
 pub floor_is : (n c r : ℤ) → pos 0 <ℤ c → r ≡ int_div_euclid n c → IsFloor n c r
@@ -38,7 +38,7 @@ pub ceiling_is : (n m c q r : ℤ) → pos 0 <ℤ c → m ≡ neg_ℤ n → r �
 ceiling_is n m c q r above em er f = record {
   at_least = let e : neg_ℤ q *ℤ c ≡ neg_ℤ (q *ℤ c) = neg_times q c above in rw er (omega (arith, ints, e, f.at_most));
   least = λ k h. let e : neg_ℤ k *ℤ c ≡ neg_ℤ (k *ℤ c) = neg_times k c above in
-    let g : neg_ℤ k ≤ℤ q = f.greatest (neg_ℤ k) (omega (arith, ints, e, h, em)) in omega (arith, ints, g, er)
+      let g : neg_ℤ k ≤ℤ q = f.greatest (neg_ℤ k) (omega (arith, ints, e, h, em)) in omega (arith, ints, g, er);
 }
 
 pub fits_by_size : (z : ℤ) → unsigned_abs z < 2 ^ 127 → FitsSigned w128 z

@@ -1,2 +1,4 @@
 pub mod Floors
 pub mod Rounding
+pub mod LongDivision
+pub mod Ends

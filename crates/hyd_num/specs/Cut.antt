@@ -1,6 +1,6 @@
 -- Rounding to binary numbers, by a number below and whether something was lost.
-use Rattle.std.specs.Prelude.{◌≡◌, ℕ, ◌+◌, ◌*◌, ◌^◌, ◌<◌, ◌≤◌, Bool, true, false, IsTrue, IsFalse, ◌⊎◌}
-use borrow.Author.Differences.{up, down}
+use Rattle.std.specs.Prelude.{◌≡◌, ℕ, ◌+◌, ◌*◌, ◌^◌, ◌<◌, ◌≤◌, ◌/◌, ◌%◌, nat_eq, Bool, true, false}
+use borrow.Author.Differences.{up}
 use Rattle.hyd_num.specs.declared.binary.Scaled.{Scaled}
 use Rattle.hyd_num.specs.Scaled.{numerator, denominator}
 
@@ -14,3 +14,8 @@ pub record IsCut (p q : ℕ) (s : Scaled) (exact : Bool) : Type 0 where
 -- t is one unit of the mantissa above s
 pub record IsNext (s t : Scaled) : Type 0 where
   pub one_more : numerator t * denominator s ≡ (s.mant + 1) * 2 ^ up s.exp * denominator t
+
+-- s has the first digits of n, but for k of them, which are 0 exactly where nothing was lost
+pub record IsShortened (n k : ℕ) (s : Scaled) (exact : Bool) : Type 0 where
+  pub digits : s.mant ≡ n / 2 ^ k
+  pub rest : exact ≡ nat_eq (n % 2 ^ k) 0

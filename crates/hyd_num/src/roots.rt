@@ -26,7 +26,10 @@ pub fn isqrt(x: u128) -> u64
 fn guess(x: u128) -> u64 {
     let high = (x >> 64) as u64;
     let low = (x % 0x1_0000_0000_0000_0000) as u64;
-    num::saturating_f64_to_u64((num::nearest_u64_to_f64(high) * 18_446_744_073_709_551_616.0 + num::nearest_u64_to_f64(low)).sqrt())
+    num::saturating_f64_to_u64(
+        (num::nearest_u64_to_f64(high) * 18_446_744_073_709_551_616.0
+            + num::nearest_u64_to_f64(low)).sqrt(),
+    )
 }
 
 // One step of Newton's method.
@@ -36,7 +39,11 @@ fn improved(x: u128, guess: u64) -> u64 {
     }
     let quotient = x / u128::from(guess);
     let mean = u128::from(guess).wrapping_add(quotient) / 2;
-    if mean > u128::from(u64::MAX) { u64::MAX } else { mean as u64 }
+    if mean > u128::from(u64::MAX) {
+        u64::MAX
+    } else {
+        mean as u64
+    }
 }
 
 // The root, where it is the guess or one of its neighbours.

@@ -1,4 +1,3 @@
-use Rattle.std.proofs.Common.{true, false}
 use Rattle.hyd_num.proofs.Rounding.{IsUp-exact, IsUp-next}
 use Rattle.hyd_num.proofs.cuts.raised.Goals as goal
 

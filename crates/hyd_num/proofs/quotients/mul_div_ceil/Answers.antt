@@ -1,4 +1,4 @@
-use Rattle.std.proofs.Common.{ℤ, pos, neg_ℤ, FitsSigned, ◌*ℤ◌, ◌-ℤ◌, ◌≡◌, refl, arith, to_z, of_z, to_z-of_z}
+use Rattle.std.proofs.Common.{pos, neg_ℤ, FitsSigned, ◌*ℤ◌, ◌-ℤ◌, ◌≡◌, refl, arith, to_z, of_z, to_z-of_z}
 use Rattle.hyd_num.specs.Roots.{IsFloor}
 use mir.Syntax.{w128}
 use Rattle.std.specs.Int.{int_div_euclid}
@@ -18,6 +18,6 @@ returns c =
     let e : q ≡ int_div_euclid (pos 0 -ℤ (c.args.a *ℤ c.args.b)) c.args.c = simp to_z-of_z at c.div_euclid.ensures in
     let f : IsFloor (pos 0 -ℤ (c.args.a *ℤ c.args.b)) c.args.c c.div_euclid.result = floor_is (pos 0 -ℤ (c.args.a *ℤ c.args.b)) c.args.c c.div_euclid.result c.requires.positive e in
     let opposite : FitsSigned w128 (pos 0 -ℤ c.div_euclid.result) =
-        fits_back (pos 0 -ℤ (c.args.a *ℤ c.args.b)) c.args.c c.div_euclid.result c.requires.positive (omega (arith, ints)) f r in
+    fits_back (pos 0 -ℤ (c.args.a *ℤ c.args.b)) c.args.c c.div_euclid.result c.requires.positive (omega (arith, ints)) f r in
     let back : to_z w128 (of_z w128 (pos 0 -ℤ to_z w128 (of_z w128 c.div_euclid.result))) ≡ neg_ℤ c.div_euclid.result = omega (arith, ints) in
     ceiling_is (c.args.a *ℤ c.args.b) (pos 0 -ℤ (c.args.a *ℤ c.args.b)) c.args.c c.div_euclid.result (to_z w128 (of_z w128 (pos 0 -ℤ to_z w128 (of_z w128 c.div_euclid.result)))) c.requires.positive (omega (arith, ints)) back f

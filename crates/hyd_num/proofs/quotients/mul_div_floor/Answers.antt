@@ -1,4 +1,4 @@
-use Rattle.std.proofs.Common.{ℤ, FitsSigned, ◌*ℤ◌, ◌≡◌, to_z-of_z}
+use Rattle.std.proofs.Common.{FitsSigned, ◌*ℤ◌, ◌≡◌, to_z-of_z}
 use mir.Syntax.{w128}
 use Rattle.std.specs.Int.{int_div_euclid}
 use Rattle.hyd_num.proofs.Floors.{floor_is, fits_by_size}

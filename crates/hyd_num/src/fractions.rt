@@ -1,0 +1,102 @@
+//! Rounding of fractions of whole numbers, by long division.
+#![tactic(auto)]
+
+ghost use Rattle.std.specs.Prelude.{◌≡◌, ℕ, ◌+◌, ◌*◌, ◌^◌, ◌<◌, ◌≤◌};
+ghost use Rattle.hyd_num.specs.Scaled.{reach};
+ghost use Rattle.hyd_num.specs.Cut.{IsCut};
+
+use crate::cuts::{Cut, cut_at};
+
+const TWO_TO_62: u128 = 0x4000_0000_0000_0000;
+
+const TWO_TO_63: u128 = 0x8000_0000_0000_0000;
+
+// `q * 2^doublings`.
+#[derive(Clone, Copy, Drop)]
+struct Divisor {
+    value: u128,
+    doublings: u32,
+}
+
+// `p * 2^digits` divided by a divisor.
+#[derive(Clone, Copy, Drop)]
+struct Division {
+    mant: u64,
+    rest: u128,
+    digits: u32,
+}
+
+/// The fraction `p / q`, rounded down.
+pub fn fraction(p: u128, q: u128) -> Cut
+    requires p_positive { 1 ≤ p }
+    requires p_short { p < 2 ^ 100 }
+    requires q_positive { 1 ≤ q }
+    requires q_short { q < 2 ^ 100 }
+    ensures cut { IsCut p q result.down result.exact }
+    ensures near { reach result.down ≤ 2 ^ 8 }
+{
+    let divisor = doubled(p, q);
+    let division = divided(p, divisor.value);
+    let exp = divisor.doublings as i32 - division.digits as i32;
+    cut_at(division.mant, exp, division.rest == 0)
+}
+
+// The divisor doubled until the quotient has at most 63 digits.
+fn doubled(p: u128, q: u128) -> Divisor
+    requires p_short { p < 2 ^ 100 }
+    requires q_positive { 1 ≤ q }
+    requires q_short { q < 2 ^ 100 }
+    ensures value { result.value ≡ q * 2 ^ result.doublings }
+    ensures short { p < 2 ^ 63 * result.value }
+    ensures fits { result.value < 2 ^ 101 }
+    ensures few { result.doublings ≤ 100 }
+{
+    let mut value = q;
+    let mut doublings = 0;
+    while p / value >= TWO_TO_63 {
+        value *= 2;
+        doublings += 1;
+    }
+    Divisor { value, doublings }
+}
+
+// The digits of the quotient, until there are 63.
+fn divided(p: u128, divisor: u128) -> Division
+    requires p_positive { 1 ≤ p }
+    requires short { p < 2 ^ 63 * divisor }
+    requires fits { divisor < 2 ^ 101 }
+    ensures split { result.mant * divisor + result.rest ≡ p * 2 ^ result.digits }
+    ensures rest { result.rest < divisor }
+    ensures least { 2 ^ 62 ≤ result.mant }
+    ensures below { result.mant < 2 ^ 63 }
+    ensures few { result.digits ≤ 163 }
+{
+    let mut mant = p / divisor;
+    let mut rest = p % divisor;
+    let mut digits = 0;
+    while mant < TWO_TO_62 {
+        (mant, rest) = with_digit(mant, rest, divisor);
+        digits += 1;
+    }
+    Division {
+        mant: mant as u64,
+        rest,
+        digits,
+    }
+}
+
+// The quotient and the rest with one binary digit more.
+fn with_digit(mant: u128, rest: u128, divisor: u128) -> (u128, u128)
+    requires below { mant < 2 ^ 62 }
+    requires small { rest < divisor }
+    requires fits { divisor < 2 ^ 101 }
+    ensures split { result.0 * divisor + result.1 ≡ 2 * (mant * divisor + rest) }
+    ensures rest { result.1 < divisor }
+    ensures short { result.0 < 2 ^ 63 }
+{
+    let twice = 2 * rest;
+    if twice >= divisor {
+        return (2 * mant + 1, twice - divisor);
+    }
+    (2 * mant, twice)
+}
