@@ -11,17 +11,17 @@ use Rattle.hyd_spec.specs.Law.{Law, Shut, Quad, Straight, Lifted, ForwardOnly, R
 -- ---- roots
 
 -- The greatest k of at most `bound` with k k q at most p.
-pub greatest_root : ℕ → ℕ → ℕ → ℕ
+unfoldable pub greatest_root : ℕ → ℕ → ℕ → ℕ
 greatest_root zero p q = zero
 greatest_root (suc bound) p q =
     if nat_le (suc bound * suc bound * q) p then suc bound else greatest_root bound p q
 
 -- The floor of the root of p / q, q being above 0.
-pub root_down : ℕ → ℕ → ℕ
+unfoldable pub root_down : ℕ → ℕ → ℕ
 root_down p q = greatest_root p p q
 
 -- Its ceiling: one more, unless the root is a whole number.
-pub root_up : ℕ → ℕ → ℕ
+unfoldable pub root_up : ℕ → ℕ → ℕ
 root_up p q = if root_down p q * root_down p q * q == p then root_down p q else root_down p q + 1
 
 -- ---- quadratic laws
