@@ -1,0 +1,4 @@
+pub mod Integers
+pub mod Roots
+pub mod LossLaws
+pub mod LinkLaws

@@ -1,0 +1,3 @@
+//! Laws over the definitions of the network, and worked examples. Each is the contract of a small
+//! function.
+#![tactic(auto)]
