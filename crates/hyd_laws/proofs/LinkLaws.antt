@@ -192,19 +192,19 @@ ahead_from_back A B loss S p q (pos zero) some back = loss.without_head S q some
 ahead_from_back A B loss S p q (pos (suc y)) some back = absurd back
 ahead_from_back A B loss S p q (negsuc y) some back = tt
 
-odd-consistent : (A B : Loss) → IsLossLaw A B → (S : ℕ) (x a b : ℤ) → 0 < S → odd_at_least A B S x a → odd_at_most A B S x b → a ≤ℤ b
+pub odd-consistent : (A B : Loss) → IsLossLaw A B → (S : ℕ) (x a b : ℤ) → 0 < S → odd_at_least A B S x a → odd_at_most A B S x b → a ≤ℤ b
 odd-consistent A B loss S x (pos a) (pos b) some least most = let l : a ≤ b = same_way A B loss S a b x some least most in omega (arith, ints)
 odd-consistent A B loss S x (pos a) (negsuc b) some least most = absurd (not_both A B loss S a b x some least most)
 odd-consistent A B loss S x (negsuc a) (pos b) some least most = omega (arith, ints)
 odd-consistent A B loss S x (negsuc a) (negsuc b) some least most = let l : suc b ≤ suc a = same_way A B loss S (suc b) (suc a) (neg_ℤ x) some most least in omega (arith, ints)
 
-odd-downward : (A B : Loss) → IsLossLaw A B → (S : ℕ) (x a b : ℤ) → 0 < S → b ≤ℤ a → odd_at_least A B S x a → odd_at_least A B S x b
+pub odd-downward : (A B : Loss) → IsLossLaw A B → (S : ℕ) (x a b : ℤ) → 0 < S → b ≤ℤ a → odd_at_least A B S x a → odd_at_least A B S x b
 odd-downward A B loss S x (pos a) (pos b) some le least = most_falls A B loss S b a x some (omega (arith, ints)) least
 odd-downward A B loss S x (pos a) (negsuc b) some le least = back_from_ahead A B loss S a (suc b) x some least
 odd-downward A B loss S x (negsuc a) (pos b) some le least = absurd (omega (arith, ints))
 odd-downward A B loss S x (negsuc a) (negsuc b) some le least = least_rises A B loss S (suc a) (suc b) (neg_ℤ x) some (omega (arith, ints)) least
 
-odd-upward : (A B : Loss) → IsLossLaw A B → (S : ℕ) (x a b : ℤ) → 0 < S → a ≤ℤ b → odd_at_most A B S x a → odd_at_most A B S x b
+pub odd-upward : (A B : Loss) → IsLossLaw A B → (S : ℕ) (x a b : ℤ) → 0 < S → a ≤ℤ b → odd_at_most A B S x a → odd_at_most A B S x b
 odd-upward A B loss S x (pos a) (pos b) some le most = least_rises A B loss S a b x some (omega (arith, ints)) most
 odd-upward A B loss S x (pos a) (negsuc b) some le most = absurd (omega (arith, ints))
 odd-upward A B loss S x (negsuc a) (pos b) some le most = ahead_from_back A B loss S (suc a) b x some most
@@ -248,31 +248,31 @@ root_up-above M E d pm pe pd = some (root_up (M * d) E) (root_up-is (M * d) E pe
     some (suc k) le above = omega arith
 
 -- the enclosing functions of such a capacity
-abbrev roots_low : (N D M E : ℕ) → ℤ → ℤ
+abbrev pub roots_low : (N D M E : ℕ) → ℤ → ℤ
 roots_low N D M E (pos d) = pos (root_down (N * d) D)
 roots_low N D M E (negsuc d) = neg_ℤ (pos (root_up (M * suc d) E))
 
-abbrev roots_high : (N D M E : ℕ) → ℤ → ℤ
+abbrev pub roots_high : (N D M E : ℕ) → ℤ → ℤ
 roots_high N D M E (pos d) = pos (root_up (M * d) E)
 roots_high N D M E (negsuc d) = neg_ℤ (pos (root_down (N * suc d) D))
 
-low-rises : (N D M E : ℕ) → 0 < D → 0 < E → (c d : ℤ) → c ≤ℤ d → roots_low N D M E c ≤ℤ roots_low N D M E d
+pub low-rises : (N D M E : ℕ) → 0 < D → 0 < E → (c d : ℤ) → c ≤ℤ d → roots_low N D M E c ≤ℤ roots_low N D M E d
 low-rises N D M E pd pe (pos c) (pos d) le = let l = root-rises N D c d pd (omega (arith, ints)) in omega (arith, ints, l)
 low-rises N D M E pd pe (pos c) (negsuc d) le = absurd (omega (arith, ints))
 low-rises N D M E pd pe (negsuc c) (pos d) le = omega (arith, ints)
 low-rises N D M E pd pe (negsuc c) (negsuc d) le = let l = root_up-rises M E (suc d) (suc c) pe (omega (arith, ints)) in omega (arith, ints, l)
 
-high-rises : (N D M E : ℕ) → 0 < D → 0 < E → (c d : ℤ) → c ≤ℤ d → roots_high N D M E c ≤ℤ roots_high N D M E d
+pub high-rises : (N D M E : ℕ) → 0 < D → 0 < E → (c d : ℤ) → c ≤ℤ d → roots_high N D M E c ≤ℤ roots_high N D M E d
 high-rises N D M E pd pe (pos c) (pos d) le = let l = root_up-rises M E c d pe (omega (arith, ints)) in omega (arith, ints, l)
 high-rises N D M E pd pe (pos c) (negsuc d) le = absurd (omega (arith, ints))
 high-rises N D M E pd pe (negsuc c) (pos d) le = omega (arith, ints)
 high-rises N D M E pd pe (negsuc c) (negsuc d) le = let l = root-rises N D (suc d) (suc c) pd (omega (arith, ints)) in omega (arith, ints, l)
 
-roots-ordered : (N D M E : ℕ) → 0 < D → 0 < E → N * E ≤ M * D → (d : ℤ) → roots_low N D M E d ≤ℤ roots_high N D M E d
+pub roots-ordered : (N D M E : ℕ) → 0 < D → 0 < E → N * E ≤ M * D → (d : ℤ) → roots_low N D M E d ≤ℤ roots_high N D M E d
 roots-ordered N D M E pd pe ends (pos d) = let l = ends-ordered N D M E d pd pe ends in omega (arith, ints, l)
 roots-ordered N D M E pd pe ends (negsuc d) = let l = ends-ordered N D M E (suc d) pd pe ends in omega (arith, ints, l)
 
-quad-below : (A B : Loss) (N D M E : ℕ) → 0 < D → 0 < M → 0 < E
+pub quad-below : (A B : Loss) (N D M E : ℕ) → 0 < D → 0 < M → 0 < E
     → ((S q y : ℕ) → (q * q) * D ≤ N * (S * y) → A S q y) → ((S q y : ℕ) → M * (S * y) ≤ (q * q) * E → B S q y)
     → (S : ℕ) (d x : ℤ) → 0 < S → (pos S *ℤ d) ≤ℤ x → odd_at_least A B S x (pos S *ℤ roots_low N D M E d)
 quad-below A B N D M E pd pm pe most least S (pos d) x some le =
@@ -285,7 +285,7 @@ quad-below A B N D M E pd pm pe most least S (negsuc d) x some le =
     (λ y h. least S (S * root_up (M * suc d) E) y (least_scaled M E S (root_up (M * suc d) E) (suc d) y (root_up-is (M * suc d) E pe).at_least h))
     (omega (arith, ints))))
 
-quad-above : (A B : Loss) (N D M E : ℕ) → 0 < D → 0 < E
+pub quad-above : (A B : Loss) (N D M E : ℕ) → 0 < D → 0 < E
     → ((S q y : ℕ) → (q * q) * D ≤ N * (S * y) → A S q y) → ((S q y : ℕ) → M * (S * y) ≤ (q * q) * E → B S q y)
     → (S : ℕ) (d x : ℤ) → 0 < S → x ≤ℤ (pos S *ℤ d) → odd_at_most A B S x (pos S *ℤ roots_high N D M E d)
 quad-above A B N D M E pd pe most least S (pos d) x some le =

@@ -1,3 +1,5 @@
 //! Laws over the definitions of the network, and worked examples. Each is the contract of a small
 //! function.
 #![tactic(auto)]
+
+pub mod laws;
