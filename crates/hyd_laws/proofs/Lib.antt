@@ -3,3 +3,7 @@ pub mod Roots
 pub mod LossLaws
 pub mod LinkLaws
 pub mod EachLaw
+pub mod Nodes
+pub mod Sums
+pub mod Outflows
+pub mod Comparison

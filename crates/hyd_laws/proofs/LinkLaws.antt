@@ -107,7 +107,7 @@ IsLaw-capped c A B l h law = record {
 }
 
 -- the factors of a finer scale
-finer : (S d : ℕ) (z : ℤ) → pos d *ℤ (pos S *ℤ z) ≡ pos (S * d) *ℤ z
+pub finer : (S d : ℕ) (z : ℤ) → pos d *ℤ (pos S *ℤ z) ≡ pos (S * d) *ℤ z
 finer S d z = times_times d S z ∙ ap (λ (n : ℕ). pos n *ℤ z) (mul_comm d S)
 
 lift_below : (S : ℕ) (lift : Rational) (d x : ℤ) → 0 < lift.den → (pos S *ℤ d) ≤ℤ x
@@ -146,11 +146,11 @@ IsLaw-lifted lift A B l h above law = record {
 
 -- ---- laws of a loss
 
-at_most_for : (A : Loss) (S n m : ℕ) (z : ℤ) → ((y : ℕ) → m ≤ y → A S n y) → pos m ≤ℤ z → loses_at_most A S n z
+pub at_most_for : (A : Loss) (S n m : ℕ) (z : ℤ) → ((y : ℕ) → m ≤ y → A S n y) → pos m ≤ℤ z → loses_at_most A S n z
 at_most_for A S n m (pos y) each le = each y (omega (arith, ints))
 at_most_for A S n m (negsuc y) each le = absurd (omega (arith, ints))
 
-at_least_for : (B : Loss) (S n m : ℕ) (z : ℤ) → ((y : ℕ) → y ≤ m → B S n y) → z ≤ℤ pos m → loses_at_least B S n z
+pub at_least_for : (B : Loss) (S n m : ℕ) (z : ℤ) → ((y : ℕ) → y ≤ m → B S n y) → z ≤ℤ pos m → loses_at_least B S n z
 at_least_for B S n m (pos y) each le = each y (omega (arith, ints))
 at_least_for B S n m (negsuc y) each le = tt
 

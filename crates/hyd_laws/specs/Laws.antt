@@ -1,8 +1,12 @@
 -- What the comparison of heads uses of the laws of links, demands and emitters.
-use Rattle.std.specs.Prelude.{ℕ, ◌<◌, ◌≤◌, ℤ, pos, ◌-ℤ◌, ◌≤ℤ◌, unsigned_abs, ⊤}
+use Rattle.std.specs.Prelude.{ℕ, ◌<◌, ◌≤◌, ℤ, pos, ◌-ℤ◌, ◌≤ℤ◌, unsigned_abs, ⊤, List, Option}
+use Rattle.std.specs.List.{AllByRecursion, AllZip}
+use Rattle.std.specs.Option.{IfSome}
 use Rattle.hyd_num.specs.Quantity.{billionths}
 use Rattle.hyd_num.specs.Rational.{Rational}
 use Rattle.hyd_spec.specs.Types.{Origin, Pipe, Valve, Pump, Emitter, PressureDemand, Capacity}
+use Rattle.hyd_spec.specs.Interval.{Interval}
+use Rattle.hyd_spec.specs.Grid.{Grid}
 use Rattle.hyd_spec.specs.Scale.{at_scale}
 use Rattle.hyd_spec.specs.Enclosure.{IsEnclosure}
 use Rattle.hyd_spec.specs.Law.{Relation, Loss, Law, Shut, Quad, Straight, Lifted, ForwardOnly, ReverseOnly, Capped, lifted}
@@ -55,3 +59,19 @@ IsSoundLaw (Lifted lift law) = (0 < lift.den) × IsSoundLaw law
 IsSoundLaw (ForwardOnly law) = IsSoundLaw law
 IsSoundLaw (ReverseOnly law) = IsSoundLaw law
 IsSoundLaw (Capped setting law) = IsSoundLaw law
+
+-- ---- grids
+
+-- Each law of a link is sound, and so is the capacity of each emitter.
+pub record IsSoundGrid (grid : Grid) : Type 0 where
+  pub links : AllByRecursion (λ link. IsSoundLaw link.law) grid.links
+  pub emitters : AllByRecursion (λ junction. IfSome junction.emitter IsSoundCapacity) grid.junctions
+
+-- A number of S-th parts of a tick lies in an interval of ticks.
+pub record LiesIn (S : ℕ) (interval : Interval) (z : ℤ) : Type 0 where
+  pub low : at_scale S interval.lo ≤ℤ z
+  pub high : z ≤ℤ at_scale S interval.hi
+
+-- Each tank's level lies in its interval.
+abbrev pub LevelsLie : ℕ → List Interval → List ℤ → Type 0
+LevelsLie S intervals levels = AllZip (LiesIn S) intervals levels
