@@ -32,3 +32,4 @@ pub mod ReportLine
 pub mod Report
 pub mod Claims
 pub mod Headline
+pub mod FirstForm

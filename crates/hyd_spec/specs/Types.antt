@@ -2,6 +2,7 @@
 -- of their own here.
 pub use Rattle.hyd_num.specs.declared.decimals.Decimal.{Decimal}
 pub use Rattle.hyd_num.specs.declared.units.FlowUnit.{FlowUnit}
+pub use Rattle.hyd_num.specs.declared.units.FlowUnit.TheVariants.{Cmd}
 pub use Rattle.hyd_num.specs.declared.capacities.Capacity.{Capacity}
 pub use Rattle.hyd_num.specs.declared.capacities.Origin.{Origin}
 pub use Rattle.hyd_num.specs.declared.capacities.Origin.TheVariants.{Pipe, Valve, Pump, Emitter, PressureDemand}
