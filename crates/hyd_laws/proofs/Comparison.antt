@@ -23,7 +23,7 @@ use Rattle.hyd_spec.specs.Assignment.{Assignment, IsAssignment, JunctionObeys, I
 use Rattle.hyd_spec.specs.Grid.{Grid, GridLink, GridJunction, IsGrid, IsJunctionOf, grid_links, tank_intervals, all_heads, fixed_heads, end_on, tank_side}
 use Rattle.hyd_spec.specs.Surplus.{net, net_low, net_high, outflow_low, outflow_high, margin, link_ends}
 use Rattle.hyd_spec.specs.Certificate.{IsCertificate, Passes}
-use Rattle.hyd_laws.specs.Laws.{IsSoundGrid, IsSoundLaw, IsSoundCapacity, LevelsLie, LiesIn}
+use Rattle.hyd_laws.specs.Laws.{IsSoundGrid, IsSoundLaw, IsSoundCapacity, LevelsLie, LiesIn, IsCompared}
 use Rattle.hyd_laws.proofs.Nodes.{excess, lack, excess_after, lack_after, head_front, tanks_below, tanks_above, reservoirs_below, reservoirs_above, IsGreatestBelow, greatest_below}
 use Rattle.hyd_laws.proofs.Sums.{IsPeak, IsDip, sum-upper, sum-lower}
 use Rattle.hyd_laws.proofs.Outflows.{emitter-below, emitter-above, demand-below, demand-above}
@@ -97,16 +97,7 @@ emitter_at [] i here all e = absurd (cc)
 emitter_at (j ∷ js) zero here all e = subst (λ (k : GridJunction). IfSome k.emitter IsSoundCapacity) (let s : j ≡ here = cc in s) all.0
 emitter_at (j ∷ js) (suc i) here all e = emitter_at js i here all.1 e
 
--- ---- what certificates are compared with
-
--- an assignment of a period, and the grid of the period, whose laws are sound
-pub record IsCompared (network : Project) (S time : ℕ) (intervals : List Interval) (levels : List ℤ) (tanks : List TankState) (links : List LinkState)
-    (given : Assignment) (grid : Grid) : Type 0 where
-  pub some : 0 < S
-  pub is_grid : IsGrid network time intervals tanks links grid
-  pub sound : IsSoundGrid grid
-  pub lie : LevelsLie S intervals levels
-  pub assigned : IsAssignment network S time levels tanks links given
+-- ---- what a certificate can't have
 
 -- no junction of a certificate has an excess that is at least 0 and nowhere greater
 pub no_excess : (network : Project) (S time : ℕ) (intervals : List Interval) (levels : List ℤ) (tanks : List TankState) (links : List LinkState) (given : Assignment) (grid : Grid)

@@ -4,9 +4,11 @@ use Rattle.std.specs.List.{AllByRecursion, AllZip}
 use Rattle.std.specs.Option.{IfSome}
 use Rattle.hyd_num.specs.Quantity.{billionths}
 use Rattle.hyd_num.specs.Rational.{Rational}
-use Rattle.hyd_spec.specs.Types.{Origin, Pipe, Valve, Pump, Emitter, PressureDemand, Capacity}
+use Rattle.hyd_spec.specs.Types.{Project, LinkState, Origin, Pipe, Valve, Pump, Emitter, PressureDemand, Capacity}
 use Rattle.hyd_spec.specs.Interval.{Interval}
-use Rattle.hyd_spec.specs.Grid.{Grid}
+use Rattle.hyd_spec.specs.Grid.{Grid, IsGrid}
+use Rattle.hyd_spec.specs.Assignment.{Assignment, IsAssignment}
+use Rattle.hyd_spec.specs.declared.TankState.{TankState}
 use Rattle.hyd_spec.specs.Scale.{at_scale}
 use Rattle.hyd_spec.specs.Enclosure.{IsEnclosure}
 use Rattle.hyd_spec.specs.Law.{Relation, Loss, Law, Shut, Quad, Straight, Lifted, ForwardOnly, ReverseOnly, Capped, lifted}
@@ -75,3 +77,12 @@ pub record LiesIn (S : ℕ) (interval : Interval) (z : ℤ) : Type 0 where
 -- Each tank's level lies in its interval.
 abbrev pub LevelsLie : ℕ → List Interval → List ℤ → Type 0
 LevelsLie S intervals levels = AllZip (LiesIn S) intervals levels
+
+-- An assignment of a period, and the grid of that period: the laws are sound, and each tank's level lies in its interval.
+pub record IsCompared (network : Project) (S time : ℕ) (intervals : List Interval) (levels : List ℤ) (tanks : List TankState)
+    (links : List LinkState) (given : Assignment) (grid : Grid) : Type 0 where
+  pub some : 0 < S
+  pub is_grid : IsGrid network time intervals tanks links grid
+  pub sound : IsSoundGrid grid
+  pub lie : LevelsLie S intervals levels
+  pub assigned : IsAssignment network S time levels tanks links given

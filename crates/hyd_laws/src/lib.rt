@@ -2,4 +2,5 @@
 //! function.
 #![tactic(auto)]
 
+pub mod certificates;
 pub mod laws;
