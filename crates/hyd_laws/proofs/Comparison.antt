@@ -146,7 +146,7 @@ fixed_above network S time intervals levels tanks links grid t is lie above m =
     rw (is.reservoirs, is.tank_heads) (reservoirs_above S (reservoir_head network time) network.reservoirs.list _ _ t above
     (λ k. let l = tanks_above S 0 network.tanks.list intervals levels lie k in omega (arith, ints, l)) m)
 
-one_each : (network : Project) (S time : ℕ) (intervals : List Interval) (levels : List ℤ) (tanks : List TankState) (links : List LinkState) (given : Assignment) (grid : Grid)
+pub one_each : (network : Project) (S time : ℕ) (intervals : List Interval) (levels : List ℤ) (tanks : List TankState) (links : List LinkState) (given : Assignment) (grid : Grid)
     (problem : Problem) (side : Side) (u : List ℤ) → IsCompared network S time intervals levels tanks links given grid → IsCertificate grid problem side u → length given.heads ≡ length u
 one_each network S time intervals levels tanks links given grid problem side u c certificate =
     let a = certificate.one_each in let b = place_long (IsJunctionOf network time) network.junctions.list grid.junctions c.is_grid.junctions in

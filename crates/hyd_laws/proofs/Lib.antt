@@ -7,3 +7,4 @@ pub mod Nodes
 pub mod Sums
 pub mod Outflows
 pub mod Comparison
+pub mod Pinning
