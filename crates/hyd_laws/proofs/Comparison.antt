@@ -132,14 +132,14 @@ no_lack network S time intervals levels tanks links given grid problem u i c cer
 
 -- ---- all tanks alike
 
-fixed_below : (network : Project) (S time : ℕ) (intervals : List Interval) (levels : List ℤ) (tanks : List TankState) (links : List LinkState) (grid : Grid) (t : ℤ)
+pub fixed_below : (network : Project) (S time : ℕ) (intervals : List Interval) (levels : List ℤ) (tanks : List TankState) (links : List LinkState) (grid : Grid) (t : ℤ)
     → IsGrid network time intervals tanks links grid → LevelsLie S intervals levels → pos 0 ≤ℤ t → (m : ℕ)
     → excess S (map (λ r. at_scale S (reservoir_head network time r)) network.reservoirs.list ++ tank_heads S network.tanks.list levels) (fixed_heads grid Main Upper) m ≤ℤ t
 fixed_below network S time intervals levels tanks links grid t is lie above m =
     rw (is.reservoirs, is.tank_heads) (reservoirs_below S (reservoir_head network time) network.reservoirs.list _ _ t above
     (λ k. let l = tanks_below S 0 network.tanks.list intervals levels lie k in omega (arith, ints, l)) m)
 
-fixed_above : (network : Project) (S time : ℕ) (intervals : List Interval) (levels : List ℤ) (tanks : List TankState) (links : List LinkState) (grid : Grid) (t : ℤ)
+pub fixed_above : (network : Project) (S time : ℕ) (intervals : List Interval) (levels : List ℤ) (tanks : List TankState) (links : List LinkState) (grid : Grid) (t : ℤ)
     → IsGrid network time intervals tanks links grid → LevelsLie S intervals levels → pos 0 ≤ℤ t → (m : ℕ)
     → lack S (map (λ r. at_scale S (reservoir_head network time r)) network.reservoirs.list ++ tank_heads S network.tanks.list levels) (fixed_heads grid Main Lower) m ≤ℤ t
 fixed_above network S time intervals levels tanks links grid t is lie above m =

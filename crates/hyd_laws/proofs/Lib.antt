@@ -8,3 +8,4 @@ pub mod Sums
 pub mod Outflows
 pub mod Comparison
 pub mod Pinning
+pub mod Boxed

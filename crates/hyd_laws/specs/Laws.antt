@@ -7,7 +7,7 @@ use Rattle.hyd_num.specs.Rational.{Rational}
 use Rattle.hyd_spec.specs.Types.{Project, LinkState, Origin, Pipe, Valve, Pump, Emitter, PressureDemand, Capacity}
 use Rattle.hyd_spec.specs.Interval.{Interval}
 use Rattle.hyd_spec.specs.Grid.{Grid, IsGrid}
-use Rattle.hyd_spec.specs.Assignment.{Assignment, IsAssignment}
+use Rattle.hyd_spec.specs.Assignment.{Assignment, IsAssignment, head_at}
 use Rattle.hyd_spec.specs.declared.TankState.{TankState}
 use Rattle.hyd_spec.specs.Scale.{at_scale}
 use Rattle.hyd_spec.specs.Enclosure.{IsEnclosure}
@@ -86,3 +86,8 @@ pub record IsCompared (network : Project) (S time : ℕ) (intervals : List Inter
   pub sound : IsSoundGrid grid
   pub lie : LevelsLie S intervals levels
   pub assigned : IsAssignment network S time levels tanks links given
+
+-- At each node a head of the third list, in S-th parts of a tick, lies between those of the others.
+abbrev pub LieBetween : ℕ → List ℤ → List ℤ → List ℤ → Type 0
+LieBetween S below above heads =
+    (m : ℕ) → LiesIn S (record { lo = head_at below m; hi = head_at above m }) (head_at heads m)
