@@ -9,3 +9,5 @@ pub mod Outflows
 pub mod Comparison
 pub mod Pinning
 pub mod Boxed
+pub mod Grids
+pub mod Levelling

@@ -65,10 +65,10 @@ none-above : (S : ℕ) (q e : ℤ) → pos 0 ≤ℤ e → IsWithinTolerance S q 
 none-above S q e le h = let a = times_rises S (pos 0) e le in let b = h.high in omega (arith, ints, a, b)
 
 -- what tests of a pressure say
-le-yes : (a b : ℤ) → int_le a b ≡ true → a ≤ℤ b
+pub le-yes : (a b : ℤ) → int_le a b ≡ true → a ≤ℤ b
 le-yes a b e = grind (arith, ints)
 
-le-no : (a b : ℤ) → int_le a b ≡ false → b <ℤ a
+pub le-no : (a b : ℤ) → int_le a b ≡ false → b <ℤ a
 le-no a b e = grind (arith, ints)
 
 -- a pressure of p / S ticks, at least d ticks and at most x, and the other way round

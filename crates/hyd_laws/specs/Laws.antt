@@ -1,10 +1,12 @@
 -- What the comparison of heads uses of the laws of links, demands and emitters.
-use Rattle.std.specs.Prelude.{ℕ, ◌<◌, ◌≤◌, ℤ, pos, ◌-ℤ◌, ◌≤ℤ◌, unsigned_abs, ⊤, List, Option}
+use Rattle.std.specs.Prelude.{ℕ, ◌<◌, ◌≤◌, ℤ, pos, ◌-ℤ◌, ◌≤ℤ◌, unsigned_abs, ⊤, List, Option, All}
 use Rattle.std.specs.List.{AllByRecursion, AllZip}
 use Rattle.std.specs.Option.{IfSome}
 use Rattle.hyd_num.specs.Quantity.{billionths}
 use Rattle.hyd_num.specs.Rational.{Rational}
-use Rattle.hyd_spec.specs.Types.{Project, LinkState, Origin, Pipe, Valve, Pump, Emitter, PressureDemand, Capacity}
+use Rattle.hyd_num.specs.Chain.{IsMade}
+use Rattle.hyd_net.specs.Made.{IsKindMade, IsStateMade}
+use Rattle.hyd_spec.specs.Types.{Project, LinkState, Tank, Origin, Pipe, Valve, Pump, Emitter, PressureDemand, Capacity}
 use Rattle.hyd_spec.specs.Interval.{Interval}
 use Rattle.hyd_spec.specs.Grid.{Grid, IsGrid}
 use Rattle.hyd_spec.specs.Assignment.{Assignment, IsAssignment, head_at}
@@ -69,6 +71,12 @@ pub record IsSoundGrid (grid : Grid) : Type 0 where
   pub links : AllByRecursion (λ link. IsSoundLaw link.law) grid.links
   pub emitters : AllByRecursion (λ junction. IfSome junction.emitter IsSoundCapacity) grid.junctions
 
+-- The capacities of emitters, of links and of the states that links are in are made of the file's numbers.
+pub record AreCapacitiesMade (network : Project) (links : List LinkState) : Type 0 where
+  pub emitters : All (λ j. IfSome j.emitter IsMade) network.junctions.list
+  pub kinds : All (λ l. IsKindMade network.options.unit l.kind) network.links.list
+  pub states : All (IsStateMade network.options.unit) links
+
 -- A number of S-th parts of a tick lies in an interval of ticks.
 pub record LiesIn (S : ℕ) (interval : Interval) (z : ℤ) : Type 0 where
   pub low : at_scale S interval.lo ≤ℤ z
@@ -91,3 +99,15 @@ pub record IsCompared (network : Project) (S time : ℕ) (intervals : List Inter
 abbrev pub LieBetween : ℕ → List ℤ → List ℤ → List ℤ → Type 0
 LieBetween S below above heads =
     (m : ℕ) → LiesIn S (record { lo = head_at below m; hi = head_at above m }) (head_at heads m)
+
+-- ---- tanks
+
+-- A tank with an area, whose minimum is at most its maximum.
+pub record IsVessel (tank : Tank) : Type 0 where
+  pub area : 0 < unsigned_abs tank.area
+  pub ordered : tank.minimum ≤ℤ tank.maximum
+
+-- An interval lies inside another.
+pub record IsInside (x y : Interval) : Type 0 where
+  pub low : y.lo ≤ℤ x.lo
+  pub high : x.hi ≤ℤ y.hi
