@@ -4,3 +4,4 @@
 
 pub mod certificates;
 pub mod laws;
+pub mod tanks;
