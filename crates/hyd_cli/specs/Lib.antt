@@ -4,3 +4,4 @@ pub mod Printing
 pub mod Lines
 pub mod SingleValve
 pub mod Solution
+pub mod FirstRun
