@@ -6,3 +6,4 @@ pub mod Heads
 pub mod FirstGrid
 pub mod Certificates
 pub mod FirstSolution
+pub mod FirstReport

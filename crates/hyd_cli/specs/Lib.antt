@@ -5,3 +5,4 @@ pub mod Lines
 pub mod SingleValve
 pub mod Solution
 pub mod FirstRun
+pub mod Texts

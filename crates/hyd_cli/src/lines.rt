@@ -8,7 +8,7 @@ use crate::printed::{print_ends, push_all, Quantity};
 use std::alloc::AllocError;
 
 /// What a demand flow may miss, in flow ticks.
-const TOLERANCE: i64 = 10;
+pub(crate) const TOLERANCE: i64 = 10;
 
 /// How far a value is above a base.
 fn above(value: i64, base: i64) -> i128
