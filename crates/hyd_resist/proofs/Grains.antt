@@ -179,16 +179,18 @@ pub record Below (s : Scaled) : Type 0 where
   pub near : numerator s * denominator number * grain ≤ numerator number * denominator s * (grain + 1)
 
 more_near : (m x y : ℕ) → 0 < x → grain ≤ m → y ≡ (m + 1) * x → (m * x < y) × (y * grain ≤ m * x * (grain + 1))
-more_near m x y some normal is =
-    (omega (arith, is, some), (let b : grain * x ≤ m * x = mul-le-mul_right x normal in
-        let e : y * grain ≡ (m + 1) * x * grain = ap (λ z. z * grain) is in omega (arith, b, e)))
+more_near m x y some normal is = (
+  omega (arith, is, some),
+  (let b : grain * x ≤ m * x = mul-le-mul_right x normal in
+      let e : y * grain ≡ (m + 1) * x * grain = ap (λ z. z * grain) is in omega (arith, b, e)),
+)
 
 above_from : (s t : Scaled) → numerator t * denominator s ≡ (s.mant + 1) * 2 ^ up s.exp * denominator t → Above s
 above_from s t is =
     let some : 0 < 2 ^ up s.exp * denominator t = mul-pos (pow_pos (up s.exp)) (pow_pos (down t.exp)) in
     let both : (s.mant * (2 ^ up s.exp * denominator t) < numerator t * denominator s)
-            × (numerator t * denominator s * grain ≤ s.mant * (2 ^ up s.exp * denominator t) * (grain + 1))
-        = more_near s.mant (2 ^ up s.exp * denominator t) (numerator t * denominator s) some (normal_grain s) (omega (arith, is)) in
+    × (numerator t * denominator s * grain ≤ s.mant * (2 ^ up s.exp * denominator t) * (grain + 1))
+    = more_near s.mant (2 ^ up s.exp * denominator t) (numerator t * denominator s) some (normal_grain s) (omega (arith, is)) in
     record { number = t; passes = omega (arith, both.0); near = omega (arith, both.1); one_more = is }
 
 turn_is : (m u d v e : ℕ) → v * d ≡ 2 * (u * e) → m + 1 ≡ 2 ^ 63 → 2 ^ 62 * v * d ≡ (m + 1) * u * e
@@ -218,8 +220,8 @@ unfolding less grain
 below_one s n normal is =
     let short : n < 2 ^ 63 = omega (arith, is, s.short) in
     let both : (n * (2 ^ up s.exp * denominator s) < s.mant * (2 ^ up s.exp * denominator s))
-            × (s.mant * (2 ^ up s.exp * denominator s) * grain ≤ n * (2 ^ up s.exp * denominator s) * (grain + 1))
-        = less_near n s.mant (2 ^ up s.exp * denominator s) (mul-pos (pow_pos (up s.exp)) (pow_pos (down s.exp))) normal is in
+    × (s.mant * (2 ^ up s.exp * denominator s) * grain ≤ n * (2 ^ up s.exp * denominator s) * (grain + 1))
+    = less_near n s.mant (2 ^ up s.exp * denominator s) (mul-pos (pow_pos (up s.exp)) (pow_pos (down s.exp))) normal is in
     record { number = less s n normal short; passes = omega (arith, both.0); near = omega (arith, both.1) }
 
 -- x is the smaller number's power of two, y the greater one's
@@ -233,10 +235,11 @@ below_back : (s : Scaled) → s.mant ≡ 2 ^ 62 → Below s
 unfolding back grain
 below_back s is =
     let both = back_near s.mant (2 ^ up (s.exp -ℤ pos 1) * denominator s) (2 ^ up s.exp * 2 ^ down (s.exp -ℤ pos 1))
-        (mul-pos (pow_pos (up (s.exp -ℤ pos 1))) (pow_pos (down s.exp))) is (halved s.exp) in
+    (mul-pos (pow_pos (up (s.exp -ℤ pos 1))) (pow_pos (down s.exp))) is (halved s.exp) in
     record { number = back s; passes = omega (arith, both.0); near = omega (arith, both.1) }
 
 pub below_of : (s : Scaled) → Below s
 below_of s = elim (cases_eq s.mant (2 ^ 62)) [
-    inl e ↦ below_back s e
-  | inr n ↦ below_one s (s.mant - 1) (omega (arith, n, s.normal)) (omega (arith, n, s.normal)) ]
+  | inl e ↦ below_back s e
+  | inr n ↦ below_one s (s.mant - 1) (omega (arith, n, s.normal)) (omega (arith, n, s.normal))
+]

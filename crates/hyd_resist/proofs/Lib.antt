@@ -11,3 +11,4 @@ pub mod Widths
 pub mod Sharpness
 pub mod Factors
 pub mod Products
+pub mod RootWidths

@@ -1,6 +1,5 @@
 -- Each product of pairs is a pair, and so is each power.
-use Rattle.std.proofs.Common.{◌≡◌, ℕ, ◌+◌, ◌-◌, ◌*◌, ◌/◌, ◌%◌, ◌^◌, ◌<◌, ◌≤◌, ℤ, pos, ◌+ℤ◌, Bool, true, false, nat_eq, refl, sym, ap, ◌∙◌, arith, mul-pos, inl, inr, lit<, lit≤, div-lt_iff_lt-mul, le-div_iff_mul-le}
-use Rattle.std.proofs.Math.Nat.{mul-le-mul_right}
+use Rattle.std.proofs.Common.{◌≡◌, ℕ, ◌+◌, ◌*◌, ◌/◌, ◌%◌, ◌^◌, ◌<◌, ◌≤◌, ℤ, pos, ◌+ℤ◌, Bool, true, false, nat_eq, refl, arith, mul-pos, inl, inr, div-lt_iff_lt-mul, le-div_iff_mul-le}
 use Rattle.std.proofs.lemmas.Nat.{pow_pos, mul-le, mul-lt}
 use Rattle.std.proofs.lemmas.Bool.{cases_lt}
 use Rattle.std.proofs.lemmas.Int.{ints}
@@ -32,8 +31,9 @@ product_cut a b =
     let least : 2 ^ 62 * 2 ^ 62 ≤ a.mant * b.mant = mul-le (2 ^ 62) (2 ^ 62) a.mant b.mant a.normal b.normal in
     let most : a.mant * b.mant < 2 ^ 63 * 2 ^ 63 = mul-lt a.mant b.mant (2 ^ 63) (2 ^ 63) a.short b.short in
     elim (cases_lt (a.mant * b.mant) (2 ^ 125)) [
-        inl l ↦ cut_at 62 ((a.exp +ℤ b.exp) +ℤ pos 62) a b least (omega (arith, l)) (omega (arith, ints))
-      | inr g ↦ cut_at 63 ((a.exp +ℤ b.exp) +ℤ pos 63) a b (omega (arith, g)) most (omega (arith, ints)) ]
+      | inl l ↦ cut_at 62 ((a.exp +ℤ b.exp) +ℤ pos 62) a b least (omega (arith, l)) (omega (arith, ints))
+      | inr g ↦ cut_at 63 ((a.exp +ℤ b.exp) +ℤ pos 63) a b (omega (arith, g)) most (omega (arith, ints))
+    ]
 
 record Rounded (p q : ℕ) : Type 0 where
   pub number : Scaled
@@ -55,10 +55,10 @@ product_of x y =
     let high = product_cut x.hi y.hi in
     let down : IsDown (numerator x.lo * numerator y.lo) (denominator x.lo * denominator y.lo) low.number = IsDown-from_cut _ _ low.number low.exact low.cut in
     let over = raised (numerator x.hi * numerator y.hi) (denominator x.hi * denominator y.hi) high.number high.exact
-        (mul-pos (denominator_above x.hi) (denominator_above y.hi)) high.cut in
+    (mul-pos (denominator_above x.hi) (denominator_above y.hi)) high.cut in
     record {
       pair = record { lo = low.number; hi = over.number; ordered = products_ordered x y low.number over.number down over.up };
-      made = record { low = down; high = over.up }
+      made = record { low = down; high = over.up };
     }
 
 record Power (x : Pair) (n : ℕ) : Type 0 where
@@ -79,7 +79,7 @@ doubled_more x n k e half =
 hundredth : (x : Pair) → Power x 100
 hundredth x =
     doubled x 50 100 refl (doubled x 25 50 refl (doubled_more x 12 25 refl (doubled x 6 12 refl (doubled x 3 6 refl
-        (doubled_more x 1 3 refl (record { pair = x; made = once }))))))
+    (doubled_more x 1 3 refl (record { pair = x; made = once }))))))
 
 -- the 100th power of a number on its own
 pub record OwnPower (s : Scaled) : Type 0 where

@@ -5,7 +5,7 @@
 ghost use Rattle.std.specs.Prelude.{◌≡◌, ◌≤◌, ◌<◌, ◌^◌, pos, ◌≤ℤ◌, ◌<ℤ◌, IfOk, OnErr};
 ghost use Rattle.hyd_num.specs.Pairs.{pair_reach};
 ghost use Rattle.hyd_num.specs.Chain.{IsMinorPair, IsMade};
-ghost use Rattle.hyd_spec.specs.Enclosure.{IsEnclosure};
+ghost use Rattle.hyd_spec.specs.Enclosure.{IsEnclosure, IsSharp};
 ghost use Rattle.hyd_resist.specs.Ranges.{IsDiameter, IsCoefficient};
 ghost use Rattle.hyd_resist.specs.Refusal.{IsRefused};
 
@@ -23,6 +23,7 @@ pub fn valve_capacity(diameter: Decimal, k: Decimal, us: bool) -> Result<Capacit
     ensures origin { IfOk result (λ c. c.origin ≡ Origin.Valve diameter k us) }
     ensures made { IfOk result (λ c. IsMade c) }
     ensures encloses { IfOk result (λ c. IsEnclosure c) }
+    ensures sharp { IfOk result (λ c. IsSharp c) }
     ensures refused { OnErr result (IsRefused (Origin.Valve diameter k us)) }
 {
     capacity(
