@@ -12,3 +12,4 @@ pub mod Sharpness
 pub mod Factors
 pub mod Products
 pub mod RootWidths
+pub mod PipePairs

@@ -6,6 +6,8 @@ mod manning;
 mod parts;
 mod range;
 mod squares;
+#[cfg(test)]
+mod tests;
 
 pub use manning::valve_capacity;
 pub use range::CapRange;
