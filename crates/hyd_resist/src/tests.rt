@@ -6,7 +6,7 @@ ghost use Rattle.std.specs.Prelude.{◌≡◌, ◌<◌, ◌*◌, ◌^◌, pos, �
 ghost use Rattle.hyd_resist.specs.Ranges.{IsPositiveUpTo, IsMinorCoefficient, IsCurveFlow, ArePressures};
 
 use crate::range::CapRange;
-use crate::{emitter_capacity, pda_capacity, pump_capacity, valve_capacity};
+use crate::{emitter_capacity, pda_capacity, pipe_capacity, pump_capacity, valve_capacity};
 use hyd_num::{Capacity, Decimal, FlowUnit};
 
 // The mantissas and exponents of the lower and the upper end.
@@ -99,6 +99,153 @@ fn valves_are_as_calculated(rt: HostRuntime) {
         (21_043_666_178, 1, true, None),
     ] {
         assert_eq!(rt; valve(diameter, k, us), want, "diameter {diameter} k {k}");
+    }
+}
+
+#[test]
+fn pipes_are_as_calculated(rt: HostRuntime) {
+    for (length, diameter, roughness, minor, us, want) in [
+        (
+            304_800_000_000,
+            304_800_000_000,
+            10_000_000,
+            0,
+            false,
+            Some((
+                7_239_961_123_724_670_982,
+                -34,
+                7_239_961_123_724_670_990,
+                -34,
+            )),
+        ),
+        (
+            100_000_000_000,
+            300_000_000_000,
+            10_000_000,
+            0,
+            false,
+            Some((
+                5_069_297_067_023_447_296,
+                -32,
+                5_069_297_067_023_447_311,
+                -32,
+            )),
+        ),
+        (
+            1_000_000_000_000,
+            12_000_000_000,
+            13_000_000,
+            0,
+            true,
+            Some((
+                8_568_001_329_851_681_636,
+                -35,
+                8_568_001_329_851_681_647,
+                -35,
+            )),
+        ),
+        (
+            1_000_000_000_000,
+            12_000_000_000,
+            13_000_000,
+            2_500_000_000,
+            true,
+            Some((
+                7_934_064_032_395_681_604,
+                -35,
+                7_934_064_032_395_681_615,
+                -35,
+            )),
+        ),
+        (
+            100_000_000_000,
+            300_000_000_000,
+            10_000_000,
+            3_000_000_000,
+            false,
+            Some((
+                6_833_888_538_464_848_754,
+                -33,
+                6_833_888_538_464_848_772,
+                -33,
+            )),
+        ),
+        (1, 1, 1, 0, false, None),
+        (1, 1, 1, 1, true, None),
+        (
+            1_000_000_000_000_000,
+            10_000_000_000_000,
+            10_000_000_000,
+            1_000_000_000_000_000,
+            false,
+            Some((
+                8_479_296_010_925_706_121,
+                -39,
+                8_479_296_010_925_706_151,
+                -39,
+            )),
+        ),
+        (
+            1_000_000_000_000_000,
+            10_000_000_000_000,
+            10_000_000_000,
+            1_000_000_000_000_000,
+            true,
+            Some((
+                9_027_477_963_425_094_850,
+                -13,
+                9_027_477_963_425_094_875,
+                -13,
+            )),
+        ),
+        (
+            1_000_000_000_000_000,
+            160_712_083,
+            10_000_000_000,
+            0,
+            false,
+            None,
+        ),
+        (
+            1_000_000_000_000_000,
+            160_712_084,
+            10_000_000_000,
+            0,
+            false,
+            Some((
+                4_611_686_106_782_944_849,
+                -123,
+                4_611_686_106_782_944_865,
+                -123,
+            )),
+        ),
+        (
+            1_000_000_000_000_000,
+            5_062_990,
+            10_000_000_000,
+            0,
+            true,
+            None,
+        ),
+        (
+            1_000_000_000_000_000,
+            5_062_991,
+            10_000_000_000,
+            0,
+            true,
+            Some((
+                4_611_688_289_446_436_053,
+                -123,
+                4_611_688_289_446_436_066,
+                -123,
+            )),
+        ),
+    ] {
+        assert_eq!(rt;
+            pipe(length, diameter, roughness, minor, us),
+            want,
+            "length {length} diameter {diameter}"
+        );
     }
 }
 
@@ -488,6 +635,16 @@ fn valve(diameter: i64, k: i64, us: bool) -> Option<Ends> {
     None
 }
 
+fn pipe(length: i64, diameter: i64, roughness: i64, minor: i64, us: bool) -> Option<Ends> {
+    let (length, diameter) = (decimal(length), decimal(diameter));
+    let (roughness, minor) = (decimal(roughness), decimal(minor));
+    let fits = is_up_to(length, 1_000_000) && is_up_to(diameter, 10_000);
+    if fits && is_up_to(roughness, 10) && is_minor(minor) {
+        return ends(pipe_capacity(length, diameter, roughness, minor, us));
+    }
+    None
+}
+
 fn pump(flow: i64, drop: i64, thirds: u32, unit: FlowUnit) -> Option<Ends> {
     let (flow, drop) = (decimal(flow), decimal(drop));
     if is_curve_flow(flow, unit) && drop.nano > 0 && thirds > 0 {
@@ -531,6 +688,12 @@ fn is_up_to(number: Decimal, most: u32) -> bool
     ensures { IsTrue result → IsPositiveUpTo most number }
 {
     number.nano > 0 && number.nano <= i128::from(most) * 1_000_000_000
+}
+
+fn is_minor(number: Decimal) -> bool
+    ensures { IsTrue result → IsMinorCoefficient number }
+{
+    number.nano >= 0 && number.nano <= 1_000_000_000_000_000
 }
 
 // Flows of at most 20,000 of any unit are at most 10^15 ticks.
