@@ -1,9 +1,8 @@
 -- What the comparison of heads uses of the laws of links, demands and emitters.
-use Rattle.std.specs.Prelude.{ℕ, ◌<◌, ◌≤◌, ℤ, pos, ◌-ℤ◌, ◌≤ℤ◌, unsigned_abs, ⊤, List, Option, All}
+use Rattle.std.specs.Prelude.{ℕ, ◌<◌, ◌≤◌, ℤ, ◌-ℤ◌, ◌≤ℤ◌, unsigned_abs, ⊤, List, All}
 use Rattle.std.specs.List.{AllByRecursion, AllZip}
 use Rattle.std.specs.Option.{IfSome}
 use Rattle.hyd_num.specs.Quantity.{billionths}
-use Rattle.hyd_num.specs.Rational.{Rational}
 use Rattle.hyd_num.specs.Chain.{IsMade}
 use Rattle.hyd_net.specs.Made.{IsKindMade, IsStateMade}
 use Rattle.hyd_spec.specs.Types.{Project, LinkState, Tank, Origin, Pipe, Valve, Pump, Emitter, PressureDemand, Capacity}
@@ -13,7 +12,7 @@ use Rattle.hyd_spec.specs.Assignment.{Assignment, IsAssignment, head_at}
 use Rattle.hyd_spec.specs.declared.TankState.{TankState}
 use Rattle.hyd_spec.specs.Scale.{at_scale}
 use Rattle.hyd_spec.specs.Enclosure.{IsEnclosure}
-use Rattle.hyd_spec.specs.Law.{Relation, Loss, Law, Shut, Quad, Straight, Lifted, ForwardOnly, ReverseOnly, Capped, lifted}
+use Rattle.hyd_spec.specs.Law.{Relation, Loss, Law, Shut, Quad, Straight, Lifted, ForwardOnly, ReverseOnly, Capped}
 
 -- ---- losses
 
