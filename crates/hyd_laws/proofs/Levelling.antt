@@ -19,21 +19,21 @@ use Rattle.hyd_laws.proofs.Integers.{floor_low, ceiling_high, floor_greatest, ce
 use Rattle.hyd_laws.proofs.EachLaw.{exchanged}
 use Rattle.hyd_laws.proofs.Outflows.{le-yes, le-no}
 
-one_times : (z : ℤ) → pos 1 *ℤ z ≡ z
+pub one_times : (z : ℤ) → pos 1 *ℤ z ≡ z
 one_times z = omega (arith, ints, *ℤ_comm (pos 1) z)
 
 -- ---- what tests of a level say
 
-above-yes : (S : ℕ) (t : ℤ) (x : Rational) → is_at_most (whole (at_scale S t)) x ≡ true → (pos x.den *ℤ (pos S *ℤ t)) ≤ℤ x.num
+pub above-yes : (S : ℕ) (t : ℤ) (x : Rational) → is_at_most (whole (at_scale S t)) x ≡ true → (pos x.den *ℤ (pos S *ℤ t)) ≤ℤ x.num
 above-yes S t x e = let a = le-yes ((pos S *ℤ t) *ℤ pos x.den) (x.num *ℤ pos 1) e in omega (arith, ints, a, *ℤ_comm (pos S *ℤ t) (pos x.den))
 
-above-no : (S : ℕ) (t : ℤ) (x : Rational) → is_at_most (whole (at_scale S t)) x ≡ false → x.num <ℤ (pos x.den *ℤ (pos S *ℤ t))
+pub above-no : (S : ℕ) (t : ℤ) (x : Rational) → is_at_most (whole (at_scale S t)) x ≡ false → x.num <ℤ (pos x.den *ℤ (pos S *ℤ t))
 above-no S t x e = let a = le-no ((pos S *ℤ t) *ℤ pos x.den) (x.num *ℤ pos 1) e in omega (arith, ints, a, *ℤ_comm (pos S *ℤ t) (pos x.den))
 
-below-yes : (S : ℕ) (t : ℤ) (x : Rational) → is_at_most x (whole (at_scale S t)) ≡ true → x.num ≤ℤ (pos x.den *ℤ (pos S *ℤ t))
+pub below-yes : (S : ℕ) (t : ℤ) (x : Rational) → is_at_most x (whole (at_scale S t)) ≡ true → x.num ≤ℤ (pos x.den *ℤ (pos S *ℤ t))
 below-yes S t x e = let a = le-yes (x.num *ℤ pos 1) ((pos S *ℤ t) *ℤ pos x.den) e in omega (arith, ints, a, *ℤ_comm (pos S *ℤ t) (pos x.den))
 
-below-no : (S : ℕ) (t : ℤ) (x : Rational) → is_at_most x (whole (at_scale S t)) ≡ false → (pos x.den *ℤ (pos S *ℤ t)) <ℤ x.num
+pub below-no : (S : ℕ) (t : ℤ) (x : Rational) → is_at_most x (whole (at_scale S t)) ≡ false → (pos x.den *ℤ (pos S *ℤ t)) <ℤ x.num
 below-no S t x e = let a = le-no (x.num *ℤ pos 1) ((pos S *ℤ t) *ℤ pos x.den) e in omega (arith, ints, a, *ℤ_comm (pos S *ℤ t) (pos x.den))
 
 -- ---- levels in whole ticks
@@ -168,12 +168,12 @@ next-high S B tank y x next above some order over is = elim (cases_Bool (is_at_m
 ]
 
 -- a level and an inflow of S-th parts against an end of each interval
-scaled_low : (S b f : ℕ) (l w z q : ℤ) → (pos S *ℤ l) ≤ℤ z → (pos S *ℤ w) ≤ℤ q → (pos S *ℤ ((pos b *ℤ l) +ℤ (pos f *ℤ w))) ≤ℤ ((pos b *ℤ z) +ℤ (pos f *ℤ q))
+pub scaled_low : (S b f : ℕ) (l w z q : ℤ) → (pos S *ℤ l) ≤ℤ z → (pos S *ℤ w) ≤ℤ q → (pos S *ℤ ((pos b *ℤ l) +ℤ (pos f *ℤ w))) ≤ℤ ((pos b *ℤ z) +ℤ (pos f *ℤ q))
 scaled_low S b f l w z q le flow =
     let a = times_rises b (pos S *ℤ l) z le in let c = times_rises f (pos S *ℤ w) q flow in
     omega (arith, ints, a, c, times_plus S (pos b *ℤ l) (pos f *ℤ w), exchanged S b l, exchanged S f w)
 
-scaled_high : (S b f : ℕ) (l w z q : ℤ) → z ≤ℤ (pos S *ℤ l) → q ≤ℤ (pos S *ℤ w) → ((pos b *ℤ z) +ℤ (pos f *ℤ q)) ≤ℤ (pos S *ℤ ((pos b *ℤ l) +ℤ (pos f *ℤ w)))
+pub scaled_high : (S b f : ℕ) (l w z q : ℤ) → z ≤ℤ (pos S *ℤ l) → q ≤ℤ (pos S *ℤ w) → ((pos b *ℤ z) +ℤ (pos f *ℤ q)) ≤ℤ (pos S *ℤ ((pos b *ℤ l) +ℤ (pos f *ℤ w)))
 scaled_high S b f l w z q le flow =
     let a = times_rises b z (pos S *ℤ l) le in let c = times_rises f q (pos S *ℤ w) flow in
     omega (arith, ints, a, c, times_plus S (pos b *ℤ l) (pos f *ℤ w), exchanged S b l, exchanged S f w)
@@ -251,7 +251,7 @@ shared-holds s false false false true false false p q r t h = cc
 shared-holds s false false false false true false p q r t h = cc
 shared-holds s false false false false false false p q r t h = cc
 
-le-from : (a b : ℤ) → a ≤ℤ b → int_le a b ≡ true
+pub le-from : (a b : ℤ) → a ≤ℤ b → int_le a b ≡ true
 le-from a b le = grind (arith, ints)
 
 -- the state that both ends have is that of each level between
