@@ -1,13 +1,13 @@
 -- What is decided by the ends of intervals is so at every point between them.
 use Rattle.std.proofs.Common.{◌≡◌, ℕ, zero, suc, ◌+◌, ◌*◌, ◌^◌, ◌<◌, ◌≤◌, ℤ, pos, ◌+ℤ◌, ◌*ℤ◌, ◌≤ℤ◌, ◌<ℤ◌, refl, sym, ap, subst, ◌∙◌, arith, Bool, true, false, ◌&&◌, ◌||◌, List, [], ◌∷◌, inl, inr}
-use Rattle.std.specs.Prelude.{int_le, int_lt, unsigned_abs}
-use Rattle.std.specs.List.{list_any, list_all}
+use Rattle.std.specs.Prelude.{int_le, int_lt, unsigned_abs, map}
+use Rattle.std.specs.List.{AllByRecursion, list_any, list_all}
 use Rattle.std.proofs.Math.IntN.{*ℤ_comm}
 use Rattle.std.proofs.lemmas.Int.{ints, by_lt_z}
 use Rattle.std.proofs.lemmas.Bool.{cases_Bool}
 use Rattle.hyd_num.specs.Integers.{times_rises, times_reflects}
 use Rattle.hyd_num.specs.Rational.{Rational, is_at_most, is_less, whole}
-use Rattle.hyd_spec.specs.Types.{Tank, Relation, Less, NotMore, More, NotLess, Equal, Unequal}
+use Rattle.hyd_spec.specs.Types.{Tank, Clause, Relation, Less, NotMore, More, NotLess, Equal, Unequal}
 use Rattle.hyd_spec.specs.Interval.{Interval}
 use Rattle.hyd_spec.specs.Scale.{at_scale}
 use Rattle.hyd_spec.specs.Tank.{exact_level, reaches}
@@ -183,3 +183,16 @@ all_tells [] [] all = refl
 all_tells [] (b ∷ tests) all = absurd all
 all_tells (t ∷ truths) [] all = absurd all
 all_tells (t ∷ truths) (b ∷ tests) all = both-tells t (all_hold truths) b (list_all (λ (b : Bool). b) tests) all.0 (all_tells truths tests all.1)
+
+-- a rule tells by the truths of its clauses
+group_tells : (truth : Clause → Truth) (test : Clause → Bool) (group : List Clause) → AllByRecursion (λ (c : Clause). Tells (truth c) (test c)) group
+    → Tells (some_holds (map truth group)) (list_any test group)
+group_tells truth test [] all = refl
+group_tells truth test (c ∷ group) all = either-tells (truth c) (some_holds (map truth group)) (test c) (list_any test group) all.0 (group_tells truth test group all.1)
+
+pub rule_tells : (truth : Clause → Truth) (test : Clause → Bool) (groups : List (List Clause)) → AllByRecursion (AllByRecursion (λ (c : Clause). Tells (truth c) (test c))) groups
+    → Tells (all_hold (map (λ group. some_holds (map truth group)) groups)) (list_all (list_any test) groups)
+rule_tells truth test [] all = refl
+rule_tells truth test (group ∷ groups) all =
+    both-tells (some_holds (map truth group)) (all_hold (map (λ group. some_holds (map truth group)) groups)) (list_any test group) (list_all (list_any test) groups)
+    (group_tells truth test group all.0) (rule_tells truth test groups all.1)

@@ -12,3 +12,4 @@ pub mod Boxed
 pub mod Grids
 pub mod Levelling
 pub mod Deciding
+pub mod Worked
