@@ -7,3 +7,4 @@ pub mod FirstGrid
 pub mod Certificates
 pub mod FirstSolution
 pub mod FirstReport
+pub mod TextLemmas

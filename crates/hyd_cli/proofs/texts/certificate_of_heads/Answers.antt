@@ -1,0 +1,14 @@
+-- The formatted text is the certificate's.
+use Rattle.std.proofs.Common.{◌≡◌, ◌++◌, ◌∙◌, codes, string_bytes, IfOk}
+use Rattle.std.specs.Fmt.{signed_decimal}
+use Rattle.std.proofs.lemmas.Result.{IfOk-weaker}
+use Rattle.hyd_cli.specs.Texts.{finished_certificate}
+use Rattle.hyd_cli.proofs.TextLemmas.{finished_is}
+use Rattle.hyd_cli.proofs.texts.certificate_of_heads.Goals as goal
+
+pub returns : goal.returns
+returns c =
+    IfOk-weaker c.format.result
+      (λ text. string_bytes text ≡ codes "HYDCERT 1 1 0\nPERIOD 0 0 0\nMU " ++ (signed_decimal c.args.upper ++ (codes "\nML " ++ (signed_decimal c.args.lower ++ codes "\nEND 1 FINISHED\n"))))
+      (λ text. string_bytes text ≡ finished_certificate c.args.upper c.args.lower)
+      (λ text e. e ∙ finished_is c.args.upper c.args.lower) c.format.ensures.ok
