@@ -1,31 +1,30 @@
 -- The flows of every assignment lie in the boxes of its certificates.
-use Rattle.std.proofs.Common.{◌≡◌, ℕ, zero, suc, ◌+◌, ◌*◌, ◌<◌, ◌≤◌, ℤ, pos, negsuc, ◌+ℤ◌, ◌-ℤ◌, ◌*ℤ◌, ◌≤ℤ◌, ◌<ℤ◌, neg_ℤ, refl, sym, ap, subst, ◌∙◌, arith, List, [], ◌∷◌, ◌++◌, length}
-use Rattle.std.specs.Prelude.{Option, Some, None, slice_get, map, MatchOption}
+use Rattle.std.proofs.Common.{◌≡◌, ℕ, zero, suc, ◌*◌, ◌<◌, ℤ, pos, ◌+ℤ◌, ◌-ℤ◌, ◌*ℤ◌, ◌≤ℤ◌, sym, subst, arith, List, [], ◌∷◌, length}
+use Rattle.std.specs.Prelude.{Option, Some, None, slice_get, MatchOption}
 use Rattle.std.specs.List.{AllByRecursion}
 use Rattle.std.specs.Option.{IfSome}
 use Rattle.std.proofs.lemmas.Int.{ints}
 use Rattle.std.proofs.lemmas.Option.{slice_get-get_or, slice_get_within}
-use Rattle.hyd_num.specs.Integers.{times_plus, times_minus, times_rises}
+use Rattle.hyd_num.specs.Integers.{times_plus, times_minus}
 use Rattle.hyd_spec.specs.Types.{Project, Junction, Link, LinkState, Capacity}
 use Rattle.hyd_spec.specs.declared.TankState.{TankState}
 use Rattle.hyd_spec.specs.declared.Side.TheVariants.{Upper, Lower}
 use Rattle.hyd_spec.specs.declared.Problem.TheVariants.{Main}
 use Rattle.hyd_spec.specs.Interval.{Interval}
-use Rattle.hyd_spec.specs.Scale.{at_scale}
-use Rattle.hyd_spec.specs.Quantity.{reservoir_head, demand_of}
+use Rattle.hyd_spec.specs.Quantity.{demand_of}
 use Rattle.hyd_spec.specs.LinkLaw.{law_of}
 use Rattle.hyd_spec.specs.Law.{Quad, Follows}
-use Rattle.hyd_spec.specs.Enclosing.{low, high, emitter_low, emitter_high, demand_low, demand_high}
+use Rattle.hyd_spec.specs.Enclosing.{demand_low, demand_high}
 use Rattle.hyd_spec.specs.Outflow.{FollowsEmitter}
-use Rattle.hyd_spec.specs.Assignment.{Assignment, IsAssignment, JunctionObeys, LinksFollow, none, more, head_at, flow_at, node_heads, tank_heads}
-use Rattle.hyd_spec.specs.Grid.{Grid, GridLink, GridJunction, IsGrid, IsJunctionOf, grid_links, all_heads, fixed_heads}
+use Rattle.hyd_spec.specs.Assignment.{Assignment, JunctionObeys, LinksFollow, more, head_at, flow_at, node_heads}
+use Rattle.hyd_spec.specs.Grid.{Grid, GridLink, GridJunction, IsJunctionOf, grid_links, all_heads}
 use Rattle.hyd_spec.specs.Boxes.{flow_box, out_box, emitter_box}
 use Rattle.hyd_spec.specs.Certificate.{IsCertificate}
-use Rattle.hyd_laws.specs.Laws.{IsSoundGrid, IsSoundLaw, IsSoundCapacity, LevelsLie, LiesIn, IsCompared, LieBetween}
+use Rattle.hyd_laws.specs.Laws.{IsSoundLaw, IsSoundCapacity, LiesIn, IsCompared, LieBetween}
 use Rattle.hyd_laws.proofs.Nodes.{excess, lack, excess_after, lack_after}
 use Rattle.hyd_laws.proofs.Sums.{flow-below, flow-above}
-use Rattle.hyd_laws.proofs.Outflows.{emitter-below, emitter-above, demand-below, demand-above}
-use Rattle.hyd_laws.proofs.Comparison.{below_main, above_main, one_each, fixed_below, fixed_above, IsPlace, place_at, emitter_at}
+use Rattle.hyd_laws.proofs.Outflows.{demand-below, demand-above}
+use Rattle.hyd_laws.proofs.Comparison.{below_main, above_main, one_each, fixed_below, fixed_above, place_at, emitter_at}
 
 -- ---- heads
 
@@ -34,15 +33,15 @@ pub heads_between : (network : Project) (S time : ℕ) (intervals : List Interva
     → LieBetween S (all_heads grid Main Lower below) (all_heads grid Main Upper above) (node_heads network S time levels given.heads)
 heads_between network S time intervals levels tanks links given grid below above c under over m = record {
   low = let l : lack S (node_heads network S time levels given.heads) (all_heads grid Main Lower below) m ≤ℤ pos 0 =
-          lack_after S given.heads below _ _ (pos 0) (one_each network S time intervals levels tanks links given grid Main Lower below c under)
-          (fixed_above network S time intervals levels tanks links grid (pos 0) c.is_grid c.lie (omega (arith, ints))) m
-          (λ lt. let h = above_main network S time intervals levels tanks links given grid below c under m _ (slice_get-get_or given.heads m (pos 0) lt) in omega (arith, ints, h)) in
-        omega (arith, ints, l);
+      lack_after S given.heads below _ _ (pos 0) (one_each network S time intervals levels tanks links given grid Main Lower below c under)
+      (fixed_above network S time intervals levels tanks links grid (pos 0) c.is_grid c.lie (omega (arith, ints))) m
+      (λ lt. let h = above_main network S time intervals levels tanks links given grid below c under m _ (slice_get-get_or given.heads m (pos 0) lt) in omega (arith, ints, h)) in
+      omega (arith, ints, l);
   high = let l : excess S (node_heads network S time levels given.heads) (all_heads grid Main Upper above) m ≤ℤ pos 0 =
-          excess_after S given.heads above _ _ (pos 0) (one_each network S time intervals levels tanks links given grid Main Upper above c over)
-          (fixed_below network S time intervals levels tanks links grid (pos 0) c.is_grid c.lie (omega (arith, ints))) m
-          (λ lt. let h = below_main network S time intervals levels tanks links given grid above c over m _ (slice_get-get_or given.heads m (pos 0) lt) in omega (arith, ints, h)) in
-        omega (arith, ints, l)
+      excess_after S given.heads above _ _ (pos 0) (one_each network S time intervals levels tanks links given grid Main Upper above c over)
+      (fixed_below network S time intervals levels tanks links grid (pos 0) c.is_grid c.lie (omega (arith, ints))) m
+      (λ lt. let h = below_main network S time intervals levels tanks links given grid above c over m _ (slice_get-get_or given.heads m (pos 0) lt) in omega (arith, ints, h)) in
+      omega (arith, ints, l);
 }
 
 -- ---- links
@@ -70,11 +69,11 @@ boxed : (S : ℕ) (below above heads : List ℤ) (link : GridLink) (q : ℤ) →
     → LiesIn S (flow_box link below above) q
 boxed S below above heads link q some between f = record {
   low = let a = flow-below link.law S (head_at below link.from -ℤ head_at above link.to) (head_at heads link.from -ℤ head_at heads link.to) q f.sound some
-          (let l = (between link.from).low in let h = (between link.to).high in omega (arith, ints, l, h, times_minus S (head_at below link.from) (head_at above link.to))) f.follows in
-        rw times_minus (omega (arith, ints, a));
+      (let l = (between link.from).low in let h = (between link.to).high in omega (arith, ints, l, h, times_minus S (head_at below link.from) (head_at above link.to))) f.follows in
+      rw times_minus (omega (arith, ints, a));
   high = let a = flow-above link.law S (head_at above link.from -ℤ head_at below link.to) (head_at heads link.from -ℤ head_at heads link.to) q f.sound some
-          (let l = (between link.to).low in let h = (between link.from).high in omega (arith, ints, l, h, times_minus S (head_at above link.from) (head_at below link.to))) f.follows in
-        rw times_plus (omega (arith, ints, a))
+      (let l = (between link.to).low in let h = (between link.from).high in omega (arith, ints, l, h, times_minus S (head_at above link.from) (head_at below link.to))) f.follows in
+      rw times_plus (omega (arith, ints, a));
 }
 
 pub flow_lies : (network : Project) (S time : ℕ) (intervals : List Interval) (levels : List ℤ) (tanks : List TankState) (links : List LinkState) (given : Assignment) (grid : Grid) (below above : List ℤ)
@@ -98,7 +97,8 @@ emitter_lies junction emitter S p x q same sound some under over follows =
     by_case None sound h = record { low = omega (arith, ints, h); high = omega (arith, ints, h) }
     by_case (Some c) sound h = record {
       low = let a = flow-below (Quad c) S p.lo x q sound some under h in rw times_minus (omega (arith, ints, a));
-      high = let a = flow-above (Quad c) S p.hi x q sound some over h in rw times_plus (omega (arith, ints, a)) }
+      high = let a = flow-above (Quad c) S p.hi x q sound some over h in rw times_plus (omega (arith, ints, a));
+    }
 
 out_of : (network : Project) (time S : ℕ) (given : Assignment) (j : ℕ) (junction : Junction) (here : GridJunction) (below above : ℤ) → 0 < S
     → IsJunctionOf network time junction here → IfSome here.emitter IsSoundCapacity → (pos S *ℤ below) ≤ℤ head_at given.heads j → head_at given.heads j ≤ℤ (pos S *ℤ above)
@@ -106,22 +106,22 @@ out_of : (network : Project) (time S : ℕ) (given : Assignment) (j : ℕ) (junc
     → LiesIn S (out_box here below above) (flow_at given.demands j +ℤ flow_at given.emitters j)
 out_of network time S given j junction here below above some is sound under over obeys =
     let l : (pos S *ℤ (below -ℤ here.elevation)) ≤ℤ (head_at given.heads j -ℤ (pos S *ℤ junction.elevation)) =
-        rw times_minus (rw is.elevation (omega (arith, ints, under))) in
+    rw times_minus (rw is.elevation (omega (arith, ints, under))) in
     let h : (head_at given.heads j -ℤ (pos S *ℤ junction.elevation)) ≤ℤ (pos S *ℤ (above -ℤ here.elevation)) =
-        rw times_minus (rw is.elevation (omega (arith, ints, over))) in
+    rw times_minus (rw is.elevation (omega (arith, ints, over))) in
     let a = demand-below network (demand_of network time junction) here.demand S (below -ℤ here.elevation) (head_at given.heads j -ℤ (pos S *ℤ junction.elevation)) (flow_at given.demands j)
-        is.demand some l obeys.demand in
+    is.demand some l obeys.demand in
     let b = demand-above network (demand_of network time junction) here.demand S (above -ℤ here.elevation) (head_at given.heads j -ℤ (pos S *ℤ junction.elevation)) (flow_at given.demands j)
-        is.demand some h obeys.demand in
+    is.demand some h obeys.demand in
     let e = emitter_lies junction here.emitter S (record { lo = below -ℤ here.elevation; hi = above -ℤ here.elevation }) (head_at given.heads j -ℤ (pos S *ℤ junction.elevation)) (flow_at given.emitters j)
-        is.emitter sound some l h obeys.emitter in
+    is.emitter sound some l h obeys.emitter in
     summed S (demand_low here.demand (below -ℤ here.elevation)) (demand_high here.demand (above -ℤ here.elevation)) _ (flow_at given.demands j) (flow_at given.emitters j) a b e
   where
     summed : (S : ℕ) (lo hi : ℤ) (box : Interval) (d e : ℤ) → (pos S *ℤ lo) ≤ℤ (d +ℤ pos (S * 10)) → (d -ℤ pos (S * 10)) ≤ℤ (pos S *ℤ hi) → LiesIn S box e
         → LiesIn S (record { lo = (lo -ℤ pos 10) +ℤ box.lo; hi = (hi +ℤ pos 10) +ℤ box.hi }) (d +ℤ e)
     summed S lo hi box d e a b lies = record {
       low = let l = lies.low in omega (arith, ints, a, l, times_plus S (lo -ℤ pos 10) box.lo, times_minus S lo (pos 10));
-      high = let h = lies.high in omega (arith, ints, b, h, times_plus S (hi +ℤ pos 10) box.hi, times_plus S hi (pos 10))
+      high = let h = lies.high in omega (arith, ints, b, h, times_plus S (hi +ℤ pos 10) box.hi, times_plus S hi (pos 10));
     }
 
 pub outflow_lies : (network : Project) (S time : ℕ) (intervals : List Interval) (levels : List ℤ) (tanks : List TankState) (links : List LinkState) (given : Assignment) (grid : Grid) (below above : List ℤ)

@@ -1,29 +1,27 @@
 -- The comparison: a certificate lies strictly on its side of the heads of every assignment.
-use Rattle.std.proofs.Common.{◌≡◌, ℕ, zero, suc, ◌+◌, ◌*◌, ◌<◌, ◌≤◌, ℤ, pos, negsuc, ◌+ℤ◌, ◌-ℤ◌, ◌*ℤ◌, ◌≤ℤ◌, ◌<ℤ◌, neg_ℤ, refl, sym, ap, subst, ◌∙◌, arith, List, [], ◌∷◌, ◌++◌, length, Bool, true, false, ◌==◌, inl, inr}
-use Rattle.std.specs.Prelude.{Option, Some, None, slice_get, map, MatchBool, All}
+use Rattle.std.proofs.Common.{◌≡◌, ℕ, zero, suc, ◌+◌, ◌*◌, ◌<◌, ℤ, pos, ◌+ℤ◌, ◌-ℤ◌, ◌*ℤ◌, ◌≤ℤ◌, ◌<ℤ◌, neg_ℤ, refl, sym, subst, arith, List, [], ◌∷◌, ◌++◌, length}
+use Rattle.std.specs.Prelude.{Some, slice_get, map}
 use Rattle.std.specs.List.{AllByRecursion, AllZip}
 use Rattle.std.specs.Option.{IfSome}
 use Rattle.std.proofs.lemmas.Int.{ints, by_lt_z}
 use Rattle.std.proofs.lemmas.Option.{slice_get_within, get_or_from_slice_get}
-use Rattle.std.proofs.lemmas.Slice.Zip.{AllZip-long}
 use Rattle.hyd_num.specs.Integers.{times_plus, times_minus, times_rises, times_neg}
-use Rattle.hyd_spec.specs.Types.{Project, Junction, Link, LinkState, Tank}
+use Rattle.hyd_spec.specs.Types.{Project, Junction, LinkState}
 use Rattle.hyd_spec.specs.declared.TankState.{TankState}
 use Rattle.hyd_spec.specs.declared.Side.TheVariants.{Upper, Lower}
 use Rattle.hyd_spec.specs.declared.Problem.{Problem}
 use Rattle.hyd_spec.specs.declared.Problem.TheVariants.{Main}
 use Rattle.hyd_spec.specs.declared.Side.{Side}
-use Rattle.hyd_spec.specs.Lists.{Each, map_from}
+use Rattle.hyd_spec.specs.Lists.{Each}
 use Rattle.hyd_spec.specs.Interval.{Interval}
-use Rattle.hyd_spec.specs.Scale.{at_scale, tolerance}
-use Rattle.hyd_spec.specs.Network.{junction_count}
+use Rattle.hyd_spec.specs.Scale.{at_scale}
 use Rattle.hyd_spec.specs.Quantity.{reservoir_head, demand_of}
-use Rattle.hyd_spec.specs.Enclosing.{low, high, demand_low, demand_high, emitter_low, emitter_high}
-use Rattle.hyd_spec.specs.Assignment.{Assignment, IsAssignment, JunctionObeys, IsBalanced, head_at, flow_at, net_outflow, node_heads, tank_heads}
-use Rattle.hyd_spec.specs.Grid.{Grid, GridLink, GridJunction, IsGrid, IsJunctionOf, grid_links, tank_intervals, all_heads, fixed_heads, end_on, tank_side}
-use Rattle.hyd_spec.specs.Surplus.{net, net_low, net_high, outflow_low, outflow_high, margin, link_ends}
-use Rattle.hyd_spec.specs.Certificate.{IsCertificate, Passes}
-use Rattle.hyd_laws.specs.Laws.{IsSoundGrid, IsSoundLaw, IsSoundCapacity, LevelsLie, LiesIn, IsCompared}
+use Rattle.hyd_spec.specs.Enclosing.{low, high}
+use Rattle.hyd_spec.specs.Assignment.{Assignment, JunctionObeys, head_at, flow_at, net_outflow, node_heads, tank_heads}
+use Rattle.hyd_spec.specs.Grid.{Grid, GridLink, GridJunction, IsGrid, IsJunctionOf, all_heads, fixed_heads}
+use Rattle.hyd_spec.specs.Surplus.{net, outflow_low, outflow_high, link_ends}
+use Rattle.hyd_spec.specs.Certificate.{IsCertificate}
+use Rattle.hyd_laws.specs.Laws.{IsSoundLaw, IsSoundCapacity, LevelsLie, IsCompared}
 use Rattle.hyd_laws.proofs.Nodes.{excess, lack, excess_after, lack_after, head_front, tanks_below, tanks_above, reservoirs_below, reservoirs_above, IsGreatestBelow, greatest_below}
 use Rattle.hyd_laws.proofs.Sums.{IsPeak, IsDip, sum-upper, sum-lower}
 use Rattle.hyd_laws.proofs.Outflows.{emitter-below, emitter-above, demand-below, demand-above}
@@ -35,11 +33,11 @@ pub outflow-below : (network : Project) (time S : ℕ) (given : Assignment) (j :
     → (pos S *ℤ outflow_low here h) ≤ℤ ((flow_at given.demands j +ℤ flow_at given.emitters j) +ℤ pos (S * 20))
 outflow-below network time S given j junction here h some is sound le obeys =
     let p : (pos S *ℤ (h -ℤ here.elevation)) ≤ℤ (head_at given.heads j -ℤ (pos S *ℤ junction.elevation)) =
-        rw times_minus (rw is.elevation (omega (arith, ints, le))) in
+    rw times_minus (rw is.elevation (omega (arith, ints, le))) in
     let a = demand-below network (demand_of network time junction) here.demand S (h -ℤ here.elevation) (head_at given.heads j -ℤ (pos S *ℤ junction.elevation)) (flow_at given.demands j)
-        is.demand some p obeys.demand in
+    is.demand some p obeys.demand in
     let b = emitter-below junction here.emitter S (h -ℤ here.elevation) (head_at given.heads j -ℤ (pos S *ℤ junction.elevation)) (flow_at given.emitters j)
-        is.emitter sound some p obeys.emitter in
+    is.emitter sound some p obeys.emitter in
     rw times_plus (omega (arith, ints, a, b))
 
 pub outflow-above : (network : Project) (time S : ℕ) (given : Assignment) (j : ℕ) (junction : Junction) (here : GridJunction) (h : ℤ) → 0 < S
@@ -47,11 +45,11 @@ pub outflow-above : (network : Project) (time S : ℕ) (given : Assignment) (j :
     → (flow_at given.demands j +ℤ flow_at given.emitters j) ≤ℤ ((pos S *ℤ outflow_high here h) +ℤ pos (S * 20))
 outflow-above network time S given j junction here h some is sound le obeys =
     let p : (head_at given.heads j -ℤ (pos S *ℤ junction.elevation)) ≤ℤ (pos S *ℤ (h -ℤ here.elevation)) =
-        rw times_minus (rw is.elevation (omega (arith, ints, le))) in
+    rw times_minus (rw is.elevation (omega (arith, ints, le))) in
     let a = demand-above network (demand_of network time junction) here.demand S (h -ℤ here.elevation) (head_at given.heads j -ℤ (pos S *ℤ junction.elevation)) (flow_at given.demands j)
-        is.demand some p obeys.demand in
+    is.demand some p obeys.demand in
     let b = emitter-above junction here.emitter S (h -ℤ here.elevation) (head_at given.heads j -ℤ (pos S *ℤ junction.elevation)) (flow_at given.emitters j)
-        is.emitter sound some p obeys.emitter in
+    is.emitter sound some p obeys.emitter in
     rw times_plus (omega (arith, ints, a, b))
 
 -- what passes leaves a surplus that no balance allows
@@ -107,13 +105,13 @@ no_excess network S time intervals levels tanks links given grid problem u i c c
     let p = place_at (IsJunctionOf network time) network.junctions.list grid.junctions c.is_grid.junctions i (let e = certificate.one_each in omega (arith, lt)) in
     let obeys = c.assigned.junctions_obey i p.junction p.is_junction in
     let sums = sum-upper network tanks S (node_heads network S time levels given.heads) (all_heads grid problem Upper u) i c.some peak network.links.list links given.flows c.assigned.links_follow
-        (subst (λ (ls : List GridLink). AllByRecursion (λ (link : GridLink). IsSoundLaw link.law) ls) c.is_grid.links_are c.sound.links) in
+    (subst (λ (ls : List GridLink). AllByRecursion (λ (link : GridLink). IsSoundLaw link.law) ls) c.is_grid.links_are c.sound.links) in
     let turned = subst (λ (ls : List GridLink). (pos S *ℤ net low high (all_heads grid problem Upper u) i ls) ≤ℤ (net_outflow i network.links.list given.flows +ℤ pos (link_ends i ls * (S * 10))))
-        (sym c.is_grid.links_are) sums in
+    (sym c.is_grid.links_are) sums in
     let leaves = outflow-below network time S given i p.junction p.here (head_at u i) c.some p.holds (emitter_at grid.junctions i p.here c.sound.emitters p.is_here) above obeys in
     too_much S (link_ends i grid.links) (net low high (all_heads grid problem Upper u) i grid.links) (outflow_low p.here (head_at u i))
-        (net_outflow i network.links.list given.flows) (flow_at given.demands i +ℤ flow_at given.emitters i) c.some turned leaves
-        (let b = obeys.balance.low in omega (arith, ints, b)) (certificate.passes i p.here p.is_here)
+    (net_outflow i network.links.list given.flows) (flow_at given.demands i +ℤ flow_at given.emitters i) c.some turned leaves
+    (let b = obeys.balance.low in omega (arith, ints, b)) (certificate.passes i p.here p.is_here)
 
 pub no_lack : (network : Project) (S time : ℕ) (intervals : List Interval) (levels : List ℤ) (tanks : List TankState) (links : List LinkState) (given : Assignment) (grid : Grid)
     (problem : Problem) (u : List ℤ) (i : ℕ) → IsCompared network S time intervals levels tanks links given grid → IsCertificate grid problem Lower u → i < length u
@@ -122,13 +120,13 @@ no_lack network S time intervals levels tanks links given grid problem u i c cer
     let p = place_at (IsJunctionOf network time) network.junctions.list grid.junctions c.is_grid.junctions i (let e = certificate.one_each in omega (arith, lt)) in
     let obeys = c.assigned.junctions_obey i p.junction p.is_junction in
     let sums = sum-lower network tanks S (node_heads network S time levels given.heads) (all_heads grid problem Lower u) i c.some dip network.links.list links given.flows c.assigned.links_follow
-        (subst (λ (ls : List GridLink). AllByRecursion (λ (link : GridLink). IsSoundLaw link.law) ls) c.is_grid.links_are c.sound.links) in
+    (subst (λ (ls : List GridLink). AllByRecursion (λ (link : GridLink). IsSoundLaw link.law) ls) c.is_grid.links_are c.sound.links) in
     let turned = subst (λ (ls : List GridLink). net_outflow i network.links.list given.flows ≤ℤ ((pos S *ℤ net high low (all_heads grid problem Lower u) i ls) +ℤ pos (link_ends i ls * (S * 10))))
-        (sym c.is_grid.links_are) sums in
+    (sym c.is_grid.links_are) sums in
     let leaves = outflow-above network time S given i p.junction p.here (head_at u i) c.some p.holds (emitter_at grid.junctions i p.here c.sound.emitters p.is_here) below obeys in
     too_little S (link_ends i grid.links) (net high low (all_heads grid problem Lower u) i grid.links) (outflow_high p.here (head_at u i))
-        (net_outflow i network.links.list given.flows) (flow_at given.demands i +ℤ flow_at given.emitters i) c.some turned leaves
-        (let b = obeys.balance.high in omega (arith, ints, b)) (certificate.passes i p.here p.is_here)
+    (net_outflow i network.links.list given.flows) (flow_at given.demands i +ℤ flow_at given.emitters i) c.some turned leaves
+    (let b = obeys.balance.high in omega (arith, ints, b)) (certificate.passes i p.here p.is_here)
 
 -- ---- all tanks alike
 
@@ -162,19 +160,19 @@ none_above network S time intervals levels tanks links given grid u j i c certif
     let t : pos 0 ≤ℤ excess S given.heads u i = omega (arith, ints, top, ge) in
     let front : i < length u = (let l = best.below in omega (arith, l, same)) in
     no_excess network S time intervals levels tanks links given grid Main u i c certificate front
-      (λ m. rw (head_front given.heads _ i best.below, head_front u _ i front)
-      (excess_after S given.heads u _ _ (excess S given.heads u i) same
-      (fixed_below network S time intervals levels tanks links grid (excess S given.heads u i) c.is_grid c.lie t) m (λ lt. best.each m lt)))
-      (omega (arith, ints, t))
+    (λ m. rw (head_front given.heads _ i best.below, head_front u _ i front)
+    (excess_after S given.heads u _ _ (excess S given.heads u i) same
+    (fixed_below network S time intervals levels tanks links grid (excess S given.heads u i) c.is_grid c.lie t) m (λ lt. best.each m lt)))
+    (omega (arith, ints, t))
 
 pub below_main : (network : Project) (S time : ℕ) (intervals : List Interval) (levels : List ℤ) (tanks : List TankState) (links : List LinkState) (given : Assignment) (grid : Grid) (u : List ℤ)
     → IsCompared network S time intervals levels tanks links given grid → IsCertificate grid Main Upper u → Each given.heads (λ j h. h <ℤ at_scale S (head_at u j))
 below_main network S time intervals levels tanks links given grid u c certificate j h is = by_lt_z h (pos S *ℤ head_at u j) (λ lt. lt)
     (λ ge.
-      let inside = slice_get_within given.heads j h is in
-      let (i, best) = greatest_below (excess S given.heads u) (length given.heads) (omega (arith, inside)) in
-      absurd (none_above network S time intervals levels tanks links given grid u j i c certificate inside
-        (let e : head_at given.heads j ≡ h = get_or_from_slice_get given.heads j h (pos 0) is in omega (arith, ints, e, ge)) best))
+    let inside = slice_get_within given.heads j h is in
+    let (i, best) = greatest_below (excess S given.heads u) (length given.heads) (omega (arith, inside)) in
+    absurd (none_above network S time intervals levels tanks links given grid u j i c certificate inside
+    (let e : head_at given.heads j ≡ h = get_or_from_slice_get given.heads j h (pos 0) is in omega (arith, ints, e, ge)) best))
 
 -- none below a lower one
 none_below : (network : Project) (S time : ℕ) (intervals : List Interval) (levels : List ℤ) (tanks : List TankState) (links : List LinkState) (given : Assignment) (grid : Grid) (u : List ℤ) (j i : ℕ)
@@ -186,16 +184,16 @@ none_below network S time intervals levels tanks links given grid u j i c certif
     let t : pos 0 ≤ℤ lack S given.heads u i = omega (arith, ints, top, ge) in
     let front : i < length u = (let l = best.below in omega (arith, l, same)) in
     no_lack network S time intervals levels tanks links given grid Main u i c certificate front
-      (λ m. rw (head_front given.heads _ i best.below, head_front u _ i front)
-      (lack_after S given.heads u _ _ (lack S given.heads u i) same
-      (fixed_above network S time intervals levels tanks links grid (lack S given.heads u i) c.is_grid c.lie t) m (λ lt. best.each m lt)))
-      (omega (arith, ints, t))
+    (λ m. rw (head_front given.heads _ i best.below, head_front u _ i front)
+    (lack_after S given.heads u _ _ (lack S given.heads u i) same
+    (fixed_above network S time intervals levels tanks links grid (lack S given.heads u i) c.is_grid c.lie t) m (λ lt. best.each m lt)))
+    (omega (arith, ints, t))
 
 pub above_main : (network : Project) (S time : ℕ) (intervals : List Interval) (levels : List ℤ) (tanks : List TankState) (links : List LinkState) (given : Assignment) (grid : Grid) (u : List ℤ)
     → IsCompared network S time intervals levels tanks links given grid → IsCertificate grid Main Lower u → Each given.heads (λ j h. at_scale S (head_at u j) <ℤ h)
 above_main network S time intervals levels tanks links given grid u c certificate j h is = by_lt_z (pos S *ℤ head_at u j) h (λ lt. lt)
     (λ ge.
-      let inside = slice_get_within given.heads j h is in
-      let (i, best) = greatest_below (lack S given.heads u) (length given.heads) (omega (arith, inside)) in
-      absurd (none_below network S time intervals levels tanks links given grid u j i c certificate inside
-        (let e : head_at given.heads j ≡ h = get_or_from_slice_get given.heads j h (pos 0) is in omega (arith, ints, e, ge)) best))
+    let inside = slice_get_within given.heads j h is in
+    let (i, best) = greatest_below (lack S given.heads u) (length given.heads) (omega (arith, inside)) in
+    absurd (none_below network S time intervals levels tanks links given grid u j i c certificate inside
+    (let e : head_at given.heads j ≡ h = get_or_from_slice_get given.heads j h (pos 0) is in omega (arith, ints, e, ge)) best))

@@ -1,5 +1,5 @@
 -- The laws of capacities, of valves without loss coefficient, and of every sound law.
-use Rattle.std.proofs.Common.{◌≡◌, ℕ, zero, suc, ◌+◌, ◌*◌, ◌^◌, ◌<◌, ◌≤◌, ℤ, pos, negsuc, ◌+ℤ◌, ◌-ℤ◌, ◌*ℤ◌, ◌≤ℤ◌, ◌<ℤ◌, neg_ℤ, refl, sym, ap, subst, ◌∙◌, arith, mul-pos}
+use Rattle.std.proofs.Common.{◌≡◌, ℕ, zero, suc, ◌*◌, ◌^◌, ◌<◌, ℤ, pos, negsuc, ◌-ℤ◌, ◌*ℤ◌, ◌≤ℤ◌, refl, sym, ap, ◌∙◌, arith}
 use Rattle.std.proofs.Math.Nat.{mul_comm}
 use Rattle.std.proofs.lemmas.Int.{ints}
 use Rattle.hyd_num.specs.Scaled.{numerator, denominator}
@@ -14,10 +14,10 @@ use Rattle.std.specs.Prelude.{Bool, true, false, unsigned_abs}
 use Rattle.hyd_resist.proofs.Enclosures.{IsEnclosure-made}
 use Rattle.hyd_resist.proofs.Squares.{ratio-above}
 use Rattle.hyd_spec.specs.Types.{Capacity, Origin, Pipe, Valve, Pump, Emitter, PressureDemand}
-use Rattle.hyd_spec.specs.Enclosing.{quad_low, quad_high, low, high, straight_flow}
-use Rattle.hyd_spec.specs.Law.{Relation, Loss, Law, Shut, Quad, Straight, Lifted, ForwardOnly, ReverseOnly, Capped, lifted, odd_at_least, odd_at_most, flow_at_least, flow_at_most, loss_at_most, loss_at_least, Follows}
+use Rattle.hyd_spec.specs.Enclosing.{quad_low, quad_high, low, high}
+use Rattle.hyd_spec.specs.Law.{Law, Shut, Quad, Straight, Lifted, ForwardOnly, ReverseOnly, Capped, odd_at_least, odd_at_most, flow_at_least, flow_at_most, loss_at_most, loss_at_least}
 use Rattle.hyd_resist.proofs.Enclosing.{numerator_above, denominator_above}
-use Rattle.hyd_laws.specs.Laws.{IsLaw, IsLossLaw, IsSoundCapacity, IsSoundLaw, HasPositiveNumbers}
+use Rattle.hyd_laws.specs.Laws.{IsLaw, IsSoundCapacity, IsSoundLaw, HasPositiveNumbers}
 use Rattle.hyd_laws.proofs.Integers.{floor_low, ceiling_high, floor_greatest, ceiling_least, floor_at_most_ceiling}
 use Rattle.hyd_laws.proofs.LossLaws.{IsLossLaw-origin}
 use Rattle.hyd_laws.proofs.LinkLaws.{IsLaw-shut, IsLaw-forward, IsLaw-reverse, IsLaw-capped, IsLaw-lifted, odd-consistent, odd-downward, odd-upward, quad-below, quad-above, low-rises, high-rises, roots-ordered, roots_low, roots_high}
@@ -44,7 +44,7 @@ IsLaw-quad c sound = record {
       (denominator_above c.lo) (denominator_above c.hi) sound.enclosure.at_most sound.enclosure.at_least S d x some le);
   consistent = odd-consistent (loss_at_most c.origin) (loss_at_least c.origin) (IsLossLaw-origin c.origin sound.numbers);
   downward = odd-downward (loss_at_most c.origin) (loss_at_least c.origin) (IsLossLaw-origin c.origin sound.numbers);
-  upward = odd-upward (loss_at_most c.origin) (loss_at_least c.origin) (IsLossLaw-origin c.origin sound.numbers)
+  upward = odd-upward (loss_at_most c.origin) (loss_at_least c.origin) (IsLossLaw-origin c.origin sound.numbers);
 }
 
 -- ---- the valve without loss coefficient, which passes g / k ticks for a head tick
@@ -84,7 +84,7 @@ IsLaw-passed g k above = record {
   encloses_above = λ S d x some le. passed-above g k S d x above le;
   consistent = λ S x a b some least most. times_reflects k a b above (let l : (pos k *ℤ a) ≤ℤ (pos k *ℤ b) = omega (arith, ints, least, most) in l);
   downward = λ S x a b some le least. let l = times_rises k b a le in omega (arith, ints, l, least);
-  upward = λ S x a b some le most. let l = times_rises k a b le in omega (arith, ints, l, most)
+  upward = λ S x a b some le most. let l = times_rises k a b le in omega (arith, ints, l, most);
 }
 
 pub IsLaw-straight : IsLaw (flow_at_least Straight) (flow_at_most Straight) (low Straight) (high Straight)
@@ -130,9 +130,10 @@ pressure-some us (negsuc n) h = omega arith
 
 friction-numbers : (length diameter roughness : Decimal) (us : Bool) (r : Pair) → IsFrictionPair length diameter roughness us r
     → (0 < billionths length) × ((0 < billionths diameter) × (0 < billionths roughness))
-friction-numbers length diameter roughness us r made =
-    (length-above us (billionths length) (ratio-above _ _ made.long made.long_is),
-    (width-above us (billionths diameter) (ratio-above _ _ made.across made.across_is), ratio-above _ _ made.rough made.rough_is))
+friction-numbers length diameter roughness us r made = (
+  length-above us (billionths length) (ratio-above _ _ made.long made.long_is),
+  (width-above us (billionths diameter) (ratio-above _ _ made.across made.across_is), ratio-above _ _ made.rough made.rough_is),
+)
 
 pipe-numbers : (minors : ℕ) (length diameter roughness minor : Decimal) (us : Bool) (r : Pair) → IsPipePairWith minors length diameter roughness minor us r
     → (0 < billionths length) × ((0 < billionths diameter) × (0 < billionths roughness))

@@ -1,6 +1,6 @@
 -- The grid of a period has sound laws where the capacities are made of the file's numbers.
-use Rattle.std.proofs.Common.{◌≡◌, ℕ, zero, suc, ◌*◌, ◌^◌, ◌<◌, refl, sym, subst, arith, List, [], ◌∷◌, Bool, mul-pos}
-use Rattle.std.specs.Prelude.{Option, Some, None, All, if◌then◌else◌}
+use Rattle.std.proofs.Common.{ℕ, ◌*◌, ◌^◌, ◌<◌, sym, subst, arith, List, [], ◌∷◌, Bool}
+use Rattle.std.specs.Prelude.{Option, Some, None, if◌then◌else◌}
 use Rattle.std.specs.List.{AllByRecursion, AllZip}
 use Rattle.std.specs.Option.{IfSome}
 use Rattle.std.proofs.lemmas.Bool.{cond_both}
@@ -11,9 +11,9 @@ use Rattle.hyd_net.specs.Made.{IsKindMade, IsStateMade, IsValveMade}
 use Rattle.hyd_spec.specs.Types.{Project, Junction, Capacity, Link, LinkKind, PipeLink, CheckPipe, PumpLink, Tcv, Fcv, OpenValve, Quadratic, Linear, LinkState, Open, Closed, Speed, Throttle, Limit, ShutoffHead, FourThirds, Given}
 use Rattle.hyd_spec.specs.declared.TankState.{TankState}
 use Rattle.hyd_spec.specs.Interval.{Interval}
-use Rattle.hyd_spec.specs.Quantity.{is_us, lift_of, shutoff_head}
+use Rattle.hyd_spec.specs.Quantity.{is_us, shutoff_head}
 use Rattle.hyd_spec.specs.Law.{Law, ForwardOnly, ReverseOnly}
-use Rattle.hyd_spec.specs.LinkLaw.{own_law, law_of, valve_law, forbids_forward, forbids_reverse}
+use Rattle.hyd_spec.specs.LinkLaw.{own_law, valve_law, forbids_forward, forbids_reverse}
 use Rattle.hyd_spec.specs.Grid.{Grid, GridLink, GridJunction, IsGrid, IsJunctionOf, grid_links}
 use Rattle.hyd_laws.specs.Laws.{IsSoundGrid, IsSoundLaw, IsSoundCapacity, AreCapacitiesMade}
 use Rattle.hyd_laws.proofs.EachLaw.{IsSoundCapacity-made}
@@ -64,10 +64,11 @@ links-sound : (network : Project) (tanks : List TankState) (links : List Link) (
     → AllByRecursion (λ (link : GridLink). IsSoundLaw link.law) (grid_links network tanks links states)
 links-sound network tanks [] states kinds made = tt
 links-sound network tanks (link ∷ links) [] kinds made = tt
-links-sound network tanks (link ∷ links) (state ∷ states) kinds made =
-    (ways-sound (forbids_forward network tanks link) (forbids_reverse network tanks link) (own_law (is_us network) link.kind state)
+links-sound network tanks (link ∷ links) (state ∷ states) kinds made = (
+  ways-sound (forbids_forward network tanks link) (forbids_reverse network tanks link) (own_law (is_us network) link.kind state)
       (own-sound (is_us network) network.options.unit link.kind state kinds.0 made.0),
-    links-sound network tanks links states kinds.1 made.1)
+  links-sound network tanks links states kinds.1 made.1,
+)
 
 emitter-sound : (e : Option Capacity) → IfSome e IsMade → IfSome e IsSoundCapacity
 emitter-sound None made = tt
@@ -86,5 +87,5 @@ pub IsSoundGrid-made : (network : Project) (time : ℕ) (intervals : List Interv
 IsSoundGrid-made network time intervals tanks links grid is made = record {
   links = subst (λ (ls : List GridLink). AllByRecursion (λ (link : GridLink). IsSoundLaw link.law) ls) (sym is.links_are)
       (links-sound network tanks network.links.list links (recursion_from_All _ _ made.kinds) (recursion_from_All _ _ made.states));
-  emitters = emitters-sound network time network.junctions.list grid.junctions is.junctions (recursion_from_All _ _ made.emitters)
+  emitters = emitters-sound network time network.junctions.list grid.junctions is.junctions (recursion_from_All _ _ made.emitters);
 }

@@ -1,10 +1,10 @@
 -- Integers: floors and ceilings, greatest and least of two, factors.
-use Rattle.std.proofs.Common.{◌≡◌, ℕ, zero, suc, ◌+◌, ◌-◌, ◌*◌, ◌/◌, ◌%◌, ◌<◌, ◌≤◌, ℤ, pos, negsuc, ◌+ℤ◌, ◌-ℤ◌, ◌*ℤ◌, ◌≤ℤ◌, ◌<ℤ◌, neg_ℤ, refl, sym, ap, subst, ◌∙◌, arith}
+use Rattle.std.proofs.Common.{◌≡◌, ℕ, suc, ◌*◌, ◌/◌, ◌%◌, ◌<◌, ◌≤◌, ℤ, pos, negsuc, ◌+ℤ◌, ◌*ℤ◌, ◌≤ℤ◌, ◌<ℤ◌, neg_ℤ, subst, arith}
 use Rattle.std.proofs.lemmas.Int.{ints, clamps, by_lt_z}
 use Rattle.std.proofs.lemmas.Nat.{div-add-mod'}
 use Rattle.std.specs.Int.{int_max, int_min, int_div_euclid}
 use Rattle.hyd_num.specs.Rational.{Rational, floor, ceiling, negated}
-use Rattle.hyd_num.specs.Integers.{times_plus, times_minus, times_neg, times_rises, times_reflects, times_times, times_one, times_sum}
+use Rattle.hyd_num.specs.Integers.{times_plus, times_neg, times_rises, times_reflects, times_one}
 
 -- ---- floors and ceilings
 
@@ -35,9 +35,9 @@ ceiling_high x above =
 pub floor_greatest : (x : Rational) (k : ℤ) → 0 < x.den → (pos x.den *ℤ k) ≤ℤ x.num → k ≤ℤ floor x
 floor_greatest x k above h = by_lt_z (floor x) k
     (λ lt. absurd (
-        let l : x.num <ℤ ((pos x.den *ℤ floor x) +ℤ pos x.den) = euclid_high x.num x.den above in
-        let m : (pos x.den *ℤ (floor x +ℤ pos 1)) ≤ℤ (pos x.den *ℤ k) = times_rises x.den (floor x +ℤ pos 1) k (omega (arith, ints)) in
-        omega (arith, ints, l, m, h, times_plus x.den (floor x) (pos 1), times_one x.den)))
+    let l : x.num <ℤ ((pos x.den *ℤ floor x) +ℤ pos x.den) = euclid_high x.num x.den above in
+    let m : (pos x.den *ℤ (floor x +ℤ pos 1)) ≤ℤ (pos x.den *ℤ k) = times_rises x.den (floor x +ℤ pos 1) k (omega (arith, ints)) in
+    omega (arith, ints, l, m, h, times_plus x.den (floor x) (pos 1), times_one x.den)))
     (λ ge. ge)
 
 pub ceiling_least : (x : Rational) (k : ℤ) → 0 < x.den → x.num ≤ℤ (pos x.den *ℤ k) → ceiling x ≤ℤ k

@@ -11,3 +11,5 @@ pub mod Pinning
 pub mod Boxed
 pub mod Grids
 pub mod Levelling
+pub mod Deciding
+pub mod Worked

@@ -1,22 +1,16 @@
 -- Each sound law of a link is a law.
-use Rattle.std.proofs.Common.{◌≡◌, ℕ, zero, suc, ◌+◌, ◌*◌, ◌^◌, ◌<◌, ◌≤◌, ℤ, pos, negsuc, ◌+ℤ◌, ◌-ℤ◌, ◌*ℤ◌, ◌≤ℤ◌, ◌<ℤ◌, neg_ℤ, refl, sym, ap, subst, ◌∙◌, arith, mul-pos, ◌⊎◌, inl, inr}
+use Rattle.std.proofs.Common.{◌≡◌, ℕ, zero, suc, ◌*◌, ◌<◌, ◌≤◌, ℤ, pos, negsuc, ◌+ℤ◌, ◌*ℤ◌, ◌≤ℤ◌, ◌<ℤ◌, neg_ℤ, ap, ◌∙◌, arith, mul-pos, ◌⊎◌, inl, inr}
 use Rattle.std.proofs.Math.Nat.{mul-le-mul_right, mul-le-mul_left, le_of_mul-le-mul_right, mul_comm}
-use Rattle.std.proofs.lemmas.Nat.{mul-le, pow_pos}
-use Rattle.std.proofs.lemmas.Int.{ints, clamps, by_lt_z}
+use Rattle.std.proofs.lemmas.Int.{ints}
 use Rattle.std.specs.Int.{int_max, int_min}
-use Rattle.hyd_num.specs.Scaled.{numerator, denominator}
-use Rattle.hyd_num.specs.Roots.{IsSquareRootDown, IsSquareRootUp}
 use Rattle.hyd_num.specs.Rational.{Rational, floor, ceiling}
-use Rattle.hyd_num.specs.Integers.{times_plus, times_minus, times_neg, times_rises, times_reflects, times_times, times_one, times_sum}
-use Rattle.hyd_spec.specs.Types.{Capacity}
+use Rattle.hyd_num.specs.Integers.{times_plus, times_neg, times_rises, times_reflects, times_times}
 use Rattle.hyd_spec.specs.Scale.{at_scale}
-use Rattle.hyd_spec.specs.Enclosing.{root_down, root_up, quad_low, quad_high, low, high, straight_flow}
-use Rattle.hyd_spec.specs.Law.{Relation, Loss, Law, Shut, Quad, Straight, Lifted, ForwardOnly, ReverseOnly, Capped, lifted, odd_at_least, odd_at_most, loses_at_least, loses_at_most, flow_at_least, flow_at_most, loss_at_most, loss_at_least}
-use Rattle.hyd_resist.proofs.Enclosing.{numerator_above, denominator_above}
-use Rattle.hyd_laws.specs.Laws.{IsLaw, IsLossLaw, IsSoundCapacity, IsSoundLaw}
-use Rattle.hyd_laws.proofs.Integers.{floor_low, ceiling_high, floor_greatest, ceiling_least, floor_at_most_ceiling, max_left, max_right, max_rises, max_is, min_left, min_right, min_rises, min_is}
+use Rattle.hyd_spec.specs.Enclosing.{root_down, root_up, low, high}
+use Rattle.hyd_spec.specs.Law.{Relation, Loss, Shut, lifted, odd_at_least, odd_at_most, loses_at_least, loses_at_most, flow_at_least, flow_at_most}
+use Rattle.hyd_laws.specs.Laws.{IsLaw, IsLossLaw}
+use Rattle.hyd_laws.proofs.Integers.{floor_low, ceiling_high, floor_at_most_ceiling, max_left, max_right, max_rises, max_is, min_left, min_right, min_rises, min_is}
 use Rattle.hyd_laws.proofs.Roots.{root_down-is, root_up-is, square_reflects}
-use Rattle.hyd_laws.proofs.LossLaws.{IsLossLaw-origin}
 
 -- ---- closed links
 
@@ -29,11 +23,12 @@ IsLaw-shut = record {
   encloses_above = λ S d x some le. nothing_up S;
   consistent = λ S x a b some least most. omega (arith, ints);
   downward = λ S x a b some le h. omega (arith, ints);
-  upward = λ S x a b some le h. omega (arith, ints)
+  upward = λ S x a b some le h. omega (arith, ints);
 }
   where
     nothing : (S : ℕ) → (pos S *ℤ pos 0) ≤ℤ pos 0
     nothing S = omega (arith, ints)
+
     nothing_up : (S : ℕ) → pos 0 ≤ℤ (pos S *ℤ pos 0)
     nothing_up S = omega (arith, ints)
 
@@ -47,19 +42,24 @@ IsLaw-forward A B l h law = record {
   ordered = λ d. max_rises (pos 0) (l d) (h d) (law.ordered d);
   encloses_below = λ S d x some le. max_is (λ z. ((pos S *ℤ z) ≤ℤ pos 0) ⊎ A S x (pos S *ℤ z)) (pos 0) (l d)
       (λ e. inl (nothing S)) (λ e. inr (law.encloses_below S d x some le));
-  encloses_above = λ S d x some le. (positive S (int_max (pos 0) (h d)) (max_left (pos 0) (h d)),
-      law.upward S x (pos S *ℤ h d) (pos S *ℤ int_max (pos 0) (h d)) some (times_rises S (h d) (int_max (pos 0) (h d)) (max_right (pos 0) (h d))) (law.encloses_above S d x some le));
+  encloses_above = λ S d x some le. (
+    positive S (int_max (pos 0) (h d)) (max_left (pos 0) (h d)),
+    law.upward S x (pos S *ℤ h d) (pos S *ℤ int_max (pos 0) (h d)) some (times_rises S (h d) (int_max (pos 0) (h d)) (max_right (pos 0) (h d))) (law.encloses_above S d x some le),
+  );
   consistent = λ S x a b some least most. elim least [
-      inl le ↦ let m : pos 0 ≤ℤ b = most.0 in omega (arith, ints)
-    | inr more ↦ law.consistent S x a b some more most.1 ];
+    | inl le ↦ let m : pos 0 ≤ℤ b = most.0 in omega (arith, ints)
+    | inr more ↦ law.consistent S x a b some more most.1
+  ];
   downward = λ S x a b some le least. elim least [
-      inl less ↦ inl (let m : b ≤ℤ pos 0 = omega (arith, ints) in m)
-    | inr more ↦ inr (law.downward S x a b some le more) ];
-  upward = λ S x a b some le most. (let m : pos 0 ≤ℤ a = most.0 in let n : pos 0 ≤ℤ b = omega (arith, ints) in n, law.upward S x a b some le most.1)
+    | inl less ↦ inl (let m : b ≤ℤ pos 0 = omega (arith, ints) in m)
+    | inr more ↦ inr (law.downward S x a b some le more)
+  ];
+  upward = λ S x a b some le most. (let m : pos 0 ≤ℤ a = most.0 in let n : pos 0 ≤ℤ b = omega (arith, ints) in n, law.upward S x a b some le most.1);
 }
   where
     nothing : (S : ℕ) → (pos S *ℤ pos 0) ≤ℤ pos 0
     nothing S = omega (arith, ints)
+
     positive : (S : ℕ) (z : ℤ) → pos 0 ≤ℤ z → pos 0 ≤ℤ (pos S *ℤ z)
     positive S z le = let m = times_rises S (pos 0) z le in omega (arith, ints, m)
 
@@ -69,21 +69,26 @@ IsLaw-reverse A B l h law = record {
   low_rises = λ c d le. min_rises (pos 0) (l c) (l d) (law.low_rises c d le);
   high_rises = λ c d le. min_rises (pos 0) (h c) (h d) (law.high_rises c d le);
   ordered = λ d. min_rises (pos 0) (l d) (h d) (law.ordered d);
-  encloses_below = λ S d x some le. (negative S (int_min (pos 0) (l d)) (min_left (pos 0) (l d)),
-      law.downward S x (pos S *ℤ l d) (pos S *ℤ int_min (pos 0) (l d)) some (times_rises S (int_min (pos 0) (l d)) (l d) (min_right (pos 0) (l d))) (law.encloses_below S d x some le));
+  encloses_below = λ S d x some le. (
+    negative S (int_min (pos 0) (l d)) (min_left (pos 0) (l d)),
+    law.downward S x (pos S *ℤ l d) (pos S *ℤ int_min (pos 0) (l d)) some (times_rises S (int_min (pos 0) (l d)) (l d) (min_right (pos 0) (l d))) (law.encloses_below S d x some le),
+  );
   encloses_above = λ S d x some le. min_is (λ z. (pos 0 ≤ℤ (pos S *ℤ z)) ⊎ B S x (pos S *ℤ z)) (pos 0) (h d)
       (λ e. inl (nothing S)) (λ e. inr (law.encloses_above S d x some le));
   consistent = λ S x a b some least most. elim most [
-      inl le ↦ let m : a ≤ℤ pos 0 = least.0 in omega (arith, ints)
-    | inr more ↦ law.consistent S x a b some least.1 more ];
+    | inl le ↦ let m : a ≤ℤ pos 0 = least.0 in omega (arith, ints)
+    | inr more ↦ law.consistent S x a b some least.1 more
+  ];
   downward = λ S x a b some le least. (let m : a ≤ℤ pos 0 = least.0 in let n : b ≤ℤ pos 0 = omega (arith, ints) in n, law.downward S x a b some le least.1);
   upward = λ S x a b some le most. elim most [
-      inl less ↦ inl (let m : pos 0 ≤ℤ b = omega (arith, ints) in m)
-    | inr more ↦ inr (law.upward S x a b some le more) ]
+    | inl less ↦ inl (let m : pos 0 ≤ℤ b = omega (arith, ints) in m)
+    | inr more ↦ inr (law.upward S x a b some le more)
+  ];
 }
   where
     nothing : (S : ℕ) → pos 0 ≤ℤ (pos S *ℤ pos 0)
     nothing S = omega (arith, ints)
+
     negative : (S : ℕ) (z : ℤ) → z ≤ℤ pos 0 → (pos S *ℤ z) ≤ℤ pos 0
     negative S z le = let m = times_rises S z (pos 0) le in omega (arith, ints, m)
 
@@ -93,17 +98,21 @@ IsLaw-capped c A B l h law = record {
   low_rises = λ x d le. min_rises c (l x) (l d) (law.low_rises x d le);
   high_rises = λ x d le. min_rises c (h x) (h d) (law.high_rises x d le);
   ordered = λ d. min_rises c (l d) (h d) (law.ordered d);
-  encloses_below = λ S d x some le. (times_rises S (int_min c (l d)) c (min_left c (l d)),
-      law.downward S x (pos S *ℤ l d) (pos S *ℤ int_min c (l d)) some (times_rises S (int_min c (l d)) (l d) (min_right c (l d))) (law.encloses_below S d x some le));
+  encloses_below = λ S d x some le. (
+    times_rises S (int_min c (l d)) c (min_left c (l d)),
+    law.downward S x (pos S *ℤ l d) (pos S *ℤ int_min c (l d)) some (times_rises S (int_min c (l d)) (l d) (min_right c (l d))) (law.encloses_below S d x some le),
+  );
   encloses_above = λ S d x some le. min_is (λ z. ((pos S *ℤ c) ≤ℤ (pos S *ℤ z)) ⊎ B S x (pos S *ℤ z)) c (h d)
       (λ e. inl (let m : (pos S *ℤ c) ≤ℤ (pos S *ℤ c) = omega (arith, ints) in m)) (λ e. inr (law.encloses_above S d x some le));
   consistent = λ S x a b some least most. elim most [
-      inl le ↦ let m : a ≤ℤ (pos S *ℤ c) = least.0 in omega (arith, ints)
-    | inr more ↦ law.consistent S x a b some least.1 more ];
+    | inl le ↦ let m : a ≤ℤ (pos S *ℤ c) = least.0 in omega (arith, ints)
+    | inr more ↦ law.consistent S x a b some least.1 more
+  ];
   downward = λ S x a b some le least. (let m : a ≤ℤ (pos S *ℤ c) = least.0 in let n : b ≤ℤ (pos S *ℤ c) = omega (arith, ints) in n, law.downward S x a b some le least.1);
   upward = λ S x a b some le most. elim most [
-      inl less ↦ inl (let m : (pos S *ℤ c) ≤ℤ b = omega (arith, ints) in m)
-    | inr more ↦ inr (law.upward S x a b some le more) ]
+    | inl less ↦ inl (let m : (pos S *ℤ c) ≤ℤ b = omega (arith, ints) in m)
+    | inr more ↦ inr (law.upward S x a b some le more)
+  ];
 }
 
 -- the factors of a finer scale
@@ -141,7 +150,7 @@ IsLaw-lifted lift A B l h above law = record {
   downward = λ S x a b some le least.
       law.downward (S * lift.den) ((pos lift.den *ℤ x) +ℤ (pos S *ℤ lift.num)) (pos lift.den *ℤ a) (pos lift.den *ℤ b) (mul-pos some above) (times_rises lift.den b a le) least;
   upward = λ S x a b some le most.
-      law.upward (S * lift.den) ((pos lift.den *ℤ x) +ℤ (pos S *ℤ lift.num)) (pos lift.den *ℤ a) (pos lift.den *ℤ b) (mul-pos some above) (times_rises lift.den a b le) most
+      law.upward (S * lift.den) ((pos lift.den *ℤ x) +ℤ (pos S *ℤ lift.num)) (pos lift.den *ℤ a) (pos lift.den *ℤ b) (mul-pos some above) (times_rises lift.den a b le) most;
 }
 
 -- ---- laws of a loss

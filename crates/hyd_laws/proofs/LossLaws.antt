@@ -1,9 +1,9 @@
 -- The losses behind capacities are laws of a loss.
-use Rattle.std.proofs.Common.{◌≡◌, ◌≢◌, ℕ, zero, suc, ◌+◌, ◌-◌, ◌*◌, ◌^◌, ◌<◌, ◌≤◌, Bool, true, false, ℤ, pos, negsuc, ◌-ℤ◌, ◌*ℤ◌, unsigned_abs, refl, sym, ap, subst, ◌∙◌, arith, mul-pos, pow-suc, inl, inr}
-use Rattle.std.proofs.Math.Nat.{mul-le-mul_right, mul-le-mul_left, le_of_mul-le-mul_right, one-le-pow, pow-le-pow_left, pow-lt-pow_left, mul-sub, mul_comm}
+use Rattle.std.proofs.Common.{◌≡◌, ◌≢◌, ℕ, zero, suc, ◌-◌, ◌*◌, ◌^◌, ◌<◌, ◌≤◌, Bool, true, false, ℤ, pos, ◌-ℤ◌, unsigned_abs, refl, ap, ◌∙◌, arith, mul-pos, pow-suc, inl, inr}
+use Rattle.std.proofs.Math.Nat.{mul-le-mul_right, mul-le-mul_left, le_of_mul-le-mul_right, one-le-pow, pow-lt-pow_left, mul-sub, mul_comm}
 use Rattle.std.proofs.lemmas.Nat.{mul-pow, mul-le}
 use Rattle.std.proofs.lemmas.Bool.{cases_lt}
-use Rattle.hyd_num.specs.Fraction.{Fraction, fraction, times, plus, minus, over, power, AtMost}
+use Rattle.hyd_num.specs.Fraction.{Fraction, fraction, times, minus, power, AtMost}
 use Rattle.std.proofs.lemmas.Int.{unsigned_abs-mul}
 use Rattle.hyd_num.specs.declared.decimals.Decimal.{Decimal}
 use Rattle.hyd_num.specs.declared.units.FlowUnit.{FlowUnit}
@@ -24,7 +24,7 @@ IsLossLaw-square r above = record {
   falls = λ S p q y some le loses. let l : r.num * (p * p) ≤ r.num * (q * q) = mul-le-mul_left r.num (mul-le p p q q le le) in omega (arith, l, loses);
   rises = λ S p q y some le loses. let l : r.num * (p * p) ≤ r.num * (q * q) = mul-le-mul_left r.num (mul-le p p q q le le) in omega (arith, l, loses);
   consistent = λ S p q y some most least. reflect_product r.num p q above (omega (arith, most, least));
-  without_head = λ S q some. omega arith
+  without_head = λ S q some. omega arith;
 }
 
 -- ---- powers and products of fractions
@@ -34,27 +34,36 @@ some_times n above e = absurd (omega arith)
 
 pub powers_reflect : (n a b : ℕ) → 0 < n → a ^ n ≤ b ^ n → a ≤ b
 powers_reflect n a b above h = elim (cases_lt b a) [
-    inl lt ↦ absurd (let l : b ^ n < a ^ n = pow-lt-pow_left lt (some_times n above) in omega arith)
-  | inr ge ↦ ge ]
+  | inl lt ↦ absurd (let l : b ^ n < a ^ n = pow-lt-pow_left lt (some_times n above) in omega arith)
+  | inr ge ↦ ge
+]
 
 power-reflects : (n : ℕ) (a b : Fraction) → 0 < n → AtMost (power a n) (power b n) → AtMost a b
-power-reflects n a b above h = record { crossed = powers_reflect n (a.num * b.den) (b.num * a.den) above
-    (rw (mul-pow a.num b.den n, mul-pow b.num a.den n) h.crossed) }
+power-reflects n a b above h = record {
+  crossed = powers_reflect n (a.num * b.den) (b.num * a.den) above
+      (rw (mul-pow a.num b.den n, mul-pow b.num a.den n) h.crossed);
+}
 
 factor-reflects : (m f g : Fraction) → 0 < m.num → 0 < m.den → AtMost (times m f) (times m g) → AtMost f g
-factor-reflects m f g some above h = record { crossed =
-    le_of_mul-le-mul_right (let l : (f.num * g.den) * (m.num * m.den) ≤ (g.num * f.den) * (m.num * m.den) = omega (arith, h.crossed) in l)
-        (mul-pos some above) }
+factor-reflects m f g some above h = record {
+  crossed =
+      le_of_mul-le-mul_right (let l : (f.num * g.den) * (m.num * m.den) ≤ (g.num * f.den) * (m.num * m.den) = omega (arith, h.crossed) in l)
+      (mul-pos some above);
+}
 
 difference_times : (a b k : ℕ) → (a - b) * k ≡ a * k - b * k
 difference_times a b k = mul_comm (a - b) k ∙ mul-sub k a b ∙ omega arith
 
 minus-falls : (h m f g : Fraction) → AtMost f g → AtMost (minus h (times m g)) (minus h (times m f))
-minus-falls h m f g le = record { crossed =
-    let l : f.num * g.den * (m.num * h.den * h.den * m.den) ≤ g.num * f.den * (m.num * h.den * h.den * m.den) = mul-le-mul_right (m.num * h.den * h.den * m.den) le.crossed in
-    rw (difference_times (h.num * (m.den * g.den)) ((m.num * g.num) * h.den) (h.den * (m.den * f.den)),
-        difference_times (h.num * (m.den * f.den)) ((m.num * f.num) * h.den) (h.den * (m.den * g.den)))
-    (omega (arith, l)) }
+minus-falls h m f g le = record {
+  crossed =
+      let l : f.num * g.den * (m.num * h.den * h.den * m.den) ≤ g.num * f.den * (m.num * h.den * h.den * m.den) = mul-le-mul_right (m.num * h.den * h.den * m.den) le.crossed in
+      rw (
+        difference_times (h.num * (m.den * g.den)) ((m.num * g.num) * h.den) (h.den * (m.den * f.den)),
+        difference_times (h.num * (m.den * f.den)) ((m.num * f.num) * h.den) (h.den * (m.den * g.den)),
+      )
+      (omega (arith, l));
+}
 
 -- ---- valves, at squared flows f and g
 
@@ -93,21 +102,21 @@ pipe-falls : (n k : ℕ) (c m h d f g : Fraction) → 0 < c.den → 0 < m.den �
     → AtMost (rubbed n c g) (left n k m h d g) → AtMost (rubbed n c f) (left n k m h d f)
 pipe-falls n k c m h d f g pc pm ph pd pg le loses =
     AtMost-along (rubbed n c f) (rubbed n c g) (left n k m h d f) (rubbed-above n c g pc pg) (rubbed-rises n c f g le)
-        (AtMost-along (rubbed n c g) (left n k m h d g) (left n k m h d f) (left-above n k m h d g pm ph pd pg) loses (left-falls n k m h d f g le))
+    (AtMost-along (rubbed n c g) (left n k m h d g) (left n k m h d f) (left-above n k m h d g pm ph pd pg) loses (left-falls n k m h d f g le))
 
 pipe-rises : (n k : ℕ) (c m h d f g : Fraction) → 0 < c.den → 0 < m.den → 0 < h.den → 0 < d.den → 0 < f.den → AtMost f g
     → AtMost (left n k m h d f) (rubbed n c f) → AtMost (left n k m h d g) (rubbed n c g)
 pipe-rises n k c m h d f g pc pm ph pd pf le loses =
     AtMost-along (left n k m h d g) (left n k m h d f) (rubbed n c g) (left-above n k m h d f pm ph pd pf) (left-falls n k m h d f g le)
-        (AtMost-along (left n k m h d f) (rubbed n c f) (rubbed n c g) (rubbed-above n c f pc pf) loses (rubbed-rises n c f g le))
+    (AtMost-along (left n k m h d f) (rubbed n c f) (rubbed n c g) (rubbed-above n c f pc pf) loses (rubbed-rises n c f g le))
 
 -- a greater flow g that loses at least h has as much friction as f, which loses at most h
 pipe-consistent : (n k : ℕ) (c m h d f g : Fraction) → 0 < n → 0 < c.num → 0 < c.den → 0 < m.den → 0 < h.den → 0 < d.den → 0 < f.den → 0 < g.den → AtMost g f
     → AtMost (rubbed n c f) (left n k m h d f) → AtMost (left n k m h d g) (rubbed n c g) → AtMost f g
 pipe-consistent n k c m h d f g pn cn pc pm ph pd pf pg le most least =
     factor-reflects c f g cn pc (power-reflects n (times c f) (times c g) pn
-        (AtMost-along (rubbed n c f) (left n k m h d f) (rubbed n c g) (left-above n k m h d f pm ph pd pf) most
-            (AtMost-along (left n k m h d f) (left n k m h d g) (rubbed n c g) (left-above n k m h d g pm ph pd pg) (left-falls n k m h d g f le) least)))
+    (AtMost-along (rubbed n c f) (left n k m h d f) (rubbed n c g) (left-above n k m h d f pm ph pd pf) most
+    (AtMost-along (left n k m h d f) (left n k m h d g) (rubbed n c g) (left-above n k m h d g pm ph pd pg) (left-falls n k m h d g f le) least)))
 
 nothing_raised : (n x : ℕ) → x ≡ 0 → 0 < n → x ^ n ≡ 0
 nothing_raised zero x none above = absurd (omega arith)
@@ -118,10 +127,12 @@ nothing_less a x y none = let l : a * x ≡ 0 * x = ap (λ z. z * x) none in ome
 
 -- without head nothing is left to friction
 nothing_left : (n k : ℕ) (m h d f e : Fraction) → h.num ≡ 0 → 0 < n → AtMost (left n k m h d f) e
-nothing_left n k m h d f e none above = record { crossed =
-    let r = nothing_raised n (h.num * (m.den * f.den) - (m.num * f.num) * h.den) (nothing_less h.num (m.den * f.den) ((m.num * f.num) * h.den) none) above in
-    let l : (h.num * (m.den * f.den) - (m.num * f.num) * h.den) ^ n * d.num ^ k * e.den ≡ 0 * d.num ^ k * e.den = ap (λ z. z * d.num ^ k * e.den) r in
-    omega (arith, l) }
+nothing_left n k m h d f e none above = record {
+  crossed =
+      let r = nothing_raised n (h.num * (m.den * f.den) - (m.num * f.num) * h.den) (nothing_less h.num (m.den * f.den) ((m.num * f.num) * h.den) none) above in
+      let l : (h.num * (m.den * f.den) - (m.num * f.num) * h.den) ^ n * d.num ^ k * e.den ≡ 0 * d.num ^ k * e.den = ap (λ z. z * d.num ^ k * e.den) r in
+      omega (arith, l);
+}
 
 -- ---- the flow in cubic feet a second, squared
 
@@ -175,7 +186,7 @@ IsLossLaw-valve us diameter k wide any = record {
   consistent = λ S p q y some most least. squared-reflects S 1000 24465755455488 p q some (omega arith) (omega arith)
       (valve-consistent (minor_loss us diameter k) (head_in_feet S y) (power (flow_in_cfs S p) 2) (power (flow_in_cfs S q) 2)
       (minor-any us diameter k any) (minor-above us diameter k wide) (mul-pos some (omega arith)) most least);
-  without_head = λ S q some. record { crossed = omega arith }
+  without_head = λ S q some. record { crossed = omega arith };
 }
 
 pub IsLossLaw-pipe : (us : Bool) (length diameter roughness minor : Decimal) → 0 < billionths length → 0 < billionths diameter → 0 < billionths roughness
@@ -187,21 +198,23 @@ IsLossLaw-pipe us length diameter roughness minor long wide rough = record {
     friction_within = pipe-falls 100 533 (friction us length roughness) (minor_loss us diameter minor) (head_in_feet S y) (feet_across us (billionths diameter))
         (power (flow_in_cfs S p) 2) (power (flow_in_cfs S q) 2)
         (friction-above us length roughness) (minor-above us diameter minor wide) (mul-pos some (omega arith)) (across-above us (billionths diameter))
-        (squared-above S 24465755455488 some (omega arith)) (squared-rises S 1000 24465755455488 p q le) loses.friction_within };
+        (squared-above S 24465755455488 some (omega arith)) (squared-rises S 1000 24465755455488 p q le) loses.friction_within;
+  };
   rises = λ S p q y some le loses. pipe-rises 100 533 (friction us length roughness) (minor_loss us diameter minor) (head_in_feet S y) (feet_across us (billionths diameter))
-        (power (flow_in_cfs S p) 2) (power (flow_in_cfs S q) 2)
-        (friction-above us length roughness) (minor-above us diameter minor wide) (mul-pos some (omega arith)) (across-above us (billionths diameter))
-        (squared-above S 24465755455488 some (omega arith)) (squared-rises S 1000 24465755455488 p q le) loses;
+      (power (flow_in_cfs S p) 2) (power (flow_in_cfs S q) 2)
+      (friction-above us length roughness) (minor-above us diameter minor wide) (mul-pos some (omega arith)) (across-above us (billionths diameter))
+      (squared-above S 24465755455488 some (omega arith)) (squared-rises S 1000 24465755455488 p q le) loses;
   consistent = λ S p q y some most least. elim (cases_lt q p) [
-      inl lt ↦ squared-reflects S 1000 24465755455488 p q some (omega arith) (omega arith)
+    | inl lt ↦ squared-reflects S 1000 24465755455488 p q some (omega arith) (omega arith)
         (pipe-consistent 100 533 (friction us length roughness) (minor_loss us diameter minor) (head_in_feet S y) (feet_across us (billionths diameter))
         (power (flow_in_cfs S p) 2) (power (flow_in_cfs S q) 2) (omega arith) (friction-any us length roughness long rough)
         (friction-above us length roughness) (minor-above us diameter minor wide) (mul-pos some (omega arith)) (across-above us (billionths diameter))
         (squared-above S 24465755455488 some (omega arith)) (squared-above S 24465755455488 some (omega arith))
         (squared-rises S 1000 24465755455488 q p (omega arith)) most.friction_within least)
-    | inr ge ↦ ge ];
+    | inr ge ↦ ge
+  ];
   without_head = λ S q some. nothing_left 100 533 (minor_loss us diameter minor) (head_in_feet S 0) (feet_across us (billionths diameter))
-      (power (flow_in_cfs S q) 2) (power (times (friction us length roughness) (power (flow_in_cfs S q) 2)) 100) refl (omega arith)
+      (power (flow_in_cfs S q) 2) (power (times (friction us length roughness) (power (flow_in_cfs S q) 2)) 100) refl (omega arith);
 }
 
 ticks-any : (us : Bool) (z : ℤ) → 0 < unsigned_abs z → 0 < unsigned_abs (head_ticks us z)

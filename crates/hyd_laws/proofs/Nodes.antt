@@ -1,19 +1,18 @@
 -- Heads of all nodes: how those of an assignment compare with those of a vector.
-use Rattle.std.proofs.Common.{◌≡◌, ℕ, zero, suc, ◌+◌, ◌*◌, ◌<◌, ◌≤◌, ℤ, pos, negsuc, ◌+ℤ◌, ◌-ℤ◌, ◌*ℤ◌, ◌≤ℤ◌, ◌<ℤ◌, neg_ℤ, refl, sym, ap, subst, ◌∙◌, arith, List, [], ◌∷◌, ◌++◌, length, inl, inr}
-use Rattle.std.specs.Prelude.{map, slice_index_or}
-use Rattle.std.specs.List.{AllZip}
+use Rattle.std.proofs.Common.{◌≡◌, ℕ, zero, suc, ◌<◌, ℤ, pos, ◌-ℤ◌, ◌*ℤ◌, ◌≤ℤ◌, ◌<ℤ◌, refl, sym, subst, arith, List, [], ◌∷◌, ◌++◌, length, inl, inr}
+use Rattle.std.specs.Prelude.{map}
 use Rattle.std.proofs.lemmas.Int.{ints, by_lt_z}
 use Rattle.std.proofs.lemmas.Bool.{cases_eq}
 use Rattle.hyd_num.specs.Integers.{times_plus}
-use Rattle.hyd_spec.specs.Types.{Project, Reservoir, Tank}
+use Rattle.hyd_spec.specs.Types.{Reservoir, Tank}
 use Rattle.hyd_spec.specs.declared.Side.TheVariants.{Upper, Lower}
 use Rattle.hyd_spec.specs.declared.Problem.TheVariants.{Main}
 use Rattle.hyd_spec.specs.Lists.{map_from}
-use Rattle.hyd_spec.specs.Interval.{Interval, shifted}
+use Rattle.hyd_spec.specs.Interval.{Interval}
 use Rattle.hyd_spec.specs.Scale.{at_scale}
 use Rattle.hyd_spec.specs.Assignment.{head_at, tank_heads}
 use Rattle.hyd_spec.specs.Grid.{tank_intervals, end_on, tank_side}
-use Rattle.hyd_laws.specs.Laws.{LiesIn, LevelsLie}
+use Rattle.hyd_laws.specs.Laws.{LevelsLie}
 
 -- how far the head of a node lies above a vector's
 abbrev pub excess : ℕ → List ℤ → List ℤ → ℕ → ℤ
@@ -106,9 +105,12 @@ greatest_below f (suc (suc n)) some = further (greatest_below f (suc n) (omega a
       where
         last : (m : ℕ) → m < suc (suc n) → f i <ℤ f (suc n) → f m ≤ℤ f (suc n)
         last m le lt = elim (cases_eq m (suc n)) [
-            inl e ↦ subst (λ (k : ℕ). f m ≤ℤ f k) e (let l : f m ≤ℤ f m = omega (arith, ints) in l)
-          | inr ne ↦ let b : f m ≤ℤ f i = best.each m (let s : m < suc n = omega arith in s) in omega (arith, ints) ]
+          | inl e ↦ subst (λ (k : ℕ). f m ≤ℤ f k) e (let l : f m ≤ℤ f m = omega (arith, ints) in l)
+          | inr ne ↦ let b : f m ≤ℤ f i = best.each m (let s : m < suc n = omega arith in s) in omega (arith, ints)
+        ]
+
         old : (m : ℕ) → m < suc (suc n) → f (suc n) ≤ℤ f i → f m ≤ℤ f i
         old m le ge = elim (cases_eq m (suc n)) [
-            inl e ↦ subst (λ (k : ℕ). f k ≤ℤ f i) (sym e) ge
-          | inr ne ↦ best.each m (let s : m < suc n = omega arith in s) ]
+          | inl e ↦ subst (λ (k : ℕ). f k ≤ℤ f i) (sym e) ge
+          | inr ne ↦ best.each m (let s : m < suc n = omega arith in s)
+        ]

@@ -1,28 +1,27 @@
 -- Certificates with one tank pinned: no junction's head lies further from them than that tank's, so they bound its inflow.
-use Rattle.std.proofs.Common.{◌≡◌, ◌≢◌, ℕ, zero, suc, ◌+◌, ◌*◌, ◌<◌, ◌≤◌, ℤ, pos, negsuc, ◌+ℤ◌, ◌-ℤ◌, ◌*ℤ◌, ◌≤ℤ◌, ◌<ℤ◌, neg_ℤ, refl, sym, ap, subst, ◌∙◌, arith, List, [], ◌∷◌, ◌++◌, length, Bool, true, false, ◌==◌, inl, inr}
-use Rattle.std.specs.Prelude.{Option, Some, None, slice_get, map}
-use Rattle.std.specs.List.{AllByRecursion, AllZip}
+use Rattle.std.proofs.Common.{◌≡◌, ℕ, zero, suc, ◌+◌, ◌*◌, ◌<◌, ℤ, pos, ◌+ℤ◌, ◌-ℤ◌, ◌*ℤ◌, ◌≤ℤ◌, ◌<ℤ◌, neg_ℤ, refl, sym, ap, subst, ◌∙◌, arith, List, [], ◌∷◌, ◌++◌, length, inl, inr}
+use Rattle.std.specs.Prelude.{map}
+use Rattle.std.specs.List.{AllByRecursion}
 use Rattle.std.proofs.lemmas.Int.{ints, by_lt_z}
 use Rattle.std.proofs.lemmas.Bool.{cases_eq, eq-eqb, ne_eqb}
-use Rattle.std.proofs.lemmas.Option.{slice_get_within, get_or_from_slice_get}
-use Rattle.hyd_num.specs.Integers.{times_plus, times_minus, times_rises, times_neg}
-use Rattle.hyd_spec.specs.Types.{Project, Junction, Reservoir, Link, LinkState, Tank}
+use Rattle.hyd_num.specs.Integers.{times_plus, times_minus, times_neg}
+use Rattle.hyd_spec.specs.Types.{Project, Reservoir, LinkState, Tank}
 use Rattle.hyd_spec.specs.declared.TankState.{TankState}
 use Rattle.hyd_spec.specs.declared.Side.TheVariants.{Upper, Lower}
 use Rattle.hyd_spec.specs.declared.Problem.TheVariants.{Pinned}
-use Rattle.hyd_spec.specs.Lists.{Each, map_from}
+use Rattle.hyd_spec.specs.Lists.{map_from}
 use Rattle.hyd_spec.specs.Interval.{Interval, shifted}
 use Rattle.hyd_spec.specs.Scale.{at_scale}
-use Rattle.hyd_spec.specs.Network.{tank_node, nodes_before_tanks, junction_count, reservoir_count}
+use Rattle.hyd_spec.specs.Network.{tank_node, junction_count, reservoir_count}
 use Rattle.hyd_spec.specs.Quantity.{reservoir_head}
 use Rattle.hyd_spec.specs.Tank.{tank_inflow}
 use Rattle.hyd_spec.specs.Enclosing.{low, high}
-use Rattle.hyd_spec.specs.Assignment.{Assignment, IsAssignment, head_at, net_outflow, node_heads, tank_heads}
-use Rattle.hyd_spec.specs.Grid.{Grid, GridLink, IsGrid, IsJunctionOf, grid_links, tank_intervals, all_heads, fixed_heads, end_on, tank_side}
+use Rattle.hyd_spec.specs.Assignment.{Assignment, net_outflow, node_heads, tank_heads}
+use Rattle.hyd_spec.specs.Grid.{Grid, GridLink, tank_intervals, all_heads, fixed_heads, end_on, tank_side}
 use Rattle.hyd_spec.specs.Surplus.{net, link_ends}
 use Rattle.hyd_spec.specs.Boxes.{inflow_box}
 use Rattle.hyd_spec.specs.Certificate.{IsCertificate}
-use Rattle.hyd_laws.specs.Laws.{IsSoundGrid, IsSoundLaw, LevelsLie, LiesIn, IsCompared}
+use Rattle.hyd_laws.specs.Laws.{IsSoundLaw, LevelsLie, LiesIn, IsCompared}
 use Rattle.hyd_laws.proofs.Nodes.{excess, lack, excess_after, lack_after, head_front, reservoirs_below, reservoirs_above, IsGreatestBelow, greatest_below}
 use Rattle.hyd_laws.proofs.Sums.{IsPeak, IsDip, sum-upper, sum-lower}
 use Rattle.hyd_laws.proofs.Comparison.{no_excess, no_lack, one_each}
@@ -46,8 +45,9 @@ upper_others S p k (tank ∷ tanks) [] [] t lie some m own = omega (arith, ints)
 upper_others S p k (tank ∷ tanks) [] (level ∷ levels) t lie some m own = absurd lie
 upper_others S p k (tank ∷ tanks) (x ∷ intervals) [] t lie some m own = absurd lie
 upper_others S p k (tank ∷ tanks) (x ∷ intervals) (level ∷ levels) t lie some zero own = elim (cases_eq p k) [
-    inl e ↦ own (let s : k + 0 ≡ p = omega arith in s)
-  | inr other ↦ let l = lie.0.high in let e = upper_side p k (shifted tank.bottom x) other in omega (arith, ints, l, some, times_plus S x.hi tank.bottom, ap (λ (z : ℤ). pos S *ℤ z) e) ]
+  | inl e ↦ own (let s : k + 0 ≡ p = omega arith in s)
+  | inr other ↦ let l = lie.0.high in let e = upper_side p k (shifted tank.bottom x) other in omega (arith, ints, l, some, times_plus S x.hi tank.bottom, ap (λ (z : ℤ). pos S *ℤ z) e)
+]
 upper_others S p k (tank ∷ tanks) (x ∷ intervals) (level ∷ levels) t lie some (suc m) own =
     upper_others S p (suc k) tanks intervals levels t lie.1 some m (λ e. own (let s : k + suc m ≡ p = omega arith in s))
 
@@ -80,8 +80,9 @@ lower_others S p k (tank ∷ tanks) [] [] t lie some m own = omega (arith, ints)
 lower_others S p k (tank ∷ tanks) [] (level ∷ levels) t lie some m own = absurd lie
 lower_others S p k (tank ∷ tanks) (x ∷ intervals) [] t lie some m own = absurd lie
 lower_others S p k (tank ∷ tanks) (x ∷ intervals) (level ∷ levels) t lie some zero own = elim (cases_eq p k) [
-    inl e ↦ own (let s : k + 0 ≡ p = omega arith in s)
-  | inr other ↦ let l = lie.0.low in let e = lower_side p k (shifted tank.bottom x) other in omega (arith, ints, l, some, times_plus S x.lo tank.bottom, ap (λ (z : ℤ). pos S *ℤ z) e) ]
+  | inl e ↦ own (let s : k + 0 ≡ p = omega arith in s)
+  | inr other ↦ let l = lie.0.low in let e = lower_side p k (shifted tank.bottom x) other in omega (arith, ints, l, some, times_plus S x.lo tank.bottom, ap (λ (z : ℤ). pos S *ℤ z) e)
+]
 lower_others S p k (tank ∷ tanks) (x ∷ intervals) (level ∷ levels) t lie some (suc m) own =
     lower_others S p (suc k) tanks intervals levels t lie.1 some m (λ e. own (let s : k + suc m ≡ p = omega arith in s))
 
@@ -136,7 +137,7 @@ upper_fixed network S time intervals levels tanks links given grid k t c room m 
     let above : pos 0 ≤ℤ t = omega (arith, ints, some, room) in
     rw (c.is_grid.reservoirs, c.is_grid.tank_heads) (reservoirs_below S (reservoir_head network time) network.reservoirs.list _ _ t above
     (λ i. upper_others S k 0 network.tanks.list intervals levels t c.lie above i
-      (λ e. subst (λ (n : ℕ). excess S (tank_heads S network.tanks.list levels) (upper_ends k 0 network.tanks.list intervals) n ≤ℤ t) (let s : k ≡ i = omega arith in s) room)) m)
+    (λ e. subst (λ (n : ℕ). excess S (tank_heads S network.tanks.list levels) (upper_ends k 0 network.tanks.list intervals) n ≤ℤ t) (let s : k ≡ i = omega arith in s) room)) m)
 
 upper_none : (network : Project) (S time : ℕ) (intervals : List Interval) (levels : List ℤ) (tanks : List TankState) (links : List LinkState) (given : Assignment) (grid : Grid) (k : ℕ) (u : List ℤ) (j i : ℕ)
     → IsCompared network S time intervals levels tanks links given grid → IsCertificate grid (Pinned k) Upper u → j < length given.heads
@@ -148,18 +149,18 @@ upper_none network S time intervals levels tanks links given grid k u j i c cert
     let some = upper_pinned S k 0 network.tanks.list intervals levels c.lie k (omega arith) in
     let front : i < length u = (let l = best.below in omega (arith, l, same)) in
     no_excess network S time intervals levels tanks links given grid (Pinned k) u i c certificate front
-      (λ m. rw (head_front given.heads _ i best.below, head_front u _ i front)
-      (excess_after S given.heads u _ _ (excess S given.heads u i) same
-      (upper_fixed network S time intervals levels tanks links given grid k (excess S given.heads u i) c room) m (λ lt. best.each m lt)))
-      (omega (arith, ints, room, some))
+    (λ m. rw (head_front given.heads _ i best.below, head_front u _ i front)
+    (excess_after S given.heads u _ _ (excess S given.heads u i) same
+    (upper_fixed network S time intervals levels tanks links given grid k (excess S given.heads u i) c room) m (λ lt. best.each m lt)))
+    (omega (arith, ints, room, some))
 
 -- each junction's head lies less far from the vector
 pub upper_within : (network : Project) (S time : ℕ) (intervals : List Interval) (levels : List ℤ) (tanks : List TankState) (links : List LinkState) (given : Assignment) (grid : Grid) (k : ℕ) (u : List ℤ) (j : ℕ)
     → IsCompared network S time intervals levels tanks links given grid → IsCertificate grid (Pinned k) Upper u → j < length given.heads → excess S given.heads u j <ℤ upper_room network S intervals levels k
 upper_within network S time intervals levels tanks links given grid k u j c certificate inside = by_lt_z (excess S given.heads u j) (upper_room network S intervals levels k) (λ lt. lt)
     (λ ge.
-      let (i, best) = greatest_below (excess S given.heads u) (length given.heads) (omega (arith, inside)) in
-      absurd (upper_none network S time intervals levels tanks links given grid k u j i c certificate inside ge best))
+    let (i, best) = greatest_below (excess S given.heads u) (length given.heads) (omega (arith, inside)) in
+    absurd (upper_none network S time intervals levels tanks links given grid k u j i c certificate inside ge best))
 
 -- and the pinned tank's lies furthest
 pub upper_furthest : (network : Project) (S time : ℕ) (intervals : List Interval) (levels : List ℤ) (tanks : List TankState) (links : List LinkState) (given : Assignment) (grid : Grid) (k : ℕ) (u : List ℤ)
@@ -168,17 +169,17 @@ pub upper_furthest : (network : Project) (S time : ℕ) (intervals : List Interv
 upper_furthest network S time intervals levels tanks links given grid k u c certificate m =
     let same = one_each network S time intervals levels tanks links given grid (Pinned k) Upper u c certificate in
     let e : excess S (node_heads network S time levels given.heads) (all_heads grid (Pinned k) Upper u) (tank_node network k) ≡ upper_room network S intervals levels k =
-        upper_place network S time intervals levels tanks links given grid k u c same in
+    upper_place network S time intervals levels tanks links given grid k u c same in
     let l : excess S (node_heads network S time levels given.heads) (all_heads grid (Pinned k) Upper u) m ≤ℤ upper_room network S intervals levels k =
-        excess_after S given.heads u _ _ (upper_room network S intervals levels k) same (upper_fixed network S time intervals levels tanks links given grid k (upper_room network S intervals levels k) c (let r : upper_room network S intervals levels k ≤ℤ upper_room network S intervals levels k = omega (arith, ints) in r)) m
-        (λ lt. let w = upper_within network S time intervals levels tanks links given grid k u m c certificate lt in omega (arith, ints, w)) in
+    excess_after S given.heads u _ _ (upper_room network S intervals levels k) same (upper_fixed network S time intervals levels tanks links given grid k (upper_room network S intervals levels k) c (let r : upper_room network S intervals levels k ≤ℤ upper_room network S intervals levels k = omega (arith, ints) in r)) m
+    (λ lt. let w = upper_within network S time intervals levels tanks links given grid k u m c certificate lt in omega (arith, ints, w)) in
     omega (arith, ints, e, l)
   where
     upper_place : (network : Project) (S time : ℕ) (intervals : List Interval) (levels : List ℤ) (tanks : List TankState) (links : List LinkState) (given : Assignment) (grid : Grid) (k : ℕ) (u : List ℤ) → IsCompared network S time intervals levels tanks links given grid → length given.heads ≡ length u
         → excess S (node_heads network S time levels given.heads) (all_heads grid (Pinned k) Upper u) (tank_node network k) ≡ upper_room network S intervals levels k
     upper_place network S time intervals levels tanks links given grid k u c same =
         ap (λ (n : ℕ). excess S (node_heads network S time levels given.heads) (all_heads grid (Pinned k) Upper u) n)
-          (let e : (junction_count network + reservoir_count network) + k ≡ length given.heads + (reservoir_count network + k) = (let h = c.assigned.head_each in omega (arith, h)) in e)
+        (let e : (junction_count network + reservoir_count network) + k ≡ length given.heads + (reservoir_count network + k) = (let h = c.assigned.head_each in omega (arith, h)) in e)
         ∙ excess_past S given.heads u _ _ (reservoir_count network + k) same
         ∙ rw (c.is_grid.reservoirs, c.is_grid.tank_heads) (excess_past_reservoirs S (reservoir_head network time) network.reservoirs.list _ _ k)
 
@@ -193,7 +194,7 @@ lower_fixed network S time intervals levels tanks links given grid k t c room m 
     let above : pos 0 ≤ℤ t = omega (arith, ints, some, room) in
     rw (c.is_grid.reservoirs, c.is_grid.tank_heads) (reservoirs_above S (reservoir_head network time) network.reservoirs.list _ _ t above
     (λ i. lower_others S k 0 network.tanks.list intervals levels t c.lie above i
-      (λ e. subst (λ (n : ℕ). lack S (tank_heads S network.tanks.list levels) (lower_ends k 0 network.tanks.list intervals) n ≤ℤ t) (let s : k ≡ i = omega arith in s) room)) m)
+    (λ e. subst (λ (n : ℕ). lack S (tank_heads S network.tanks.list levels) (lower_ends k 0 network.tanks.list intervals) n ≤ℤ t) (let s : k ≡ i = omega arith in s) room)) m)
 
 lower_none : (network : Project) (S time : ℕ) (intervals : List Interval) (levels : List ℤ) (tanks : List TankState) (links : List LinkState) (given : Assignment) (grid : Grid) (k : ℕ) (u : List ℤ) (j i : ℕ)
     → IsCompared network S time intervals levels tanks links given grid → IsCertificate grid (Pinned k) Lower u → j < length given.heads
@@ -205,18 +206,18 @@ lower_none network S time intervals levels tanks links given grid k u j i c cert
     let some = lower_pinned S k 0 network.tanks.list intervals levels c.lie k (omega arith) in
     let front : i < length u = (let l = best.below in omega (arith, l, same)) in
     no_lack network S time intervals levels tanks links given grid (Pinned k) u i c certificate front
-      (λ m. rw (head_front given.heads _ i best.below, head_front u _ i front)
-      (lack_after S given.heads u _ _ (lack S given.heads u i) same
-      (lower_fixed network S time intervals levels tanks links given grid k (lack S given.heads u i) c room) m (λ lt. best.each m lt)))
-      (omega (arith, ints, room, some))
+    (λ m. rw (head_front given.heads _ i best.below, head_front u _ i front)
+    (lack_after S given.heads u _ _ (lack S given.heads u i) same
+    (lower_fixed network S time intervals levels tanks links given grid k (lack S given.heads u i) c room) m (λ lt. best.each m lt)))
+    (omega (arith, ints, room, some))
 
 -- each junction's head lies less far from the vector
 pub lower_within : (network : Project) (S time : ℕ) (intervals : List Interval) (levels : List ℤ) (tanks : List TankState) (links : List LinkState) (given : Assignment) (grid : Grid) (k : ℕ) (u : List ℤ) (j : ℕ)
     → IsCompared network S time intervals levels tanks links given grid → IsCertificate grid (Pinned k) Lower u → j < length given.heads → lack S given.heads u j <ℤ lower_room network S intervals levels k
 lower_within network S time intervals levels tanks links given grid k u j c certificate inside = by_lt_z (lack S given.heads u j) (lower_room network S intervals levels k) (λ lt. lt)
     (λ ge.
-      let (i, best) = greatest_below (lack S given.heads u) (length given.heads) (omega (arith, inside)) in
-      absurd (lower_none network S time intervals levels tanks links given grid k u j i c certificate inside ge best))
+    let (i, best) = greatest_below (lack S given.heads u) (length given.heads) (omega (arith, inside)) in
+    absurd (lower_none network S time intervals levels tanks links given grid k u j i c certificate inside ge best))
 
 -- and the pinned tank's lies furthest
 pub lower_furthest : (network : Project) (S time : ℕ) (intervals : List Interval) (levels : List ℤ) (tanks : List TankState) (links : List LinkState) (given : Assignment) (grid : Grid) (k : ℕ) (u : List ℤ)
@@ -225,17 +226,17 @@ pub lower_furthest : (network : Project) (S time : ℕ) (intervals : List Interv
 lower_furthest network S time intervals levels tanks links given grid k u c certificate m =
     let same = one_each network S time intervals levels tanks links given grid (Pinned k) Lower u c certificate in
     let e : lack S (node_heads network S time levels given.heads) (all_heads grid (Pinned k) Lower u) (tank_node network k) ≡ lower_room network S intervals levels k =
-        lower_place network S time intervals levels tanks links given grid k u c same in
+    lower_place network S time intervals levels tanks links given grid k u c same in
     let l : lack S (node_heads network S time levels given.heads) (all_heads grid (Pinned k) Lower u) m ≤ℤ lower_room network S intervals levels k =
-        lack_after S given.heads u _ _ (lower_room network S intervals levels k) same (lower_fixed network S time intervals levels tanks links given grid k (lower_room network S intervals levels k) c (let r : lower_room network S intervals levels k ≤ℤ lower_room network S intervals levels k = omega (arith, ints) in r)) m
-        (λ lt. let w = lower_within network S time intervals levels tanks links given grid k u m c certificate lt in omega (arith, ints, w)) in
+    lack_after S given.heads u _ _ (lower_room network S intervals levels k) same (lower_fixed network S time intervals levels tanks links given grid k (lower_room network S intervals levels k) c (let r : lower_room network S intervals levels k ≤ℤ lower_room network S intervals levels k = omega (arith, ints) in r)) m
+    (λ lt. let w = lower_within network S time intervals levels tanks links given grid k u m c certificate lt in omega (arith, ints, w)) in
     omega (arith, ints, e, l)
   where
     lower_place : (network : Project) (S time : ℕ) (intervals : List Interval) (levels : List ℤ) (tanks : List TankState) (links : List LinkState) (given : Assignment) (grid : Grid) (k : ℕ) (u : List ℤ) → IsCompared network S time intervals levels tanks links given grid → length given.heads ≡ length u
         → lack S (node_heads network S time levels given.heads) (all_heads grid (Pinned k) Lower u) (tank_node network k) ≡ lower_room network S intervals levels k
     lower_place network S time intervals levels tanks links given grid k u c same =
         ap (λ (n : ℕ). lack S (node_heads network S time levels given.heads) (all_heads grid (Pinned k) Lower u) n)
-          (let e : (junction_count network + reservoir_count network) + k ≡ length given.heads + (reservoir_count network + k) = (let h = c.assigned.head_each in omega (arith, h)) in e)
+        (let e : (junction_count network + reservoir_count network) + k ≡ length given.heads + (reservoir_count network + k) = (let h = c.assigned.head_each in omega (arith, h)) in e)
         ∙ lack_past S given.heads u _ _ (reservoir_count network + k) same
         ∙ rw (c.is_grid.reservoirs, c.is_grid.tank_heads) (lack_past_reservoirs S (reservoir_head network time) network.reservoirs.list _ _ k)
 
@@ -246,10 +247,10 @@ pub inflow_above : (network : Project) (S time : ℕ) (intervals : List Interval
     → tank_inflow network k given.flows ≤ℤ ((pos S *ℤ neg_ℤ (net low high (all_heads grid (Pinned k) Upper above) (tank_node network k) grid.links)) +ℤ pos (link_ends (tank_node network k) grid.links * (S * 10)))
 inflow_above network S time intervals levels tanks links given grid k above c certificate =
     let sums = sum-upper network tanks S (node_heads network S time levels given.heads) (all_heads grid (Pinned k) Upper above) (tank_node network k) c.some
-        (upper_furthest network S time intervals levels tanks links given grid k above c certificate) network.links.list links given.flows c.assigned.links_follow
-        (subst (λ (ls : List GridLink). AllByRecursion (λ (link : GridLink). IsSoundLaw link.law) ls) c.is_grid.links_are c.sound.links) in
+    (upper_furthest network S time intervals levels tanks links given grid k above c certificate) network.links.list links given.flows c.assigned.links_follow
+    (subst (λ (ls : List GridLink). AllByRecursion (λ (link : GridLink). IsSoundLaw link.law) ls) c.is_grid.links_are c.sound.links) in
     let turned = subst (λ (ls : List GridLink). (pos S *ℤ net low high (all_heads grid (Pinned k) Upper above) (tank_node network k) ls) ≤ℤ (net_outflow (tank_node network k) network.links.list given.flows +ℤ pos (link_ends (tank_node network k) ls * (S * 10))))
-        (sym c.is_grid.links_are) sums in
+    (sym c.is_grid.links_are) sums in
     omega (arith, ints, turned, times_neg S (net low high (all_heads grid (Pinned k) Upper above) (tank_node network k) grid.links))
 
 pub inflow_below : (network : Project) (S time : ℕ) (intervals : List Interval) (levels : List ℤ) (tanks : List TankState) (links : List LinkState) (given : Assignment) (grid : Grid) (k : ℕ) (below : List ℤ)
@@ -257,10 +258,10 @@ pub inflow_below : (network : Project) (S time : ℕ) (intervals : List Interval
     → ((pos S *ℤ neg_ℤ (net high low (all_heads grid (Pinned k) Lower below) (tank_node network k) grid.links)) -ℤ pos (link_ends (tank_node network k) grid.links * (S * 10))) ≤ℤ tank_inflow network k given.flows
 inflow_below network S time intervals levels tanks links given grid k below c certificate =
     let sums = sum-lower network tanks S (node_heads network S time levels given.heads) (all_heads grid (Pinned k) Lower below) (tank_node network k) c.some
-        (lower_furthest network S time intervals levels tanks links given grid k below c certificate) network.links.list links given.flows c.assigned.links_follow
-        (subst (λ (ls : List GridLink). AllByRecursion (λ (link : GridLink). IsSoundLaw link.law) ls) c.is_grid.links_are c.sound.links) in
+    (lower_furthest network S time intervals levels tanks links given grid k below c certificate) network.links.list links given.flows c.assigned.links_follow
+    (subst (λ (ls : List GridLink). AllByRecursion (λ (link : GridLink). IsSoundLaw link.law) ls) c.is_grid.links_are c.sound.links) in
     let turned = subst (λ (ls : List GridLink). net_outflow (tank_node network k) network.links.list given.flows ≤ℤ ((pos S *ℤ net high low (all_heads grid (Pinned k) Lower below) (tank_node network k) ls) +ℤ pos (link_ends (tank_node network k) ls * (S * 10))))
-        (sym c.is_grid.links_are) sums in
+    (sym c.is_grid.links_are) sums in
     omega (arith, ints, turned, times_neg S (net high low (all_heads grid (Pinned k) Lower below) (tank_node network k) grid.links))
 
 widened_by : (S ends : ℕ) (z : ℤ) → pos S *ℤ (z +ℤ pos (10 * ends)) ≡ (pos S *ℤ z) +ℤ pos (ends * (S * 10))
@@ -276,5 +277,5 @@ inflow_lies network S time intervals levels tanks links given grid k below above
   low = rw (narrowed_by S (link_ends (tank_node network k) grid.links) (neg_ℤ (net high low (all_heads grid (Pinned k) Lower below) (tank_node network k) grid.links)))
       (inflow_below network S time intervals levels tanks links given grid k below c under);
   high = rw (widened_by S (link_ends (tank_node network k) grid.links) (neg_ℤ (net low high (all_heads grid (Pinned k) Upper above) (tank_node network k) grid.links)))
-      (inflow_above network S time intervals levels tanks links given grid k above c over)
+      (inflow_above network S time intervals levels tanks links given grid k above c over);
 }

@@ -1,19 +1,18 @@
 -- Flows of an assignment against those of a vector, at one node of a network.
-use Rattle.std.proofs.Common.{◌≡◌, ℕ, zero, suc, ◌+◌, ◌*◌, ◌<◌, ◌≤◌, ℤ, pos, negsuc, ◌+ℤ◌, ◌-ℤ◌, ◌*ℤ◌, ◌≤ℤ◌, ◌<ℤ◌, neg_ℤ, refl, sym, ap, subst, ◌∙◌, arith, List, [], ◌∷◌, ◌++◌, length, Bool, true, false, ◌==◌}
+use Rattle.std.proofs.Common.{◌≡◌, ℕ, ◌+◌, ◌*◌, ◌<◌, ℤ, pos, ◌+ℤ◌, ◌-ℤ◌, ◌*ℤ◌, ◌≤ℤ◌, refl, sym, subst, arith, List, [], ◌∷◌, Bool, true, false, ◌==◌}
 use Rattle.std.specs.List.{AllByRecursion}
 use Rattle.std.proofs.lemmas.Int.{ints}
 use Rattle.std.proofs.lemmas.Bool.{eqb-true, eq-eqb}
-use Rattle.hyd_num.specs.Integers.{times_plus, times_minus, times_rises}
+use Rattle.hyd_num.specs.Integers.{times_plus, times_minus}
 use Rattle.hyd_spec.specs.Types.{Project, Link, LinkState}
 use Rattle.hyd_spec.specs.declared.TankState.{TankState}
-use Rattle.hyd_spec.specs.Scale.{at_scale, tolerance}
-use Rattle.hyd_spec.specs.Law.{Law, Follows, flow_at_least, flow_at_most}
+use Rattle.hyd_spec.specs.Law.{Law, Follows}
 use Rattle.hyd_spec.specs.LinkLaw.{law_of}
 use Rattle.hyd_spec.specs.Enclosing.{low, high}
-use Rattle.hyd_spec.specs.Assignment.{head_at, where_so, net_outflow, LinksFollow, none, more}
+use Rattle.hyd_spec.specs.Assignment.{head_at, where_so, net_outflow, LinksFollow, more}
 use Rattle.hyd_spec.specs.Grid.{GridLink, grid_links}
 use Rattle.hyd_spec.specs.Surplus.{net, one_if, link_ends}
-use Rattle.hyd_laws.specs.Laws.{IsLaw, IsSoundLaw}
+use Rattle.hyd_laws.specs.Laws.{IsSoundLaw}
 use Rattle.hyd_laws.proofs.EachLaw.{IsLaw-each}
 use Rattle.hyd_laws.proofs.Nodes.{excess, lack}
 
@@ -57,15 +56,15 @@ link-upper : (S : ℕ) (heads u : List ℤ) (i : ℕ) (link : GridLink) (q : ℤ
     ≤ℤ ((where_so (link.from == i) q -ℤ where_so (link.to == i) q) +ℤ pos ((one_if (link.from == i) + one_if (link.to == i)) * (S * 10)))
 link-upper S heads u i link q some sound peak follows =
     let a = share-low (link.from == i) S (low link.law (head_at u i -ℤ head_at u link.to)) q
-        (λ e. at_node (λ m. (pos S *ℤ low link.law (head_at u m -ℤ head_at u link.to)) ≤ℤ (q +ℤ pos (S * 10))) link.from i e
-        (flow-below link.law S (head_at u link.from -ℤ head_at u link.to) (head_at heads link.from -ℤ head_at heads link.to) q sound some
-        (let p = at_node (λ m. excess S heads u link.to ≤ℤ excess S heads u m) i link.from (sym_test link.from i e) (peak link.to) in
-        omega (arith, ints, p, times_minus S (head_at u link.from) (head_at u link.to))) follows)) in
+    (λ e. at_node (λ m. (pos S *ℤ low link.law (head_at u m -ℤ head_at u link.to)) ≤ℤ (q +ℤ pos (S * 10))) link.from i e
+    (flow-below link.law S (head_at u link.from -ℤ head_at u link.to) (head_at heads link.from -ℤ head_at heads link.to) q sound some
+    (let p = at_node (λ m. excess S heads u link.to ≤ℤ excess S heads u m) i link.from (sym_test link.from i e) (peak link.to) in
+    omega (arith, ints, p, times_minus S (head_at u link.from) (head_at u link.to))) follows)) in
     let b = share-high (link.to == i) S (high link.law (head_at u link.from -ℤ head_at u i)) q
-        (λ e. at_node (λ m. (q -ℤ pos (S * 10)) ≤ℤ (pos S *ℤ high link.law (head_at u link.from -ℤ head_at u m))) link.to i e
-        (flow-above link.law S (head_at u link.from -ℤ head_at u link.to) (head_at heads link.from -ℤ head_at heads link.to) q sound some
-        (let p = at_node (λ m. excess S heads u link.from ≤ℤ excess S heads u m) i link.to (sym_test link.to i e) (peak link.from) in
-        omega (arith, ints, p, times_minus S (head_at u link.from) (head_at u link.to))) follows)) in
+    (λ e. at_node (λ m. (q -ℤ pos (S * 10)) ≤ℤ (pos S *ℤ high link.law (head_at u link.from -ℤ head_at u m))) link.to i e
+    (flow-above link.law S (head_at u link.from -ℤ head_at u link.to) (head_at heads link.from -ℤ head_at heads link.to) q sound some
+    (let p = at_node (λ m. excess S heads u link.from ≤ℤ excess S heads u m) i link.to (sym_test link.to i e) (peak link.from) in
+    omega (arith, ints, p, times_minus S (head_at u link.from) (head_at u link.to))) follows)) in
     omega (arith, ints, a, b, times_minus S (where_so (link.from == i) (low link.law (head_at u i -ℤ head_at u link.to))) (where_so (link.to == i) (high link.law (head_at u link.from -ℤ head_at u i))))
   where
     sym_test : (m n : ℕ) → (m == n) ≡ true → (n == m) ≡ true
@@ -78,15 +77,15 @@ link-lower : (S : ℕ) (heads u : List ℤ) (i : ℕ) (link : GridLink) (q : ℤ
     +ℤ pos ((one_if (link.from == i) + one_if (link.to == i)) * (S * 10)))
 link-lower S heads u i link q some sound dip follows =
     let a = share-high (link.from == i) S (high link.law (head_at u i -ℤ head_at u link.to)) q
-        (λ e. at_node (λ m. (q -ℤ pos (S * 10)) ≤ℤ (pos S *ℤ high link.law (head_at u m -ℤ head_at u link.to))) link.from i e
-        (flow-above link.law S (head_at u link.from -ℤ head_at u link.to) (head_at heads link.from -ℤ head_at heads link.to) q sound some
-        (let p = at_node (λ m. lack S heads u link.to ≤ℤ lack S heads u m) i link.from (sym_test link.from i e) (dip link.to) in
-        omega (arith, ints, p, times_minus S (head_at u link.from) (head_at u link.to))) follows)) in
+    (λ e. at_node (λ m. (q -ℤ pos (S * 10)) ≤ℤ (pos S *ℤ high link.law (head_at u m -ℤ head_at u link.to))) link.from i e
+    (flow-above link.law S (head_at u link.from -ℤ head_at u link.to) (head_at heads link.from -ℤ head_at heads link.to) q sound some
+    (let p = at_node (λ m. lack S heads u link.to ≤ℤ lack S heads u m) i link.from (sym_test link.from i e) (dip link.to) in
+    omega (arith, ints, p, times_minus S (head_at u link.from) (head_at u link.to))) follows)) in
     let b = share-low (link.to == i) S (low link.law (head_at u link.from -ℤ head_at u i)) q
-        (λ e. at_node (λ m. (pos S *ℤ low link.law (head_at u link.from -ℤ head_at u m)) ≤ℤ (q +ℤ pos (S * 10))) link.to i e
-        (flow-below link.law S (head_at u link.from -ℤ head_at u link.to) (head_at heads link.from -ℤ head_at heads link.to) q sound some
-        (let p = at_node (λ m. lack S heads u link.from ≤ℤ lack S heads u m) i link.to (sym_test link.to i e) (dip link.from) in
-        omega (arith, ints, p, times_minus S (head_at u link.from) (head_at u link.to))) follows)) in
+    (λ e. at_node (λ m. (pos S *ℤ low link.law (head_at u link.from -ℤ head_at u m)) ≤ℤ (q +ℤ pos (S * 10))) link.to i e
+    (flow-below link.law S (head_at u link.from -ℤ head_at u link.to) (head_at heads link.from -ℤ head_at heads link.to) q sound some
+    (let p = at_node (λ m. lack S heads u link.from ≤ℤ lack S heads u m) i link.to (sym_test link.to i e) (dip link.from) in
+    omega (arith, ints, p, times_minus S (head_at u link.from) (head_at u link.to))) follows)) in
     omega (arith, ints, a, b, times_minus S (where_so (link.from == i) (high link.law (head_at u i -ℤ head_at u link.to))) (where_so (link.to == i) (low link.law (head_at u link.from -ℤ head_at u i))))
   where
     sym_test : (m n : ℕ) → (m == n) ≡ true → (n == m) ≡ true

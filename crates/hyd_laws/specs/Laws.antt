@@ -1,19 +1,20 @@
 -- What the comparison of heads uses of the laws of links, demands and emitters.
-use Rattle.std.specs.Prelude.{ℕ, ◌<◌, ◌≤◌, ℤ, pos, ◌-ℤ◌, ◌≤ℤ◌, unsigned_abs, ⊤, List, Option, All}
+use Rattle.std.specs.Prelude.{ℕ, ◌<◌, ◌≤◌, ℤ, ◌-ℤ◌, ◌≤ℤ◌, unsigned_abs, ⊤, List, All, ◌≡◌, ◌*ℤ◌, Bool, true, false, pos}
 use Rattle.std.specs.List.{AllByRecursion, AllZip}
 use Rattle.std.specs.Option.{IfSome}
 use Rattle.hyd_num.specs.Quantity.{billionths}
 use Rattle.hyd_num.specs.Rational.{Rational}
 use Rattle.hyd_num.specs.Chain.{IsMade}
 use Rattle.hyd_net.specs.Made.{IsKindMade, IsStateMade}
-use Rattle.hyd_spec.specs.Types.{Project, LinkState, Tank, Origin, Pipe, Valve, Pump, Emitter, PressureDemand, Capacity}
+use Rattle.hyd_spec.specs.Types.{Project, LinkState, Tank, Relation as Comparison, Less, NotMore, More, NotLess, Equal, Unequal, Origin, Pipe, Valve, Pump, Emitter, PressureDemand, Capacity}
 use Rattle.hyd_spec.specs.Interval.{Interval}
 use Rattle.hyd_spec.specs.Grid.{Grid, IsGrid}
 use Rattle.hyd_spec.specs.Assignment.{Assignment, IsAssignment, head_at}
 use Rattle.hyd_spec.specs.declared.TankState.{TankState}
 use Rattle.hyd_spec.specs.Scale.{at_scale}
+use Rattle.hyd_spec.specs.Truth.{Truth, Yes, No, Unknown}
 use Rattle.hyd_spec.specs.Enclosure.{IsEnclosure}
-use Rattle.hyd_spec.specs.Law.{Relation, Loss, Law, Shut, Quad, Straight, Lifted, ForwardOnly, ReverseOnly, Capped, lifted}
+use Rattle.hyd_spec.specs.Law.{Relation, Loss, Law, Shut, Quad, Straight, Lifted, ForwardOnly, ReverseOnly, Capped}
 
 -- ---- losses
 
@@ -111,3 +112,28 @@ pub record IsVessel (tank : Tank) : Type 0 where
 pub record IsInside (x y : Interval) : Type 0 where
   pub low : y.lo ≤ℤ x.lo
   pub high : x.hi ≤ℤ y.hi
+
+-- ---- decided matters
+
+-- A value is at most another.
+pub record IsAtMost (x y : Rational) : Type 0 where
+  pub crossed : (x.num *ℤ pos y.den) ≤ℤ (y.num *ℤ pos x.den)
+
+-- A relation that a value keeps in one direction.
+abbrev pub IsOneWay : Comparison → Type 0
+IsOneWay Less = ⊤
+IsOneWay NotMore = ⊤
+IsOneWay More = ⊤
+IsOneWay NotLess = ⊤
+IsOneWay Equal = ⊥
+IsOneWay Unequal = ⊥
+
+-- A truth tells a test: yes that it holds, no that it doesn't.
+abbrev pub Tells : Truth → Bool → Type 0
+Tells Yes test = test ≡ true
+Tells No test = test ≡ false
+Tells Unknown test = ⊤
+
+-- Truths tell tests, one after another.
+abbrev pub TellEach : List Truth → List Bool → Type 0
+TellEach truths tests = AllZip Tells truths tests

@@ -29,16 +29,14 @@ pub fn comparison()
         (tanks : List TankState) (links : List LinkState) (given : Assignment) (grid : Grid) (u : List ℤ)
         → IsCompared network S time intervals levels tanks links given grid → IsCertificate grid Main Lower u
         → Each given.heads (λ j h. at_scale S (head_at u j) <ℤ h) }
-{
-}
+{}
 
 /// The grid of a period has sound laws where the capacities are made of the file's numbers.
 pub fn sound_grids()
     ensures sound { (network : Project) (time : ℕ) (intervals : List Interval) (tanks : List TankState)
         (links : List LinkState) (grid : Grid) → IsGrid network time intervals tanks links grid
         → AreCapacitiesMade network links → IsSoundGrid grid }
-{
-}
+{}
 
 /// The heads, flows and outflows of each such assignment lie in the boxes of the certificates.
 pub fn boxes()
@@ -59,8 +57,7 @@ pub fn boxes()
         → IsCertificate grid Main Lower below → IsCertificate grid Main Upper above
         → (j : ℕ) (here : GridJunction) → slice_get grid.junctions j ≡ Some here
         → LiesIn S (out_box here (head_at below j) (head_at above j)) (flow_at given.demands j +ℤ flow_at given.emitters j) }
-{
-}
+{}
 
 /// The inflow of a tank lies in the box of the certificates that pin it: no junction's head lies
 /// further from them than the tank's own.
@@ -70,5 +67,4 @@ pub fn inflows()
         (k : ℕ) (below above : List ℤ) → IsCompared network S time intervals levels tanks links given grid
         → IsCertificate grid (Pinned k) Lower below → IsCertificate grid (Pinned k) Upper above
         → LiesIn S (inflow_box grid k (tank_node network k) below above) (tank_inflow network k given.flows) }
-{
-}
+{}

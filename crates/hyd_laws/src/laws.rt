@@ -12,19 +12,16 @@ ghost use Rattle.hyd_laws.specs.Laws.{IsLossLaw, HasPositiveNumbers, IsLaw, IsSo
 /// rises with the flow, and no two flows lose the same.
 pub fn losses()
     ensures each { (origin : Origin) → HasPositiveNumbers origin → IsLossLaw (loss_at_most origin) (loss_at_least origin) }
-{
-}
+{}
 
 /// Each sound law of a link is a law, and its enclosing functions enclose it.
 pub fn link_laws()
     ensures each { (law : Law) → IsSoundLaw law → IsLaw (flow_at_least law) (flow_at_most law) (low law) (high law) }
-{
-}
+{}
 
 /// The whole roots of the enclosing functions are the greatest number whose square is at most a
 /// fraction, and the least whose square is at least it.
 pub fn roots()
     ensures down { (p q : ℕ) → 0 < q → IsSquareRootDown p q (root_down p q) }
     ensures up { (p q : ℕ) → 0 < q → IsSquareRootUp p q (root_up p q) }
-{
-}
+{}

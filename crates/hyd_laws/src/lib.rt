@@ -3,5 +3,7 @@
 #![tactic(auto)]
 
 pub mod certificates;
+pub mod decisions;
+pub mod examples;
 pub mod laws;
 pub mod tanks;

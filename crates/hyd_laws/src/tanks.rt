@@ -18,12 +18,10 @@ pub fn levels()
     ensures nests { (room : ℤ) (tank : Tank) (level inflow wider more : Interval) (seconds : ℕ) → pos 0 ≤ℤ room → IsVessel tank
         → IsInside level wider → IsInside inflow more
         → IsInside (levels_after room tank level inflow seconds) (levels_after room tank wider more seconds) }
-{
-}
+{}
 
 /// The state that both ends of a level interval have is that of each level between them.
 pub fn states()
     ensures { (S : ℕ) (tank : Tank) (level : Interval) (z : ℤ) (s : TankState) → 0 < S → LiesIn S level z
         → state_of tank level ≡ Some s → tank_state S tank z ≡ s }
-{
-}
+{}
