@@ -12,7 +12,7 @@ use Rattle.hyd_num.specs.Quantity.{billionths, feet, feet_across, is_us_unit, he
 use borrow.Author.Differences.{up}
 use Rattle.std.specs.Prelude.{Bool, true, false, unsigned_abs}
 use Rattle.hyd_resist.proofs.Enclosures.{IsEnclosure-made}
-use Rattle.hyd_resist.proofs.Squares.{ratio-above}
+use Rattle.hyd_resist.proofs.SquaredFlows.{ratio-above}
 use Rattle.hyd_spec.specs.Types.{Capacity, Origin, Pipe, Valve, Pump, Emitter, PressureDemand}
 use Rattle.hyd_spec.specs.Enclosing.{quad_low, quad_high, low, high}
 use Rattle.hyd_spec.specs.Law.{Law, Shut, Quad, Straight, Lifted, ForwardOnly, ReverseOnly, Capped, odd_at_least, odd_at_most, flow_at_least, flow_at_most, loss_at_most, loss_at_least}
