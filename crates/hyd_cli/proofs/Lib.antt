@@ -6,3 +6,7 @@ pub mod Heads
 pub mod FirstGrid
 pub mod Certificates
 pub mod FirstSolution
+pub mod PrintedValues
+pub mod LinesHold
+pub mod FirstHistory
+pub mod FirstRuns

@@ -7,6 +7,7 @@ mod shown;
 mod law;
 mod solve;
 mod status;
+mod theorems;
 mod valve;
 
 pub use solve::Solution;
