@@ -1,6 +1,5 @@
 -- The run of a network of the first form: its record is valid, and what is written and printed of it is right.
-use Rattle.std.proofs.Common.{◌≡◌, ℕ, zero, suc, ◌*◌, ◌/◌, ◌^◌, ◌<◌, ◌≤◌, ℤ, pos, negsuc, neg_ℤ, ◌*ℤ◌, Bool, true, false, MatchBool, List, [], ◌∷◌, ◌++◌, All, length, unsigned_abs, refl, sym, ap, subst, ◌∙◌, arith}
-use Rattle.std.specs.Prelude.{int_div}
+use Rattle.std.proofs.Common.{◌≡◌, ℕ, ◌*◌, ◌^◌, ◌≤◌, ℤ, pos, Bool, true, false, List, [], ◌∷◌, ◌++◌, All, length, unsigned_abs, refl, sym, ap, subst, ◌∙◌, arith}
 use Rattle.std.proofs.lemmas.Int.{ints}
 use Rattle.std.proofs.lemmas.List.Elements.{All-nil, All-cons}
 use Rattle.hyd_num.specs.Numeral.{nano_of}
@@ -13,15 +12,15 @@ use Rattle.hyd_spec.specs.declared.Side.TheVariants.{Upper, Lower}
 use Rattle.hyd_spec.specs.Network.{junction_count, tank_count}
 use Rattle.hyd_spec.specs.Quantity.{demand_of}
 use Rattle.hyd_spec.specs.Grid.{Grid}
-use Rattle.hyd_spec.specs.Certificate.{IsInBox, IsCertificate, IsTight}
-use Rattle.hyd_spec.specs.CertificateText.{IsVector, IsRow, IsCertificateText, certificate_text}
+use Rattle.hyd_spec.specs.Certificate.{IsCertificate, IsTight}
+use Rattle.hyd_spec.specs.CertificateText.{IsVector, IsRow, certificate_text}
 use Rattle.hyd_spec.specs.Record.{Record, Vectors, initial_standing, vector_of}
-use Rattle.hyd_spec.specs.Valid.{IsProblem, IsGridAt, DemandsAreInRange, demand_limit, AreCertificates, IsValid, finishes}
+use Rattle.hyd_spec.specs.Valid.{IsProblem, IsGridAt, DemandsAreInRange, demand_limit, finishes}
 use Rattle.hyd_spec.specs.Stops.{HasNoCertificate, NoCertificate}
 use Rattle.hyd_spec.specs.ReportLine.{ReportLine, report_text, done_line, stop_line}
 use Rattle.hyd_spec.specs.Report.{IsReport}
 use Rattle.hyd_spec.specs.FirstForm.{IsFirstNetwork}
-use Rattle.hyd_spec.specs.Headline.{Found, IsFound, IsRun, IsRunFrom, none, more, Sharpness, IsTightThroughout, IsSharpFound, Finished, Stopped, RunWrites}
+use Rattle.hyd_spec.specs.Headline.{IsFound, IsRun, none, more, Sharpness, IsTightThroughout, IsSharpFound, Finished, Stopped, RunWrites}
 use Rattle.hyd_cli.specs.FirstRun.{first_row, first_found, last_standing}
 use Rattle.hyd_cli.specs.Solution.{IsTightHead}
 use Rattle.hyd_cli.proofs.FirstGrid.{demand_is, has_grid}

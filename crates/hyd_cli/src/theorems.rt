@@ -32,8 +32,7 @@ fn printed_values()
         → LiesIn S interval z → LiesBetween ends (at_part S (pressure_quantity us) z) }
     ensures flows { (unit : FlowUnit) (S : ℕ) (interval ends : Interval) (z : ℤ) → Prints (flow_quantity unit) interval ends
         → LiesIn S interval z → LiesBetween ends (at_part S (flow_quantity unit) z) }
-{
-}
+{}
 
 /// Certificates of both sides are the record of a valid run, and every history agrees with it and
 /// with its report. Tight ones are as sharp as can be asked for.
@@ -50,8 +49,7 @@ fn first_histories()
         → (grid : Grid) (upper lower : ℤ) (lines : List ReportLine)
         → IsTight grid Main Upper (upper ∷ []) → IsTight grid Main Lower (lower ∷ [])
         → IsSharpFound network sharpness (first_found network grid upper lower lines) }
-{
-}
+{}
 
 /// The certificate and the report of a run that found the tight heads, or that some side has none.
 fn first_runs()
@@ -67,5 +65,4 @@ fn first_runs()
         → (written printed : List ℕ) → written ≡ certificate_text 1 0 [] 0 false
         → printed ≡ report_text network [] (stop_line network 0 0 (NoCertificate Main side 0))
         → RunWrites network 200 (record { width = pos (10 ^ 11); tight = true }) (Stopped (NoCertificate Main side 0)) written printed }
-{
-}
+{}
