@@ -8,3 +8,7 @@ pub mod Certificates
 pub mod FirstSolution
 pub mod FirstReport
 pub mod TextLemmas
+pub mod PrintedValues
+pub mod LinesHold
+pub mod FirstHistory
+pub mod FirstRuns

@@ -8,6 +8,7 @@ mod law;
 mod solve;
 mod status;
 mod texts;
+mod theorems;
 mod valve;
 
 pub use solve::Solution;
