@@ -7,6 +7,7 @@ mod capacities;
 mod cuts;
 mod decimals;
 mod fractions;
+mod hundredth_roots;
 mod numerals;
 mod operations;
 mod pairs;
@@ -18,6 +19,7 @@ mod units;
 pub use binary::Scaled;
 pub use capacities::{Capacity, Origin};
 pub use decimals::{Decimal, NumFault, Span};
+pub use hundredth_roots::root533;
 pub use numerals::read_decimal;
 pub use operations::{add, div, mul, pow, ratio};
 pub use pairs::Pair;
@@ -25,3 +27,6 @@ pub use quotients::{mul_div_ceil, mul_div_floor};
 pub use roots::isqrt;
 pub use scaled_roots::{sqrt_down, sqrt_up};
 pub use units::FlowUnit;
+
+#[cfg(test)]
+mod tests;
