@@ -1,9 +1,9 @@
 -- What is decided by the ends of intervals is so at every point between them.
-use Rattle.std.proofs.Common.{◌≡◌, ℕ, zero, suc, ◌+◌, ◌*◌, ◌^◌, ◌<◌, ◌≤◌, ℤ, pos, ◌+ℤ◌, ◌*ℤ◌, ◌≤ℤ◌, ◌<ℤ◌, refl, sym, ap, subst, ◌∙◌, arith, Bool, true, false, ◌&&◌, ◌||◌, List, [], ◌∷◌, inl, inr}
-use Rattle.std.specs.Prelude.{int_le, int_lt, unsigned_abs, map}
+use Rattle.std.proofs.Common.{◌≡◌, ℕ, ◌*◌, ◌^◌, ◌<◌, ℤ, pos, ◌+ℤ◌, ◌*ℤ◌, ◌≤ℤ◌, ◌<ℤ◌, refl, sym, subst, arith, Bool, true, false, ◌&&◌, ◌||◌, List, [], ◌∷◌, inl, inr}
+use Rattle.std.specs.Prelude.{int_lt, unsigned_abs, map}
 use Rattle.std.specs.List.{AllByRecursion, list_any, list_all}
 use Rattle.std.proofs.Math.IntN.{*ℤ_comm}
-use Rattle.std.proofs.lemmas.Int.{ints, by_lt_z}
+use Rattle.std.proofs.lemmas.Int.{ints}
 use Rattle.std.proofs.lemmas.Bool.{cases_Bool}
 use Rattle.hyd_num.specs.Integers.{times_rises, times_reflects}
 use Rattle.hyd_num.specs.Rational.{Rational, is_at_most, is_less, whole}
@@ -17,19 +17,21 @@ use Rattle.hyd_spec.specs.Truth.{Truth, Yes, No, Unknown, at_both_ends, either, 
 use Rattle.hyd_spec.specs.Decided.{control_truth}
 use Rattle.hyd_laws.specs.Laws.{LiesIn, IsAtMost, IsOneWay, Tells, TellEach}
 use Rattle.hyd_laws.proofs.EachLaw.{exchanged}
-use Rattle.hyd_laws.proofs.Outflows.{le-yes, le-no}
-use Rattle.hyd_laws.proofs.Levelling.{above-yes, above-no, below-yes, below-no, one_times, scaled_low, scaled_high, le-from}
+use Rattle.hyd_laws.proofs.Outflows.{le-yes}
+use Rattle.hyd_laws.proofs.Levelling.{above-yes, below-yes, one_times, scaled_low, scaled_high, le-from}
 
 -- ---- values
 
 -- at most, along a value between
 at_most_along : (x y z : Rational) → 0 < y.den → IsAtMost x y → IsAtMost y z → IsAtMost x z
-at_most_along x y z above a b = record { crossed =
-    let p = times_rises z.den (pos y.den *ℤ x.num) (pos x.den *ℤ y.num) (omega (arith, ints, a.crossed, *ℤ_comm x.num (pos y.den), *ℤ_comm y.num (pos x.den))) in
-    let q = times_rises x.den (pos z.den *ℤ y.num) (pos y.den *ℤ z.num) (omega (arith, ints, b.crossed, *ℤ_comm y.num (pos z.den), *ℤ_comm z.num (pos y.den))) in
-    let r : (pos z.den *ℤ x.num) ≤ℤ (pos x.den *ℤ z.num) = times_reflects y.den (pos z.den *ℤ x.num) (pos x.den *ℤ z.num) above
-        (omega (arith, ints, p, q, exchanged y.den z.den x.num, exchanged z.den x.den y.num, exchanged y.den x.den z.num)) in
-    omega (arith, ints, r, *ℤ_comm x.num (pos z.den), *ℤ_comm z.num (pos x.den)) }
+at_most_along x y z above a b = record {
+  crossed =
+      let p = times_rises z.den (pos y.den *ℤ x.num) (pos x.den *ℤ y.num) (omega (arith, ints, a.crossed, *ℤ_comm x.num (pos y.den), *ℤ_comm y.num (pos x.den))) in
+      let q = times_rises x.den (pos z.den *ℤ y.num) (pos y.den *ℤ z.num) (omega (arith, ints, b.crossed, *ℤ_comm y.num (pos z.den), *ℤ_comm z.num (pos y.den))) in
+      let r : (pos z.den *ℤ x.num) ≤ℤ (pos x.den *ℤ z.num) = times_reflects y.den (pos z.den *ℤ x.num) (pos x.den *ℤ z.num) above
+      (omega (arith, ints, p, q, exchanged y.den z.den x.num, exchanged z.den x.den y.num, exchanged y.den x.den z.num)) in
+      omega (arith, ints, r, *ℤ_comm x.num (pos z.den), *ℤ_comm z.num (pos x.den));
+}
 
 most-yes : (x y : Rational) → is_at_most x y ≡ true → IsAtMost x y
 most-yes x y e = record { crossed = le-yes (x.num *ℤ pos y.den) (y.num *ℤ pos x.den) e }
@@ -52,8 +54,9 @@ less-yes x y e h = let a = lt-yes (x.num *ℤ pos y.den) (y.num *ℤ pos x.den) 
 
 less-from : (x y : Rational) → (IsAtMost y x → ⊥) → is_less x y ≡ true
 less-from x y h = elim (cases_Bool (is_less x y)) [
-    inl held ↦ held
-  | inr fails ↦ absurd (h (record { crossed = lt-no (x.num *ℤ pos y.den) (y.num *ℤ pos x.den) fails })) ]
+  | inl held ↦ held
+  | inr fails ↦ absurd (h (record { crossed = lt-no (x.num *ℤ pos y.den) (y.num *ℤ pos x.den) fails }))
+]
 
 -- ---- ends of intervals
 

@@ -22,11 +22,11 @@ use Rattle.hyd_laws.proofs.Integers.{floor_low, ceiling_high, floor_greatest, ce
 use Rattle.hyd_laws.proofs.LossLaws.{IsLossLaw-origin}
 use Rattle.hyd_laws.proofs.LinkLaws.{IsLaw-shut, IsLaw-forward, IsLaw-reverse, IsLaw-capped, IsLaw-lifted, odd-consistent, odd-downward, odd-upward, quad-below, quad-above, low-rises, high-rises, roots-ordered, roots_low, roots_high}
 
-low_is : (c : Capacity) (d : ℤ) → quad_low c d ≡ roots_low (numerator c.lo) (denominator c.lo) (numerator c.hi) (denominator c.hi) d
+pub low_is : (c : Capacity) (d : ℤ) → quad_low c d ≡ roots_low (numerator c.lo) (denominator c.lo) (numerator c.hi) (denominator c.hi) d
 low_is c (pos d) = refl
 low_is c (negsuc d) = refl
 
-high_is : (c : Capacity) (d : ℤ) → quad_high c d ≡ roots_high (numerator c.lo) (denominator c.lo) (numerator c.hi) (denominator c.hi) d
+pub high_is : (c : Capacity) (d : ℤ) → quad_high c d ≡ roots_high (numerator c.lo) (denominator c.lo) (numerator c.hi) (denominator c.hi) d
 high_is c (pos d) = refl
 high_is c (negsuc d) = refl
 

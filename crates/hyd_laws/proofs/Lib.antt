@@ -13,3 +13,4 @@ pub mod Grids
 pub mod Levelling
 pub mod Deciding
 pub mod Worked
+pub mod Rising

@@ -93,7 +93,7 @@ not_over S d p x le at large =
     let b = times_rises S x.num (pos x.den *ℤ d) large in
     let e : ⊥ = omega (arith, ints, a, b, at, *ℤ_comm p (pos x.den), *ℤ_comm x.num (pos S), exchanged S x.den d) in e
 
-high-positive : (c : Capacity) (z : ℤ) → pos 0 ≤ℤ z → pos 0 ≤ℤ quad_high c z
+pub high-positive : (c : Capacity) (z : ℤ) → pos 0 ≤ℤ z → pos 0 ≤ℤ quad_high c z
 high-positive c (pos n) le = omega (arith, ints)
 high-positive c (negsuc n) le = absurd (omega (arith, ints))
 

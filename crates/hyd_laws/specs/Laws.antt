@@ -13,6 +13,7 @@ use Rattle.hyd_spec.specs.Assignment.{Assignment, IsAssignment, head_at}
 use Rattle.hyd_spec.specs.declared.TankState.{TankState}
 use Rattle.hyd_spec.specs.Scale.{at_scale}
 use Rattle.hyd_spec.specs.Truth.{Truth, Yes, No, Unknown}
+use Rattle.hyd_spec.specs.Enclosing.{DemandLaw, Fixed, Driven}
 use Rattle.hyd_spec.specs.Enclosure.{IsEnclosure}
 use Rattle.hyd_spec.specs.Law.{Relation, Loss, Law, Shut, Quad, Straight, Lifted, ForwardOnly, ReverseOnly, Capped}
 
@@ -137,3 +138,16 @@ Tells Unknown test = ⊤
 -- Truths tell tests, one after another.
 abbrev pub TellEach : List Truth → List Bool → Type 0
 TellEach truths tests = AllZip Tells truths tests
+
+-- ---- outflows
+
+-- The enclosing functions of an outflow: neither falls as the pressure rises, and the lower is at most the higher.
+pub record AreEnclosing (low high : ℤ → ℤ) : Type 0 where
+  pub low_rises : (c d : ℤ) → c ≤ℤ d → low c ≤ℤ low d
+  pub high_rises : (c d : ℤ) → c ≤ℤ d → high c ≤ℤ high d
+  pub ordered : (d : ℤ) → low d ≤ℤ high d
+
+-- A demand that is driven by pressure is at least 0, and its pressures have denominators above 0.
+abbrev pub IsSoundDemand : DemandLaw → Type 0
+IsSoundDemand (Fixed demand) = ⊤
+IsSoundDemand (Driven demand capacity minimum required) = (pos 0 ≤ℤ demand) × ((0 < minimum.den) × (0 < required.den))

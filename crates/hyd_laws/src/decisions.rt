@@ -21,8 +21,7 @@ pub fn comparisons()
         → Tells (at_both_ends (compares relation lo amount) (compares relation hi amount)) (compares relation x amount) }
     ensures controls { (S : ℕ) (level : Interval) (above : Bool) (ticks z : ℤ) → 0 < S → LiesIn S level z
         → Tells (control_truth level above ticks) (reaches S above ticks (whole z)) }
-{
-}
+{}
 
 /// A level that has reached its target may have, and one that must have has.
 pub fn events()
@@ -32,8 +31,7 @@ pub fn events()
     ensures must { (S : ℕ) (tank : Tank) (level inflow : Interval) (target : ℤ) (rising : Bool) (seconds : ℕ) (z q : ℤ)
         → LiesIn S level z → LiesIn S inflow q → must_reach tank level inflow target rising seconds ≡ true
         → reaches S rising target (exact_level tank z q seconds) ≡ true }
-{
-}
+{}
 
 /// Where the truth of each clause tells whether it holds, the truth of a rule tells whether the
 /// rule does.
@@ -41,5 +39,4 @@ pub fn rules()
     ensures { (truth : Clause → Truth) (test : Clause → Bool) (groups : List (List Clause))
         → AllByRecursion (AllByRecursion (λ (c : Clause). Tells (truth c) (test c))) groups
         → Tells (all_hold (map (λ group. some_holds (map truth group)) groups)) (list_all (list_any test) groups) }
-{
-}
+{}

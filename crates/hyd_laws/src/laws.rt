@@ -1,12 +1,12 @@
 //! Laws of losses and of the laws of links.
 #![tactic(auto)]
 
-ghost use Rattle.std.specs.Prelude.{ℕ, ◌<◌};
+ghost use Rattle.std.specs.Prelude.{ℕ, ◌<◌, Option};
 ghost use Rattle.hyd_num.specs.Roots.{IsSquareRootDown, IsSquareRootUp};
-ghost use Rattle.hyd_spec.specs.Types.{Origin};
+ghost use Rattle.hyd_spec.specs.Types.{Origin, Capacity};
 ghost use Rattle.hyd_spec.specs.Law.{Law, loss_at_most, loss_at_least, flow_at_least, flow_at_most};
-ghost use Rattle.hyd_spec.specs.Enclosing.{low, high, root_down, root_up};
-ghost use Rattle.hyd_laws.specs.Laws.{IsLossLaw, HasPositiveNumbers, IsLaw, IsSoundLaw};
+ghost use Rattle.hyd_spec.specs.Enclosing.{low, high, root_down, root_up, DemandLaw, demand_low, demand_high, emitter_low, emitter_high};
+ghost use Rattle.hyd_laws.specs.Laws.{IsLossLaw, HasPositiveNumbers, IsLaw, IsSoundLaw, AreEnclosing, IsSoundDemand};
 
 /// What is lost in pipes, valves, pumps, emitters and by demands that depend on the pressure
 /// rises with the flow, and no two flows lose the same.
@@ -24,4 +24,10 @@ pub fn link_laws()
 pub fn roots()
     ensures down { (p q : ℕ) → 0 < q → IsSquareRootDown p q (root_down p q) }
     ensures up { (p q : ℕ) → 0 < q → IsSquareRootUp p q (root_up p q) }
+{}
+
+/// The enclosing functions of demands and emitters rise with the pressure.
+pub fn outflows()
+    ensures demands { (law : DemandLaw) → IsSoundDemand law → AreEnclosing (demand_low law) (demand_high law) }
+    ensures emitters { (emitter : Option Capacity) → AreEnclosing (emitter_low emitter) (emitter_high emitter) }
 {}
