@@ -1,2 +1,4 @@
 pub mod Command
+pub mod Run
 pub mod Answers
+pub mod Delivery
