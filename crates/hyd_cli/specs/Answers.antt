@@ -48,13 +48,6 @@ ChangesOnly name before now = (other : List ℕ) → other ≢ name → file_at 
 
 -- ---- faults
 
--- a status that speaks of a call on the desk that failed or stalled
-abbrev pub IsFault : Status → Type 0
-IsFault ReadFault = ⊤
-IsFault WriteFault = ⊤
-IsFault Stalled = ⊤
-IsFault status = ⊥
-
 -- A fault comes only where its count rose: the read faults, the write or the print faults, the stalls. Where no
 -- call failed or stalled the counts stay.
 abbrev pub HasCause : Status → Faults → Faults → Type 0
@@ -67,12 +60,6 @@ HasCause status before now = now ≡ before
 abbrev pub status_of : OutFault → Status
 status_of Fault = WriteFault
 status_of Stall = Stalled
-
--- The line was printed and the status is the wanted one; or a fault came, and a front of it was printed.
-abbrev pub PrintsOnly : List ℕ → Status → Status → Seen → Seen → Type 0
-PrintsOnly line wanted WriteFault before now = OnlyPrintedFront line before now
-PrintsOnly line wanted Stalled before now = OnlyPrintedFront line before now
-PrintsOnly line wanted status before now = (status ≡ wanted) × OnlyPrinted line before now
 
 -- ---- words that aren't a command
 
@@ -140,3 +127,14 @@ abbrev pub AnswersRun : List ℕ → Status → Seen → Seen → Type 0
 AnswersRun text OutOfMemory before now = IsUntouched before now
 AnswersRun text ReadFault before now = IsUntouched before now
 AnswersRun text status before now = OfForm text (λ network. AnswersNetwork network status before now)
+
+-- ---- whatever the text was
+
+-- What an answer leaves, also where the desk tells no text: want of memory and a fault of reading leave all untouched; a
+-- refusal prints its one line and creates nothing.
+abbrev pub Leaves : Status → Seen → Seen → Type 0
+Leaves OutOfMemory before now = IsUntouched before now
+Leaves ReadFault before now = IsUntouched before now
+Leaves Usage before now = OnlyPrinted usage_line before now
+Leaves InputRefused before now = OnlyPrinted refused_line before now
+Leaves status before now = ⊤

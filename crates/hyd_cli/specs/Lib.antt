@@ -1,4 +1,5 @@
 pub mod Command
+pub mod Statuses
 pub mod Run
 pub mod Answers
 pub mod Delivery

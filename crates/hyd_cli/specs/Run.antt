@@ -1,9 +1,9 @@
 -- What a run of a network writes and prints.
-use Rattle.std.specs.Prelude.{◌≡◌, ℕ, List, ℤ, pos, ◌^◌, ⊤, Bool, true}
+use Rattle.std.specs.Prelude.{◌≡◌, ℕ, List, ℤ, pos, ◌^◌, Bool, true}
 use Rattle.hyd_spec.specs.Types.{Project}
-use Rattle.hyd_spec.specs.Headline.{Outcome, Finished, Stopped, Sharpness, RunWrites}
+use Rattle.hyd_spec.specs.Headline.{Outcome, Sharpness, RunWrites, outcome_number}
+use Rattle.hyd_cli.specs.Statuses.{number_of}
 use Rattle.hyd_cli.specs.declared.status.Status.{Status}
-use Rattle.hyd_cli.specs.declared.status.Status.TheVariants.{Done, Undecided}
 
 -- the number of rounds, and the sharpness, of a run: every vector is tight
 abbrev pub rounds : ℕ
@@ -12,14 +12,9 @@ rounds = 200
 abbrev pub sharpness : Sharpness
 sharpness = record { width = pos (10 ^ 11); tight = true }
 
--- how the run ended that has this status
-abbrev pub HasOutcome : Status → Outcome → Type 0
-HasOutcome Done Finished = ⊤
-HasOutcome Undecided (Stopped cause) = ⊤
-HasOutcome status outcome = ⊥
-
--- The certificate and the report are what a run of the network writes and prints, and the status says how it ended.
+-- The certificate and the report are what a run of the network writes and prints, and the number of the status says how
+-- it ended.
 pub record IsRunOf (network : Project) (status : Status) (certificate report : List ℕ) : Type 0 where
   pub outcome : Outcome
-  pub has_outcome : HasOutcome status outcome
+  pub has_outcome : number_of status ≡ outcome_number outcome
   pub run : RunWrites network rounds sharpness outcome certificate report
