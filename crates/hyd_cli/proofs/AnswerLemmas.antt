@@ -1,5 +1,5 @@
 -- How what a call leaves follows from what the calls in it leave.
-use Rattle.std.proofs.Common.{◌≡◌, ◌≢◌, ℕ, List, [], Option, Some, None, ◌⊎◌, inl, inr, refl, sym, ap, subst, ◌∙◌, is_some, arith, rules, tt}
+use Rattle.std.proofs.Common.{◌≡◌, ◌≢◌, ℕ, List, [], Option, Some, None, ◌⊎◌, inl, inr, refl, sym, ap, subst, ◌∙◌, is_some, arith, rules}
 use Rattle.hyd_io.specs.Told.{Files, where_told, append_known, file_at, content_of, PutOut}
 use Rattle.hyd_io.specs.Output.{HasOutCause}
 use Rattle.hyd_io.specs.declared.desk.Faults.{Faults}
@@ -18,11 +18,15 @@ use Rattle.hyd_cli.specs.declared.status.Status.TheVariants.{Done, OutOfMemory, 
 
 -- ---- what was untouched is the same
 
-same_fields : (files files' : Option Files) (written written' printed printed' : Option (List ℕ)) → files' ≡ files → written' ≡ written → printed' ≡ printed → record { files = files'; written = written'; printed = printed' } ≡ record { files = files; written = written; printed = printed }
+fields_of : Option Files → Option (List ℕ) → Option (List ℕ) → Seen
+fields_of files written printed = record { files = files; written = written; printed = printed }
+
+same_fields : (files files' : Option Files) (written written' printed printed' : Option (List ℕ)) → files' ≡ files → written' ≡ written → printed' ≡ printed → fields_of files' written' printed' ≡ fields_of files written printed
 same_fields files files' written written' printed printed' f w p = rw (f, w, p) refl
 
 same_seen : (before now : Seen) → IsUntouched before now → now ≡ before
-same_seen before now u = same_fields _ _ _ _ _ _ u.files u.written u.printed
+unfolding fields_of
+same_seen before now u = same_fields before.files now.files before.written now.written before.printed now.printed u.files u.written u.printed
 
 -- a fact from a state on holds also from an earlier one, where nothing was touched between them
 pub since_before : (P : Seen → Type 0) (before between : Seen) → IsUntouched before between → P between → P before
@@ -130,11 +134,9 @@ run_of_network text network InputRefused before now f h = absurd h
 run_of_network text network Undecided before now f h = record { network = network; is_network = f; holds = h }
 run_of_network text network Stalled before now f h = record { network = network; is_network = f; holds = h }
 
--- ---- the file that was created
+-- the same, where nothing was touched before
+pub leaves_since : (network : Project) (status : Status) (before between now : Seen) → IsUntouched before between → AnswersNetwork network status between now → Leaves status before now
+leaves_since network status before between now u h = network_leaves network status before now (since_before (λ b. AnswersNetwork network status b now) before between u h)
 
--- what was written since a create is what the file of that name holds
-pub file_holds : (old new : Option Files) (target written : Option (List ℕ)) (name : List ℕ) → written ≡ content_of new target → target ≡ where_told old name → is_some new ≡ is_some old → file_at new name ≡ written
-file_holds None None target written name w t s = sym (w ∙ ap (content_of None) t)
-file_holds None (Some f) target written name w t s = search rules
-file_holds (Some f) None target written name w t s = search rules
-file_holds (Some f) (Some g) target written name w t s = sym (w ∙ ap (content_of (Some g)) t)
+pub run_since : (text : List ℕ) (network : Project) (status : Status) (before between now : Seen) → IsUntouched before between → IsFirstForm text network → AnswersNetwork network status between now → AnswersRun text status before now
+run_since text network status before between now u f h = run_of_network text network status before now f (since_before (λ b. AnswersNetwork network status b now) before between u h)

@@ -46,7 +46,8 @@ pub length-form : (text : List ℕ) (w : Words) → HasForm text w → length te
 length-form text w h =
     let pieces : List (List ℕ) = slice_split (λ byte. eqb byte 10) text in
     let kept : List (List ℕ) = without_empty_end pieces in
-    let whole : length text ≤ span pieces = rw (← join_with_byte-slice_split 10 text) (length-join 10 pieces) in
+    let joined : length (join_with_byte 10 pieces) ≤ span pieces = length-join 10 pieces in
+    let whole : length text ≤ span pieces = rw (join_with_byte-slice_split 10 text) at joined in
     let nine : length (text_lines text) ≡ 9 = sym (length-map (text_lines text) line_words) ∙ ap length h.lines in
     let kept_nine : length kept ≡ 9 = sym (length-map kept strip_carriage_return) ∙ nine in
     let short : span (text_lines text) ≤ 1025 * length (text_lines text) = span-short 1024 (text_lines text) h.short_lines in
