@@ -97,15 +97,24 @@ pub record Delivered (network : Project) (status : Status) (before now : Seen) :
   pub written : now.written ≡ where_told before.files certificate
   pub printed : now.printed ≡ append_known before.printed report
 
--- A fault broke the delivery off: a front of the certificate was written and a front of the report printed. Where the file
--- wasn't created, what was written before stays.
+-- The certificate's file wasn't created, and nothing was written or printed.
+pub record NothingPut (before now : Seen) : Type 0 where
+  pub written : now.written ≡ before.written
+  pub printed : now.printed ≡ before.printed
+
+-- A front of the certificate was written to the file created in this call, where files are told, and a front of the report
+-- was printed.
+pub record FrontsPut (certificate report : List ℕ) (before now : Seen) : Type 0 where
+  pub written : PutOut (where_told before.files []) now.written certificate
+  pub printed : PutOut before.printed now.printed report
+
+-- A fault broke the delivery of a run of the network off.
 pub record BrokeOff (network : Project) (before now : Seen) : Type 0 where
   pub status : Status
   pub certificate : List ℕ
   pub report : List ℕ
   pub run : IsRunOf network status certificate report
-  pub written : (now.written ≡ before.written) ⊎ PutOut (where_told before.files []) now.written certificate
-  pub printed : PutOut before.printed now.printed report
+  pub fronts : NothingPut before now ⊎ FrontsPut certificate report before now
 
 -- What an answer says of a network that was read.
 abbrev pub AnswersNetwork : Project → Status → Seen → Seen → Type 0
