@@ -12,17 +12,18 @@ ghost use Rattle.hyd_cli.specs.declared.status.Status.TheVariants.{Usage, ReadFa
 
 use crate::form::read_form;
 use crate::output::put_bytes;
-use crate::run::{compute, Texts};
+use crate::run::{Texts, compute};
 use crate::status::Status;
 use crate::words::names_of;
-use hyd_io::{read_all, Channel, Desk, InFault, OutFault};
+use hyd_io::{Channel, Desk, InFault, OutFault, read_all};
 use hyd_net::Project;
 use std::alloc::Global;
 
 /// The longest text that is read, in bytes: 64 MiB.
 const LONGEST: usize = 64 * 1024 * 1024;
 
-const USAGE: &[u8] = b"USAGE hyd run NET CERT [--sweeps N] [--width W] [--tight] or check NET CERT or gen SEED JUNCTIONS NET CERT\n";
+const USAGE: &[u8] =
+    b"USAGE hyd run NET CERT [--sweeps N] [--width W] [--tight] or check NET CERT or gen SEED JUNCTIONS NET CERT\n";
 
 const REFUSED: &[u8] = b"REFUSED line 0 cause 6 detail 12\n";
 

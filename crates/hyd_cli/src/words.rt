@@ -13,7 +13,12 @@ pub(crate) fn names_of(words: &[String]) -> Option<(&str, &str)>
         return None;
     };
     let (net, cert) = (net.as_str(), cert.as_str());
-    if word.as_str() == "run" && option.as_str() == "--tight" && is_name(net) && is_name(cert) && net != cert {
+    if word.as_str() == "run"
+        && option.as_str() == "--tight"
+        && is_name(net)
+        && is_name(cert)
+        && net != cert
+    {
         return Some((net, cert));
     }
     None
