@@ -1,12 +1,12 @@
 -- A text of the form is short.
-use Rattle.std.proofs.Common.{◌≡◌, ℕ, ◌+◌, ◌*◌, ◌<◌, ◌≤◌, eqb, List, [], ◌∷◌, ◌++◌, length, map, Bool, true, false, cond, All, refl, sym, ap, ◌∙◌, arith}
+use Rattle.std.proofs.Common.{◌≡◌, ℕ, ◌+◌, ◌*◌, ◌<◌, ◌≤◌, eqb, List, [], ◌∷◌, length, map, Bool, true, false, cond, All, refl, sym, ap, ◌∙◌, arith}
 use Rattle.std.specs.List.{slice_split, join_with_byte}
 use Rattle.std.specs.Str.Lines.{strip_carriage_return}
 use Rattle.std.proofs.lemmas.Grind.{common_steps}
 use Rattle.std.proofs.lemmas.List.{length-map}
 use Rattle.std.proofs.lemmas.List.Elements.{All-head, All-tail}
 use Rattle.std.proofs.lemmas.List.Splits.{join_with_byte-slice_split}
-use Rattle.hyd_spec.specs.FirstForm.{without_empty_end, text_lines, line_words, form_lines, HasForm, Words}
+use Rattle.hyd_spec.specs.FirstForm.{without_empty_end, text_lines, line_words, HasForm, Words}
 
 -- the bytes of the pieces, and one byte after each
 abbrev span : List (List ℕ) → ℕ

@@ -1,12 +1,12 @@
 -- What the answers of the program mean: which status comes where, and what was created, written and printed then.
-use Rattle.std.specs.Prelude.{◌≡◌, ◌≢◌, ℕ, ◌⊎◌, List, [], ◌∷◌, ◌++◌, Option, Some, codes, ⊤}
+use Rattle.std.specs.Prelude.{◌≡◌, ◌≢◌, ℕ, ◌⊎◌, List, [], ◌∷◌, ◌++◌, Option, codes, ⊤}
 use Rattle.hyd_io.specs.declared.desk.Faults.{Faults}
 use Rattle.hyd_io.specs.declared.output.OutFault.{OutFault}
 use Rattle.hyd_io.specs.declared.output.OutFault.TheVariants.{Fault, Stalled as Stall}
 use Rattle.hyd_io.specs.Counts.{Rose}
 use Rattle.hyd_io.specs.Told.{Files, where_told, append_known, file_at, PutOut}
 use Rattle.hyd_spec.specs.Types.{Project}
-use Rattle.hyd_spec.specs.FirstForm.{IsFirstForm, HasNoForm}
+use Rattle.hyd_spec.specs.FirstForm.{IsFirstForm}
 use Rattle.hyd_cli.specs.Command.{usage_line}
 use Rattle.hyd_cli.specs.Run.{IsRunOf}
 use Rattle.hyd_cli.specs.declared.status.Status.{Status}

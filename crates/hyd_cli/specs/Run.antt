@@ -1,5 +1,5 @@
 -- What a run of a network writes and prints.
-use Rattle.std.specs.Prelude.{◌≡◌, ℕ, List, ℤ, pos, ◌^◌, Bool, true}
+use Rattle.std.specs.Prelude.{◌≡◌, ℕ, List, pos, ◌^◌, true}
 use Rattle.hyd_spec.specs.Types.{Project}
 use Rattle.hyd_spec.specs.Headline.{Outcome, Sharpness, RunWrites, outcome_number}
 use Rattle.hyd_cli.specs.Statuses.{number_of}

@@ -1,5 +1,5 @@
 -- The names that the words give are those of the command.
-use Rattle.std.proofs.Common.{◌≡◌, ℕ, List, Option, Some, sym, ap, ◌∙◌, map, string_bytes}
+use Rattle.std.proofs.Common.{◌≡◌, ℕ, List, Option, Some, sym, ◌∙◌, map, string_bytes}
 use Rattle.std.proofs.lemmas.Option.{same_Some}
 use Rattle.hyd_io.specs.Told.{IsTold}
 use Rattle.hyd_cli.specs.Command.{Names, command}
