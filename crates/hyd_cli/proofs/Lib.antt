@@ -12,3 +12,5 @@ pub mod PrintedValues
 pub mod LinesHold
 pub mod FirstHistory
 pub mod FirstRuns
+pub mod AnswerLemmas
+pub mod LengthLemmas

@@ -1,5 +1,5 @@
 -- The words of a command: `run NET CERT --tight`, NET and CERT being two different names that don't begin with `-`.
-use Rattle.std.specs.Prelude.{ℕ, Bool, true, false, ◌&&◌, not, ◌==◌, List, [], ◌∷◌, ◌++◌, Option, Some, None, bytes_eq, codes, slice_index, if◌then◌else◌}
+use Rattle.std.specs.Prelude.{ℕ, Bool, ◌&&◌, not, ◌==◌, List, [], ◌∷◌, ◌++◌, Option, Some, None, bytes_eq, codes, slice_index, if◌then◌else◌}
 
 -- the names of a command, as bytes: what it reads, and what it writes
 pub record Names : Type 0 where

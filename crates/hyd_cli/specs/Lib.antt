@@ -1,4 +1,6 @@
 pub mod Command
+pub mod Statuses
+pub mod Run
 pub mod Answers
 pub mod Printing
 pub mod Lines
@@ -6,3 +8,4 @@ pub mod SingleValve
 pub mod Solution
 pub mod FirstRun
 pub mod Texts
+pub mod Delivery

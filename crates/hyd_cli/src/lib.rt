@@ -12,4 +12,12 @@ mod theorems;
 mod valve;
 
 pub use solve::Solution;
+mod command;
+mod form;
+mod output;
+mod run;
+mod status;
+mod words;
+
+pub use command::tool;
 pub use status::Status;

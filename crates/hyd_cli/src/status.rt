@@ -1,5 +1,8 @@
 //! How a command ends.
 
+ghost use Rattle.std.specs.Prelude.{◌≡◌};
+ghost use Rattle.hyd_cli.specs.Statuses.{number_of};
+
 /// The answer of a command. Its number is the exit status of the program.
 #[derive(Debug, Clone, Copy, PartialEq, Eq, Drop)]
 pub enum Status {
@@ -19,4 +22,13 @@ pub enum Status {
     Undecided = 6,
     /// A call of `write` or `print` took nothing of a nonempty piece.
     Stalled = 10,
+}
+
+impl Status {
+    /// The exit status of the program.
+    pub fn number(self) -> u8
+        ensures { result ≡ number_of self }
+    {
+        self as u8
+    }
 }
