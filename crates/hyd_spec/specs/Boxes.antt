@@ -21,14 +21,14 @@ flow_box link below above =
     let d = difference link below above in
     widened (pos 10) (record { lo = low link.law d.lo; hi = high link.law d.hi })
 
--- The outflow box of a junction between two heads: its demand flow, widened by the tolerance, and its
--- emitter flow, widened likewise where there is an emitter.
+-- The emitter flow between two pressures, widened by the tolerance where there is an emitter.
 abbrev pub emitter_box : Option Capacity → Interval → Interval
 emitter_box emitter p =
     if is_some emitter
     then widened (pos 10) (record { lo = emitter_low emitter p.lo; hi = emitter_high emitter p.hi })
     else exactly (pos 0)
 
+-- The outflow box of a junction between two heads: its demand flow, widened by the tolerance, and its emitter flow.
 abbrev pub out_box : GridJunction → ℤ → ℤ → Interval
 out_box junction below above =
     let p : Interval = record { lo = below -ℤ junction.elevation; hi = above -ℤ junction.elevation } in

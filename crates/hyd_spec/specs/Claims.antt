@@ -1,8 +1,8 @@
 -- What a line of the report claims of a period of a history.
-use Rattle.std.specs.Prelude.{◌≡◌, ℕ, ◌+◌, ◌*◌, ◌^◌, ℤ, pos, ◌+ℤ◌, ◌-ℤ◌, ◌<ℤ◌, ◌≤ℤ◌, ◌*ℤ◌, IsTrue, Bool, true, false, List, Some, slice_get, ⊤, Contains}
-use Rattle.hyd_num.specs.Rational.{Rational, is_at_most}
+use Rattle.std.specs.Prelude.{◌≡◌, ℕ, ◌+◌, ◌*◌, ◌^◌, ℤ, pos, ◌+ℤ◌, ◌-ℤ◌, ◌<ℤ◌, ◌≤ℤ◌, ◌*ℤ◌, IsTrue, Bool, true, false, List, Some, slice_get, ⊤, Contains, ◌≢◌, ◌%◌, IsFalse}
+use Rattle.hyd_num.specs.Rational.{Rational, is_at_most, whole}
 use Rattle.hyd_num.specs.Decimals.{head_quantity, pressure_quantity, flow_quantity}
-use Rattle.hyd_spec.specs.Types.{Project, Junction, Reservoir, Tank, TankState, Link, LinkKind, CheckPipe, PumpLink, Fcv, OpenValve, LinkState, Open, Closed, Speed, Throttle, Limit, Control, AtLevel, StatusWord, WordOpen, WordClosed, WordActive, WordUnsure}
+use Rattle.hyd_spec.specs.Types.{Project, Junction, Reservoir, Tank, TankState, Full, Empty, Link, LinkKind, CheckPipe, PumpLink, Fcv, OpenValve, LinkState, Open, Closed, Speed, Throttle, Limit, Control, AtLevel, StatusWord, WordOpen, WordClosed, WordActive, WordUnsure}
 use Rattle.hyd_spec.specs.Interval.{Interval}
 use Rattle.hyd_spec.specs.Scale.{at_scale}
 use Rattle.hyd_spec.specs.Quantity.{is_us, lift_of, reservoir_head}
@@ -117,24 +117,27 @@ pub record ReachesAtEnd (network : Project) (S : ℕ) (period : Period) (time k 
   pub is_tank : slice_get network.tanks.list k ≡ Some tank
   pub reached : IsTrue (reaches S above target (exact_after network period k tank period.length))
 
--- The tank reaches its maximum, its minimum.
+-- The tank, which wasn't full (empty) at the start, reaches its maximum (minimum).
 pub record Fills (network : Project) (S : ℕ) (period : Period) (time k : ℕ) : Type 0 where
   pub tank : Tank
   pub is_tank : slice_get network.tanks.list k ≡ Some tank
+  pub before : slice_get period.tanks k ≢ Some Full
   pub reaches_it : ReachesAtEnd network S period time k true tank.maximum
 
 pub record Empties (network : Project) (S : ℕ) (period : Period) (time k : ℕ) : Type 0 where
   pub tank : Tank
   pub is_tank : slice_get network.tanks.list k ≡ Some tank
+  pub before : slice_get period.tanks k ≢ Some Empty
   pub reaches_it : ReachesAtEnd network S period time k false tank.minimum
 
--- The tank reaches the level of a control.
+-- The tank reaches the level of a control, which didn't hold at the start.
 pub record ReachesControl (network : Project) (S : ℕ) (period : Period) (time k number : ℕ) : Type 0 where
   pub control : Control
   pub is_control : slice_get network.controls.list number ≡ Some control
   pub above : Bool
   pub ticks : ℤ
   pub is_level : control.when ≡ AtLevel k above ticks
+  pub before : IsFalse (reaches S above ticks (whole (level_at_start period k)))
   pub reaches_it : ReachesAtEnd network S period time k above ticks
 
 -- At the start of the period, from the states commanded before, the control changes the link to the state.
@@ -142,9 +145,10 @@ pub record IsStartChange (network : Project) (S : ℕ) (commanded : List LinkSta
   pub at_start : time ≡ period.time
   pub is_change : Contains (start_changes network period.time (acts_at S period.levels) commanded) change
 
--- At the end of the period the rule changes the link to the state.
+-- At the end of the period, an instant at which the rules are tried, the rule changes the link to the state.
 pub record IsEndChange (network : Project) (S : ℕ) (period : Period) (time : ℕ) (change : Change) : Type 0 where
   pub at_end : time ≡ period.time + period.length
+  pub is_tried : time % network.times.rule ≡ 0
   pub is_change : Contains (rule_changes network (values_at network S period time) period.links) change
 
 -- ---- a line

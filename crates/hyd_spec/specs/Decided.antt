@@ -195,6 +195,7 @@ pub record OpenRule : Type 0 where
   pub lo : Rational
   pub hi : Rational
 
+-- Some seconds after the start this is the open rule.
 pub record IsOpenRule (network : Project) (grid : Grid) (standing : Standing) (row : Record) (seconds : ℕ) (open_rule : OpenRule) : Type 0 where
   pub first_rule : position is_unknown (rule_truths network grid standing row seconds) ≡ Some open_rule.rule
   pub rule : Rule
@@ -214,18 +215,23 @@ pub data End : Type 0 where
   RuleIsOpen : OpenRule → End
   EventIsOpen : ℕ → ℕ → End
 
--- The first instant at which the rules matter, up to the earliest end.
+-- The first instant at which the rules matter, up to the earliest end, of a period that doesn't begin at the end of the run.
 pub record IsFirstMatter (network : Project) (grid : Grid) (standing : Standing) (row : Record) (seconds : ℕ) : Type 0 where
+  pub not_last : standing.time ≢ network.times.duration
   pub earliest : ℕ
   pub is_earliest : IsEarliestEnd network grid standing row earliest
   pub in_time : seconds ≤ earliest
   pub first : IsLeast (RulesMatter network grid standing row) seconds
 
--- The rules matter at no instant up to the earliest end.
+-- The rules matter at no instant up to the earliest end, in such a period.
 pub record NoRuleMatters (network : Project) (grid : Grid) (standing : Standing) (row : Record) (earliest : ℕ) : Type 0 where
+  pub not_last : standing.time ≢ network.times.duration
   pub is_earliest : IsEarliestEnd network grid standing row earliest
   pub none : (seconds : ℕ) → RulesMatter network grid standing row seconds → earliest < seconds
 
+-- The certificates of the record decide the end so. Where a rule is open at the first instant at which the rules
+-- matter, the end is open by it; where they only change links there, it goes to that instant; where they
+-- matter at no instant up to the earliest end, it is decided exactly where the latest end is the same.
 pub data EndsBy (network : Project) (grid : Grid) (standing : Standing) (row : Record) : End → Type 0 where
   by_rules : {seconds : ℕ} → IsFirstMatter network grid standing row seconds
       → IsFalse (list_any is_unknown (rule_truths network grid standing row seconds))

@@ -12,16 +12,19 @@ use Rattle.hyd_spec.specs.LinkLaw.{law_of}
 use Rattle.hyd_spec.specs.Outflow.{is_pressure_driven}
 use Rattle.hyd_spec.specs.Enclosing.{DemandLaw, Fixed, Driven}
 
+-- A link: the numbers of its nodes, and its law in its state and between its tanks.
 pub record GridLink : Type 0 where
   pub from : ℕ
   pub to : ℕ
   pub law : Law
 
+-- A junction: its elevation (head ticks), the law of its demand, and its emitter.
 pub record GridJunction : Type 0 where
   pub elevation : ℤ
   pub demand : DemandLaw
   pub emitter : Option Capacity
 
+-- All of them in order, with the head of each reservoir and the head interval of each tank.
 pub record Grid : Type 0 where
   pub junctions : List GridJunction
   pub reservoirs : List ℤ

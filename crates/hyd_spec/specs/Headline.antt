@@ -1,5 +1,6 @@
 -- The headline: what a run's certificate and report promise of every history.
-use Rattle.std.specs.Prelude.{◌≡◌, ℕ, ◌≤◌, ℤ, ◌<ℤ◌, ◌⊎◌, Bool, true, false, MatchBool, List, [], ◌∷◌, length, map, ⊤}
+use Rattle.std.specs.Prelude.{◌≡◌, ℕ, ◌≤◌, ℤ, ◌<ℤ◌, ◌⊎◌, Bool, true, false, MatchBool, List, [], ◌∷◌, ◌++◌, length, map, ⊤, Option, MatchOption}
+use Rattle.std.specs.Option.{option_map_or}
 use Rattle.std.specs.List.{AllByRecursion}
 use Rattle.hyd_spec.specs.Types.{Project, LinkState, Problem, Side}
 use Rattle.hyd_spec.specs.Lists.{Each, joined}
@@ -15,8 +16,8 @@ use Rattle.hyd_spec.specs.Decided.{links_at}
 use Rattle.hyd_spec.specs.Valid.{IsValid, IsProblem}
 use Rattle.hyd_spec.specs.Narrow.{IsNarrow}
 use Rattle.hyd_spec.specs.Certificate.{IsTight}
-use Rattle.hyd_spec.specs.CertificateText.{IsCertificateText}
-use Rattle.hyd_spec.specs.Stops.{StopCause, Stops}
+use Rattle.hyd_spec.specs.CertificateText.{IsCertificateText, header_line, record_text, end_line}
+use Rattle.hyd_spec.specs.Stops.{StopCause, DemandOutOfRange, RoundsSpent, Stops}
 use Rattle.hyd_spec.specs.Report.{IsReport}
 use Rattle.hyd_spec.specs.ReportLine.{ReportLine, report_text, stop_line, done_line, partial_line}
 use Rattle.hyd_spec.specs.Claims.{LineHolds}
@@ -131,12 +132,49 @@ pub record RunWrites (network : Project) (rounds : ℕ) (sharpness : Sharpness) 
   pub report : printed ≡ report_text network (lines_of founds) (last_line network left (length founds) outcome)
   pub every_history : EveryHistoryAgrees network founds
 
--- What was read was accepted as the certificate of a run, and what was printed is its report: its last line is `DONE n`
--- for a finished one, `PARTIAL n` for one that was stopped.
+-- The exit status of a run that ends so: 0 where it finished, 7 where rounds were spent, 8 where a demand is out of range,
+-- 6 for every other cause.
+abbrev pub outcome_number : Outcome → ℕ
+outcome_number Finished = 0
+outcome_number (Stopped (RoundsSpent problem side spent)) = 7
+outcome_number (Stopped (DemandOutOfRange junction demand)) = 8
+outcome_number (Stopped cause) = 6
+
+-- ---- what was put out before a fault
+
+-- The certificate and the report as far as some records go, with their ends where the run's end is known.
+abbrev pub certificate_so_far : Project → List Found → Option Outcome → List ℕ
+certificate_so_far network founds last =
+    header_line (junction_count network) (tank_count network)
+    ++ (joined (map record_text (rows_of founds))
+    ++ option_map_or (λ outcome. end_line (length founds) (is_finished outcome)) last [])
+
+abbrev pub report_so_far : Project → Standing → List Found → Option Outcome → List ℕ
+report_so_far network left founds last =
+    report_text network (lines_of founds) (option_map_or (last_line network left (length founds)) last [])
+
+-- A fault of the outside ended the work: what was written and printed are fronts of the certificate and of the report of a
+-- run, as far as it went, and every history agrees with it.
+pub record RunBreaksOff (network : Project) (rounds : ℕ) (written printed : List ℕ) : Type 0 where
+  pub founds : List Found
+  pub left : Standing
+  pub is_run : IsRun network founds left
+  pub last : Option Outcome
+  pub ends_so : MatchOption last ⊤ (EndsSo network left rounds)
+  pub unwritten : List ℕ
+  pub front_of_certificate : written ++ unwritten ≡ certificate_so_far network founds last
+  pub unprinted : List ℕ
+  pub front_of_report : printed ++ unprinted ≡ report_so_far network left founds last
+  pub every_history : EveryHistoryAgrees network founds
+
+-- ---- what a check accepts
+
+-- The last line of the report on a certificate of n records: of a finished run, or of one that was stopped.
 abbrev pub accepted_line : ℕ → Bool → List ℕ
 accepted_line n true = done_line n
 accepted_line n false = partial_line n
 
+-- What was read was accepted as the certificate of a run, and what was printed is its report.
 pub record CheckAccepts (network : Project) (text printed : List ℕ) : Type 0 where
   pub founds : List Found
   pub left : Standing

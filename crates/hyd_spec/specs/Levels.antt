@@ -20,7 +20,8 @@ lower_end tank x room = end_of tank x (int_max tank.minimum (floor x -ℤ room))
 abbrev pub upper_end : Tank → Rational → ℤ → ℤ
 upper_end tank x room = end_of tank x (int_min tank.maximum (ceiling x +ℤ room))
 
--- The levels after some seconds, each end rounded outward and moved outward by `room` ticks.
+-- The levels after some seconds, each end rounded outward, moved outward by `room` ticks and held between minimum
+-- and maximum.
 abbrev pub levels_after : ℤ → Tank → Interval → Interval → ℕ → Interval
 levels_after room tank level inflow seconds = record {
   lo = lower_end tank (exact_level tank level.lo inflow.lo seconds) room;
@@ -58,8 +59,8 @@ must_reach tank level inflow target false seconds = reaches 1 false target (exac
 
 -- The first second, from 1 on, at which a test holds; `cap` where none before it does.
 pub record IsFirstSecond (test : ℕ → Bool) (cap second : ℕ) : Type 0 where
-  pub at_least_one : 1 ≤ second
   pub within : second ≤ cap
+  pub at_least_one : second < cap → 1 ≤ second
   pub holds : second < cap → IsTrue (test second)
   pub first : (earlier : ℕ) → 1 ≤ earlier → earlier < second → IsFalse (test earlier)
 

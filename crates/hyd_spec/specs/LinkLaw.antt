@@ -1,5 +1,5 @@
 -- The exact law of a link in its state, between tanks that may be full or empty.
--- Source: EPANET 2.2 User Manual, chapter 3 (pipes, pumps, valves; tanks), the laws of this profile.
+-- Source: EPANET 2.2 User Manual, chapter 3 (pipes, pumps, valves; tanks), the laws of this program.
 use Rattle.std.specs.Prelude.{ℕ, Bool, true, false, ◌&&◌, ◌||◌, List, slice_get, if◌then◌else◌}
 use Rattle.std.specs.Option.{option_map_or}
 use Rattle.hyd_spec.specs.Types.{Project, Link, LinkKind, PipeLink, CheckPipe, PumpLink, Tcv, Fcv, OpenValve, Quadratic, Linear, LinkState, Open, Speed, Throttle, Limit, TankState, Full, Empty, Between}

@@ -6,7 +6,8 @@
 -- summand alone. With z the head less the minor loss, "the loss is at most the head" is
 -- z d^5.33 >= 4.66 n^2 L q^2, and both sides are raised to the power 100, so that all exponents
 -- are whole. No root and no rounding occurs.
--- Source: EPANET 2.2 User Manual, chapter 3, head loss formulas (Chezy-Manning) and minor losses.
+-- Source: EPANET 2.2 User Manual, chapter 3 (head loss formulas: Chezy-Manning) and the chapter on analysis algorithms
+-- (minor losses).
 use Rattle.std.specs.Prelude.{ℕ, ◌*◌, ◌^◌, ◌≤◌, Bool}
 use Rattle.hyd_num.specs.Fraction.{Fraction, AtMost, times, minus, over, power}
 use Rattle.hyd_num.specs.Quantity.{billionths, ordinary, feet, feet_across}

@@ -18,9 +18,11 @@ pub record Record : Type 0 where
   pub main : Vectors
   pub pinned : List Vectors
 
+-- A tank that isn't there has empty vectors.
 abbrev pub no_vectors : Vectors
 no_vectors = record { upper = []; lower = [] }
 
+-- The vectors of a problem.
 abbrev pub vectors_of : Record → Problem → Vectors
 vectors_of row Main = row.main
 vectors_of row (Pinned tank) = slice_index_or row.pinned tank no_vectors

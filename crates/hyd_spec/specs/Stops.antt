@@ -3,6 +3,7 @@ use Rattle.std.specs.Prelude.{◌≡◌, ℕ, ◌<◌, ◌≤◌, ℤ, pos, neg_
 use Rattle.hyd_spec.specs.Types.{Project, Junction, LinkState, Control, When, AtLevel, Problem, Side, Upper, Lower}
 use Rattle.hyd_spec.specs.Lists.{map_from}
 use Rattle.hyd_spec.specs.Interval.{Interval}
+use Rattle.hyd_spec.specs.Network.{junction_count}
 use Rattle.hyd_spec.specs.Quantity.{demand_of}
 use Rattle.hyd_spec.specs.Grid.{Grid}
 use Rattle.hyd_spec.specs.Certificate.{box_limit, IsCertificate, AreRounds, IsTight}
@@ -51,7 +52,9 @@ beginning Lower count = replicate count (pos box_limit)
 pub record HasNoCertificate (network : Project) (standing : Standing) (problem : Problem) (side : Side) : Type 0 where
   pub in_range : DemandsAreInRange network standing.time
   pub is_problem : IsProblem network problem
-  pub none : (grid : Grid) → IsGridAt network standing grid → (u : List ℤ) → IsCertificate grid problem side u → ⊥
+  pub grid : Grid
+  pub is_grid : IsGridAt network standing grid
+  pub none : (u : List ℤ) → IsCertificate grid problem side u → ⊥
 
 -- So many plain rounds from the beginning exist, and their result is no certificate.
 pub record SpendsRounds (network : Project) (standing : Standing) (problem : Problem) (side : Side) (rounds : ℕ) : Type 0 where
@@ -65,8 +68,9 @@ pub record SpendsRounds (network : Project) (standing : Standing) (problem : Pro
 
 -- ---- matters under the tight vectors
 
--- A record whose vectors are the tight ones at a standing.
+-- A record whose vectors are the tight ones at a standing with demands in range.
 pub record IsTightRow (network : Project) (standing : Standing) (grid : Grid) (row : Record) : Type 0 where
+  pub in_range : DemandsAreInRange network standing.time
   pub is_grid : IsGridAt network standing grid
   pub one_each : length row.pinned ≡ length network.tanks.list
   pub each : (problem : Problem) (side : Side) → IsProblem network problem
@@ -129,10 +133,11 @@ pub record LeavesControlOpen (network : Project) (standing : Standing) (number :
 
 -- ---- the condition
 
--- The cause holds at a standing at which the run isn't over, for this number of rounds.
+-- The cause holds at a standing, for this number of rounds. Whether the run is over there is said elsewhere.
 abbrev pub Stops : Project → Standing → ℕ → StopCause → Type 0
 Stops network standing rounds (DemandOutOfRange junction demand) = IsFirstDemand network standing.time junction demand
-Stops network standing rounds (NoCertificate problem side junction) = HasNoCertificate network standing problem side
+Stops network standing rounds (NoCertificate problem side junction) =
+    (junction < junction_count network) × HasNoCertificate network standing problem side
 Stops network standing rounds (RoundsSpent problem side spent) = (spent ≡ rounds) × SpendsRounds network standing problem side rounds
 Stops network standing rounds (RuleOpen open_rule) = LeavesRuleOpen network standing open_rule
 Stops network standing rounds (EventOpen earliest latest) = LeavesEventOpen network standing earliest latest

@@ -36,11 +36,11 @@ abbrev pub net_high : Grid → Problem → List ℤ → ℕ → GridJunction →
 net_high grid problem u i junction =
     net high low (all_heads grid problem Lower u) i grid.links +ℤ outflow_high junction (head_at u i)
 
--- The number of link ends at a node.
 abbrev pub one_if : Bool → ℕ
 one_if true = 1
 one_if false = 0
 
+-- The number of link ends at a node.
 abbrev pub link_ends : ℕ → List GridLink → ℕ
 link_ends node [] = 0
 link_ends node (link ∷ links) = (one_if (link.from == node) + one_if (link.to == node)) + link_ends node links

@@ -62,6 +62,8 @@ IsNextLevel S tank level inflow seconds next =
 abbrev pub state_band : ℤ
 state_band = pos 1524000000
 
+-- The state of a tank at a level: full from the maximum less the band on, empty up to the minimum plus the band,
+-- else between.
 abbrev pub tank_state : ℕ → Tank → ℤ → TankState
 tank_state S tank level =
     if int_le (at_scale S (tank.maximum -ℤ state_band)) level then Full
