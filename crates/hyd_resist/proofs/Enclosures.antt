@@ -1,5 +1,5 @@
 -- A capacity that stands for the numbers of a file encloses their exact loss.
-use Rattle.std.proofs.Common.{◌≡◌, ℕ, ◌+◌, ◌*◌, ◌≤◌, subst, sym}
+use Rattle.std.proofs.Common.{ℕ, ◌*◌, ◌≤◌, subst, sym}
 use Rattle.hyd_num.specs.declared.binary.Scaled.{Scaled}
 use Rattle.hyd_num.specs.declared.pairs.Pair.{Pair}
 use Rattle.hyd_num.specs.Scaled.{numerator, denominator}
@@ -7,8 +7,8 @@ use Rattle.hyd_num.specs.Chain.{StandsFor, IsMade}
 use Rattle.hyd_spec.specs.Types.{Origin, Pipe, Valve, Pump, Emitter, PressureDemand, Capacity}
 use Rattle.hyd_spec.specs.Law.{loss_at_most, loss_at_least}
 use Rattle.hyd_spec.specs.Enclosure.{IsEnclosure}
-use Rattle.hyd_resist.proofs.Manning.{valve-at_most, valve-at_least, pipe-at_most, pipe-at_least}
-use Rattle.hyd_resist.proofs.Squares.{pump-at_most, pump-at_least, emitter-at_most, emitter-at_least, pressure-at_most, pressure-at_least}
+use Rattle.hyd_resist.proofs.FeetLost.{valve-at_most, valve-at_least, pipe-at_most, pipe-at_least}
+use Rattle.hyd_resist.proofs.SquaredFlows.{pump-at_most, pump-at_least, emitter-at_most, emitter-at_least, pressure-at_most, pressure-at_least}
 
 pub pair-at_most : (origin : Origin) (r : Pair) (S q y : ℕ) → StandsFor origin r
     → (q * q) * denominator r.lo ≤ numerator r.lo * (S * y) → loss_at_most origin S q y
@@ -31,5 +31,5 @@ IsEnclosure-made c made = record {
   at_most = λ S q y h. pair-at_most c.origin made.pair S q y made.made
       (subst (λ (s : Scaled). (q * q) * denominator s ≤ numerator s * (S * y)) (sym made.low) h);
   at_least = λ S q y h. pair-at_least c.origin made.pair S q y made.made
-      (subst (λ (s : Scaled). numerator s * (S * y) ≤ (q * q) * denominator s) (sym made.high) h)
+      (subst (λ (s : Scaled). numerator s * (S * y) ≤ (q * q) * denominator s) (sym made.high) h);
 }

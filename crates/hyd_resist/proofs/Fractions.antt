@@ -1,18 +1,20 @@
 -- The order of fractions, and what rises with it.
-use Rattle.std.proofs.Common.{◌≡◌, ℕ, zero, suc, ◌+◌, ◌-◌, ◌*◌, ◌^◌, ◌<◌, ◌≤◌, refl, sym, ap, subst, arith}
-use Rattle.std.proofs.Math.Nat.{mul-le-mul_right, mul-le-mul_left, le_of_mul-le-mul_right, pow-le-pow_left}
+use Rattle.std.proofs.Common.{ℕ, ◌*◌, ◌<◌, ◌≤◌, arith}
+use Rattle.std.proofs.Math.Nat.{mul-le-mul_right, le_of_mul-le-mul_right, pow-le-pow_left}
 use Rattle.std.proofs.lemmas.Nat.{mul-pow, mul-le}
-use Rattle.hyd_num.specs.Fraction.{Fraction, fraction, times, plus, minus, over, power, AtMost}
+use Rattle.hyd_num.specs.Fraction.{Fraction, times, plus, over, power, AtMost}
 
 pub AtMost-itself : (x : Fraction) → AtMost x x
 AtMost-itself x = record { crossed = omega arith }
 
 pub AtMost-along : (x y z : Fraction) → 0 < y.den → AtMost x y → AtMost y z → AtMost x z
 AtMost-along x y z above below over =
-    record { crossed =
-        let both : (x.num * z.den) * y.den ≤ (z.num * x.den) * y.den
-            = omega (arith, mul-le-mul_right z.den below.crossed, mul-le-mul_right x.den over.crossed) in
-        le_of_mul-le-mul_right both above }
+    record {
+      crossed =
+          let both : (x.num * z.den) * y.den ≤ (z.num * x.den) * y.den
+          = omega (arith, mul-le-mul_right z.den below.crossed, mul-le-mul_right x.den over.crossed) in
+          le_of_mul-le-mul_right both above;
+    }
 
 pub times-rises : (a b c d : Fraction) → AtMost a b → AtMost c d → AtMost (times a c) (times b d)
 times-rises a b c d p q =

@@ -1,6 +1,6 @@
 -- How much a rounding adds: a number rounded down or up is within one part in 2^62 of what was rounded.
-use Rattle.std.proofs.Common.{◌≡◌, ℕ, zero, suc, ◌+◌, ◌-◌, ◌*◌, ◌^◌, ◌<◌, ◌≤◌, ℤ, pos, negsuc, ◌+ℤ◌, ◌-ℤ◌, refl, sym, ap, subst, ◌∙◌, arith, mul-pos, inl, inr, lit<, lit≤}
-use Rattle.std.proofs.Math.Nat.{mul-le-mul_right, mul-le-mul_left, le_of_mul-le-mul_right, lt_of_mul-lt-mul_right}
+use Rattle.std.proofs.Common.{refl, ◌≡◌, ℕ, ◌+◌, ◌-◌, ◌*◌, ◌^◌, ◌<◌, ◌≤◌, ℤ, pos, ◌+ℤ◌, ◌-ℤ◌, sym, ap, ◌∙◌, arith, mul-pos, inl, inr, lit<, lit≤}
+use Rattle.std.proofs.Math.Nat.{mul-le-mul_right, le_of_mul-le-mul_right}
 use Rattle.std.proofs.lemmas.Nat.{pow_pos, pow-add}
 use Rattle.std.proofs.lemmas.Bool.{cases_lt, cases_eq}
 use Rattle.std.proofs.lemmas.Int.{ints}
@@ -11,6 +11,10 @@ use Rattle.hyd_num.specs.Scaled.{numerator, denominator, IsDown, IsUp}
 -- the least mantissa, which is the number of grains in a number of that mantissa
 pub grain : ℕ
 grain = 2 ^ 62
+
+pub grain_is : grain ≡ 2 ^ 62
+unfolding grain
+grain_is = refl
 
 pub grain_above : 0 < grain
 unfolding grain
@@ -23,7 +27,7 @@ exponents z = omega (arith, ints)
 pub doubled : (z : ℤ) → 2 ^ up (z +ℤ pos 1) * 2 ^ down z ≡ 2 * (2 ^ up z * 2 ^ down (z +ℤ pos 1))
 doubled z =
     sym (pow-add 2 (up (z +ℤ pos 1)) (down z)) ∙ ap (λ i. 2 ^ i) (exponents z) ∙ pow-add 2 1 (up z + down (z +ℤ pos 1))
-        ∙ ap (λ x. 2 * x) (pow-add 2 (up z) (down (z +ℤ pos 1)))
+    ∙ ap (λ x. 2 * x) (pow-add 2 (up z) (down (z +ℤ pos 1)))
 
 -- the number of one more in the last place, below the end of the mantissas and at it
 more : (s : Scaled) → s.mant + 1 < 2 ^ 63 → Scaled
@@ -35,11 +39,12 @@ turn s = record { mant = 2 ^ 62; exp = s.exp +ℤ pos 1; normal = omega arith; s
 below_more : (p q : ℕ) (s : Scaled) → IsDown p q s → s.mant + 1 < 2 ^ 63 → p * denominator s < (s.mant + 1) * 2 ^ up s.exp * q
 unfolding more
 below_more p q s made h = elim (cases_lt (p * denominator s) ((s.mant + 1) * 2 ^ up s.exp * q)) [
-    inl l ↦ l
+  | inl l ↦ l
   | inr g ↦
       let le : (s.mant + 1) * 2 ^ up s.exp * denominator s ≤ numerator s * denominator s = made.greatest (more s h) g in
       let above : 0 < 2 ^ up s.exp * denominator s = mul-pos (pow_pos (up s.exp)) (pow_pos (down s.exp)) in
-      absurd (omega (arith, le, above)) ]
+      absurd (omega (arith, le, above))
+]
 
 turn_fits : (m u d v e q p : ℕ) → 0 < d → v * d ≡ 2 * (u * e) → m + 1 ≡ 2 ^ 63 → (m + 1) * u * q ≤ p * d → 2 ^ 62 * v * q ≤ p * e
 turn_fits m u d v e q p above double end h =
@@ -58,19 +63,21 @@ turn_passes m u d v e above double end h =
 below_turn : (p q : ℕ) (s : Scaled) → IsDown p q s → s.mant + 1 ≡ 2 ^ 63 → p * denominator s < (s.mant + 1) * 2 ^ up s.exp * q
 unfolding turn
 below_turn p q s made end = elim (cases_lt (p * denominator s) ((s.mant + 1) * 2 ^ up s.exp * q)) [
-    inl l ↦ l
+  | inl l ↦ l
   | inr g ↦
       let le : numerator (turn s) * denominator s ≤ numerator s * denominator (turn s) =
-          made.greatest (turn s) (turn_fits s.mant (2 ^ up s.exp) (2 ^ down s.exp) (2 ^ up (s.exp +ℤ pos 1)) (2 ^ down (s.exp +ℤ pos 1)) q p
-              (pow_pos (down s.exp)) (doubled s.exp) end g) in
+      made.greatest (turn s) (turn_fits s.mant (2 ^ up s.exp) (2 ^ down s.exp) (2 ^ up (s.exp +ℤ pos 1)) (2 ^ down (s.exp +ℤ pos 1)) q p
+      (pow_pos (down s.exp)) (doubled s.exp) end g) in
       absurd (turn_passes s.mant (2 ^ up s.exp) (2 ^ down s.exp) (2 ^ up (s.exp +ℤ pos 1)) (2 ^ down (s.exp +ℤ pos 1))
-          (mul-pos (pow_pos (up s.exp)) (pow_pos (down (s.exp +ℤ pos 1)))) (doubled s.exp) end le) ]
+      (mul-pos (pow_pos (up s.exp)) (pow_pos (down (s.exp +ℤ pos 1)))) (doubled s.exp) end le)
+]
 
 -- what was rounded down is below the next place
 pub below_next : (p q : ℕ) (s : Scaled) → IsDown p q s → p * denominator s < (s.mant + 1) * 2 ^ up s.exp * q
 below_next p q s made = elim (cases_lt (s.mant + 1) (2 ^ 63)) [
-    inl l ↦ below_more p q s made l
-  | inr g ↦ below_turn p q s made (omega (arith, g, s.short)) ]
+  | inl l ↦ below_more p q s made l
+  | inr g ↦ below_turn p q s made (omega (arith, g, s.short))
+]
 
 one_grain : (m u q pd : ℕ) → grain ≤ m → pd < (m + 1) * u * q → pd * grain ≤ m * u * q * (grain + 1)
 one_grain m u q pd least below =
@@ -98,7 +105,7 @@ halved_exponents z = omega (arith, ints)
 halved : (z : ℤ) → 2 ^ up z * 2 ^ down (z -ℤ pos 1) ≡ 2 * (2 ^ up (z -ℤ pos 1) * 2 ^ down z)
 halved z =
     sym (pow-add 2 (up z) (down (z -ℤ pos 1))) ∙ ap (λ i. 2 ^ i) (halved_exponents z) ∙ pow-add 2 1 (up (z -ℤ pos 1) + down z)
-        ∙ ap (λ x. 2 * x) (pow-add 2 (up (z -ℤ pos 1)) (down z))
+    ∙ ap (λ x. 2 * x) (pow-add 2 (up (z -ℤ pos 1)) (down z))
 
 less_gains : (n m u q pd : ℕ) → grain ≤ n → m ≡ n + 1 → n * u * q < pd → m * u * q * grain ≤ pd * (grain + 1)
 less_gains n m u q pd least is below =
@@ -115,11 +122,12 @@ less_passes n m u d is above h =
 above_less : (p q n : ℕ) (s : Scaled) → IsUp p q s → 2 ^ 62 ≤ n → s.mant ≡ n + 1 → numerator s * q * grain ≤ p * denominator s * (grain + 1)
 unfolding less grain
 above_less p q n s made least is = elim (cases_lt (n * 2 ^ up s.exp * q) (p * denominator s)) [
-    inl l ↦ less_gains n s.mant (2 ^ up s.exp) q (p * denominator s) least is l
+  | inl l ↦ less_gains n s.mant (2 ^ up s.exp) q (p * denominator s) least is l
   | inr g ↦
       let short : n < 2 ^ 63 = omega (arith, is, s.short) in
       let le : numerator s * denominator s ≤ n * 2 ^ up s.exp * denominator s = made.least (less s n least short) g in
-      absurd (less_passes n s.mant (2 ^ up s.exp) (denominator s) is (mul-pos (pow_pos (up s.exp)) (pow_pos (down s.exp))) le) ]
+      absurd (less_passes n s.mant (2 ^ up s.exp) (denominator s) is (mul-pos (pow_pos (up s.exp)) (pow_pos (down s.exp))) le)
+]
 
 back_gains : (u d v f q p : ℕ) → 0 < f → u * f ≡ 2 * (v * d) → (2 ^ 63 - 1) * v * q < p * f → 2 ^ 62 * u * q * 2 ^ 62 ≤ p * d * (2 ^ 62 + 1)
 back_gains u d v f q p above half below =
@@ -139,15 +147,17 @@ at_least_mantissa m u q t is h = omega (arith, ap (λ x. x * (u * q * 2 ^ 62)) i
 above_back : (p q : ℕ) (s : Scaled) → IsUp p q s → s.mant ≡ 2 ^ 62 → numerator s * q * grain ≤ p * denominator s * (grain + 1)
 unfolding back grain
 above_back p q s made is = elim (cases_lt ((2 ^ 63 - 1) * 2 ^ up (s.exp -ℤ pos 1) * q) (p * 2 ^ down (s.exp -ℤ pos 1))) [
-    inl l ↦ at_least_mantissa s.mant (2 ^ up s.exp) q _ is
-        (back_gains (2 ^ up s.exp) (2 ^ down s.exp) (2 ^ up (s.exp -ℤ pos 1)) (2 ^ down (s.exp -ℤ pos 1)) q p (pow_pos (down (s.exp -ℤ pos 1))) (halved s.exp) l)
+  | inl l ↦ at_least_mantissa s.mant (2 ^ up s.exp) q _ is
+      (back_gains (2 ^ up s.exp) (2 ^ down s.exp) (2 ^ up (s.exp -ℤ pos 1)) (2 ^ down (s.exp -ℤ pos 1)) q p (pow_pos (down (s.exp -ℤ pos 1))) (halved s.exp) l)
   | inr g ↦
       let le : numerator s * 2 ^ down (s.exp -ℤ pos 1) ≤ (2 ^ 63 - 1) * 2 ^ up (s.exp -ℤ pos 1) * denominator s = made.least (back s) g in
       let e : s.mant * (2 ^ up s.exp * 2 ^ down (s.exp -ℤ pos 1)) ≡ 2 ^ 62 * (2 ^ up s.exp * 2 ^ down (s.exp -ℤ pos 1)) = ap (λ x. x * (2 ^ up s.exp * 2 ^ down (s.exp -ℤ pos 1))) is in
       absurd (back_passes (2 ^ up s.exp) (2 ^ down s.exp) (2 ^ up (s.exp -ℤ pos 1)) (2 ^ down (s.exp -ℤ pos 1))
-          (mul-pos (pow_pos (up (s.exp -ℤ pos 1))) (pow_pos (down s.exp))) (halved s.exp) (omega (arith, le, e))) ]
+      (mul-pos (pow_pos (up (s.exp -ℤ pos 1))) (pow_pos (down s.exp))) (halved s.exp) (omega (arith, le, e)))
+]
 
 pub up-near : (p q : ℕ) (s : Scaled) → IsUp p q s → numerator s * q * grain ≤ p * denominator s * (grain + 1)
 up-near p q s made = elim (cases_eq s.mant (2 ^ 62)) [
-    inl e ↦ above_back p q s made e
-  | inr n ↦ above_less p q (s.mant - 1) s made (omega (arith, n, s.normal)) (omega (arith, n, s.normal)) ]
+  | inl e ↦ above_back p q s made e
+  | inr n ↦ above_less p q (s.mant - 1) s made (omega (arith, n, s.normal)) (omega (arith, n, s.normal))
+]

@@ -1,7 +1,10 @@
 pub mod Fractions
 pub mod Enclosing
 pub mod Losses
-pub mod Manning
-pub mod Squares
+pub mod FeetLost
+pub mod SquaredFlows
 pub mod Enclosures
 pub mod Grains
+pub mod Exponents
+pub mod PressurePairs
+pub mod Widths

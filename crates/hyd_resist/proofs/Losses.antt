@@ -1,8 +1,8 @@
 -- From the ends of a capacity to the head that a flow loses. The capacity is the square of the flow that one tick of head drives;
 -- the loss comes in larger units, of which `unit` is the capacity of a link that loses one at a flow of one.
-use Rattle.std.proofs.Common.{◌≡◌, ℕ, zero, suc, ◌+◌, ◌-◌, ◌*◌, ◌^◌, ◌<◌, ◌≤◌, refl, sym, ap, subst, ◌∙◌, arith, mul-pos, pow-suc, inl, inr}
-use Rattle.std.proofs.Math.Nat.{mul-le-mul_right, mul-le-mul_left, le_of_mul-le-mul_right, one-le-pow, pow-le-pow_left, mul-sub, mul_comm}
-use Rattle.std.proofs.lemmas.Nat.{mul-pow, mul-le}
+use Rattle.std.proofs.Common.{◌≡◌, ℕ, ◌+◌, ◌-◌, ◌*◌, ◌^◌, ◌<◌, ◌≤◌, ap, ◌∙◌, arith, pow-suc}
+use Rattle.std.proofs.Math.Nat.{mul-le-mul_right, le_of_mul-le-mul_right, one-le-pow, pow-le-pow_left, mul-sub, mul_comm}
+use Rattle.std.proofs.lemmas.Nat.{mul-pow}
 use Rattle.hyd_num.specs.Fraction.{Fraction, fraction, times, plus, minus, over, power, AtMost}
 use Rattle.hyd_resist.proofs.Enclosing.{pow_once}
 
@@ -68,26 +68,32 @@ more_by x a b k h = rw (difference_times a b k) (omega arith)
 -- what is lost to two causes: each by itself
 pub second_at_most : (r m f h : Fraction) → 0 < r.den → AtMost (times (plus r m) f) h → AtMost (times m f) h
 second_at_most r m f h above all =
-    record { crossed =
-        let l : (m.num * f.num) * h.den * r.den ≤ h.num * (m.den * f.den) * r.den = omega (arith, all.crossed) in
-        le_of_mul-le-mul_right l above }
+    record {
+      crossed =
+          let l : (m.num * f.num) * h.den * r.den ≤ h.num * (m.den * f.den) * r.den = omega (arith, all.crossed) in
+          le_of_mul-le-mul_right l above;
+    }
 
 pub first_at_most : (r m f h : Fraction) → AtMost (times (plus r m) f) h → AtMost (times r f) (minus h (times m f))
 first_at_most r m f h all =
-    record { crossed = less_by ((r.num * f.num) * (h.den * (m.den * f.den))) (h.num * (m.den * f.den)) ((m.num * f.num) * h.den) (r.den * f.den)
-        (omega (arith, mul-le-mul_right f.den all.crossed)) }
+    record {
+      crossed = less_by ((r.num * f.num) * (h.den * (m.den * f.den))) (h.num * (m.den * f.den)) ((m.num * f.num) * h.den) (r.den * f.den)
+          (omega (arith, mul-le-mul_right f.den all.crossed));
+    }
 
 pub first_at_least : (r m f h : Fraction) → AtMost h (times (plus r m) f) → AtMost (minus h (times m f)) (times r f)
 first_at_least r m f h all =
-    record { crossed = more_by ((r.num * f.num) * (h.den * (m.den * f.den))) (h.num * (m.den * f.den)) ((m.num * f.num) * h.den) (r.den * f.den)
-        (omega (arith, mul-le-mul_right f.den all.crossed)) }
+    record {
+      crossed = more_by ((r.num * f.num) * (h.den * (m.den * f.den))) (h.num * (m.den * f.den)) ((m.num * f.num) * h.den) (r.den * f.den)
+          (omega (arith, mul-le-mul_right f.den all.crossed));
+    }
 
 -- a loss of g / t, where t to the power n is at most, or at least, d to the power k
 raised_below : (a z w t u d e n k b : ℕ) → 0 < u → (a * (w * u)) ≤ (z * t) * b → t ^ n * e ^ k ≤ d ^ k * u ^ n
     → a ^ n * (w ^ n * e ^ k) ≤ (z ^ n * d ^ k) * b ^ n
 raised_below a z w t u d e n k b above loss root =
     let l : a ^ n * (w ^ n * u ^ n) ≤ (z ^ n * t ^ n) * b ^ n =
-        rw (← mul-pow w u n, ← mul-pow a (w * u) n, ← mul-pow z t n, ← mul-pow (z * t) b n) (pow-le-pow_left loss n) in
+    rw (← mul-pow w u n, ← mul-pow a (w * u) n, ← mul-pow z t n, ← mul-pow (z * t) b n) (pow-le-pow_left loss n) in
     let p : a ^ n * (w ^ n * u ^ n) * e ^ k ≤ (z ^ n * t ^ n) * b ^ n * e ^ k = mul-le-mul_right (e ^ k) l in
     let q : t ^ n * e ^ k * (z ^ n * b ^ n) ≤ d ^ k * u ^ n * (z ^ n * b ^ n) = mul-le-mul_right (z ^ n * b ^ n) root in
     let all : a ^ n * (w ^ n * e ^ k) * u ^ n ≤ (z ^ n * d ^ k) * b ^ n * u ^ n = omega (arith, p, q) in
@@ -97,7 +103,7 @@ raised_above : (a z w t u d e n k b : ℕ) → 0 < u → (z * t) * b ≤ (a * (w
     → (z ^ n * d ^ k) * b ^ n ≤ a ^ n * (w ^ n * e ^ k)
 raised_above a z w t u d e n k b above loss root =
     let l : (z ^ n * t ^ n) * b ^ n ≤ a ^ n * (w ^ n * u ^ n) =
-        rw (← mul-pow w u n, ← mul-pow a (w * u) n, ← mul-pow z t n, ← mul-pow (z * t) b n) (pow-le-pow_left loss n) in
+    rw (← mul-pow w u n, ← mul-pow a (w * u) n, ← mul-pow z t n, ← mul-pow (z * t) b n) (pow-le-pow_left loss n) in
     let p : (z ^ n * t ^ n) * b ^ n * e ^ k ≤ a ^ n * (w ^ n * u ^ n) * e ^ k = mul-le-mul_right (e ^ k) l in
     let q : d ^ k * u ^ n * (z ^ n * b ^ n) ≤ t ^ n * e ^ k * (z ^ n * b ^ n) = mul-le-mul_right (z ^ n * b ^ n) root in
     let all : (z ^ n * d ^ k) * b ^ n * u ^ n ≤ a ^ n * (w ^ n * e ^ k) * u ^ n = omega (arith, p, q) in
@@ -106,11 +112,15 @@ raised_above a z w t u d e n k b above loss root =
 pub power_at_most : (g t f z d : Fraction) (n k : ℕ) → 0 < t.den → AtMost (times (over g t) f) z → AtMost (power t n) (power d k)
     → AtMost (power (times g f) n) (times (power z n) (power d k))
 power_at_most g t f z d n k above loss root =
-    record { crossed = raised_below (g.num * f.num) z.num z.den t.num t.den d.num d.den n k (g.den * f.den) above
-        (omega (arith, loss.crossed)) root.crossed }
+    record {
+      crossed = raised_below (g.num * f.num) z.num z.den t.num t.den d.num d.den n k (g.den * f.den) above
+          (omega (arith, loss.crossed)) root.crossed;
+    }
 
 pub power_at_least : (g t f z d : Fraction) (n k : ℕ) → 0 < t.den → AtMost z (times (over g t) f) → AtMost (power d k) (power t n)
     → AtMost (times (power z n) (power d k)) (power (times g f) n)
 power_at_least g t f z d n k above loss root =
-    record { crossed = raised_above (g.num * f.num) z.num z.den t.num t.den d.num d.den n k (g.den * f.den) above
-        (omega (arith, loss.crossed)) root.crossed }
+    record {
+      crossed = raised_above (g.num * f.num) z.num z.den t.num t.den d.num d.den n k (g.den * f.den) above
+          (omega (arith, loss.crossed)) root.crossed;
+    }

@@ -1,17 +1,16 @@
 -- The pair of a pump, an emitter or a pressure-driven demand encloses the square of a flow over the head that drives it.
-use Rattle.std.proofs.Common.{◌≡◌, ℕ, zero, suc, ◌+◌, ◌-◌, ◌*◌, ◌^◌, ◌<◌, ◌≤◌, ℤ, pos, negsuc, ◌+ℤ◌, ◌-ℤ◌, unsigned_abs, Bool, true, false, refl, sym, ap, subst, ◌∙◌, arith, mul-pos, inl, inr, pow-suc}
-use Rattle.std.proofs.Math.Nat.{mul-le-mul_right, mul-le-mul_left, le_of_mul-le-mul_right}
+use Rattle.std.proofs.Common.{◌≡◌, ℕ, zero, suc, ◌+◌, ◌*◌, ◌^◌, ◌<◌, ◌≤◌, ℤ, pos, negsuc, ◌+ℤ◌, ◌-ℤ◌, unsigned_abs, Bool, true, false, refl, sym, ap, subst, ◌∙◌, arith, mul-pos}
+use Rattle.std.proofs.Math.Nat.{mul-le-mul_right, le_of_mul-le-mul_right}
 use Rattle.std.proofs.lemmas.Nat.{pow_pos, pow-add}
-use Rattle.std.proofs.lemmas.Bool.{cases_lt}
 use Rattle.std.proofs.lemmas.Int.{ints}
 use borrow.Author.Differences.{up, down}
 use Rattle.hyd_num.specs.declared.binary.Scaled.{Scaled}
 use Rattle.hyd_num.specs.declared.pairs.Pair.{Pair}
 use Rattle.hyd_num.specs.declared.decimals.Decimal.{Decimal}
 use Rattle.hyd_num.specs.declared.units.FlowUnit.{FlowUnit}
-use Rattle.hyd_num.specs.Fraction.{Fraction, fraction, times, plus, minus, over, power, AtMost}
+use Rattle.hyd_num.specs.Fraction.{Fraction, fraction, times, over, power}
 use Rattle.hyd_num.specs.Quantity.{billionths, is_us_unit, head_ticks, flow_fraction, pressure_fraction}
-use Rattle.hyd_num.specs.Scaled.{numerator, denominator, as_fraction, IsDown}
+use Rattle.hyd_num.specs.Scaled.{numerator, denominator, IsDown}
 use Rattle.hyd_num.specs.Pairs.{Encloses, IsRatio}
 use Rattle.hyd_num.specs.Chain.{IsSquareOver, IsPumpPair, IsEmitterPair, IsPressurePair}
 use Rattle.hyd_spec.specs.Loss.{SquareLossAtMost, SquareLossAtLeast}
@@ -60,15 +59,15 @@ above_itself : (s : Scaled) → numerator (twice s) * denominator s ≤ numerato
 unfolding twice
 above_itself s h =
     not_twice s.mant (2 ^ up s.exp) (2 ^ down s.exp) (2 ^ up (s.exp +ℤ pos 1)) (2 ^ down (s.exp +ℤ pos 1))
-        (mul-pos (numerator_above s) (pow_pos (down (s.exp +ℤ pos 1))))
-        (sym (pow-add 2 (up (s.exp +ℤ pos 1)) (down s.exp))
-            ∙ ap (λ i. 2 ^ i) (exponents s.exp)
-            ∙ pow-add 2 1 (up s.exp + down (s.exp +ℤ pos 1))
-            ∙ ap (λ x. 2 * x) (pow-add 2 (up s.exp) (down (s.exp +ℤ pos 1))))
-        h
-    where
-        exponents : (z : ℤ) → up (z +ℤ pos 1) + down z ≡ 1 + (up z + down (z +ℤ pos 1))
-        exponents z = omega (arith, ints)
+    (mul-pos (numerator_above s) (pow_pos (down (s.exp +ℤ pos 1))))
+    (sym (pow-add 2 (up (s.exp +ℤ pos 1)) (down s.exp))
+    ∙ ap (λ i. 2 ^ i) (exponents s.exp)
+    ∙ pow-add 2 1 (up s.exp + down (s.exp +ℤ pos 1))
+    ∙ ap (λ x. 2 * x) (pow-add 2 (up s.exp) (down (s.exp +ℤ pos 1))))
+    h
+  where
+    exponents : (z : ℤ) → up (z +ℤ pos 1) + down z ≡ 1 + (up z + down (z +ℤ pos 1))
+    exponents z = omega (arith, ints)
 
 no_factor : (n q : ℕ) → 0 < n → n * q ≤ 0 → q ≡ 0
 no_factor n zero above h = refl
@@ -95,9 +94,9 @@ pump-encloses : (flow drop : Decimal) (thirds : ℕ) (unit : FlowUnit) (r : Pair
     → Encloses r (over (times (flow_fraction unit (billionths flow)) (flow_fraction unit (billionths flow))) (fraction (unsigned_abs (head_ticks (is_us_unit unit) drop.nano)) thirds))
 pump-encloses flow drop thirds unit r made =
     square-encloses made.flows made.head r _ _ made.capacity_is
-        (ratio-encloses _ _ made.flows made.flows_is)
-        (subst (λ (x : ℕ). Encloses made.head (fraction x thirds)) (drop_size (is_us_unit unit) drop.nano thirds made.head made.head_is)
-            (ratio-encloses _ thirds made.head made.head_is))
+    (ratio-encloses _ _ made.flows made.flows_is)
+    (subst (λ (x : ℕ). Encloses made.head (fraction x thirds)) (drop_size (is_us_unit unit) drop.nano thirds made.head made.head_is)
+    (ratio-encloses _ thirds made.head made.head_is))
 
 pub pump-at_most : (flow drop : Decimal) (thirds : ℕ) (unit : FlowUnit) (r : Pair) (S q y : ℕ) → IsPumpPair flow drop thirds unit r
     → (q * q) * denominator r.lo ≤ numerator r.lo * (S * y) → SquareLossAtMost (pump_resistance flow drop thirds unit) S q y
@@ -128,10 +127,10 @@ pressure-encloses : (demand : ℤ) (minimum required : Decimal) (us : Bool) (r :
     → Encloses r (over (times (fraction (unsigned_abs demand) 1) (fraction (unsigned_abs demand) 1)) (pressure_fraction us (unsigned_abs (required.nano -ℤ minimum.nano))))
 pressure-encloses demand minimum required us r made =
     square-encloses made.flows made.head r _ _ made.capacity_is
-        (subst (λ (x : ℕ). Encloses made.flows (fraction x 1)) (same_size demand (ratio-above _ 1 made.flows made.flows_is))
-            (ratio-encloses _ 1 made.flows made.flows_is))
-        (subst (λ (x : ℕ). Encloses made.head (pressure_fraction us x)) (pressure_size us (required.nano -ℤ minimum.nano) made.head made.head_is)
-            (ratio-encloses _ _ made.head made.head_is))
+    (subst (λ (x : ℕ). Encloses made.flows (fraction x 1)) (same_size demand (ratio-above _ 1 made.flows made.flows_is))
+    (ratio-encloses _ 1 made.flows made.flows_is))
+    (subst (λ (x : ℕ). Encloses made.head (pressure_fraction us x)) (pressure_size us (required.nano -ℤ minimum.nano) made.head made.head_is)
+    (ratio-encloses _ _ made.head made.head_is))
 
 pub pressure-at_most : (demand : ℤ) (minimum required : Decimal) (us : Bool) (r : Pair) (S q y : ℕ) → IsPressurePair demand minimum required us r
     → (q * q) * denominator r.lo ≤ numerator r.lo * (S * y) → SquareLossAtMost (pressure_resistance demand minimum required us) S q y

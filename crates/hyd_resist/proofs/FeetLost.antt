@@ -1,6 +1,5 @@
 -- The pair of a valve or pipe encloses the exact loss of the file's numbers.
-use Rattle.std.proofs.Common.{◌≡◌, ℕ, zero, suc, ◌+◌, ◌-◌, ◌*◌, ◌^◌, ◌<◌, ◌≤◌, Bool, true, false, refl, sym, ap, subst, ◌∙◌, arith, mul-pos, lit<}
-use borrow.Author.Differences.{up, down}
+use Rattle.std.proofs.Common.{◌≡◌, ℕ, zero, suc, ◌*◌, ◌^◌, ◌<◌, ◌≤◌, Bool, true, false, refl, ap, arith, mul-pos, lit<}
 use Rattle.hyd_num.specs.declared.binary.Scaled.{Scaled}
 use Rattle.hyd_num.specs.declared.pairs.Pair.{Pair}
 use Rattle.hyd_num.specs.declared.decimals.Decimal.{Decimal}
@@ -10,7 +9,7 @@ use Rattle.hyd_num.specs.Scaled.{numerator, denominator, as_fraction}
 use Rattle.hyd_num.specs.Pairs.{Encloses}
 use Rattle.hyd_num.specs.Chain.{IsMinorPair, IsFrictionPair, IsUnitOver, IsValvePair, IsPlainPipePair, IsFittedPipePair, IsPipePair, IsPipePairWith}
 use Rattle.hyd_spec.specs.Loss.{head_in_feet, flow_in_cfs, friction, minor_loss, PipeLossAtMost, PipeLossAtLeast, ValveLossAtMost, ValveLossAtLeast}
-use Rattle.hyd_resist.proofs.Fractions.{AtMost-itself, AtMost-along, plus-rises}
+use Rattle.hyd_resist.proofs.Fractions.{AtMost-itself, AtMost-along}
 use Rattle.hyd_resist.proofs.Enclosing.{numerator_above, denominator_above, turned, ratio-encloses, product-encloses, quotient-encloses, power-encloses, quotient-low, quotient-high, sum-low, sum-high, root-low, root-high}
 use Rattle.hyd_resist.proofs.Losses.{square_is, at_most_lost, at_least_lost, second_at_most, first_at_most, first_at_least, power_at_most, power_at_least}
 
@@ -21,10 +20,10 @@ unit = fraction (86400 ^ 2 * 3048 ^ 5 * 10) (10 ^ 20)
 pub minor-encloses : (diameter k : Decimal) (us : Bool) (r : Pair) → IsMinorPair diameter k us r → Encloses r (minor_loss us diameter k)
 minor-encloses diameter k us r made =
     quotient-encloses made.scaled made.fourth r _ _ made.minor_is
-        (product-encloses made.factor made.coefficient made.scaled _ _ made.scaled_is
-            (ratio-encloses 2517 100000 made.factor made.factor_is) (ratio-encloses _ _ made.coefficient made.coefficient_is))
-        (power-encloses made.across made.fourth 4 (feet_across us (billionths diameter))
-            (ratio-encloses _ _ made.across made.across_is) made.fourth_is)
+    (product-encloses made.factor made.coefficient made.scaled _ _ made.scaled_is
+    (ratio-encloses 2517 100000 made.factor made.factor_is) (ratio-encloses _ _ made.coefficient made.coefficient_is))
+    (power-encloses made.across made.fourth 4 (feet_across us (billionths diameter))
+    (ratio-encloses _ _ made.across made.across_is) made.fourth_is)
 
 -- a capacity at most, at least the unit over what is lost
 unit-low : (lost r : Pair) (x : Fraction) → IsUnitOver lost r → AtMost x (as_fraction lost.hi) → AtMost (as_fraction r.lo) (over unit x)
@@ -52,13 +51,13 @@ pub valve-at_most : (diameter k : Decimal) (us : Bool) (r : Pair) (S q y : ℕ) 
     → (q * q) * denominator r.lo ≤ numerator r.lo * (S * y) → ValveLossAtMost us diameter k S q y
 valve-at_most diameter k us r S q y made flow =
     feet_at_most (minor_loss us diameter k) r.lo S q y
-        (unit-low made.lost r _ made.capacity_is (minor-encloses diameter k us made.lost made.lost_is).high) flow
+    (unit-low made.lost r _ made.capacity_is (minor-encloses diameter k us made.lost made.lost_is).high) flow
 
 pub valve-at_least : (diameter k : Decimal) (us : Bool) (r : Pair) (S q y : ℕ) → IsValvePair diameter k us r
     → numerator r.hi * (S * y) ≤ (q * q) * denominator r.hi → ValveLossAtLeast us diameter k S q y
 valve-at_least diameter k us r S q y made flow =
     feet_at_least (minor_loss us diameter k) r.hi S q y
-        (unit-high made.lost r _ made.capacity_is (minor-encloses diameter k us made.lost made.lost_is).low) flow
+    (unit-high made.lost r _ made.capacity_is (minor-encloses diameter k us made.lost made.lost_is).low) flow
 
 -- ---- pipes
 
@@ -70,12 +69,12 @@ along-encloses : (length diameter roughness : Decimal) (us : Bool) (r : Pair) (m
     → Encloses made.along (friction us length roughness)
 along-encloses length diameter roughness us r made =
     regrouped (billionths roughness) (feet us (billionths length)).num (feet us (billionths length)).den made.along
-        (product-encloses made.twice_rough made.long made.along _ _ made.along_is
-            (product-encloses made.once_rough made.rough made.twice_rough _ _ made.twice_rough_is
-                (product-encloses made.factor made.rough made.once_rough _ _ made.once_rough_is
-                    (ratio-encloses 466 100 made.factor made.factor_is) (ratio-encloses _ _ made.rough made.rough_is))
-                (ratio-encloses _ _ made.rough made.rough_is))
-            (ratio-encloses _ _ made.long made.long_is))
+    (product-encloses made.twice_rough made.long made.along _ _ made.along_is
+    (product-encloses made.once_rough made.rough made.twice_rough _ _ made.twice_rough_is
+    (product-encloses made.factor made.rough made.once_rough _ _ made.once_rough_is
+    (ratio-encloses 466 100 made.factor made.factor_is) (ratio-encloses _ _ made.rough made.rough_is))
+    (ratio-encloses _ _ made.rough made.rough_is))
+    (ratio-encloses _ _ made.long made.long_is))
 
 -- the friction's upper end is at least what it is for the root's lower end, and the other way round
 friction-high : (length diameter roughness : Decimal) (us : Bool) (r : Pair) (made : IsFrictionPair length diameter roughness us r)
@@ -106,7 +105,7 @@ pipe_at_most length diameter roughness minor us f r made S q y end flow =
       friction_within = power_at_most (friction us length roughness) (as_fraction made.root.lo) squared
           (minus (head_in_feet S y) (times fit squared)) (feet_across us (billionths diameter)) 100 533 (denominator_above made.root.lo)
           (first_at_most rub fit squared (head_in_feet S y) all)
-          (root-low made.across made.root _ made.root_is (ratio-encloses _ _ made.across made.across_is))
+          (root-low made.across made.root _ made.root_is (ratio-encloses _ _ made.across made.across_is));
     }
 
 pipe_at_least : (length diameter roughness minor : Decimal) (us : Bool) (f r : Pair) (made : IsFrictionPair length diameter roughness us f) (S q y : ℕ)
@@ -117,9 +116,9 @@ pipe_at_least length diameter roughness minor us f r made S q y end flow =
     let fit : Fraction = minor_loss us diameter minor in
     let squared : Fraction = power (flow_in_cfs S q) 2 in
     power_at_least (friction us length roughness) (as_fraction made.root.hi) squared
-        (minus (head_in_feet S y) (times fit squared)) (feet_across us (billionths diameter)) 100 533 (denominator_above made.root.hi)
-        (first_at_least rub fit squared (head_in_feet S y) (feet_at_least (plus rub fit) r.hi S q y end flow))
-        (root-high made.across made.root _ made.root_is (ratio-encloses _ _ made.across made.across_is))
+    (minus (head_in_feet S y) (times fit squared)) (feet_across us (billionths diameter)) 100 533 (denominator_above made.root.hi)
+    (first_at_least rub fit squared (head_in_feet S y) (feet_at_least (plus rub fit) r.hi S q y end flow))
+    (root-high made.across made.root _ made.root_is (ratio-encloses _ _ made.across made.across_is))
 
 -- nothing is lost to fittings where their coefficient is 0
 nothing_more : (x m : Fraction) → m.num ≡ 0 → AtMost (plus x m) x
@@ -139,12 +138,12 @@ plain_at_most length diameter roughness minor us r S q y none made flow =
     let rub : Fraction = over (friction us length roughness) (as_fraction made.friction_is.root.lo) in
     let fit : Fraction = minor_loss us diameter minor in
     pipe_at_most length diameter roughness minor us made.friction r made.friction_is S q y
-        (unit-low made.friction r (plus rub fit) made.capacity_is
-            (AtMost-along (plus rub fit) rub (as_fraction made.friction.hi)
-                (mul-pos (mul-pos (lit< tt) (feet_above us (billionths length))) (numerator_above made.friction_is.root.lo))
-                (nothing_more rub fit (no_fittings diameter minor us none))
-                (friction-high length diameter roughness us made.friction made.friction_is)))
-        flow
+    (unit-low made.friction r (plus rub fit) made.capacity_is
+    (AtMost-along (plus rub fit) rub (as_fraction made.friction.hi)
+    (mul-pos (mul-pos (lit< tt) (feet_above us (billionths length))) (numerator_above made.friction_is.root.lo))
+    (nothing_more rub fit (no_fittings diameter minor us none))
+    (friction-high length diameter roughness us made.friction made.friction_is)))
+    flow
 
 plain_at_least : (length diameter roughness minor : Decimal) (us : Bool) (r : Pair) (S q y : ℕ) → IsPlainPipePair length diameter roughness us r
     → numerator r.hi * (S * y) ≤ (q * q) * denominator r.hi → PipeLossAtLeast us length diameter roughness minor S q y
@@ -152,32 +151,32 @@ plain_at_least length diameter roughness minor us r S q y made flow =
     let rub : Fraction = over (friction us length roughness) (as_fraction made.friction_is.root.hi) in
     let fit : Fraction = minor_loss us diameter minor in
     pipe_at_least length diameter roughness minor us made.friction r made.friction_is S q y
-        (unit-high made.friction r (plus rub fit) made.capacity_is
-            (AtMost-along (as_fraction made.friction.lo) rub (plus rub fit)
-                (mul-pos (mul-pos (lit< tt) (feet_above us (billionths length))) (numerator_above made.friction_is.root.hi))
-                (friction-low length diameter roughness us made.friction made.friction_is)
-                (nothing_less rub fit)))
-        flow
+    (unit-high made.friction r (plus rub fit) made.capacity_is
+    (AtMost-along (as_fraction made.friction.lo) rub (plus rub fit)
+    (mul-pos (mul-pos (lit< tt) (feet_above us (billionths length))) (numerator_above made.friction_is.root.hi))
+    (friction-low length diameter roughness us made.friction made.friction_is)
+    (nothing_less rub fit)))
+    flow
 
 fitted_at_most : (length diameter roughness minor : Decimal) (us : Bool) (r : Pair) (S q y : ℕ) → IsFittedPipePair length diameter roughness minor us r
     → (q * q) * denominator r.lo ≤ numerator r.lo * (S * y) → PipeLossAtMost us length diameter roughness minor S q y
 fitted_at_most length diameter roughness minor us r S q y made flow =
     pipe_at_most length diameter roughness minor us made.friction r made.friction_is S q y
-        (unit-low made.lost r _ made.capacity_is
-            (sum-high made.friction made.fittings made.lost _ _ made.lost_is
-                (friction-high length diameter roughness us made.friction made.friction_is)
-                (minor-encloses diameter minor us made.fittings made.fittings_is).high))
-        flow
+    (unit-low made.lost r _ made.capacity_is
+    (sum-high made.friction made.fittings made.lost _ _ made.lost_is
+    (friction-high length diameter roughness us made.friction made.friction_is)
+    (minor-encloses diameter minor us made.fittings made.fittings_is).high))
+    flow
 
 fitted_at_least : (length diameter roughness minor : Decimal) (us : Bool) (r : Pair) (S q y : ℕ) → IsFittedPipePair length diameter roughness minor us r
     → numerator r.hi * (S * y) ≤ (q * q) * denominator r.hi → PipeLossAtLeast us length diameter roughness minor S q y
 fitted_at_least length diameter roughness minor us r S q y made flow =
     pipe_at_least length diameter roughness minor us made.friction r made.friction_is S q y
-        (unit-high made.lost r _ made.capacity_is
-            (sum-low made.friction made.fittings made.lost _ _ made.lost_is
-                (friction-low length diameter roughness us made.friction made.friction_is)
-                (minor-encloses diameter minor us made.fittings made.fittings_is).low))
-        flow
+    (unit-high made.lost r _ made.capacity_is
+    (sum-low made.friction made.fittings made.lost _ _ made.lost_is
+    (friction-low length diameter roughness us made.friction made.friction_is)
+    (minor-encloses diameter minor us made.fittings made.fittings_is).low))
+    flow
 
 pipe_by_minor_at_most : (v : ℕ) (length diameter roughness minor : Decimal) (us : Bool) (r : Pair) (S q y : ℕ) → v ≡ billionths minor
     → IsPipePairWith v length diameter roughness minor us r

@@ -1,0 +1,9 @@
+use Rattle.std.proofs.Common.{refl}
+use Rattle.hyd_resist.proofs.Enclosures.{IsEnclosure-made}
+use Rattle.hyd_resist.proofs.range.capacity_inside.Goals as goal
+
+pub returns-clause-made : goal.returns-clause-made
+returns-clause-made c = record { pair = c.args.pair; low = refl; high = refl; made = c.requires.pair }
+
+pub returns-clause-encloses : goal.returns-clause-encloses
+returns-clause-encloses c = IsEnclosure-made _ (record { pair = c.args.pair; low = refl; high = refl; made = c.requires.pair })
