@@ -63,7 +63,7 @@ is_exponent text = list_all is_digit (behind_sign text) && (nat_le 1 (length (be
 
 -- a text that is a number
 unfoldable pub is_numeral : List ℕ → Bool
-is_numeral text = (list_all is_digit (whole_digits text) && list_all is_digit (decimal_digits text)) && (nat_le 1 (length (whole_digits text) + length (decimal_digits text)) && (if has_exponent text then is_exponent (exponent_text text) else true))
+is_numeral text = ((list_all is_digit (whole_digits text) && list_all is_digit (decimal_digits text)) && nat_le 1 (length (whole_digits text) + length (decimal_digits text))) && (if has_exponent text then is_exponent (exponent_text text) else true)
 
 -- the power of ten by which the number is multiplied, 0 where there is no exponent
 abbrev pub exponent : List ℕ → ℤ
@@ -73,9 +73,13 @@ exponent text = signed (is_negative (exponent_text text)) (number (behind_sign (
 abbrev pub places : List ℕ → ℤ
 places text = (exponent text +ℤ pos 9) -ℤ pos (length (decimal_digits text))
 
+-- a number times a power of ten, cut to a whole number
+abbrev pub shifted : ℕ → ℤ → ℕ
+shifted n z = n * 10 ^ up z / 10 ^ down z
+
 -- the magnitude of a number in billionths, cut
 unfoldable pub magnitude_of : List ℕ → ℕ
-magnitude_of text = number (whole_digits text ++ decimal_digits text) * 10 ^ up (places text) / 10 ^ down (places text)
+magnitude_of text = shifted (number (whole_digits text ++ decimal_digits text)) (places text)
 
 -- a number in billionths, cut toward zero
 unfoldable pub nano_of : List ℕ → ℤ
