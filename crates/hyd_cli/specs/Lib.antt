@@ -1,2 +1,4 @@
 pub mod Command
 pub mod Answers
+pub mod Reading
+pub mod Network
