@@ -1,9 +1,8 @@
 -- A capacity times a whole number, rounded to whole numbers, and the roots of it.
-use Rattle.std.proofs.Common.{◌≡◌, ℕ, suc, ◌+◌, ◌-◌, ◌*◌, ◌/◌, ◌%◌, ◌^◌, ◌<◌, ◌≤◌, ◌⊎◌, inl, inr, ℤ, pos, negsuc, ◌≤ℤ◌, ◌<ℤ◌, unsigned_abs, refl, ap, sym, ◌∙◌, arith, lit≤, mul-le-mul, mul-le-mul_right, mul-lt-mul_of_pos_right, lt_of_mul-lt-mul_right, le_of_mul-le-mul_right, div-mul-le_self}
+use Rattle.std.proofs.Common.{◌≡◌, ℕ, ◌+◌, ◌-◌, ◌*◌, ◌/◌, ◌^◌, ◌<◌, ◌≤◌, ◌⊎◌, inl, inr, ℤ, pos, negsuc, ◌≤ℤ◌, ◌<ℤ◌, unsigned_abs, refl, ap, arith, mul-le-mul, mul-le-mul_right, lt_of_mul-lt-mul_right, div-mul-le_self}
 use Rattle.std.proofs.lemmas.Nat.{pow_pos}
 use Rattle.std.proofs.lemmas.Int.{ints}
 use Rattle.std.proofs.lemmas.Bool.{cases_lt}
-use Rattle.std.proofs.Math.Nat.{pow-le-pow_right}
 use borrow.Author.Differences.{up, down}
 use Rattle.hyd_num.specs.declared.binary.Scaled.{Scaled}
 use Rattle.hyd_num.specs.Scaled.{numerator, denominator}
@@ -26,13 +25,15 @@ exponent_low m u d high z h =
 
 pub high_exponent : (c : Scaled) → numerator c < 2 ^ 66 * denominator c → up c.exp ≤ 3
 high_exponent c greatest = elim (parts c.exp) [
-    inl z ↦ omega arith |
-    inr z ↦ (let l : up c.exp < 4 = exponent_high c.mant (up c.exp) (down c.exp) c.normal z greatest in omega arith) ]
+  | inl z ↦ omega arith
+  | inr z ↦ (let l : up c.exp < 4 = exponent_high c.mant (up c.exp) (down c.exp) c.normal z greatest in omega arith)
+]
 
 pub low_exponent : (c : Scaled) → denominator c ≤ numerator c * 2 ^ 61 → down c.exp ≤ 123
 low_exponent c least = elim (parts c.exp) [
-    inl z ↦ (let l : down c.exp < 124 = exponent_low c.mant (up c.exp) (down c.exp) c.short z least in omega arith) |
-    inr z ↦ omega arith ]
+  | inl z ↦ (let l : down c.exp < 124 = exponent_low c.mant (up c.exp) (down c.exp) c.short z least in omega arith)
+  | inr z ↦ omega arith
+]
 
 -- a whole product
 pub whole_product : (m d u k e : ℕ) → k ≡ u → e ≡ 0 → m * d * 2 ^ k * 2 ^ e ≡ m * 2 ^ u * d
@@ -62,16 +63,16 @@ pub root_of_cut : (n q p r : ℕ) → p * q ≤ n → n < (p + 1) * q → r * r 
 root_of_cut n q p r low high square next = record {
   at_most = let a : r * r * q ≤ p * q = mul-le-mul_right q square in omega arith;
   greatest = λ k h.
-    let a : k * k < p + 1 = lt_of_mul-lt-mul_right q (omega arith) in
-    elim (cases_lt r k) [ inl l ↦ (let b : (r + 1) * (r + 1) ≤ k * k = mul-le-mul (omega arith) (omega arith) in absurd (omega arith)) | inr g ↦ g ]
+      let a : k * k < p + 1 = lt_of_mul-lt-mul_right q (omega arith) in
+      elim (cases_lt r k) [ inl l ↦ (let b : (r + 1) * (r + 1) ≤ k * k = mul-le-mul (omega arith) (omega arith) in absurd (omega arith)) | inr g ↦ g ];
 }
 
 pub root_of_raised : (n q p r : ℕ) → n ≤ p * q → p * q < n + q → IsSquareRootUp p 1 r → IsSquareRootUp n q r
 root_of_raised n q p r low high root = record {
   at_least = let a : p * q ≤ r * r * q = mul-le-mul_right q (omega (arith, root.at_least)) in omega arith;
   least = λ k h.
-    let a : p < k * k + 1 = lt_of_mul-lt-mul_right q (omega arith) in
-    root.least k (omega arith)
+      let a : p < k * k + 1 = lt_of_mul-lt-mul_right q (omega arith) in
+      root.least k (omega arith);
 }
 
 -- the places of an exponent that isn't negative, and of a negative one

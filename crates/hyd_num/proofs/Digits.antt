@@ -1,7 +1,7 @@
 -- Rows of decimal digits: capped sums, fronts, and sizes.
-use Rattle.std.proofs.Common.{◌≡◌, ℕ, suc, ◌+◌, ◌-◌, ◌*◌, ◌/◌, ◌^◌, ◌<◌, ◌≤◌, ◌⊎◌, inl, inr, Bool, true, false, ◌&&◌, nat_le, min, List, [], ◌∷◌, ◌++◌, length, take, drop, fold, refl, ap, sym, ◌∙◌, arith, lit≤, lit<, pow-suc, mul-le-mul_right, mul-le-mul_left, le_of_lt, lt_of_lt_of_le, length-drop, div-one, mul-one, ℤ, add-one, leb-true, not, nat_lt, unwrap_or, position, ltb-false, le_antisymm, drop_of_length-le, one-add}
+use Rattle.std.proofs.Common.{◌≡◌, ℕ, suc, ◌+◌, ◌-◌, ◌*◌, ◌/◌, ◌^◌, ◌<◌, ◌≤◌, inl, inr, Bool, true, false, nat_le, min, List, [], ◌∷◌, ◌++◌, length, take, drop, fold, refl, ap, sym, ◌∙◌, arith, lit≤, lit<, pow-suc, mul-le-mul_right, mul-le-mul_left, le_of_lt, lt_of_lt_of_le, length-drop, div-one, mul-one, ℤ, add-one, leb-true, not, nat_lt, unwrap_or, position, ltb-false, le_antisymm, drop_of_length-le, one-add}
 use Rattle.std.specs.List.{list_all, list_any, position_or_len, after_first}
-use Rattle.std.proofs.lemmas.Nat.{pow_pos, pow-add, div-mul-add}
+use Rattle.std.proofs.lemmas.Nat.{div-mul-add}
 use Rattle.std.proofs.Math.Nat.{pow-le-pow_right, one-le-pow, div-eq_of_lt}
 use Rattle.std.proofs.lemmas.Bool.{cases_lt, cases_Bool, and_parts, or_parts}
 use Rattle.std.proofs.lemmas.List.{take-append-drop}
@@ -27,12 +27,13 @@ capped_rows b xs ys = capped_row b (fold step 0 xs) ys ∙ ap (λ v. min v b) (s
 -- a power of ten of a capped number
 pub capped_power : (b n k : ℕ) → min (min n b * 10 ^ k) b ≡ min (n * 10 ^ k) b
 capped_power b n k = elim (cases_lt b n) [
-    inl l ↦ (let p : 1 ≤ 10 ^ k = one-le-pow k 10 (lit≤ tt) in
-        let h : b * 1 ≤ b * 10 ^ k = mul-le-mul_left b p in
-        let m : b * 10 ^ k ≤ n * 10 ^ k = mul-le-mul_right (10 ^ k) (le_of_lt l) in
-        let e : min n b ≡ b = omega arith in
-        rw e (omega (arith, h, m))) |
-    inr g ↦ (let e : min n b ≡ n = omega arith in rw e refl) ]
+  | inl l ↦ (let p : 1 ≤ 10 ^ k = one-le-pow k 10 (lit≤ tt) in
+      let h : b * 1 ≤ b * 10 ^ k = mul-le-mul_left b p in
+      let m : b * 10 ^ k ≤ n * 10 ^ k = mul-le-mul_right (10 ^ k) (le_of_lt l) in
+      let e : min n b ≡ b = omega arith in
+      rw e (omega (arith, h, m)))
+  | inr g ↦ (let e : min n b ≡ n = omega arith in rw e refl)
+]
 
 pub capped_tenfold : (b n k : ℕ) → min (10 * min (n * 10 ^ k) b) b ≡ min (n * 10 ^ (k + 1)) b
 capped_tenfold b n k = rw (add-one, pow-suc 10 k) (omega arith)
@@ -66,15 +67,16 @@ row_divided xs ys h =
 -- the front of a row is its number divided by a power of ten
 pub front_row : (k : ℕ) (ds : List ℕ) → list_all is_digit ds ≡ true → number ds / 10 ^ k ≡ number (take (length ds - k) ds)
 front_row k ds h = elim (cases_lt (length ds) k) [
-    inl l ↦ (let z : length ds - k ≡ 0 = omega arith in
-        let m : 10 ^ length ds ≤ 10 ^ k = pow-le-pow_right {n = 10} (lit≤ tt) (le_of_lt l) in
-        rw z (div-eq_of_lt (lt_of_lt_of_le (below_power ds h) m))) |
-    inr g ↦ (let e : take (length ds - k) ds ++ drop (length ds - k) ds ≡ ds = take-append-drop (length ds - k) ds in
-        let n : length (drop (length ds - k) ds) ≡ k = length-drop (length ds - k) ds ∙ (let o : length ds - (length ds - k) ≡ k = omega arith in o) in
-        let a : list_all is_digit (take (length ds - k) ds ++ drop (length ds - k) ds) ≡ true = ap (λ x. list_all is_digit x) e ∙ h in
-        ap (λ x. number x / 10 ^ k) (sym e)
-          ∙ ap (λ x. number (take (length ds - k) ds ++ drop (length ds - k) ds) / 10 ^ x) (sym n)
-          ∙ row_divided (take (length ds - k) ds) (drop (length ds - k) ds) a) ]
+  | inl l ↦ (let z : length ds - k ≡ 0 = omega arith in
+      let m : 10 ^ length ds ≤ 10 ^ k = pow-le-pow_right {n = 10} (lit≤ tt) (le_of_lt l) in
+      rw z (div-eq_of_lt (lt_of_lt_of_le (below_power ds h) m)))
+  | inr g ↦ (let e : take (length ds - k) ds ++ drop (length ds - k) ds ≡ ds = take-append-drop (length ds - k) ds in
+      let n : length (drop (length ds - k) ds) ≡ k = length-drop (length ds - k) ds ∙ (let o : length ds - (length ds - k) ≡ k = omega arith in o) in
+      let a : list_all is_digit (take (length ds - k) ds ++ drop (length ds - k) ds) ≡ true = ap (λ x. list_all is_digit x) e ∙ h in
+      ap (λ x. number x / 10 ^ k) (sym e)
+      ∙ ap (λ x. number (take (length ds - k) ds ++ drop (length ds - k) ds) / 10 ^ x) (sym n)
+      ∙ row_divided (take (length ds - k) ds) (drop (length ds - k) ds) a)
+]
 
 pub three_digits : (ds : List ℕ) → list_all is_digit ds ≡ true → length ds ≤ 3 → number ds ≤ 999
 three_digits ds h short =
@@ -91,10 +93,11 @@ shifted_down n k l z more lost none = rw (← more, ← lost, none) (ap (λ x. x
 -- the first place that passes, or the end
 pub place_is : (p : ℕ → Bool) (xs : List ℕ) → unwrap_or (position p xs) (length xs) ≡ position_or_len p xs
 place_is p xs = elim (cases_Bool (nat_lt (position_or_len p xs) (length xs))) [
-    inl t ↦ rw t refl |
-    inr f ↦ (let a : length xs ≤ position_or_len p xs = ltb-false (position_or_len p xs) (length xs) f in
-        let b : position_or_len p xs ≤ length xs = prefix_len-le-length (λ x. not (p x)) xs in
-        rw f (le_antisymm a b)) ]
+  | inl t ↦ rw t refl
+  | inr f ↦ (let a : length xs ≤ position_or_len p xs = ltb-false (position_or_len p xs) (length xs) f in
+      let b : position_or_len p xs ≤ length xs = prefix_len-le-length (λ x. not (p x)) xs in
+      rw f (le_antisymm a b))
+]
 
 no_place : (p : ℕ → Bool) (xs : List ℕ) → list_any p xs ≡ false → position_or_len p xs ≡ length xs
 no_place p [] none = refl

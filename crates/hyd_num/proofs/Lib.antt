@@ -5,3 +5,5 @@ pub mod Ends
 pub mod CapacityRoots
 pub mod Digits
 pub mod NumeralParts
+pub mod Powers
+pub mod RootSearch

@@ -1,8 +1,8 @@
 -- The parts of a text that is tried as a number, and what the test of them says.
-use Rattle.std.proofs.Common.{◌≡◌, ℕ, ◌+◌, ◌-◌, ◌*◌, ◌^◌, ◌<◌, ◌≤◌, Bool, true, false, ◌&&◌, nat_le, if◌then◌else◌, min, List, [], ◌∷◌, ◌++◌, length, ℤ, pos, ◌+ℤ◌, ◌-ℤ◌, refl, ap, ap₂, sym, ◌∙◌, arith, lit≤, leb-true}
+use Rattle.std.proofs.Common.{◌≡◌, ℕ, ◌+◌, ◌^◌, ◌<◌, ◌≤◌, Bool, true, false, ◌&&◌, nat_le, if◌then◌else◌, min, List, [], ◌++◌, length, ℤ, pos, ◌+ℤ◌, ◌-ℤ◌, refl, ap, sym, ◌∙◌, arith, lit≤, leb-true}
 use Rattle.std.specs.List.{before_first, after_first, list_all, list_any}
 use Rattle.std.proofs.lemmas.Bool.{and_parts}
-use Rattle.hyd_num.specs.Numeral.{is_digit, is_point, is_exponent_mark, behind_sign, is_negative, number, signed, mantissa, whole_digits, decimal_digits, has_exponent, exponent_text, is_exponent, is_numeral, exponent, places, shifted, magnitude_of}
+use Rattle.hyd_num.specs.Numeral.{is_digit, is_point, is_exponent_mark, behind_sign, is_negative, number, signed, whole_digits, decimal_digits, has_exponent, exponent_text, is_exponent, is_numeral, shifted, magnitude_of}
 use Rattle.hyd_num.proofs.Digits.{nothing_behind}
 
 pub record Parts (text whole decimals power : List ℕ) (marked : Bool) : Type 0 where
@@ -18,7 +18,7 @@ parts_of text body front whole decimals power marked body_is front_is power_is w
   whole_is = whole_is ∙ ap (λ x. before_first is_point x) (front_is ∙ ap (λ x. before_first is_exponent_mark x) body_is);
   decimals_is = decimals_is ∙ ap (λ x. after_first is_point x) (front_is ∙ ap (λ x. before_first is_exponent_mark x) body_is);
   power_is = power_is ∙ ap (λ x. after_first is_exponent_mark x) body_is;
-  marked_is = marked_is ∙ ap (λ x. list_any is_exponent_mark x) body_is
+  marked_is = marked_is ∙ ap (λ x. list_any is_exponent_mark x) body_is;
 }
 
 -- the test of the parts

@@ -9,10 +9,10 @@ use Rattle.hyd_num.specs.Scaled.{numerator, denominator, reach, IsDown, IsUp}
 use Rattle.hyd_num.specs.Cut.{IsCut, IsNext, IsShortened}
 
 -- two powers of two are equal, or one is at least twice the other
-Apart : ℕ → ℕ → Type 0
+pub Apart : ℕ → ℕ → Type 0
 Apart x y = (x ≡ y) ⊎ ((2 * x ≤ y) ⊎ (2 * y ≤ x))
 
-doubled : (i j : ℕ) → i < j → 2 * 2 ^ i ≤ 2 ^ j
+pub doubled : (i j : ℕ) → i < j → 2 * 2 ^ i ≤ 2 ^ j
 doubled i j h = let l : 2 ^ suc i ≤ 2 ^ j = pow-le-pow_right {n = 2} (lit≤ tt) h in omega (arith, l, pow-suc 2 i)
 
 powers : (i j : ℕ) → Apart (2 ^ i) (2 ^ j)
@@ -20,7 +20,7 @@ unfolding Apart
 powers i j = elim (cases_order i j) [ inl e ↦ inl (ap (λ k. 2 ^ k) e) | inr o ↦ elim o [ inl l ↦ inr (inl (doubled i j l)) | inr g ↦ inr (inr (doubled j i g)) ] ]
 
 -- of normal mantissas: what is below the next number is at most this one
-not_between : (m n x y : ℕ) → 2 ^ 62 ≤ m → m < 2 ^ 63 → 2 ^ 62 ≤ n → n < 2 ^ 63 → Apart x y → n * x < (m + 1) * y → n * x ≤ m * y
+pub not_between : (m n x y : ℕ) → 2 ^ 62 ≤ m → m < 2 ^ 63 → 2 ^ 62 ≤ n → n < 2 ^ 63 → Apart x y → n * x < (m + 1) * y → n * x ≤ m * y
 unfolding Apart
 not_between m n x y low short least high (inl e) h =
     let l : n < m + 1 = lt_of_mul-lt-mul_right y (rw e at h) in
@@ -35,7 +35,7 @@ not_between m n x y low short least high (inr (inr g)) h =
     absurd (omega (arith, a, b))
 
 -- and what is above a number is at least the next one
-not_below : (m n x y : ℕ) → 2 ^ 62 ≤ m → m < 2 ^ 63 → 2 ^ 62 ≤ n → n < 2 ^ 63 → Apart x y → m * y < n * x → (m + 1) * y ≤ n * x
+pub not_below : (m n x y : ℕ) → 2 ^ 62 ≤ m → m < 2 ^ 63 → 2 ^ 62 ≤ n → n < 2 ^ 63 → Apart x y → m * y < n * x → (m + 1) * y ≤ n * x
 unfolding Apart
 not_below m n x y low short least high (inl e) h =
     let l : m < n = lt_of_mul-lt-mul_right y (rw e at h) in
@@ -50,7 +50,7 @@ not_below m n x y low short least high (inr (inr g)) h =
     omega (arith, a, b)
 
 -- the powers of two of two numbers, crosswise
-crossed : (s t : Scaled) → Apart (2 ^ up t.exp * 2 ^ down s.exp) (2 ^ up s.exp * 2 ^ down t.exp)
+pub crossed : (s t : Scaled) → Apart (2 ^ up t.exp * 2 ^ down s.exp) (2 ^ up s.exp * 2 ^ down t.exp)
 crossed s t = rw (← pow-add 2 (up t.exp) (down s.exp), ← pow-add 2 (up s.exp) (down t.exp)) (powers (up t.exp + down s.exp) (up s.exp + down t.exp))
 
 -- with mantissas m, n, powers u, d of s and v, e of t: what t is at most and s's next is above, t is at most s
@@ -264,3 +264,24 @@ size (negsuc n) = omega arith
 -- a number with an exponent at most one above another's is hardly further from 1
 pub near_above : (a b s : Scaled) → up a.exp + down s.exp ≤ up s.exp + down a.exp → up s.exp + down a.exp ≤ up a.exp + down s.exp + 1 → reach s + 1 ≤ reach a + reach b
 near_above a b s low high = omega (arith, size s.exp, size a.exp)
+
+-- the number with the lesser exponent is the lesser one
+pub lesser_exponent : (a b : Scaled) → up a.exp + down b.exp < up b.exp + down a.exp → numerator a * denominator b < numerator b * denominator a
+lesser_exponent a b h =
+    let p : 2 ^ (up a.exp + down b.exp) ≡ 2 ^ up a.exp * 2 ^ down b.exp = pow-add 2 (up a.exp) (down b.exp) in
+    let q : 2 ^ (up b.exp + down a.exp) ≡ 2 ^ up b.exp * 2 ^ down a.exp = pow-add 2 (up b.exp) (down a.exp) in
+    let t : 2 * 2 ^ (up a.exp + down b.exp) ≤ 2 ^ (up b.exp + down a.exp) = doubled (up a.exp + down b.exp) (up b.exp + down a.exp) h in
+    let x : 0 < 2 ^ up a.exp * 2 ^ down b.exp = mul-pos (pow_pos (up a.exp)) (pow_pos (down b.exp)) in
+    let m : a.mant * (2 ^ up a.exp * 2 ^ down b.exp) < 2 ^ 63 * (2 ^ up a.exp * 2 ^ down b.exp) = mul-lt-mul_of_pos_right a.short x in
+    let n : 2 ^ 62 * (2 ^ up b.exp * 2 ^ down a.exp) ≤ b.mant * (2 ^ up b.exp * 2 ^ down a.exp) = mul-le-mul_right (2 ^ up b.exp * 2 ^ down a.exp) b.normal in
+    omega (arith, p, q, t, m, n)
+
+-- of one exponent the number with the lesser mantissa is the lesser one
+pub same_exponent : (a b : Scaled) → a.exp ≡ b.exp → a.mant ≤ b.mant → numerator a * denominator b ≤ numerator b * denominator a
+same_exponent a b e h = let m : a.mant * (2 ^ up b.exp * 2 ^ down b.exp) ≤ b.mant * (2 ^ up b.exp * 2 ^ down b.exp) = mul-le-mul_right (2 ^ up b.exp * 2 ^ down b.exp) h in
+    rw e (omega (arith, m))
+
+pub same_exponent_strictly : (a b : Scaled) → a.exp ≡ b.exp → a.mant < b.mant → numerator a * denominator b < numerator b * denominator a
+same_exponent_strictly a b e h =
+    let m : a.mant * (2 ^ up b.exp * 2 ^ down b.exp) < b.mant * (2 ^ up b.exp * 2 ^ down b.exp) = mul-lt-mul_of_pos_right h (mul-pos (pow_pos (up b.exp)) (pow_pos (down b.exp))) in
+    rw e (omega (arith, m))

@@ -11,6 +11,7 @@ use crate::decimals::{Decimal, NumFault};
 
 // 10^12, and one more, in billionths.
 const LIMIT: u128 = 1_000_000_000_000_000_000_000;
+
 const BEYOND: u128 = LIMIT + 1;
 
 /// Reads a number: an optional sign, decimal digits with at most one point and at least one digit,

@@ -15,7 +15,7 @@ use crate::fractions::fraction;
 use crate::pairs::Pair;
 
 /// The pair of two ends.
-fn between(lo: Scaled, hi: Scaled) -> Pair
+pub fn between(lo: Scaled, hi: Scaled) -> Pair
     requires { numerator lo * denominator hi ≤ numerator hi * denominator lo }
     ensures low { result.lo ≡ lo }
     ensures high { result.hi ≡ hi }

@@ -95,7 +95,7 @@ power-encloses x r k a ex (odd n k' h s r' e made square more) =
     (product-encloses s x r (times (power a n) (power a n)) a more whole ex)
 
 -- a power of a number on its own, rounded on its way
-own-encloses : (s : Scaled) (n : ℕ) (r : Pair) → IsOwnPower s n r → Encloses r (power (as_fraction s) n)
+pub own-encloses : (s : Scaled) (n : ℕ) (r : Pair) → IsOwnPower s n r → Encloses r (power (as_fraction s) n)
 own-encloses s n r own =
     let itself : Encloses own.base (as_fraction s) = record {
       low = subst (λ (t : Scaled). AtMost (as_fraction own.base.lo) (as_fraction t)) own.low (AtMost-itself (as_fraction own.base.lo));

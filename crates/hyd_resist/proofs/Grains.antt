@@ -161,3 +161,85 @@ up-near p q s made = elim (cases_eq s.mant (2 ^ 62)) [
   | inl e ↦ above_back p q s made e
   | inr n ↦ above_less p q (s.mant - 1) s made (omega (arith, n, s.normal)) (omega (arith, n, s.normal))
 ]
+
+-- ---- neighbours
+
+-- a greater number at most one grain further, in factors
+pub record Above (s : Scaled) : Type 0 where
+  pub number : Scaled
+  pub passes : numerator s * denominator number < numerator number * denominator s
+  pub near : numerator number * denominator s * grain ≤ numerator s * denominator number * (grain + 1)
+  -- and it is the number of one more in the last place
+  pub one_more : numerator number * denominator s ≡ (s.mant + 1) * 2 ^ up s.exp * denominator number
+
+-- a smaller number at most one grain further
+pub record Below (s : Scaled) : Type 0 where
+  pub number : Scaled
+  pub passes : numerator number * denominator s < numerator s * denominator number
+  pub near : numerator s * denominator number * grain ≤ numerator number * denominator s * (grain + 1)
+
+more_near : (m x y : ℕ) → 0 < x → grain ≤ m → y ≡ (m + 1) * x → (m * x < y) × (y * grain ≤ m * x * (grain + 1))
+more_near m x y some normal is = (
+  omega (arith, is, some),
+  (let b : grain * x ≤ m * x = mul-le-mul_right x normal in
+      let e : y * grain ≡ (m + 1) * x * grain = ap (λ z. z * grain) is in omega (arith, b, e)),
+)
+
+above_from : (s t : Scaled) → numerator t * denominator s ≡ (s.mant + 1) * 2 ^ up s.exp * denominator t → Above s
+above_from s t is =
+    let some : 0 < 2 ^ up s.exp * denominator t = mul-pos (pow_pos (up s.exp)) (pow_pos (down t.exp)) in
+    let both : (s.mant * (2 ^ up s.exp * denominator t) < numerator t * denominator s)
+    × (numerator t * denominator s * grain ≤ s.mant * (2 ^ up s.exp * denominator t) * (grain + 1))
+    = more_near s.mant (2 ^ up s.exp * denominator t) (numerator t * denominator s) some (normal_grain s) (omega (arith, is)) in
+    record { number = t; passes = omega (arith, both.0); near = omega (arith, both.1); one_more = is }
+
+turn_is : (m u d v e : ℕ) → v * d ≡ 2 * (u * e) → m + 1 ≡ 2 ^ 63 → 2 ^ 62 * v * d ≡ (m + 1) * u * e
+turn_is m u d v e double end =
+    omega (arith, ap (λ x. x * (u * e)) end, ap (λ x. 2 ^ 62 * x) double)
+
+above_turn : (s : Scaled) → s.mant + 1 ≡ 2 ^ 63 → Above s
+unfolding turn
+above_turn s e = above_from s (turn s) (turn_is s.mant (2 ^ up s.exp) (2 ^ down s.exp) (2 ^ up (s.exp +ℤ pos 1)) (2 ^ down (s.exp +ℤ pos 1)) (doubled s.exp) e)
+
+above_one : (s : Scaled) → s.mant + 1 < 2 ^ 63 → Above s
+unfolding more
+above_one s h = above_from s (more s h) refl
+
+pub above_of : (s : Scaled) → Above s
+above_of s = elim (cases_lt (s.mant + 1) (2 ^ 63)) [ inl l ↦ above_one s l | inr g ↦ above_turn s (omega (arith, g, s.short)) ]
+
+-- n x is the smaller number, m x the greater one
+less_near : (n m x : ℕ) → 0 < x → grain ≤ n → m ≡ n + 1 → (n * x < m * x) × (m * x * grain ≤ n * x * (grain + 1))
+less_near n m x some normal is =
+    let e : m * x ≡ (n + 1) * x = ap (λ z. z * x) is in
+    let f : m * x * grain ≡ (n + 1) * x * grain = ap (λ z. z * grain) e in
+    (omega (arith, e, some), (let b : grain * x ≤ n * x = mul-le-mul_right x normal in omega (arith, b, f)))
+
+below_one : (s : Scaled) (n : ℕ) → 2 ^ 62 ≤ n → s.mant ≡ n + 1 → Below s
+unfolding less grain
+below_one s n normal is =
+    let short : n < 2 ^ 63 = omega (arith, is, s.short) in
+    let both : (n * (2 ^ up s.exp * denominator s) < s.mant * (2 ^ up s.exp * denominator s))
+    × (s.mant * (2 ^ up s.exp * denominator s) * grain ≤ n * (2 ^ up s.exp * denominator s) * (grain + 1))
+    = less_near n s.mant (2 ^ up s.exp * denominator s) (mul-pos (pow_pos (up s.exp)) (pow_pos (down s.exp))) normal is in
+    record { number = less s n normal short; passes = omega (arith, both.0); near = omega (arith, both.1) }
+
+-- x is the smaller number's power of two, y the greater one's
+back_near : (m x y : ℕ) → 0 < x → m ≡ 2 ^ 62 → y ≡ 2 * x → ((2 ^ 63 - 1) * x < m * y) × (m * y * 2 ^ 62 ≤ (2 ^ 63 - 1) * x * (2 ^ 62 + 1))
+back_near m x y some is half =
+    let e : m * y ≡ 2 ^ 62 * y = ap (λ z. z * y) is in
+    let f : m * y * 2 ^ 62 ≡ 2 ^ 62 * y * 2 ^ 62 = ap (λ z. z * 2 ^ 62) e in
+    (omega (arith, e, half, some), omega (arith, f, half))
+
+below_back : (s : Scaled) → s.mant ≡ 2 ^ 62 → Below s
+unfolding back grain
+below_back s is =
+    let both = back_near s.mant (2 ^ up (s.exp -ℤ pos 1) * denominator s) (2 ^ up s.exp * 2 ^ down (s.exp -ℤ pos 1))
+    (mul-pos (pow_pos (up (s.exp -ℤ pos 1))) (pow_pos (down s.exp))) is (halved s.exp) in
+    record { number = back s; passes = omega (arith, both.0); near = omega (arith, both.1) }
+
+pub below_of : (s : Scaled) → Below s
+below_of s = elim (cases_eq s.mant (2 ^ 62)) [
+  | inl e ↦ below_back s e
+  | inr n ↦ below_one s (s.mant - 1) (omega (arith, n, s.normal)) (omega (arith, n, s.normal))
+]

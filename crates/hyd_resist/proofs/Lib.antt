@@ -8,3 +8,8 @@ pub mod Grains
 pub mod Exponents
 pub mod PressurePairs
 pub mod Widths
+pub mod Sharpness
+pub mod Factors
+pub mod Products
+pub mod RootWidths
+pub mod PipePairs

@@ -1,5 +1,5 @@
 -- The pair of a pressure-driven demand, and that it is in range.
-use Rattle.std.proofs.Common.{◌≡◌, ℕ, ◌+◌, ◌-◌, ◌*◌, ◌^◌, ◌<◌, ◌≤◌, ℤ, pos, negsuc, ◌+ℤ◌, ◌-ℤ◌, ◌≤ℤ◌, ◌<ℤ◌, unsigned_abs, Bool, true, false, refl, subst, sym, arith, lit<, lit≤}
+use Rattle.std.proofs.Common.{◌≡◌, ℕ, ◌*◌, ◌^◌, ◌<◌, ◌≤◌, ℤ, pos, negsuc, ◌+ℤ◌, ◌-ℤ◌, ◌≤ℤ◌, unsigned_abs, Bool, true, false, refl, subst, arith, lit<, lit≤}
 use Rattle.std.proofs.Math.Nat.{mul-le-mul_right, mul-le-mul_left}
 use Rattle.std.proofs.lemmas.Nat.{mul-le}
 use Rattle.std.proofs.lemmas.Int.{ints}
@@ -7,7 +7,7 @@ use borrow.Author.Differences.{up, down}
 use Rattle.hyd_num.specs.declared.binary.Scaled.{Scaled}
 use Rattle.hyd_num.specs.declared.pairs.Pair.{Pair}
 use Rattle.hyd_num.specs.declared.decimals.Decimal.{Decimal}
-use Rattle.hyd_num.specs.Quantity.{billionths, pressure_fraction}
+use Rattle.hyd_num.specs.Quantity.{pressure_fraction}
 use Rattle.hyd_num.specs.Scaled.{numerator, denominator, IsDown, IsUp}
 use Rattle.hyd_num.specs.Pairs.{IsRatio}
 use Rattle.hyd_num.specs.Chain.{IsPairOf, IsSquareOver, IsPressurePair}
@@ -22,7 +22,7 @@ pressure_pair demand minimum required us n m flows head r en em by_flow by_head 
   flows_is = subst (λ (x : ℕ). IsRatio x 1 flows) en by_flow;
   head = head;
   head_is = subst (λ (x : ℕ). IsPairOf (pressure_fraction us x) head) em by_head;
-  capacity_is = made
+  capacity_is = made;
 }
 
 -- a power of two

@@ -1,13 +1,12 @@
 -- How wide pairs become. One rounding moves an end by one part in a grain, a factor of (grain + 1) / grain: here widths are counted in
 -- such factors. Two of them are counted in advance, for the roundings of the two ends of the next product or quotient.
-use Rattle.std.proofs.Common.{◌≡◌, ℕ, zero, suc, ◌+◌, ◌-◌, ◌*◌, ◌^◌, ◌<◌, ◌≤◌, refl, sym, ap, subst, ◌∙◌, arith, mul-pos, lit<, lit≤, pow-suc}
+use Rattle.std.proofs.Common.{◌≡◌, ℕ, zero, suc, ◌+◌, ◌-◌, ◌*◌, ◌^◌, ◌<◌, ◌≤◌, refl, sym, ap, subst, ◌∙◌, arith, mul-pos, pow-suc}
 use Rattle.std.proofs.Math.Nat.{mul-le-mul_right, mul-le-mul_left, le_of_mul-le-mul_right, one-le-pow, pow-le-pow_left, pow-zero}
 use Rattle.std.proofs.lemmas.Nat.{mul-le, pow-add}
-use Rattle.hyd_num.specs.declared.binary.Scaled.{Scaled}
 use Rattle.hyd_num.specs.declared.pairs.Pair.{Pair}
 use Rattle.hyd_num.specs.Scaled.{numerator, denominator, IsDown, IsUp}
 use Rattle.hyd_num.specs.Pairs.{IsRatio, IsProduct, IsQuotient, IsSum, IsPower, once, even, odd}
-use Rattle.hyd_resist.proofs.Enclosing.{numerator_above, denominator_above, square_is as twice_power, square_more_is, pow_once}
+use Rattle.hyd_resist.proofs.Enclosing.{numerator_above, denominator_above, square_is as twice_power, pow_once}
 use Rattle.hyd_resist.proofs.Grains.{grain, grain_is, grain_above, down-near, up-near}
 
 abbrev pub above : ℕ
@@ -40,16 +39,18 @@ combined h l h1 l1 h2 l2 g u a1 b1 a2 b2 some rounding first second =
 added : (x y r : Pair) (v w : ℕ) → high r * (low x * low y) * (grain * grain) ≤ low r * (high x * high y) * (above * above)
     → IsNear v x → IsNear w y → IsNear (v + w) r
 added x y r v w rounding nx ny =
-    record { within = rw (pow-add grain v w, pow-add above v w)
-        (combined (high r) (low r) (high x) (low x) (high y) (low y) grain above (grain ^ v) (above ^ v) (grain ^ w) (above ^ w)
-            (mul-pos (mul-pos (low_above x) (low_above y)) (mul-pos grain_above grain_above)) rounding nx.within ny.within) }
+    record {
+      within = rw (pow-add grain v w, pow-add above v w)
+          (combined (high r) (low r) (high x) (low x) (high y) (low y) grain above (grain ^ v) (above ^ v) (grain ^ w) (above ^ w)
+          (mul-pos (mul-pos (low_above x) (low_above y)) (mul-pos grain_above grain_above)) rounding nx.within ny.within);
+    }
 
 -- the two roundings of a pair at once: the lower end of a / b, the upper end of c / d
 rounded : (a b c d : ℕ) (r : Pair) → IsDown a b r.lo → IsUp c d r.hi
     → high r * (a * d) * (grain * grain) ≤ low r * (c * b) * (above * above)
 rounded a b c d r down up =
     let both : a * denominator r.lo * grain * (numerator r.hi * d * grain) ≤ numerator r.lo * b * above * (c * denominator r.hi * above)
-        = mul-le _ _ _ _ (down-near a b r.lo down) (up-near c d r.hi up) in
+    = mul-le _ _ _ _ (down-near a b r.lo down) (up-near c d r.hi up) in
     omega (arith, both)
 
 pub product-near : (x y r : Pair) (v w : ℕ) → IsProduct x y r → IsNear v x → IsNear w y → IsNear (v + w) r
@@ -74,17 +75,21 @@ fourth x = sym (twice_power x 2 4 refl) ∙ ap (λ y. y * y) (sym (twice_power x
 
 pub ratio-near : (p q : ℕ) (r : Pair) → 0 < p → 0 < q → IsRatio p q r → IsNear 4 r
 ratio-near p q r some more made =
-    record { within = rw (fourth grain, fourth above)
-        (fraction_near (high r) (low r) (p * q) grain above (mul-pos some more) (rounded _ _ _ _ r made.low made.high)) }
+    record {
+      within = rw (fourth grain, fourth above)
+          (fraction_near (high r) (low r) (p * q) grain above (mul-pos some more) (rounded _ _ _ _ r made.low made.high));
+    }
 
 -- more factors than needed
 pub wider : (v w : ℕ) (x : Pair) → IsNear v x → IsNear (v + w) x
 wider v w x near =
-    record { within =
-        let a : high x * (above * above * grain ^ v) * grain ^ w ≤ low x * (grain * grain * above ^ v) * grain ^ w = mul-le-mul_right (grain ^ w) near.within in
-        let b : low x * (grain * grain * above ^ v) * grain ^ w ≤ low x * (grain * grain * above ^ v) * above ^ w
-            = mul-le-mul_left (low x * (grain * grain * above ^ v)) (pow-le-pow_left (omega arith) w) in
-        rw (pow-add grain v w, pow-add above v w) (omega (arith, a, b)) }
+    record {
+      within =
+          let a : high x * (above * above * grain ^ v) * grain ^ w ≤ low x * (grain * grain * above ^ v) * grain ^ w = mul-le-mul_right (grain ^ w) near.within in
+          let b : low x * (grain * grain * above ^ v) * grain ^ w ≤ low x * (grain * grain * above ^ v) * above ^ w
+          = mul-le-mul_left (low x * (grain * grain * above ^ v)) (pow-le-pow_left (omega arith) w) in
+          rw (pow-add grain v w, pow-add above v w) (omega (arith, a, b));
+    }
 
 -- the two ends of an exact sum are no wider than those of its parts
 sum_width : (h l h1 l1 e1 h2 l2 e2 g u a b : ℕ) → 0 < (l1 * e2 + l2 * e1) * (g * g) → h * (l1 * e2 + l2 * e1) * (g * g) ≤ l * (h1 * e2 + h2 * e1) * (u * u)
@@ -103,10 +108,12 @@ sum-near x y r w made nx ny =
     let first : 0 < low x * ey = mul-pos (low_above x) (mul-pos (denominator_above y.lo) (denominator_above y.hi)) in
     let some : 0 < (low x * ey + low y * ex) * (grain * grain) = mul-pos (omega (arith, first)) (mul-pos grain_above grain_above) in
     let l : high r * grain ^ w ≤ low r * above ^ w =
-        sum_width (high r) (low r) (high x) (low x) ex (high y) (low y) ey grain above (grain ^ w) (above ^ w) some
-            (omega (arith, rounded _ _ _ _ r made.low made.high)) nx.within ny.within in
-    record { within = rw (pow-add grain w 2, pow-add above w 2, ← twice_power grain 1 2 refl, ← twice_power above 1 2 refl, pow_once grain, pow_once above)
-        (omega (arith, mul-le-mul_right (above * above * (grain * grain)) l)) }
+    sum_width (high r) (low r) (high x) (low x) ex (high y) (low y) ey grain above (grain ^ w) (above ^ w) some
+    (omega (arith, rounded _ _ _ _ r made.low made.high)) nx.within ny.within in
+    record {
+      within = rw (pow-add grain w 2, pow-add above w 2, ← twice_power grain 1 2 refl, ← twice_power above 1 2 refl, pow_once grain, pow_once above)
+          (omega (arith, mul-le-mul_right (above * above * (grain * grain)) l));
+    }
 
 pub power-near : (x r : Pair) (n w : ℕ) → IsNear w x → IsPower x n r → IsNear (n * w) r
 power-near x r n w near once = subst (λ (v : ℕ). IsNear v x) (omega arith) near
@@ -127,9 +134,9 @@ bernoulli (suc w) d g u one all =
     let a : u ^ w * (d + 1) * g ≤ g ^ w * u * g = mul-le-mul_right g before in
     let b : u ^ w * (u * d) ≤ u ^ w * ((d + 1) * g) = mul-le-mul_left (u ^ w) (by_one d g u one (omega (arith, one, all))) in
     rw (pow-suc u w, pow-suc g w) (omega (arith, a, b))
-    where
-        by_one : (d g u : ℕ) → u ≡ g + 1 → d ≤ g → u * d ≤ (d + 1) * g
-        by_one d g u one most = omega (arith, ap (λ x. x * d) one, most)
+  where
+    by_one : (d g u : ℕ) → u ≡ g + 1 → d ≤ g → u * d ≤ (d + 1) * g
+    by_one d g u one most = omega (arith, ap (λ x. x * d) one, most)
 
 -- k parts of the lower end are left where the factors are few
 part : (h l g u w d k a b : ℕ) → 0 < g → 0 < a → u ≡ g + 1 → d + w ≡ u → w * (k + 1) ≤ u → b * d ≤ a * u
@@ -157,4 +164,4 @@ few_parts w few = omega (arith, few, grain_is)
 pub near-sharp : (w : ℕ) (x : Pair) → w ≤ 2 ^ 21 → IsNear w x → high x * 2 ^ 40 ≤ low x * (2 ^ 40 + 1)
 near-sharp w x few near =
     part (high x) (low x) grain above w (above - w) (2 ^ 40) (grain ^ w) (above ^ w) grain_above (powers_above w) refl (few_fit w few) (few_parts w few)
-        (bernoulli w (above - w) grain above refl (few_fit w few)) near.within
+    (bernoulli w (above - w) grain above refl (few_fit w few)) near.within

@@ -6,7 +6,9 @@ mod manning;
 mod parts;
 mod range;
 mod squares;
+#[cfg(test)]
+mod tests;
 
-pub use manning::valve_capacity;
+pub use manning::{pipe_capacity, valve_capacity};
 pub use range::CapRange;
 pub use squares::{emitter_capacity, pda_capacity, pump_capacity};

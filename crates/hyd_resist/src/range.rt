@@ -5,7 +5,7 @@ ghost use Rattle.std.specs.Prelude.{◌≡◌, ◌*◌, ◌^◌, ◌≤◌, ◌<
 ghost use Rattle.std.specs.Bool.{OnTrue, OnFalse};
 ghost use Rattle.hyd_num.specs.Scaled.{numerator, denominator};
 ghost use Rattle.hyd_num.specs.Chain.{StandsFor, IsMade};
-ghost use Rattle.hyd_spec.specs.Enclosure.{IsEnclosure};
+ghost use Rattle.hyd_spec.specs.Enclosure.{IsEnclosure, IsSharp};
 ghost use Rattle.hyd_resist.specs.Refusal.{IsRefused};
 
 use hyd_num::{Capacity, Origin, Pair, Scaled};
@@ -28,6 +28,7 @@ pub fn capacity(pair: Pair, origin: Origin) -> Result<Capacity, CapRange>
     ensures origin { IfOk result (λ c. c.origin ≡ origin) }
     ensures made { IfOk result (λ c. IsMade c) }
     ensures encloses { IfOk result (λ c. IsEnclosure c) }
+    ensures sharp { IfOk result (λ c. IsSharp c) }
     ensures refused { OnErr result (IsRefused origin) }
 {
     if is_below_least(pair.lo) {
@@ -51,8 +52,13 @@ pub fn capacity_inside(pair: Pair, origin: Origin) -> Capacity
     ensures origin { result.origin ≡ origin }
     ensures made { IsMade result }
     ensures encloses { IsEnclosure result }
+    ensures sharp { IsSharp result }
 {
-    Capacity { lo: pair.lo, hi: pair.hi, origin }
+    Capacity {
+        lo: pair.lo,
+        hi: pair.hi,
+        origin,
+    }
 }
 
 fn is_below_least(low: Scaled) -> bool

@@ -1,4 +1,4 @@
-use Rattle.std.proofs.Common.{◌+◌, take, drop, length, unwrap_or, ap, ◌∙◌}
+use Rattle.std.proofs.Common.{◌+◌, drop, length, unwrap_or, ap, ◌∙◌}
 use Rattle.hyd_num.specs.Numeral.{is_exponent_mark}
 use Rattle.hyd_num.proofs.Digits.{place_is}
 use Rattle.hyd_num.proofs.numerals.behind_mark.Goals as goal

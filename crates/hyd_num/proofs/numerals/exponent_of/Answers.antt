@@ -1,6 +1,6 @@
-use Rattle.std.proofs.Common.{ℕ, ◌≡◌, ◌≤◌, ◌+◌, ◌-◌, ◌^◌, min, length, true, false, ℤ, pos, neg_ℤ, ◌-ℤ◌, FitsSigned, to_z, of_z, w32, refl, ap, sym, ◌∙◌, arith}
+use Rattle.std.proofs.Common.{ℕ, ◌≡◌, ◌≤◌, ◌+◌, ◌^◌, min, true, false, pos, neg_ℤ, ◌-ℤ◌, FitsSigned, to_z, of_z, w32, ap, sym, ◌∙◌, arith}
 use Rattle.std.proofs.lemmas.Int.{ints}
-use Rattle.hyd_num.specs.Numeral.{number, behind_sign, signed, is_negative}
+use Rattle.hyd_num.specs.Numeral.{number, behind_sign, is_negative}
 use Rattle.hyd_num.proofs.Digits.{three_digits}
 use Rattle.hyd_num.proofs.numerals.exponent_of.Goals as goal
 use Rattle.hyd_num.proofs.numerals.exponent_of.Goals.{After-capped-magnitude}
@@ -32,7 +32,7 @@ pub returns-then-is_negative-clause-small : goal.returns-then-is_negative-clause
 returns-then-is_negative-clause-small c =
     let v = value (goal.at.returns-then-is_negative-clause-small c).After-capped-magnitude in
     let o : to_z w32 (of_z w32 (pos 0 -ℤ to_z w32 c.capped-magnitude.result)) ≡ neg_ℤ (pos (number (behind_sign c.args.text.now))) =
-      (opposite c.capped-magnitude.result (number (behind_sign c.args.text.now)) v.0 v.1).0 in
+    (opposite c.capped-magnitude.result (number (behind_sign c.args.text.now)) v.0 v.1).0 in
     omega (arith, ints, v.1)
 
 pub returns-clause-value : goal.returns-clause-value

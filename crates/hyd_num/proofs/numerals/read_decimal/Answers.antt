@@ -1,4 +1,4 @@
-use Rattle.std.proofs.Common.{ℕ, ◌≡◌, ◌+◌, ◌<◌, ◌≤◌, ◌^◌, ◌++◌, true, false, min, length, ℤ, pos, ◌+ℤ◌, ◌-ℤ◌, FitsSigned, to_z-of_z, w32, refl, ap, ap₂, sym, ◌∙◌, arith}
+use Rattle.std.proofs.Common.{◌≡◌, ◌+◌, ◌^◌, ◌++◌, true, false, min, length, pos, ◌+ℤ◌, ◌-ℤ◌, FitsSigned, to_z-of_z, w32, refl, ap, ap₂, sym, ◌∙◌}
 use Rattle.std.proofs.lemmas.Bool.{both_ways}
 use Rattle.hyd_num.specs.Numeral.{is_numeral, magnitude_of, nano_of, signed, number, shifted}
 use Rattle.hyd_num.proofs.NumeralParts.{Parts, parts_of, unmarked, test_is, Passed, passed, magnitude_is, above_limit, within_limit}
@@ -8,7 +8,7 @@ use Rattle.hyd_num.proofs.numerals.read_decimal.Goals.{After-has_mark, After-is_
 pub is_numeral-requires : goal.is_numeral-requires
 is_numeral-requires c = unmarked c.args.text.now c.before_point-whole.result.now c.behind_point-decimals.result.now c.behind_mark-exponent.result.now c.has_mark.result
     (parts_of c.args.text.now c.behind_sign-body.result.now c.before_mark-mantissa.result.now c.before_point-whole.result.now c.behind_point-decimals.result.now c.behind_mark-exponent.result.now c.has_mark.result
-      c.behind_sign-body.ensures c.before_mark-mantissa.ensures c.behind_mark-exponent.ensures c.before_point-whole.ensures c.behind_point-decimals.ensures c.has_mark.ensures)
+    c.behind_sign-body.ensures c.before_mark-mantissa.ensures c.behind_mark-exponent.ensures c.before_point-whole.ensures c.behind_point-decimals.ensures c.has_mark.ensures)
 
 parts : (c : After-is_numeral) → Parts c.args.text.now c.before_point-whole.result.now c.behind_point-decimals.result.now c.behind_mark-exponent.result.now c.has_mark.result
 parts c = parts_of c.args.text.now c.behind_sign-body.result.now c.before_mark-mantissa.result.now c.before_point-whole.result.now c.behind_point-decimals.result.now c.behind_mark-exponent.result.now c.has_mark.result
@@ -40,11 +40,11 @@ magnitude : (c : After-magnitude-magnitude) → c.magnitude-magnitude.result ≡
 magnitude c =
     let f : FitsSigned w32 c.exponent_of.result = record { sfits = c.exponent_of.type_inv } in
     let e : c.magnitude-magnitude.result ≡ min (shifted (number (c.before_point-whole.result.now ++ c.behind_point-decimals.result.now)) ((c.exponent_of.result +ℤ pos 9) -ℤ pos (length c.behind_point-decimals.result.now))) (10 ^ 21 + 1) =
-      rw to_z-of_z at c.magnitude-magnitude.ensures in
+    rw to_z-of_z at c.magnitude-magnitude.ensures in
     e ∙ ap (λ x. min x (10 ^ 21 + 1))
-      (magnitude_is c.args.text.now c.before_point-whole.result.now c.behind_point-decimals.result.now c.behind_mark-exponent.result.now c.has_mark.result c.exponent_of.result
-        (parts_of c.args.text.now c.behind_sign-body.result.now c.before_mark-mantissa.result.now c.before_point-whole.result.now c.behind_point-decimals.result.now c.behind_mark-exponent.result.now c.has_mark.result
-          c.behind_sign-body.ensures c.before_mark-mantissa.ensures c.behind_mark-exponent.ensures c.before_point-whole.ensures c.behind_point-decimals.ensures c.has_mark.ensures) c.exponent_of.ensures.value)
+    (magnitude_is c.args.text.now c.before_point-whole.result.now c.behind_point-decimals.result.now c.behind_mark-exponent.result.now c.has_mark.result c.exponent_of.result
+    (parts_of c.args.text.now c.behind_sign-body.result.now c.before_mark-mantissa.result.now c.before_point-whole.result.now c.behind_point-decimals.result.now c.behind_mark-exponent.result.now c.has_mark.result
+    c.behind_sign-body.ensures c.before_mark-mantissa.ensures c.behind_mark-exponent.ensures c.before_point-whole.ensures c.behind_point-decimals.ensures c.has_mark.ensures) c.exponent_of.ensures.value)
 
 pub returns-then-magnitude-gt-LIMIT-clause-not_a_number : goal.returns-then-magnitude-gt-LIMIT-clause-not_a_number
 returns-then-magnitude-gt-LIMIT-clause-not_a_number c =

@@ -1,4 +1,4 @@
-use Rattle.std.proofs.Common.{ℕ, ◌≡◌, ◌+◌, ◌*◌, ◌^◌, ◌<◌, ◌≤◌, ◌≤ℤ◌, ◌<ℤ◌, pos, unsigned_abs, refl, ap, sym, ◌∙◌, arith, pow_pos}
+use Rattle.std.proofs.Common.{◌≡◌, ◌+◌, ◌*◌, ◌^◌, ◌<◌, arith, pow_pos}
 use Rattle.std.proofs.lemmas.Int.{ints}
 use borrow.Author.Differences.{up, down}
 use Rattle.hyd_num.specs.Scaled.{numerator, denominator}
@@ -14,7 +14,7 @@ pub overflow_mul-result : goal.overflow_mul-result
 overflow_mul-result c =
     let p : (c.unsigned_abs-places.result ≡ up c.args.c.exp) × (down c.args.c.exp ≡ 0) = places_above c.args.c.exp c.unsigned_abs-places.result (omega (arith, ints)) (omega (arith, ints)) in
     let l : c.from.result * c.from-2.result * c.power_of_two.result < 2 ^ 66 * 3 * 10 ^ 18 + 1 =
-      rw (c.from.ensures, c.from-2.ensures, c.power_of_two.ensures) (whole_product_fits c.args.c.mant c.args.d (up c.args.c.exp) c.unsigned_abs-places.result (down c.args.c.exp) p.0 p.1 c.requires.greatest c.requires.small) in
+    rw (c.from.ensures, c.from-2.ensures, c.power_of_two.ensures) (whole_product_fits c.args.c.mant c.args.d (up c.args.c.exp) c.unsigned_abs-places.result (down c.args.c.exp) p.0 p.1 c.requires.greatest c.requires.small) in
     record { fits = omega arith }
 
 pub overflow_shr-result : goal.overflow_shr-result
@@ -31,14 +31,14 @@ pub returns-then-c-ge0-clause-at_least : goal.returns-then-c-ge0-clause-at_least
 returns-then-c-ge0-clause-at_least c =
     let p : (c.unsigned_abs-places.result ≡ up c.args.c.exp) × (down c.args.c.exp ≡ 0) = places_above c.args.c.exp c.unsigned_abs-places.result (omega (arith, ints)) (omega (arith, ints)) in
     let e : c.from.result * c.from-2.result * c.power_of_two.result * denominator c.args.c ≡ numerator c.args.c * c.args.d =
-      rw (c.from.ensures, c.from-2.ensures, c.power_of_two.ensures) (whole_product c.args.c.mant c.args.d (up c.args.c.exp) c.unsigned_abs-places.result (down c.args.c.exp) p.0 p.1) in
+    rw (c.from.ensures, c.from-2.ensures, c.power_of_two.ensures) (whole_product c.args.c.mant c.args.d (up c.args.c.exp) c.unsigned_abs-places.result (down c.args.c.exp) p.0 p.1) in
     omega (arith, e)
 
 pub returns-then-c-ge0-clause-next_below : goal.returns-then-c-ge0-clause-next_below
 returns-then-c-ge0-clause-next_below c =
     let p : (c.unsigned_abs-places.result ≡ up c.args.c.exp) × (down c.args.c.exp ≡ 0) = places_above c.args.c.exp c.unsigned_abs-places.result (omega (arith, ints)) (omega (arith, ints)) in
     let e : c.from.result * c.from-2.result * c.power_of_two.result * denominator c.args.c ≡ numerator c.args.c * c.args.d =
-      rw (c.from.ensures, c.from-2.ensures, c.power_of_two.ensures) (whole_product c.args.c.mant c.args.d (up c.args.c.exp) c.unsigned_abs-places.result (down c.args.c.exp) p.0 p.1) in
+    rw (c.from.ensures, c.from-2.ensures, c.power_of_two.ensures) (whole_product c.args.c.mant c.args.d (up c.args.c.exp) c.unsigned_abs-places.result (down c.args.c.exp) p.0 p.1) in
     let z : 0 < denominator c.args.c = pow_pos (down c.args.c.exp) in
     omega (arith, e, z)
 

@@ -9,5 +9,5 @@ capacity-requires c = record {
   flows_is = c.flow_in_ticks-flows.ensures.value;
   head = c.pressure_in_ticks-head.result;
   head_is = subst (λ (us : Bool). IsPairOf (pressure_fraction us (10 ^ 9)) c.pressure_in_ticks-head.result) c.is_us.ensures c.pressure_in_ticks-head.ensures.value;
-  capacity_is = c.square_over.ensures
+  capacity_is = c.square_over.ensures;
 }

@@ -1,5 +1,4 @@
-use Rattle.std.proofs.Common.{◌≡◌, ℕ, ℤ, pos, ◌-ℤ◌, ◌≤ℤ◌, ◌∙◌, sym, subst, ap, w64, to_z, of_z, arith, unsigned_abs}
-use Rattle.std.specs.Int.{w128}
+use Rattle.std.proofs.Common.{◌≡◌, ℤ, pos, ◌-ℤ◌, ◌≤ℤ◌, ◌∙◌, sym, subst, ap, w64, to_z, of_z, arith, unsigned_abs}
 use Rattle.std.proofs.lemmas.Int.{ints, to_z-of_z}
 use borrow.Author.Differences.{up}
 use Rattle.hyd_num.specs.Chain.{IsPressurePair}
