@@ -43,9 +43,10 @@ with_last (x ∷ y ∷ rest) d last =
 -- what makes an ID
 pub id_is : (word : List ℕ) (printing : Bool) → printing ≡ list_all is_id_byte word → 1 ≤ length word → length word ≤ 31 → (get_or word 0 0 ≡ 91 → ⊥)
     → (IsTrue printing → IsId word) × (IsId word → IsTrue printing)
-id_is word printing e some short first =
-    (λ yes. record { not_empty = some; short = short; printing = AllPass-from_list_all is_id_byte word (sym e ∙ yes); no_heading = first },
-    λ id. e ∙ list_all-from_AllPass is_id_byte word id.printing)
+id_is word printing e some short first = (
+  λ yes. record { not_empty = some; short = short; printing = AllPass-from_list_all is_id_byte word (sym e ∙ yes); no_heading = first },
+  λ id. e ∙ list_all-from_AllPass is_id_byte word id.printing,
+)
 
 -- seven words
 pub seven : (row : List (Bor (List ℕ))) (d : Bor (List ℕ)) → length row ≡ 7

@@ -10,16 +10,22 @@ ghost use Rattle.hyd_spec.specs.FirstForm as first_form;
 ghost use Rattle.hyd_spec.specs.FirstForm.{Words, line_words, text_lines, form_lines, IsId, IsNumberWithin, IsPositiveWithin, HasForm, IsFirstForm, HasNoForm, HasParts};
 ghost use Rattle.hyd_cli.specs.Reading.{texts, valve_words, words_of, AreOptions, AreHeadings, IsThrottled, AreRows, AreIds, AreNumbers, HasValues};
 
-use hyd_net::OutOfMemory;
+use crate::network::{junctions, links, one_name, plain, reservoirs, two_names};
+use hyd_net::{OutOfMemory, Project};
 use hyd_num::{Decimal, NumFault, read_decimal};
 use std::alloc::Global;
 
 // Bounds in billionths.
 const GREATEST_HEAD: u128 = 10_000 * 1_000_000_000;
+
 const GREATEST_DEMAND: u128 = 100_000_000 * 1_000_000_000;
+
 const LEAST_DIAMETER: u64 = 10 * 1_000_000_000;
+
 const GREATEST_DIAMETER: u64 = 10_000 * 1_000_000_000;
+
 const LEAST_SETTING: u64 = 1_000_000_000;
+
 const GREATEST_SETTING: u64 = 1_000 * 1_000_000_000;
 
 // The words of a text that a user chose.
@@ -379,4 +385,41 @@ fn read_numbers(form: &Form<'_>) -> Option<Numbers>
         diameter,
         setting,
     })
+}
+
+fn network(alloc: Global, form: &Form<'_>, numbers: &Numbers) -> Result<Project, OutOfMemory>
+    requires ids { AreIds (words_of form.now) }
+    requires numbers { AreNumbers (words_of form.now) }
+    requires values { HasValues numbers.now (words_of form.now) }
+    ensures { IfOk result (λ network. HasParts network (words_of form.now)) }
+{
+    let node_ids = two_names(alloc, form.junction, form.reservoir)?;
+    let link_ids = one_name(alloc, form.valve)?;
+    let junctions = junctions(alloc, numbers.elevation, numbers.demand)?;
+    let reservoirs = reservoirs(alloc, numbers.head)?;
+    let links = links(alloc, numbers.diameter, numbers.setting)?;
+    Ok(plain(alloc, node_ids, link_ids, junctions, reservoirs, links))
+}
+
+/// The network of a text of the form, or `None` where the text doesn't have it.
+pub(crate) fn read_form(alloc: Global, text: &[u8]) -> Result<Option<Project>, OutOfMemory>
+    ensures found { IfOk result (λ network. IfSome network (IsFirstForm text.now)) }
+    ensures none { IfOk result (λ network. IfNone network (HasNoForm text.now)) }
+{
+    let pieces = pieces(alloc, text)?;
+    let lines = without_empty_end(&pieces);
+    if !are_short(lines) {
+        return Ok(None);
+    }
+    let rows = rows(alloc, lines)?;
+    let Some(form) = find_form(&rows) else {
+        return Ok(None);
+    };
+    if !are_ids(&form) {
+        return Ok(None);
+    }
+    let Some(numbers) = read_numbers(&form) else {
+        return Ok(None);
+    };
+    Ok(Some(network(alloc, &form, &numbers)?))
 }

@@ -4,11 +4,15 @@
 ghost use Rattle.std.specs.Prelude.{◌≡◌, ◌≢◌, ◌≤◌, ◌*◌, ◌^◌, [], ◌∷◌, pos, ◌≤ℤ◌, unsigned_abs, IfOk, Some, None, false};
 ghost use Rattle.hyd_num.specs.Quantity as quantity;
 ghost use Rattle.hyd_num.specs.declared.units.FlowUnit.TheVariants.{Cmd};
+ghost use Rattle.hyd_spec.specs.Types.{Throttle, Quadratic};
 ghost use Rattle.hyd_spec.specs.FirstForm.{IsPlain, IsJunction, IsValve};
 ghost use Rattle.hyd_cli.specs.Network.{IsOnly};
 
-use hyd_net::{Demand, Junction, Link, LinkKind, LinkState, List, Names, OpenValve, Options, OutOfMemory, Project, Reservoir, Times};
-use hyd_num::{Decimal, FlowUnit};
+use hyd_net::{
+    Demand, Junction, Link, LinkKind, LinkState, List, Names, OpenValve, Options, OutOfMemory,
+    Project, Reservoir, Times,
+};
+use hyd_num::{Capacity, Decimal, FlowUnit};
 use hyd_resist::valve_capacity;
 use hyd_units::{flow_ticks, head_ticks};
 use std::alloc::Global;
@@ -41,7 +45,11 @@ pub(crate) fn two_names(alloc: Global, first: &[u8], second: &[u8]) -> Result<Na
 }
 
 /// The one junction.
-pub(crate) fn junctions(alloc: Global, elevation: Decimal, demand: Decimal) -> Result<List<Junction>, OutOfMemory>
+pub(crate) fn junctions(
+    alloc: Global,
+    elevation: Decimal,
+    demand: Decimal,
+) -> Result<List<Junction>, OutOfMemory>
     requires elevation { unsigned_abs elevation.nano ≤ 10 ^ 13 }
     requires demand { unsigned_abs demand.nano ≤ 10 ^ 17 }
     ensures { IfOk result (λ list. IsOnly (λ junction. IsJunction junction (quantity.head_ticks false elevation.nano) (quantity.flow_ticks Cmd demand.nano)) list.list) }
@@ -77,8 +85,20 @@ pub(crate) fn reservoirs(alloc: Global, head: Decimal) -> Result<List<Reservoir>
     )
 }
 
-/// The valve from the reservoir to the junction.
-pub(crate) fn valve(diameter: Decimal, setting: Decimal) -> Link
+// The state of a valve that is throttled to a setting.
+fn throttled(setting: Decimal, capacity: Capacity) -> LinkState
+    requires least { pos (1 * 10 ^ 9) ≤ℤ setting.nano }
+    requires greatest { setting.nano ≤ℤ pos (1000 * 10 ^ 9) }
+    ensures { result ≡ Throttle setting.nano (Quadratic capacity) }
+{
+    LinkState::Throttle {
+        nano: setting.nano as i64,
+        law: OpenValve::Quadratic(capacity),
+    }
+}
+
+// The valve from the reservoir to the junction.
+fn valve(diameter: Decimal, setting: Decimal) -> Link
     requires least_diameter { pos (10 * 10 ^ 9) ≤ℤ diameter.nano }
     requires greatest_diameter { diameter.nano ≤ℤ pos (10000 * 10 ^ 9) }
     requires least_setting { pos (1 * 10 ^ 9) ≤ℤ setting.nano }
@@ -94,10 +114,7 @@ pub(crate) fn valve(diameter: Decimal, setting: Decimal) -> Link
         kind: LinkKind::Tcv {
             valve: OpenValve::Linear,
         },
-        start: LinkState::Throttle {
-            nano: setting.nano as i64,
-            law: OpenValve::Quadratic(capacity),
-        },
+        start: throttled(setting, capacity),
     }
 }
 
@@ -133,7 +150,14 @@ const TIMES: Times = Times {
 };
 
 /// The network of these parts and no other.
-pub(crate) fn plain(alloc: Global, node_ids: Names, link_ids: Names, junctions: List<Junction>, reservoirs: List<Reservoir>, links: List<Link>) -> Project
+pub(crate) fn plain(
+    alloc: Global,
+    node_ids: Names,
+    link_ids: Names,
+    junctions: List<Junction>,
+    reservoirs: List<Reservoir>,
+    links: List<Link>,
+) -> Project
     ensures plain { IsPlain result }
     ensures node_ids { result.node_ids ≡ node_ids }
     ensures link_ids { result.link_ids ≡ link_ids }
@@ -154,4 +178,19 @@ pub(crate) fn plain(alloc: Global, node_ids: Names, link_ids: Names, junctions: 
         controls: List::new(alloc),
         rules: List::new(alloc),
     }
+}
+
+/// The one link, which is the valve.
+pub(crate) fn links(
+    alloc: Global,
+    diameter: Decimal,
+    setting: Decimal,
+) -> Result<List<Link>, OutOfMemory>
+    requires least_diameter { pos (10 * 10 ^ 9) ≤ℤ diameter.nano }
+    requires greatest_diameter { diameter.nano ≤ℤ pos (10000 * 10 ^ 9) }
+    requires least_setting { pos (1 * 10 ^ 9) ≤ℤ setting.nano }
+    requires greatest_setting { setting.nano ≤ℤ pos (1000 * 10 ^ 9) }
+    ensures { IfOk result (λ list. IsOnly (λ link. IsValve link diameter.nano setting.nano) list.list) }
+{
+    one(alloc, valve(diameter, setting))
 }

@@ -6,6 +6,6 @@ use Rattle.hyd_cli.proofs.form.words.Goals as goal
 pub returns : goal.returns
 returns c =
     map_from_collect _ c.collect.ensures.ran
-        (YieldsList-from_filter _ (λ (word : List ℕ). nat_le 1 (length word))
-            (YieldsList-from_slice_split _ (λ (byte : ℕ). (byte == 32) || (byte == 9)) c.args.line.now (cc) (cc) (cc) (λ x r q k. search (rules, tests)))
-            c.filter.ensures.closure (λ x r q k. search (rules, tests)))
+    (YieldsList-from_filter _ (λ (word : List ℕ). nat_le 1 (length word))
+    (YieldsList-from_slice_split _ (λ (byte : ℕ). (byte == 32) || (byte == 9)) c.args.line.now (cc) (cc) (cc) (λ x r q k. search (rules, tests)))
+    c.filter.ensures.closure (λ x r q k. search (rules, tests)))
