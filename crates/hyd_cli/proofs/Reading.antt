@@ -1,12 +1,11 @@
 -- Facts of lists and numbers that the reading of the first form stands on.
-use Rattle.std.proofs.Common.{◌≡◌, ◌≢◌, ℕ, zero, suc, ◌+◌, ◌-◌, ◌<◌, ◌≤◌, ◌==◌, Bool, true, false, List, [], ◌∷◌, length, get_or, take, map, refl, sym, ap, ◌∙◌, arith, All, IsTrue, if◌then◌else◌, ℤ, pos, unsigned_abs, Vec, Global, Option, Some, None, IfSome, IfNone, nat_le, ◌&&◌}
+use Rattle.std.proofs.Common.{◌≡◌, ℕ, zero, suc, ◌-◌, ◌<◌, ◌≤◌, ◌==◌, Bool, true, false, List, [], ◌∷◌, length, get_or, take, map, refl, sym, ap, ◌∙◌, arith, IsTrue, unsigned_abs, Vec, Global, Option, Some, None, IfSome, IfNone}
 use denote.Ref.{Bor}
 use Rattle.hyd_cli.specs.declared.form.Form.{Form}
 use Rattle.hyd_cli.specs.Reading.{texts, words_of, AreOptions, AreHeadings, AreRows}
-use Rattle.std.specs.List.{list_all, AllPass}
+use Rattle.std.specs.List.{list_all}
 use Rattle.std.proofs.lemmas.List.Sums.{AllPass-from_list_all, list_all-from_AllPass}
 use Rattle.std.proofs.lemmas.Bool.Decides.{nat_tests}
-use Rattle.std.proofs.lemmas.Grind.{common_steps}
 use Rattle.hyd_num.specs.Numeral.{nano_of, magnitude_of, signed, is_negative}
 use Rattle.hyd_spec.specs.FirstForm.{without_empty_end, is_id_byte, IsId, Words, form_lines}
 

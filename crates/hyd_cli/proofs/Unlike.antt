@@ -1,13 +1,13 @@
 -- From the steps of the reading of a text to whether it has the first form.
-use Rattle.std.proofs.Common.{◌≡◌, ◌≢◌, ℕ, ◌≤◌, ◌==◌, Bool, true, false, List, [], ◌∷◌, length, map, refl, sym, ap, ◌∙◌, subst, arith, All, nat_le, Vec, Global}
+use Rattle.std.proofs.Common.{◌≡◌, ℕ, ◌≤◌, ◌==◌, Bool, true, false, List, length, map, sym, ap, ◌∙◌, subst, arith, All, nat_le}
 use denote.Ref.{Bor}
-use Rattle.std.specs.List.{list_all, AllPass, slice_split}
+use Rattle.std.specs.List.{list_all, slice_split}
 use Rattle.std.specs.Str.Lines.{strip_carriage_return}
 use Rattle.std.proofs.lemmas.List.Sums.{AllPass-from_list_all, list_all-from_AllPass}
 use Rattle.std.proofs.lemmas.List.Folds.{list_all-map}
 use Rattle.std.proofs.lemmas.Bool.Decides.{nat_tests}
 use Rattle.hyd_spec.specs.Types.{Project}
-use Rattle.hyd_spec.specs.FirstForm.{without_empty_end, text_lines, line_words, form_lines, Words, AreWords, HasForm, HasParts, IsFirstForm, HasNoForm}
+use Rattle.hyd_spec.specs.FirstForm.{without_empty_end, text_lines, line_words, form_lines, Words, HasForm, HasParts, IsFirstForm, HasNoForm}
 use Rattle.hyd_cli.specs.Reading.{texts, AreIds, AreNumbers}
 
 -- these pieces are the lines of a text, but for carriage returns

@@ -1,9 +1,8 @@
 -- The capacity of a valve of the first form is in range.
-use Rattle.std.proofs.Common.{◌≡◌, ℕ, ◌+◌, ◌*◌, ◌^◌, ◌<◌, ◌≤◌, ◌⊎◌, false, inl, inr, arith, pos, negsuc, ℤ, ◌≤ℤ◌, mul-pos}
+use Rattle.std.proofs.Common.{ℕ, ◌+◌, ◌*◌, ◌^◌, ◌<◌, ◌≤◌, ◌⊎◌, false, inl, inr, arith, pos, negsuc, ℤ, ◌≤ℤ◌}
 use Rattle.std.proofs.Math.Nat.{le_of_mul-le-mul_right, mul-le-mul_right, pow-le-pow_left}
 use Rattle.std.proofs.lemmas.Int.{ints}
 use borrow.Author.Differences.{up}
-use Rattle.hyd_num.specs.declared.binary.Scaled.{Scaled}
 use Rattle.hyd_num.specs.declared.pairs.Pair.{Pair}
 use Rattle.hyd_num.specs.declared.decimals.Decimal.{Decimal}
 use Rattle.hyd_num.specs.Scaled.{numerator, denominator}
@@ -11,8 +10,8 @@ use Rattle.hyd_num.specs.Quantity.{billionths}
 use Rattle.hyd_num.specs.Chain.{IsValvePair}
 use Rattle.hyd_spec.specs.Types.{Valve}
 use Rattle.hyd_spec.specs.Loss.{ValveLossAtMost, ValveLossAtLeast}
-use Rattle.hyd_resist.specs.Refusal.{IsRefused, IsOutside}
-use Rattle.hyd_resist.proofs.Enclosing.{numerator_above, denominator_above}
+use Rattle.hyd_resist.specs.Refusal.{IsRefused}
+use Rattle.hyd_resist.proofs.Enclosing.{denominator_above}
 use Rattle.hyd_resist.proofs.FeetLost.{valve-at_most, valve-at_least}
 use Rattle.hyd_resist.proofs.Sharpness.{pair-sharp}
 

@@ -1,5 +1,4 @@
-use Rattle.std.proofs.Common.{◌≡◌, ◌∷◌, [], map, arith, rules, true}
-use Rattle.hyd_cli.specs.Reading.{texts, AreOptions, AreHeadings}
+use Rattle.std.proofs.Common.{arith}
 use Rattle.hyd_cli.proofs.Reading.{nine, found_form, no_form}
 use Rattle.hyd_cli.proofs.form.find_form.Goals as goal
 

@@ -1,4 +1,4 @@
-use Rattle.std.proofs.Common.{◌<◌, ◌^◌, ℕ, sym, subst, ◌∙◌}
+use Rattle.std.proofs.Common.{◌<◌, ◌^◌, ℕ, sym, subst}
 use Rattle.hyd_cli.proofs.Reading.{unsigned_abs-nano_of}
 use Rattle.hyd_cli.proofs.form.number.Goals as goal
 

@@ -1,8 +1,8 @@
-use Rattle.std.proofs.Common.{◌≡◌, ◌∙◌, ap, sym, map, List, ℕ, Vec, Global, true, false}
+use Rattle.std.proofs.Common.{◌∙◌, ap, map, List, ℕ, Vec, Global}
 use denote.Ref.{Bor}
 use Rattle.hyd_spec.specs.FirstForm.{without_empty_end}
 use Rattle.hyd_cli.specs.Reading.{texts, words_of}
-use Rattle.hyd_cli.proofs.Unlike.{AreLines, HasRows, HasRows-lines, short_lines, long_line, unlike, no_ids, no_numbers, first_form}
+use Rattle.hyd_cli.proofs.Unlike.{HasRows-lines, short_lines, long_line, unlike, first_form}
 use Rattle.hyd_cli.proofs.form.read_form.Goals as goal
 
 pub returns-then-not-are_short-clause-none : goal.returns-then-not-are_short-clause-none
