@@ -14,3 +14,6 @@ pub mod FirstHistory
 pub mod FirstRuns
 pub mod AnswerLemmas
 pub mod LengthLemmas
+pub mod Reading
+pub mod Valves
+pub mod Unlike

@@ -9,3 +9,5 @@ pub mod Solution
 pub mod FirstRun
 pub mod Texts
 pub mod Delivery
+pub mod Reading
+pub mod Network

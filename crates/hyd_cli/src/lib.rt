@@ -6,6 +6,8 @@ mod printed;
 mod shown;
 mod law;
 mod solve;
+mod form;
+mod network;
 mod status;
 mod texts;
 mod theorems;
