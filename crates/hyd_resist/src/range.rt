@@ -37,11 +37,7 @@ pub fn capacity(pair: Pair, origin: Origin) -> Result<Capacity, CapRange>
     if is_from_greatest(pair.hi) {
         return Err(CapRange);
     }
-    Ok(Capacity {
-        lo: pair.lo,
-        hi: pair.hi,
-        origin,
-    })
+    Ok(capacity_inside(pair, origin))
 }
 
 /// The capacity of this pair, which is in range.

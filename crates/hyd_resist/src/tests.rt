@@ -638,8 +638,11 @@ fn valve(diameter: i64, k: i64, us: bool) -> Option<Ends> {
 fn pipe(length: i64, diameter: i64, roughness: i64, minor: i64, us: bool) -> Option<Ends> {
     let (length, diameter) = (decimal(length), decimal(diameter));
     let (roughness, minor) = (decimal(roughness), decimal(minor));
-    let fits = is_up_to(length, 1_000_000) && is_up_to(diameter, 10_000);
-    if fits && is_up_to(roughness, 10) && is_minor(minor) {
+    if is_up_to(length, 1_000_000)
+        && is_up_to(diameter, 10_000)
+        && is_up_to(roughness, 10)
+        && is_minor(minor)
+    {
         return ends(pipe_capacity(length, diameter, roughness, minor, us));
     }
     None

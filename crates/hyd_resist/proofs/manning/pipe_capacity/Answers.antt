@@ -1,4 +1,4 @@
-use Rattle.std.proofs.Common.{◌≡◌, ◌<◌, ℤ, pos, arith}
+use Rattle.std.proofs.Common.{arith}
 use Rattle.std.proofs.lemmas.Int.{ints}
 use Rattle.hyd_num.specs.Quantity.{billionths}
 use Rattle.hyd_resist.proofs.PipePairs.{plain_pipe, fitted_pipe, no_billionths, some_billionths}
