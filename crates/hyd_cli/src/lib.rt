@@ -1,25 +1,22 @@
 //! The command `hyd`: its words, its statuses, and the call `tool` that the program makes.
 #![tactic(auto)]
 
-mod lines;
-mod printed;
-mod shown;
-mod law;
-mod solve;
+mod command;
 mod form;
+mod law;
+mod lines;
 mod network;
+mod output;
+mod printed;
+mod run;
+mod shown;
+mod solve;
 mod status;
 mod texts;
 mod theorems;
 mod valve;
-
-pub use solve::Solution;
-mod command;
-mod form;
-mod output;
-mod run;
-mod status;
 mod words;
 
 pub use command::tool;
+pub use solve::Solution;
 pub use status::Status;

@@ -1,7 +1,8 @@
 //! The certificate and the report of a first run, as bytes in memory.
 #![tactic(auto)]
 
-ghost use Rattle.std.specs.Prelude.{◌≡◌, ◌≤◌, ◌^◌, ◌-ℤ◌, ◌+ℤ◌, pos, unsigned_abs, string_bytes, IfOk};
+ghost use Rattle.std.specs.Prelude.{◌≡◌, ◌≤◌, ◌^◌, ◌-ℤ◌, ◌+ℤ◌, [], ◌∷◌, map, pos, unsigned_abs, string_bytes, IfOk};
+ghost use Rattle.hyd_spec.specs.ReportLine.{side_word};
 ghost use Rattle.hyd_spec.specs.Enclosing.{quad_low, quad_high};
 ghost use Rattle.hyd_spec.specs.FirstForm.{IsFirstNetwork};
 ghost use Rattle.hyd_spec.specs.Certificate.{IsInBox};
@@ -46,27 +47,39 @@ pub(crate) fn report_of_heads(
 {
     let mut out = Vec::new(alloc);
     push_all(&mut out, &[b"HYD 1\nTIME 0:00:00\n".as_slice()])?;
-    let elevation = project.junctions.as_slice()[0].elevation;
+    let elevation = junction_elevation(project);
     push_junction(&mut out, project.node_ids.id(0), lower, upper, elevation, valve.demand)?;
     push_reservoir(&mut out, project.node_ids.id(1), valve.head)?;
-    let (least, greatest) = flow_bounds(valve, upper, lower);
+    let least = least_flow(valve, upper);
+    let greatest = greatest_flow(valve, lower);
     push_valve(&mut out, project.link_ids.id(0), least, greatest)?;
     push_all(&mut out, &[b"DONE 1\n".as_slice()])?;
     Ok(out)
 }
 
-/// The least and the greatest flow of the valve, in flow ticks, between two heads of the junction.
-fn flow_bounds(valve: &SingleValve, upper: i64, lower: i64) -> (i128, i128)
-    requires upper { IsInBox upper }
-    requires lower { IsInBox lower }
-    ensures least { result.0 ≡ quad_low valve.now.capacity (valve.now.head -ℤ upper) -ℤ pos 10 }
-    ensures greatest { result.1 ≡ quad_high valve.now.capacity (valve.now.head -ℤ lower) +ℤ pos 10 }
-    ensures least_fits { unsigned_abs result.0 ≤ 10 ^ 27 }
-    ensures greatest_fits { unsigned_abs result.1 ≤ 10 ^ 27 }
+fn junction_elevation(project: &Project) -> i64
+    requires { IsFirstNetwork project.now }
+    ensures { map (λ junction. junction.elevation) project.now.junctions.list ≡ result ∷ [] }
 {
-    let least = quad_low(&valve.capacity, valve.head - upper);
-    let greatest = quad_high(&valve.capacity, valve.head - lower);
-    (least - i128::from(TOLERANCE), greatest + i128::from(TOLERANCE))
+    project.junctions.as_slice()[0].elevation
+}
+
+/// The least flow of the valve, in flow ticks, with the junction's head at most this.
+fn least_flow(valve: &SingleValve, upper: i64) -> i128
+    requires { IsInBox upper }
+    ensures value { result ≡ quad_low valve.now.capacity (valve.now.head -ℤ upper) -ℤ pos 10 }
+    ensures in_range { unsigned_abs result ≤ 10 ^ 27 }
+{
+    quad_low(&valve.capacity, valve.head - upper) - i128::from(TOLERANCE)
+}
+
+/// Its greatest flow, with the head at least this.
+fn greatest_flow(valve: &SingleValve, lower: i64) -> i128
+    requires { IsInBox lower }
+    ensures value { result ≡ quad_high valve.now.capacity (valve.now.head -ℤ lower) +ℤ pos 10 }
+    ensures in_range { unsigned_abs result ≤ 10 ^ 27 }
+{
+    quad_high(&valve.capacity, valve.head - lower) + i128::from(TOLERANCE)
 }
 
 /// The report of a run that stopped because a side has no certificate.
@@ -74,20 +87,19 @@ pub(crate) fn report_of_stop(alloc: Global, project: &Project, side: Side) -> Re
     requires { IsFirstNetwork project.now }
     ensures { IfOk result (λ bytes. bytes.items ≡ stopped_report project.now side) }
 {
-    let side = match side {
-        Side::Upper => b"UPPER".as_slice(),
-        Side::Lower => b"LOWER",
-    };
     let mut out = Vec::new(alloc);
-    push_all(
-        &mut out,
-        &[
-            b"HYD 1\nSTOP period 0 time 0:00:00 NOCERT MAIN ".as_slice(),
-            side,
-            b" JUNCTION ",
-            project.node_ids.id(0),
-            b"\n",
-        ],
-    )?;
+    push_all(&mut out, &[b"HYD 1\nSTOP period 0 time 0:00:00 NOCERT MAIN ".as_slice()])?;
+    push_all(&mut out, &[side_word(side)])?;
+    push_all(&mut out, &[b" JUNCTION ".as_slice(), project.node_ids.id(0), b"\n"])?;
     Ok(out)
+}
+
+/// The word of a side.
+fn side_word(side: Side) -> &'static [u8]
+    ensures { result.now ≡ side_word side }
+{
+    match side {
+        Side::Upper => b"UPPER",
+        Side::Lower => b"LOWER",
+    }
 }
