@@ -41,7 +41,7 @@ pub fn solve(project: &Project) -> Solution
 
 // ---- the network's parts
 
-fn single_valve(project: &Project) -> SingleValve
+pub(crate) fn single_valve(project: &Project) -> SingleValve
     requires { IsFirstNetwork project.now }
     ensures { IsValveOf project.now result }
 {
