@@ -1,11 +1,11 @@
 -- What a map of files holds after one file was put or changed.
 use mathlib.Core.Path.{fun_ext}
-use Rattle.std.proofs.Common.{◌≡◌, ◌≢◌, List, ℕ, Bool, true, false, cond, Option, Some, None, option_map, refl, sym, ap, ◌∙◌, bytes_eq, String, Vec, string_bytes, string_cmp, rules}
+use Rattle.std.proofs.Common.{◌≡◌, ◌≢◌, List, ℕ, Bool, true, false, cond, Option, Some, option_map, refl, sym, ap, ◌∙◌, bytes_eq, String, Vec, string_bytes, string_cmp}
 use Rattle.std.proofs.lemmas.Bool.{false_from_ne_true, cond-true, cond-false}
 use Rattle.std.proofs.lemmas.Slice.Eq.{bytes_eq-Decides}
 use Rattle.std.proofs.lemmas.Map.Text.{btree_map_updates_text}
 use Rattle.std.specs.Map.{update}
-use Rattle.std.specs.BTreeMap.{BTreeMap, UpdatesBy, IsUnchanged, get_by_text, get_by}
+use Rattle.std.specs.BTreeMap.{BTreeMap, UpdatesBy, get_by_text}
 use Rattle.std.specs.Cmp.Lexicographic.{slice_cmp}
 use Rattle.std.specs.Ordering.{nat_cmp}
 use Rattle.hyd_io.specs.Memory.{file_bytes}

@@ -1,8 +1,8 @@
 -- How moves of bytes from a pen to a desk follow one another.
-use Rattle.std.proofs.Common.{◌≡◌, ℕ, ◌+◌, ◌-◌, ◌≤◌, List, [], ◌∷◌, ◌++◌, length, take, drop, Option, Some, None, refl, sym, ap, ◌∙◌, append_assoc, arith}
+use Rattle.std.proofs.Common.{◌≡◌, ℕ, ◌+◌, ◌-◌, ◌≤◌, List, [], ◌++◌, length, take, drop, Option, Some, None, refl, sym, ap, ◌∙◌, append_assoc, arith}
 use Rattle.std.proofs.lemmas.Grind.{common_steps}
 use Rattle.std.proofs.lemmas.List.{drop-drop, take-append-drop}
-use Rattle.hyd_io.specs.Told.{append_known, prepend_known, where_told, Moves, PutOut, Took, Files, file_at, IsTold}
+use Rattle.hyd_io.specs.Told.{append_known, prepend_known, where_told, Moves, PutOut, Took, Files, IsTold}
 
 -- nothing more after what is out
 pub append_known-nil : (out : Option (List ℕ)) → append_known out [] ≡ out
@@ -121,3 +121,16 @@ put_out_flush first second third all held m n = (n.0, moves_moves first second t
 -- what would have come after is not put out either
 pub put_out_more : (old new : Option (List ℕ)) (all more : List ℕ) → PutOut old new all → PutOut old new (all ++ more)
 put_out_more old new all more m = (m.0 ++ more, moves_more old new all m.0 more m.1)
+
+-- where the rest is told, it has the bytes that were taken
+pub Took-length : (n : ℕ) (old new : Option (List ℕ)) (text : List ℕ) → old ≡ Some text → Took n old new → n ≤ length text
+Took-length n old None text e t = let none : Some text ≡ None = sym e ∙ t.1.1 in absurd (some_is_not_none text none)
+  where
+    some_is_not_none : (xs : List ℕ) → Some xs ≡ None → ⊥
+    some_is_not_none xs h = cc
+Took-length n old (Some rest) text e t =
+    let same : text ≡ t.0 ++ rest = some_injective (sym e ∙ t.1.1) in
+    rw same (grind (arith, common_steps, t.1.0))
+  where
+    some_injective : {xs ys : List ℕ} → Some xs ≡ Some ys → xs ≡ ys
+    some_injective h = cc

@@ -57,7 +57,7 @@ pub trait Desk {
     ghost read_also: { Self → Bool → Self → Type 0 } = { λ _ _ _. Unit {0} };
 
     ghost create_also: { Self → Bool → Self → Type 0 } = { λ _ _ _. Unit {0} };
-    // Of a write or print also its piece, and how many bytes it took, 0 where it failed.
+    // Of a write or print also its piece, and how many bytes it took, `None` where it failed.
     ghost write_also: { Self → List ℕ → Option ℕ → Self → Type 0 } = { λ _ _ _ _. Unit {0} };
 
     ghost print_also: { Self → List ℕ → Option ℕ → Self → Type 0 } = { λ _ _ _ _. Unit {0} };

@@ -1,6 +1,6 @@
 //! The desk on real files and standard output.
 
-ghost use Rattle.std.specs.Prelude.{◌≡◌, false, true, None, refl};
+ghost use Rattle.std.specs.Prelude.{◌≡◌, true, not, None, refl};
 
 use crate::desk::{Desk, Failed, Faults, stalls_after};
 use std::fs;
@@ -9,8 +9,8 @@ use std::marker::Model;
 use std::rt::Files;
 
 /// A desk on the files and the standard output of a runtime. It tells no bytes, since no contract
-/// can say what a file holds; contracts see whether a file was created, and how many calls failed
-/// or took nothing. Any name may be opened and created.
+/// can say what a file holds; contracts see whether a file is open to be read, whether one was
+/// created, and how many calls failed or took nothing. Any name may be opened and created.
 #[derive(Drop)]
 pub struct FileDesk<R: Files + Print + Drop> {
     rt: R,
@@ -25,7 +25,11 @@ impl<R: Files + Print + Drop> Model for FileDesk<R> {
 
     ghost Value = { Standing };
 
-    ghost view = { λ desk. record { ready = is_some desk.output; counts = desk.counts } };
+    ghost view = { λ desk. record {
+      reading = is_some desk.input;
+      ready = is_some desk.output;
+      counts = desk.counts;
+    } };
 }
 
 impl<R: Files + Print + Drop> FileDesk<R> {
@@ -67,6 +71,9 @@ impl<R: Files + Print + Drop> Desk for FileDesk<R> {
     ghost may_open = { λ _. true };
 
     ghost may_create = { λ _. true };
+
+    // A file is then open to be read exactly where the call didn't fail.
+    ghost open_also = { λ _ _ failed new. new.reading ≡ not failed };
 
     ghost is_content = { λ _. refl };
 

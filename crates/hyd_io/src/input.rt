@@ -1,6 +1,6 @@
 //! Reading a whole file within a limit.
 
-ghost use Rattle.std.specs.Prelude.{◌≡◌, ℕ, ◌+◌, ◌<◌, ◌≤◌, [], length, take, min, IfOk, IfErr, OnOk, OnErr, IsErrOf};
+ghost use Rattle.std.specs.Prelude.{◌≡◌, ℕ, ◌+◌, ◌<◌, ◌≤◌, List, [], length, take, min, Some, IfOk, IfErr, OnOk, OnErr, IsErrOf};
 ghost use Rattle.hyd_io.specs.Told.{where_told, prepend_known, Took};
 ghost use Rattle.hyd_io.specs.Counts.{Rose, NeverFall, HasInCause};
 ghost use Rattle.hyd_io.specs.declared.input.InFault.TheVariants.{OutOfMemory};
@@ -46,6 +46,8 @@ pub fn read_all<D: Desk>(alloc: Global, desk: &mut D, limit: usize) -> Result<Ve
     ensures within { IfOk result (λ bytes. length bytes.items ≤ limit) }
     ensures too_long { IsErrOf result InFault.TooLong
         → Took (limit + 1) (D.rest desk.old) (D.rest desk.new) }
+    ensures longer { (text : List ℕ) → D.rest desk.old ≡ Some text
+        → IsErrOf result InFault.TooLong → limit < length text }
     ensures cause { IfErr result (λ fault.
         HasInCause fault (D.counts desk.old) (D.counts desk.new)) }
     ensures steady { OnOk result (D.counts desk.new ≡ D.counts desk.old) }

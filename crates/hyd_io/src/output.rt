@@ -72,7 +72,7 @@ impl Pen {
     /// - `Stalled`: a call on the desk took nothing, and the stalls rose.
     ///
     /// After either, what went out is a front of what was put in, and each later call answers the
-    /// same and makes no call on the desk.
+    /// same and makes no call on the desk. On channel `Cert` it needs what `Desk::write` needs.
     pub fn put<D: Desk>(&mut self, desk: &mut D, piece: &[u8]) -> Result<(), OutFault>
         requires { OnCert self.old.to (IsTrue (D.ready desk.old)) }
         ensures moves { OnOk result (Moves
@@ -119,7 +119,7 @@ impl Pen {
         }
     }
 
-    /// Puts out all that the pen holds. Its faults are those of `put`.
+    /// Puts out all that the pen holds. Its faults and its needs are those of `put`.
     pub fn flush<D: Desk>(&mut self, desk: &mut D) -> Result<(), OutFault>
         requires { OnCert self.old.to (IsTrue (D.ready desk.old)) }
         ensures whole { OnOk result (by_channel self.old.to (D.written desk.new) (D.printed desk.new)

@@ -1,4 +1,4 @@
-use Rattle.std.proofs.Common.{◌≡◌, ◌∙◌, Some, option_map, ap, rules}
+use Rattle.std.proofs.Common.{◌∙◌, Some, option_map, ap, rules}
 use Rattle.hyd_io.proofs.MemoryLemmas.{file_bytes-updated, update-own, update-other}
 use Rattle.hyd_io.specs.Memory.{file_bytes}
 use Rattle.hyd_io.proofs.memory.append_to.Goals as goal

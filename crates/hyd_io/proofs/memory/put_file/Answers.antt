@@ -1,4 +1,4 @@
-use Rattle.std.proofs.Common.{◌≡◌, string_bytes}
+use Rattle.std.proofs.Common.{string_bytes}
 use Rattle.hyd_io.proofs.MemoryLemmas.{file_bytes-updated}
 use Rattle.hyd_io.proofs.memory.put_file.Goals as goal
 

@@ -1,4 +1,4 @@
-use Rattle.std.proofs.Common.{◌≡◌, ◌∙◌, ap, [], Some}
+use Rattle.std.proofs.Common.{◌∙◌, ap, [], Some}
 use Rattle.hyd_io.proofs.MemoryLemmas.{update-same, update-other}
 use Rattle.hyd_io.specs.Memory.{file_bytes}
 use Rattle.hyd_io.proofs.memory.MemDeskDesk.create.Goals as goal

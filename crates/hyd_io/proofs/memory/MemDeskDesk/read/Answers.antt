@@ -1,4 +1,4 @@
-use Rattle.std.proofs.Common.{◌≡◌, ap, Some, arith, rules}
+use Rattle.std.proofs.Common.{ap, Some, rules}
 use Rattle.hyd_io.proofs.ToldLemmas.{drop-split}
 use Rattle.hyd_io.proofs.memory.MemDeskDesk.read.Goals as goal
 
