@@ -10,3 +10,6 @@ mod words;
 
 pub use command::tool;
 pub use status::Status;
+
+#[cfg(test)]
+mod tests;
