@@ -2,9 +2,9 @@
 //! number.
 #![tactic(auto)]
 
-use hyd_cli::tool;
+use hyd_cli::{Status, tool};
 use hyd_io::FileDesk;
-use std::alloc::Global;
+use std::alloc::{AllocError, Global};
 use std::env;
 use std::process::ExitCode;
 use std::rt::Env;
@@ -12,16 +12,22 @@ use std::rt::Env;
 /// Runs the command on real files and standard output.
 fn main(rt: HostRuntime) -> ExitCode {
     let alloc = rt.alloc();
-    let words = words_of(&rt, alloc).unwrap_or(Vec::new(alloc));
+    let Ok(words) = words_of(&rt, alloc) else {
+        return ExitCode::from(Status::OutOfMemory.number());
+    };
     let mut desk = FileDesk::new(rt);
     ExitCode::from(tool(alloc, &words, &mut desk).number())
 }
 
-/// The words after the program's name, or none where one of them isn't text or they can't be had.
-fn words_of<R: Env + AllocGlobal>(rt: &R, alloc: Global) -> Option<Vec<String>> {
+/// The words after the program's name. Where one of them isn't text there are none, which is no
+/// command.
+fn words_of<R: Env + AllocGlobal>(rt: &R, alloc: Global) -> Result<Vec<String>, AllocError> {
     let mut words = Vec::new(alloc);
-    for word in env::args(rt).ok()?.skip(1) {
-        words.push(word).ok()?;
+    let Ok(args) = env::args(rt) else {
+        return Ok(words);
+    };
+    for word in args.skip(1) {
+        words.push(word)?;
     }
-    Some(words)
+    Ok(words)
 }

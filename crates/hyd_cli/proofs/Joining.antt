@@ -16,13 +16,14 @@ pub push_step : {X : Type 0} (f : X → List ℕ) (xs : List X) (i : ℕ) (d : X
     → old ≡ start ++ joined (map f (take i xs)) → new ≡ old ++ f (get_or xs i d) → new ≡ start ++ joined (map f (take (i + 1) xs))
 push_step f xs i d start old new inside before after =
     after ∙ (ap (λ ys. ys ++ f (get_or xs i d)) before
-      ∙ (append_assoc start (joined (map f (take i xs))) (f (get_or xs i d))
-      ∙ ap (λ ys. start ++ ys) (sym more)))
+    ∙ (append_assoc start (joined (map f (take i xs))) (f (get_or xs i d))
+    ∙ ap (λ ys. start ++ ys) (sym more)))
   where
     last : joined (f (get_or xs i d) ∷ []) ≡ f (get_or xs i d)
     last = append-nil (f (get_or xs i d))
+
     more : joined (map f (take (i + 1) xs)) ≡ joined (map f (take i xs)) ++ f (get_or xs i d)
     more = ap (λ ys. joined (map f ys)) (take_more xs i d inside)
-      ∙ (ap joined (map-append_one f (take i xs) (get_or xs i d))
-      ∙ (joined-append (map f (take i xs)) (f (get_or xs i d) ∷ [])
-      ∙ ap (λ ys. joined (map f (take i xs)) ++ ys) last))
+        ∙ (ap joined (map-append_one f (take i xs) (get_or xs i d))
+        ∙ (joined-append (map f (take i xs)) (f (get_or xs i d) ∷ [])
+        ∙ ap (λ ys. joined (map f (take i xs)) ++ ys) last))

@@ -1,6 +1,5 @@
 pub mod Joining
 pub mod LineTexts
-pub mod Roots
 pub mod Quadratic
 pub mod Heads
 pub mod FirstGrid

@@ -9,7 +9,7 @@ use Rattle.hyd_num.specs.Scaled.{numerator, denominator}
 use Rattle.hyd_num.specs.Roots.{IsSquareRootDown, IsSquareRootUp}
 use Rattle.hyd_spec.specs.Types.{Capacity}
 use Rattle.hyd_spec.specs.Enclosing.{root_down, root_up, quad_low, quad_high}
-use Rattle.hyd_cli.proofs.Roots.{root_down-is, root_up-is}
+use Rattle.hyd_laws.proofs.Roots.{root_down-is, root_up-is}
 
 positive : (s : Scaled) → 0 < denominator s
 positive s = pow_pos (down s.exp)

@@ -1,5 +1,5 @@
 -- The two runs of a network of the first form, as their texts give them.
-use Rattle.std.proofs.Common.{◌≡◌, ℕ, ℤ, pos, List, [], ◌∷◌, refl, lit<}
+use Rattle.std.proofs.Common.{◌≡◌, ℕ, ℤ, pos, List, refl, lit<}
 use Rattle.hyd_spec.specs.Types.{Project}
 use Rattle.hyd_spec.specs.declared.Problem.TheVariants.{Main}
 use Rattle.hyd_spec.specs.declared.Side.{Side}
@@ -25,17 +25,17 @@ tight_in_box network first side h tight =
 pub finished_run : (network : Project) → IsFirstNetwork network → (upper lower : ℤ) → IsTightHead network Upper upper → IsTightHead network Lower lower
     → (written printed : List ℕ) → written ≡ finished_certificate upper lower → IsFinishedReport network upper lower printed
     → IsRunOf network Done written printed
-finished_run network first upper lower above below written printed is_written report = record
-  { outcome = Finished
-  ; has_outcome = refl
-  ; run = writes_finished network first upper lower above below report.lines report.is_report written printed is_written report.is_text
-  }
+finished_run network first upper lower above below written printed is_written report = record {
+  outcome = Finished;
+  has_outcome = refl;
+  run = writes_finished network first upper lower above below report.lines report.is_report written printed is_written report.is_text;
+}
 
 pub stopped_run : (network : Project) → IsFirstNetwork network → (side : Side) → HasNoCertificate network (initial_standing network) Main side
     → (written printed : List ℕ) → written ≡ stopped_certificate → printed ≡ stopped_report network side
     → IsRunOf network Undecided written printed
-stopped_run network first side none written printed is_written is_printed = record
-  { outcome = Stopped (NoCertificate Main side 0)
-  ; has_outcome = refl
-  ; run = writes_stopped network first side none written printed is_written is_printed
-  }
+stopped_run network first side none written printed is_written is_printed = record {
+  outcome = Stopped (NoCertificate Main side 0);
+  has_outcome = refl;
+  run = writes_stopped network first side none written printed is_written is_printed;
+}

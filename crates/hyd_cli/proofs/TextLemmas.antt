@@ -29,7 +29,7 @@ use Rattle.hyd_cli.specs.Lines.{junction_words, reservoir_words, valve_words, Ap
 -- parts of a certificate of one record with two heads, as they are joined
 record_parts : (h p mu su nl ml sl e : List ℕ)
     → h ++ (((p ++ (((((mu ++ su) ++ nl) ++ []) ++ (((ml ++ sl) ++ nl) ++ [])) ++ [])) ++ []) ++ e)
-      ≡ h ++ (p ++ (mu ++ (su ++ (nl ++ (ml ++ (sl ++ (nl ++ e)))))))
+    ≡ h ++ (p ++ (mu ++ (su ++ (nl ++ (ml ++ (sl ++ (nl ++ e)))))))
 record_parts h p mu su nl ml sl e = simp (append_assoc, append-nil) refl
 
 pub finished_is : (upper lower : ℤ)
@@ -56,8 +56,8 @@ pub stop_report_is : (network : Project) (side : Side) (start a b out first word
     → out ≡ stopped_report network side
 stop_report_is network side start a b out first word last id is_start is_first is_word is_last is_id ea eb eo =
     rw (eb, ea, is_start, is_first, is_word, is_last, is_id) at eo
-      ∙ (stop_parts (codes "HYD 1\nSTOP period 0 time 0:00:00 NOCERT MAIN ") (side_word side) (codes " JUNCTION ") (node_id network 0) (codes "\n")
-      ∙ stop_words (side_word side) (node_id network 0))
+    ∙ (stop_parts (codes "HYD 1\nSTOP period 0 time 0:00:00 NOCERT MAIN ") (side_word side) (codes " JUNCTION ") (node_id network 0) (codes "\n")
+    ∙ stop_words (side_word side) (node_id network 0))
 
 -- parts of a report, as they are joined
 report_parts : (h t j r v d : List ℕ)
@@ -74,9 +74,9 @@ pub report_text_is : (network : Project) (head pressure outflow height flow : In
 unfolding digits
 report_text_is network head pressure outflow height flow start a b c d out first last j r l is_start is_first is_last is_j is_r is_l ea eb ec ed eo =
     rw (ed, ec, eb, ea, is_start, is_first, is_last, is_j, is_r, is_l) at eo
-      ∙ report_parts (line (codes "HYD" ∷ (decimal 1 ∷ []))) (line_text network (TimeLine 0))
-          (line (junction_words (node_id network 0) head pressure outflow)) (line (reservoir_words (reservoir_id network 0) height))
-          (line (valve_words (link_id network 0) flow)) (done_line 1)
+    ∙ report_parts (line (codes "HYD" ∷ (decimal 1 ∷ []))) (line_text network (TimeLine 0))
+    (line (junction_words (node_id network 0) head pressure outflow)) (line (reservoir_words (reservoir_id network 0) height))
+    (line (valve_words (link_id network 0) flow)) (done_line 1)
 
 -- ---- the network's IDs
 
@@ -120,11 +120,11 @@ pub finished_report : (network : Project) (first : IsFirstNetwork network) (valv
     → (elevation upper lower : ℤ) (p : Printed elevation valve upper lower) (text : List ℕ)
     → map (λ j. j.elevation) network.junctions.list ≡ elevation ∷ []
     → text ≡ report_text network (first_lines p) (done_line 1) → IsFinishedReport network upper lower text
-finished_report network first valve is elevation upper lower p text read e = record
-  { lines = first_lines p
-  ; is_report = reported
-  ; is_text = e
-  }
+finished_report network first valve is elevation upper lower p text read e = record {
+  lines = first_lines p;
+  is_report = reported;
+  is_text = e;
+}
   where
     reported : (grid : Grid) → IsGridAt network (initial_standing network) grid → IsReport network grid (initial_standing network) (first_row upper lower) (first_lines p)
     reported grid at =
@@ -138,18 +138,18 @@ abbrev pub printed_of : (elevation : ℤ) (valve : SingleValve) (upper lower lea
     → (J : AppendsJunction a b j lower upper elevation valve.demand) → (R : AppendsReservoir b c r valve.head) → (V : AppendsValve c d l least greatest)
     → least ≡ quad_low valve.capacity (valve.head -ℤ upper) -ℤ pos 10 → greatest ≡ quad_high valve.capacity (valve.head -ℤ lower) +ℤ pos 10
     → Printed elevation valve upper lower
-printed_of elevation valve upper lower least greatest a b c d j r l J R V is_least is_greatest = record
-  { head = J.head
-  ; pressure = J.pressure
-  ; outflow = J.outflow
-  ; height = R.head
-  ; flow = V.flow
-  ; head_is = J.head_is
-  ; pressure_is = J.pressure_is
-  ; outflow_is = J.outflow_is
-  ; height_is = R.head_is
-  ; flow_is = rw (is_least, is_greatest) at V.flow_is
-  }
+printed_of elevation valve upper lower least greatest a b c d j r l J R V is_least is_greatest = record {
+  head = J.head;
+  pressure = J.pressure;
+  outflow = J.outflow;
+  height = R.head;
+  flow = V.flow;
+  head_is = J.head_is;
+  pressure_is = J.pressure_is;
+  outflow_is = J.outflow_is;
+  height_is = R.head_is;
+  flow_is = rw (is_least, is_greatest) at V.flow_is;
+}
 
 -- the report, put together
 pub first_report : (network : Project) (first : IsFirstNetwork network) (valve : SingleValve) → IsValveOf network valve
@@ -164,5 +164,5 @@ pub first_report : (network : Project) (first : IsFirstNetwork network) (valve :
 first_report network first valve is elevation upper lower least greatest start begin last a b c d out j r l read J R V is_least is_greatest is_start is_begin is_last at_j at_r at_l ea eo =
     let p : Printed elevation valve upper lower = printed_of elevation valve upper lower least greatest a b c d j r l J R V is_least is_greatest in
     finished_report network first valve is elevation upper lower p out read
-      (report_text_is network J.head J.pressure J.outflow R.head V.flow start a b c d out begin last j r l is_start is_begin is_last
-        (junction_id_is network first j at_j) (reservoir_id_is network first r at_r) (link_id_is network first l at_l) ea J.appended R.appended V.appended eo)
+    (report_text_is network J.head J.pressure J.outflow R.head V.flow start a b c d out begin last j r l is_start is_begin is_last
+    (junction_id_is network first j at_j) (reservoir_id_is network first r at_r) (link_id_is network first l at_l) ea J.appended R.appended V.appended eo)

@@ -4,7 +4,7 @@
 ghost use Rattle.std.specs.Prelude.{◌≡◌, ◌≤◌, ◌^◌, ◌-ℤ◌, unsigned_abs, OnOk};
 ghost use Rattle.hyd_cli.specs.Lines.{AppendsJunction, AppendsReservoir, AppendsValve};
 
-use crate::printed::{print_ends, push_all, Quantity};
+use crate::printed::{Quantity, print_ends, push_all};
 use std::alloc::AllocError;
 
 /// What a demand flow may miss, in flow ticks.

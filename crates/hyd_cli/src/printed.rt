@@ -8,7 +8,7 @@ ghost use Rattle.hyd_spec.specs.Lists.{joined};
 
 use crate::shown::Printed;
 use hyd_num::FlowUnit;
-use hyd_units::{print_flow, print_head, print_pressure, Way, BUFFER_SIZE};
+use hyd_units::{BUFFER_SIZE, Way, print_flow, print_head, print_pressure};
 use std::alloc::AllocError;
 
 /// What a printed number is, in metres or cubic metres a day.

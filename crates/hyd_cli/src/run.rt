@@ -9,7 +9,7 @@ ghost use Rattle.hyd_spec.specs.Stops.{HasNoCertificate};
 ghost use Rattle.hyd_cli.specs.Solution.{IsTightHead};
 ghost use Rattle.hyd_cli.specs.Run.{IsRunOf};
 
-use crate::solve::{single_valve, solve, Solution};
+use crate::solve::{Solution, single_valve, solve};
 use crate::status::Status;
 use crate::texts::{certificate_of_heads, empty_certificate, report_of_heads, report_of_stop};
 use hyd_net::{OutOfMemory, Project};

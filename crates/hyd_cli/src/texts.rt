@@ -10,7 +10,7 @@ ghost use Rattle.hyd_cli.specs.SingleValve.{IsValveOf};
 ghost use Rattle.hyd_cli.specs.Texts.{finished_certificate, stopped_certificate, IsFinishedReport, stopped_report};
 
 use crate::law::{quad_high, quad_low};
-use crate::lines::{push_junction, push_reservoir, push_valve, TOLERANCE};
+use crate::lines::{TOLERANCE, push_junction, push_reservoir, push_valve};
 use crate::printed::push_all;
 use crate::valve::SingleValve;
 use hyd_net::Project;
@@ -18,7 +18,11 @@ use hyd_spec::Side;
 use std::alloc::{AllocError, Global};
 
 /// The certificate of the run that found the tight heads.
-pub(crate) fn certificate_of_heads(alloc: Global, upper: i64, lower: i64) -> Result<String, AllocError>
+pub(crate) fn certificate_of_heads(
+    alloc: Global,
+    upper: i64,
+    lower: i64,
+) -> Result<String, AllocError>
     ensures { IfOk result (λ text. string_bytes text ≡ finished_certificate upper lower) }
 {
     format!(in alloc; "HYDCERT 1 1 0\nPERIOD 0 0 0\nMU {upper}\nML {lower}\nEND 1 FINISHED\n")
@@ -48,7 +52,14 @@ pub(crate) fn report_of_heads(
     let mut out = Vec::new(alloc);
     push_all(&mut out, &[b"HYD 1\nTIME 0:00:00\n".as_slice()])?;
     let elevation = junction_elevation(project);
-    push_junction(&mut out, project.node_ids.id(0), lower, upper, elevation, valve.demand)?;
+    push_junction(
+        &mut out,
+        project.node_ids.id(0),
+        lower,
+        upper,
+        elevation,
+        valve.demand,
+    )?;
     push_reservoir(&mut out, project.node_ids.id(1), valve.head)?;
     let least = least_flow(valve, upper);
     let greatest = greatest_flow(valve, lower);
@@ -83,14 +94,24 @@ fn greatest_flow(valve: &SingleValve, lower: i64) -> i128
 }
 
 /// The report of a run that stopped because a side has no certificate.
-pub(crate) fn report_of_stop(alloc: Global, project: &Project, side: Side) -> Result<Vec<u8>, AllocError>
+pub(crate) fn report_of_stop(
+    alloc: Global,
+    project: &Project,
+    side: Side,
+) -> Result<Vec<u8>, AllocError>
     requires { IsFirstNetwork project.now }
     ensures { IfOk result (λ bytes. bytes.items ≡ stopped_report project.now side) }
 {
     let mut out = Vec::new(alloc);
-    push_all(&mut out, &[b"HYD 1\nSTOP period 0 time 0:00:00 NOCERT MAIN ".as_slice()])?;
+    push_all(
+        &mut out,
+        &[b"HYD 1\nSTOP period 0 time 0:00:00 NOCERT MAIN ".as_slice()],
+    )?;
     push_all(&mut out, &[side_word(side)])?;
-    push_all(&mut out, &[b" JUNCTION ".as_slice(), project.node_ids.id(0), b"\n"])?;
+    push_all(
+        &mut out,
+        &[b" JUNCTION ".as_slice(), project.node_ids.id(0), b"\n"],
+    )?;
     Ok(out)
 }
 

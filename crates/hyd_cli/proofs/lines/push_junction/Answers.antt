@@ -29,7 +29,7 @@ returns c =
     let pressure : AreEnds Pressure c.above-3.result c.above-4.result c.print_ends-pressure.result = simp to_z-of_z at c.print_ends-pressure.ensures in
     let outflow : AreEnds Flow c.above-5.result c.above-6.result c.print_ends-outflow.result = simp to_z-of_z at c.print_ends-outflow.ensures in
     on_ok_weaker c.push_all.result
-      (λ e. appends_junction _ _ c.args.id.now _ _ _ _ _ _ _ c.args.lower c.args.upper c.args.elevation c.args.demand _ _ _ _ _ _ _ _ _ head pressure outflow
-          is1 is2 is3 is4 is5 is6
-          c.as_slice.ensures c.text.ensures c.text-2.ensures c.text-3.ensures c.text-4.ensures c.text-5.ensures c.text-6.ensures e)
-      c.push_all.ensures
+    (λ e. appends_junction _ _ c.args.id.now _ _ _ _ _ _ _ c.args.lower c.args.upper c.args.elevation c.args.demand _ _ _ _ _ _ _ _ _ head pressure outflow
+    is1 is2 is3 is4 is5 is6
+    c.as_slice.ensures c.text.ensures c.text-2.ensures c.text-3.ensures c.text-4.ensures c.text-5.ensures c.text-6.ensures e)
+    c.push_all.ensures

@@ -16,6 +16,6 @@ returns c =
     let high : c.above-2.result ≡ c.args.height -ℤ pos 0 = simp to_z-of_z at c.above-2.ensures.difference in
     let are : AreEnds Head c.above.result c.above-2.result c.print_ends-head.result = simp to_z-of_z at c.print_ends-head.ensures in
     on_ok_weaker c.push_all.result
-      (λ e. appends_reservoir _ _ c.args.id.now _ _ _ c.args.height _ _ c.print_ends-head.result are
-          low high c.as_slice.ensures c.text.ensures c.text-2.ensures e)
-      c.push_all.ensures
+    (λ e. appends_reservoir _ _ c.args.id.now _ _ _ c.args.height _ _ c.print_ends-head.result are
+    low high c.as_slice.ensures c.text.ensures c.text-2.ensures e)
+    c.push_all.ensures

@@ -13,6 +13,6 @@ returns c =
     let high_fits : FitsSigned w128 c.args.high = c.ranges.high in
     let are : AreEnds Flow c.args.low c.args.high c.print_ends-flow.result = simp to_z-of_z at c.print_ends-flow.ensures in
     on_ok_weaker c.push_all.result
-      (λ e. appends_valve _ _ c.args.id.now _ _ _ c.args.low c.args.high c.print_ends-flow.result are
-          c.as_slice.ensures c.text.ensures c.text-2.ensures e)
-      c.push_all.ensures
+    (λ e. appends_valve _ _ c.args.id.now _ _ _ c.args.low c.args.high c.print_ends-flow.result are
+    c.as_slice.ensures c.text.ensures c.text-2.ensures e)
+    c.push_all.ensures

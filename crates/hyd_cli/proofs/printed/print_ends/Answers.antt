@@ -11,9 +11,9 @@ returns c =
     let high_fits : FitsSigned w128 c.args.high = c.ranges.high in
     let down : IsRoundedDown (quantity_of c.args.quantity c.args.low) c.print_ticks.ensures.count = simp to_z-of_z at c.print_ticks.ensures.rounded in
     let up : IsRoundedUp (quantity_of c.args.quantity c.args.high) c.print_ticks-2.ensures.count = simp to_z-of_z at c.print_ticks-2.ensures.rounded in
-    record
-    { interval = record { lo = c.print_ticks.ensures.count; hi = c.print_ticks-2.ensures.count }
-    ; prints = record { down = down; up = up }
-    ; low_text = c.print_ticks.ensures.shown
-    ; high_text = c.print_ticks-2.ensures.shown
+    record {
+      interval = record { lo = c.print_ticks.ensures.count; hi = c.print_ticks-2.ensures.count };
+      prints = record { down = down; up = up };
+      low_text = c.print_ticks.ensures.shown;
+      high_text = c.print_ticks-2.ensures.shown;
     }

@@ -25,4 +25,4 @@ returns c =
     let report : IsFinishedReport c.args.project.now c.args.upper c.args.lower c.in_ok-report.report.items = simp to_z-of_z at c.in_ok-report.ensures in
     let text : string_bytes c.in_ok-certificate_of_heads.field-0 ≡ finished_certificate c.args.upper c.args.lower = simp to_z-of_z at c.in_ok-certificate_of_heads.ensures in
     finished_run c.args.project.now c.requires.first c.args.upper c.args.lower c.requires.upper c.requires.lower _ _
-      (ap (λ v. v.items) c.into_bytes-certificate.ensures.value ∙ text) report
+    (ap (λ v. v.items) c.into_bytes-certificate.ensures.value ∙ text) report

@@ -34,6 +34,6 @@ returns c =
     let least_is : c.least_flow-least.result ≡ quad_low valve.capacity (valve.head -ℤ c.args.upper) -ℤ pos 10 = simp to_z-of_z at c.least_flow-least.ensures.value in
     let greatest_is : c.greatest_flow-greatest.result ≡ quad_high valve.capacity (valve.head -ℤ c.args.lower) +ℤ pos 10 = simp to_z-of_z at c.greatest_flow-greatest.ensures.value in
     first_report network c.requires.first valve c.requires.valve elevation c.args.upper c.args.lower c.least_flow-least.result c.greatest_flow-greatest.result
-      start first last c.push_all.new.out.items c.push_junction.new.out.items c.push_reservoir.new.out.items c.push_valve.new.out.items c.push_all-2.new.out.items
-      c.id.result.now c.id-2.result.now c.id-3.result.now c.junction_elevation-elevation.ensures
-      J R V least_is greatest_is c.new-out.ensures.items c.as_slice.ensures c.as_slice-2.ensures c.id.ensures c.id-2.ensures c.id-3.ensures begun ended
+    start first last c.push_all.new.out.items c.push_junction.new.out.items c.push_reservoir.new.out.items c.push_valve.new.out.items c.push_all-2.new.out.items
+    c.id.result.now c.id-2.result.now c.id-3.result.now c.junction_elevation-elevation.ensures
+    J R V least_is greatest_is c.new-out.ensures.items c.as_slice.ensures c.as_slice-2.ensures c.id.ensures c.id-2.ensures c.id-3.ensures begun ended
