@@ -31,7 +31,7 @@ tank_heads S (tank ∷ tanks) (level ∷ levels) = (at_scale S tank.bottom +ℤ 
 abbrev pub node_heads : Project → ℕ → ℕ → List ℤ → List ℤ → List ℤ
 node_heads network S time levels heads =
     heads ++ (map (λ r. at_scale S (reservoir_head network time r)) network.reservoirs.list
-        ++ tank_heads S network.tanks.list levels)
+    ++ tank_heads S network.tanks.list levels)
 
 -- The head of a node.
 abbrev pub head_at : List ℤ → ℕ → ℤ

@@ -17,4 +17,4 @@ pub record IsEnclosure (capacity : Capacity) : Type 0 where
 abbrev pub IsSharp : Capacity → Type 0
 IsSharp capacity =
     (numerator capacity.hi * denominator capacity.lo) * 2 ^ 40
-      ≤ (numerator capacity.lo * denominator capacity.hi) * (2 ^ 40 + 1)
+    ≤ (numerator capacity.lo * denominator capacity.hi) * (2 ^ 40 + 1)

@@ -1,6 +1,6 @@
 -- Histories: what may happen in the network, period by period, from the start of the run.
 -- Source: EPANET 2.2 User Manual, chapter 3 (extended period simulation).
-use Rattle.std.specs.Prelude.{◌≡◌, ◌≢◌, ℕ, ◌+◌, ◌%◌, ℤ, pos, Bool, List, [], ◌∷◌, length, map, ⊤, slice_index_or, if◌then◌else◌, ◌==◌, Option, Some, slice_get}
+use Rattle.std.specs.Prelude.{◌≡◌, ◌≢◌, ℕ, ◌+◌, ◌%◌, ℤ, pos, List, [], ◌∷◌, length, map, ⊤, slice_index_or, if◌then◌else◌, ◌==◌}
 use Rattle.hyd_spec.specs.Types.{Project, Tank, TankState, LinkState}
 use Rattle.hyd_spec.specs.Lists.{Each}
 use Rattle.hyd_spec.specs.Scale.{at_scale}
@@ -71,4 +71,4 @@ abbrev pub IsHistory : Project → ℕ → List Period → Type 0
 IsHistory network S [] = ⊤
 IsHistory network S (first ∷ rest) =
     Begins network S 0 (initial_levels network S) (initial_links network) first
-      × (IsPeriod network S first × GoesOn network S first rest)
+    × (IsPeriod network S first × GoesOn network S first rest)

@@ -1,11 +1,11 @@
 -- The exact law of a link or an emitter: which flow belongs to a head difference, stated without
 -- roots as two relations: the exact flow is at least a, the exact flow is at most a.
 -- Source: EPANET 2.2 User Manual, chapter 3 (pipes, pumps, valves, emitters).
-use Rattle.std.specs.Prelude.{ℕ, ◌+◌, ◌*◌, ◌^◌, ℤ, pos, negsuc, neg_ℤ, unsigned_abs, ◌*ℤ◌, ◌+ℤ◌, ◌-ℤ◌, ◌≤ℤ◌, ◌⊎◌, suc, ⊤, Bool, true, false}
+use Rattle.std.specs.Prelude.{ℕ, ◌*◌, ◌^◌, ℤ, pos, negsuc, neg_ℤ, unsigned_abs, ◌*ℤ◌, ◌+ℤ◌, ◌-ℤ◌, ◌≤ℤ◌, ◌⊎◌, suc, ⊤, Bool}
 use Rattle.hyd_num.specs.Fraction.{Fraction, fraction, over, power}
 use Rattle.hyd_num.specs.Quantity.{is_us_unit, billionths, head_ticks, flow_fraction, pressure_fraction}
 use Rattle.hyd_spec.specs.Types.{Decimal, FlowUnit, Origin, Pipe, Valve, Pump, Emitter, PressureDemand, Capacity}
-use Rattle.hyd_spec.specs.Rational.{Rational}
+use Rattle.hyd_num.specs.Rational.{Rational}
 use Rattle.hyd_spec.specs.Scale.{at_scale, tolerance}
 use Rattle.hyd_spec.specs.Loss.{PipeLossAtMost, PipeLossAtLeast, ValveLossAtMost, ValveLossAtLeast, SquareLossAtMost, SquareLossAtLeast}
 
@@ -48,7 +48,7 @@ odd_at_most at_most at_least S x (negsuc a) = loses_at_most at_most S (suc a) (n
 abbrev pub pump_resistance : Decimal → Decimal → ℕ → FlowUnit → Fraction
 pump_resistance flow drop thirds unit =
     over (record { num = unsigned_abs (head_ticks (is_us_unit unit) drop.nano); den = thirds })
-         (power (flow_fraction unit (billionths flow)) 2)
+    (power (flow_fraction unit (billionths flow)) 2)
 
 abbrev pub emitter_resistance : Decimal → FlowUnit → Fraction
 emitter_resistance coefficient unit =

@@ -1,10 +1,9 @@
 -- How long a period of a history lasts.
 -- Source: EPANET 2.2 User Manual, chapter 3 (extended period simulation: when the next hydraulic time step ends).
-use Rattle.std.specs.Prelude.{◌≡◌, ◌≢◌, ℕ, ◌+◌, ◌-◌, ◌%◌, ◌<◌, ◌≤◌, ℤ, pos, IsTrue, IsFalse, ◌⊎◌, List, [], ◌∷◌, Option, Some, slice_get, slice_index_or, map, Contains, unsigned_abs, Bool}
+use Rattle.std.specs.Prelude.{◌≡◌, ◌≢◌, ℕ, ◌+◌, ◌-◌, ◌%◌, ◌<◌, ◌≤◌, ℤ, pos, IsTrue, IsFalse, List, [], Some, slice_get, slice_index_or, map, Contains, unsigned_abs, Bool}
 use Rattle.hyd_spec.specs.Types.{Project, Tank, TankState, Full, Empty, Control, AtLevel, AtTime, AtClock, LinkState}
-use Rattle.hyd_spec.specs.Lists.{Each, map_from}
-use Rattle.hyd_spec.specs.Rational.{Rational, is_at_most, whole}
-use Rattle.hyd_spec.specs.Scale.{at_scale}
+use Rattle.hyd_spec.specs.Lists.{map_from}
+use Rattle.hyd_num.specs.Rational.{Rational, whole}
 use Rattle.hyd_spec.specs.Assignment.{Assignment, node_heads}
 use Rattle.hyd_spec.specs.Tank.{exact_level, carried_level, reaches, is_at_maximum, is_at_minimum, tank_inflow}
 use Rattle.hyd_spec.specs.Start.{clock_at}
@@ -67,13 +66,13 @@ pub data EndsByLevel (network : Project) (S : ℕ) (period : Period) (seconds : 
 
 -- What the rules look at `seconds` after the start of a period.
 abbrev pub readings_after : Project → ℕ → Period → ℕ → Readings
-readings_after network S period seconds = record
-  { heads = node_heads network S period.time period.levels period.given.heads
-  ; levels = map_from (λ k tank. carried_level S tank (level_at_start period k) (tank_inflow network k period.given.flows) seconds)
-        0 network.tanks.list
-  ; flows = map unsigned_abs period.given.flows
-  ; links = period.links
-  }
+readings_after network S period seconds = record {
+  heads = node_heads network S period.time period.levels period.given.heads;
+  levels = map_from (λ k tank. carried_level S tank (level_at_start period k) (tank_inflow network k period.given.flows) seconds)
+      0 network.tanks.list;
+  flows = map unsigned_abs period.given.flows;
+  links = period.links;
+}
 
 -- The values of the rules at an instant of a period.
 abbrev pub values_at : Project → ℕ → Period → ℕ → List Bool

@@ -1,8 +1,8 @@
 -- The exact law of a link in its state, between tanks that may be full or empty.
--- Source: EPANET 2.2 User Manual, chapter 3 (pipes, pumps, valves; tanks), the laws of this profile.
-use Rattle.std.specs.Prelude.{ℕ, ◌+◌, ◌-◌, ℤ, pos, Bool, true, false, ◌&&◌, ◌||◌, not, List, Option, Some, None, slice_get, if◌then◌else◌}
+-- Source: EPANET 2.2 User Manual, chapter 3 (pipes, pumps, valves; tanks), the laws of this program.
+use Rattle.std.specs.Prelude.{ℕ, Bool, true, false, ◌&&◌, ◌||◌, List, slice_get, if◌then◌else◌}
 use Rattle.std.specs.Option.{option_map_or}
-use Rattle.hyd_spec.specs.Types.{Project, Link, LinkKind, PipeLink, CheckPipe, PumpLink, Tcv, Fcv, OpenValve, Quadratic, Linear, LinkState, Open, Closed, Speed, Throttle, Limit, TankState, Full, Empty, Between}
+use Rattle.hyd_spec.specs.Types.{Project, Link, LinkKind, PipeLink, CheckPipe, PumpLink, Tcv, Fcv, OpenValve, Quadratic, Linear, LinkState, Open, Speed, Throttle, Limit, TankState, Full, Empty, Between}
 use Rattle.hyd_spec.specs.Network.{is_tank, tank_number}
 use Rattle.hyd_spec.specs.Quantity.{is_us, lift_of}
 use Rattle.hyd_spec.specs.Law.{Law, Shut, Quad, Straight, Lifted, ForwardOnly, ReverseOnly, Capped}

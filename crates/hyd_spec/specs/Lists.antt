@@ -1,5 +1,5 @@
 -- Words on lists that several definitions share.
-use Rattle.std.specs.Prelude.{◌≡◌, ℕ, suc, Bool, true, false, List, [], ◌∷◌, ◌++◌, Option, Some, None, slice_get}
+use Rattle.std.specs.Prelude.{◌≡◌, ℕ, suc, List, [], ◌∷◌, ◌++◌, Option, Some, None, slice_get}
 
 -- P holds of each item of a list, with its number, counted from 0.
 abbrev pub Each : {X : Type 0} → List X → (ℕ → X → Type 0) → Type 0

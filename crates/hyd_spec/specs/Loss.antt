@@ -6,8 +6,9 @@
 -- summand alone. With z the head less the minor loss, "the loss is at most the head" is
 -- z d^5.33 >= 4.66 n^2 L q^2, and both sides are raised to the power 100, so that all exponents
 -- are whole. No root and no rounding occurs.
--- Source: EPANET 2.2 User Manual, chapter 3, head loss formulas (Chezy-Manning) and minor losses.
-use Rattle.std.specs.Prelude.{ℕ, ◌+◌, ◌*◌, ◌^◌, ℤ, pos, negsuc, neg_ℤ, ◌*ℤ◌, ◌≤ℤ◌, ◌≤◌, suc, ⊤, Bool}
+-- Source: EPANET 2.2 User Manual, chapter 3 (head loss formulas: Chezy-Manning) and the chapter on analysis algorithms
+-- (minor losses).
+use Rattle.std.specs.Prelude.{ℕ, ◌*◌, ◌^◌, ◌≤◌, Bool}
 use Rattle.hyd_num.specs.Fraction.{Fraction, AtMost, times, minus, over, power}
 use Rattle.hyd_num.specs.Quantity.{billionths, ordinary, feet, feet_across}
 use Rattle.hyd_spec.specs.Types.{Decimal}
@@ -42,16 +43,16 @@ pub record PipeLossAtMost (us : Bool) (length diameter roughness minor : Decimal
   pub friction_within : AtMost
       (power (times (friction us length roughness) (power (flow_in_cfs S q) 2)) 100)
       (times (power (minus (head_in_feet S y) (times (minor_loss us diameter minor) (power (flow_in_cfs S q) 2))) 100)
-             (power (feet_across us (billionths diameter)) 533))
+      (power (feet_across us (billionths diameter)) 533))
 
 -- A flow of q loses at least the head y in the pipe. Where the minor loss alone does, the
 -- difference is 0 and the inequality holds.
 abbrev pub PipeLossAtLeast : Bool → Decimal → Decimal → Decimal → Decimal → ℕ → ℕ → ℕ → Type 0
 PipeLossAtLeast us length diameter roughness minor S q y =
     AtMost
-      (times (power (minus (head_in_feet S y) (times (minor_loss us diameter minor) (power (flow_in_cfs S q) 2))) 100)
-             (power (feet_across us (billionths diameter)) 533))
-      (power (times (friction us length roughness) (power (flow_in_cfs S q) 2)) 100)
+    (times (power (minus (head_in_feet S y) (times (minor_loss us diameter minor) (power (flow_in_cfs S q) 2))) 100)
+    (power (feet_across us (billionths diameter)) 533))
+    (power (times (friction us length roughness) (power (flow_in_cfs S q) 2)) 100)
 
 -- ---- valves
 

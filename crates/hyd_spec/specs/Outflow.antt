@@ -1,12 +1,12 @@
 -- What leaves a junction beside its links: its demand flow and its emitter flow, at a pressure p
 -- (head above the elevation, S-th parts of a head tick). Flows are S-th parts of a flow tick.
 -- Source: EPANET 2.2 User Manual, chapter 3 (demands, pressure-driven demand, emitters).
-use Rattle.std.specs.Prelude.{◌≡◌, ℕ, ◌*◌, ℤ, pos, ◌*ℤ◌, ◌+ℤ◌, ◌-ℤ◌, ◌≤ℤ◌, Bool, true, false, Option, Some, None, int_le, if◌then◌else◌, MatchBool, MatchOption, ◌||◌, not}
-use Rattle.hyd_spec.specs.Types.{Project, Junction, Capacity}
-use Rattle.hyd_spec.specs.Rational.{Rational, negated, is_at_most}
+use Rattle.std.specs.Prelude.{◌≡◌, ℕ, ℤ, pos, ◌+ℤ◌, ◌-ℤ◌, ◌≤ℤ◌, Bool, false, int_le, if◌then◌else◌, MatchBool, MatchOption}
+use Rattle.hyd_spec.specs.Types.{Project, Junction}
+use Rattle.hyd_num.specs.Rational.{Rational, negated, is_at_most}
 use Rattle.hyd_spec.specs.Scale.{at_scale, tolerance}
 use Rattle.hyd_spec.specs.Quantity.{is_us, demand_of, minimum_pressure, required_pressure}
-use Rattle.hyd_spec.specs.Law.{Law, Quad, Follows, Relation, lifted, odd_at_least, odd_at_most, pressure_resistance}
+use Rattle.hyd_spec.specs.Law.{Quad, Follows, Relation, lifted, odd_at_least, odd_at_most, pressure_resistance}
 use Rattle.hyd_spec.specs.Loss.{SquareLossAtMost, SquareLossAtLeast}
 
 -- Two flows differ by at most the tolerance.
@@ -28,13 +28,13 @@ abbrev pub part_at_least : Project → ℤ → Relation
 part_at_least network demand =
     let resistance = pressure_resistance demand network.options.p0 network.options.pf (is_us network) in
     lifted (negated (minimum_pressure network))
-        (odd_at_least (SquareLossAtMost resistance) (SquareLossAtLeast resistance))
+    (odd_at_least (SquareLossAtMost resistance) (SquareLossAtLeast resistance))
 
 abbrev pub part_at_most : Project → ℤ → Relation
 part_at_most network demand =
     let resistance = pressure_resistance demand network.options.p0 network.options.pf (is_us network) in
     lifted (negated (minimum_pressure network))
-        (odd_at_most (SquareLossAtMost resistance) (SquareLossAtLeast resistance))
+    (odd_at_most (SquareLossAtMost resistance) (SquareLossAtLeast resistance))
 
 -- A pressure-driven demand's flow q at pressure p: within the tolerance of nothing up to the
 -- minimum pressure, of the whole demand from the required one on, of the square root law between.
@@ -45,15 +45,15 @@ pub record FollowsPart (network : Project) (demand : ℤ) (S : ℕ) (p q : ℤ) 
 abbrev pub FollowsPressure : Project → ℤ → ℕ → ℤ → ℤ → Type 0
 FollowsPressure network demand S p q =
     MatchBool (is_at_most (pressure_at S p) (minimum_pressure network)) (IsWithinTolerance S q (pos 0))
-      (MatchBool (is_at_most (required_pressure network) (pressure_at S p)) (IsWithinTolerance S q (at_scale S demand))
-        (FollowsPart network demand S p q))
+    (MatchBool (is_at_most (required_pressure network) (pressure_at S p)) (IsWithinTolerance S q (at_scale S demand))
+    (FollowsPart network demand S p q))
 
 -- The demand flow q of a junction at a time and pressure p.
 abbrev pub FollowsDemand : Project → ℕ → Junction → ℕ → ℤ → ℤ → Type 0
 FollowsDemand network time junction S p q =
     let demand = demand_of network time junction in
     MatchBool (is_pressure_driven network demand) (FollowsPressure network demand S p q)
-      (IsWithinTolerance S q (at_scale S demand))
+    (IsWithinTolerance S q (at_scale S demand))
 
 -- The emitter flow q of a junction at pressure p: within the tolerance of C p^0.5, in reverse at a
 -- negative pressure; none where the junction has no emitter.

@@ -2,11 +2,11 @@
 -- A head tick is 10^-13 m, a flow tick 10^-7 cubic metres a day; `nano` counts billionths of the file's unit.
 -- Source: EPANET 2.2 User Manual, chapter 3 (the network model) and appendix C (sections [DEMANDS],
 -- [PATTERNS], [RESERVOIRS], [CURVES], [TIMES]).
-use Rattle.std.specs.Prelude.{ℕ, ◌+◌, ◌*◌, ◌/◌, ◌%◌, ◌^◌, ℤ, pos, ◌*ℤ◌, Bool, List, [], ◌∷◌, Option, Some, None, length, map, slice_get, slice_index_or}
+use Rattle.std.specs.Prelude.{ℕ, ◌+◌, ◌*◌, ◌/◌, ◌%◌, ◌^◌, ℤ, pos, ◌*ℤ◌, Bool, List, [], length, map, slice_get, slice_index_or}
 use Rattle.std.specs.Option.{option_map_or, option_or}
 use Rattle.hyd_num.specs.Quantity.{is_us_unit, head_ticks, pressure_numerator, pressure_denominator}
 use Rattle.hyd_spec.specs.Types.{Project, Junction, Demand, Reservoir, Decimal, ShutoffHead, FourThirds, Given}
-use Rattle.hyd_spec.specs.Rational.{Rational}
+use Rattle.hyd_num.specs.Rational.{Rational}
 use Rattle.hyd_spec.specs.Scale.{cut, total}
 
 -- The numbers of the file are in feet, inches and psi (else in metres and millimetres).
@@ -34,7 +34,7 @@ multiplier_at network pattern time =
 abbrev pub category_multiplier : Project → ℕ → Demand → ℤ
 category_multiplier network time category =
     option_map_or (λ pattern. multiplier_at network pattern time)
-        (option_or category.pattern network.options.default_pattern) (pos (10 ^ 9))
+    (option_or category.pattern network.options.default_pattern) (pos (10 ^ 9))
 
 -- The demand of a category in flow ticks: its base times the product of its multiplier and the
 -- demand multiplier, that product cut after nine decimals, the result cut to whole ticks.
@@ -52,7 +52,7 @@ demand_of network time junction = total (map (category_demand network time) junc
 abbrev pub reservoir_head : Project → ℕ → Reservoir → ℤ
 reservoir_head network time reservoir =
     option_map_or (λ pattern. cut (reservoir.head *ℤ multiplier_at network pattern time) (10 ^ 9))
-        reservoir.pattern reservoir.head
+    reservoir.pattern reservoir.head
 
 -- ---- pumps and pressures
 

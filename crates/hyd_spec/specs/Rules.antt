@@ -1,13 +1,13 @@
 -- Rules: which rules are true at an instant, and which state each link is given.
 -- OR binds tighter than AND: a premise is a row of groups joined by AND, each a row of clauses joined by OR.
 -- Source: EPANET 2.2 User Manual, chapter 3 (rule-based controls) and appendix C ([RULES]); the order of
--- AND and OR is this profile's.
-use Rattle.std.specs.Prelude.{ℕ, suc, ◌+◌, ◌*◌, ◌-◌, ◌%◌, ℤ, pos, ◌+ℤ◌, ◌-ℤ◌, ◌*ℤ◌, Bool, true, false, ◌&&◌, not, nat_lt, nat_le, List, [], ◌∷◌, ◌++◌, Option, Some, None, map, slice_get, slice_index_or, int_lt, int_le, unsigned_abs, if◌then◌else◌, ◌==◌}
+-- AND and OR is this program's.
+use Rattle.std.specs.Prelude.{ℕ, suc, ◌+◌, ◌*◌, ◌-◌, ◌%◌, ℤ, pos, ◌-ℤ◌, Bool, true, false, ◌&&◌, not, nat_lt, nat_le, List, [], ◌∷◌, ◌++◌, Option, Some, None, map, slice_get, slice_index_or, int_lt, int_le, unsigned_abs, if◌then◌else◌, ◌==◌}
 use Rattle.std.specs.List.{list_any, list_all}
 use Rattle.std.specs.Option.{option_map_or, option_and_then}
-use Rattle.hyd_spec.specs.Types.{Project, Junction, Tank, Rule, RuleClause, Joined, And, Or, Clause, What, Head, Pressure, Level, Flow, Setting, Status, Time, Clock, Relation, Less, NotMore, More, NotLess, Equal, Unequal, Value, Amount, ValueOpen, ValueClosed, ValueActive, Action, LinkState, Open, Closed, Speed, Throttle, Limit}
-use Rattle.hyd_spec.specs.Lists.{map_from, joined, present}
-use Rattle.hyd_spec.specs.Rational.{Rational, whole, total_of, is_less, is_at_most}
+use Rattle.hyd_spec.specs.Types.{Project, Rule, RuleClause, Joined, And, Or, Clause, What, Head, Pressure, Level, Flow, Setting, Status, Time, Clock, Relation, Less, NotMore, More, NotLess, Equal, Unequal, Value, Amount, ValueOpen, ValueClosed, ValueActive, Action, LinkState, Open, Closed, Speed, Throttle, Limit}
+use Rattle.hyd_spec.specs.Lists.{map_from, present}
+use Rattle.hyd_num.specs.Rational.{Rational, whole, total_of, is_less, is_at_most}
 use Rattle.hyd_spec.specs.Scale.{at_scale}
 use Rattle.hyd_spec.specs.Network.{is_tank, tank_number}
 use Rattle.hyd_spec.specs.Quantity.{is_us, pressure_value}
@@ -155,6 +155,7 @@ holds_on network S time readings Clock relation value =
 holds_on network S time readings what relation value =
     compares relation (measured network S readings what) (amount network what value)
 
+-- A clause holds at an instant.
 abbrev pub clause_holds : Project → ℕ → ℕ → Readings → Clause → Bool
 clause_holds network S time readings clause =
     holds_on network S time readings clause.what clause.relation clause.value
@@ -187,6 +188,7 @@ abbrev pub rule_holds : Project → ℕ → ℕ → Readings → Rule → Bool
 rule_holds network S time readings rule =
     list_all (list_any (clause_holds network S time readings)) (groups_of rule)
 
+-- The values of all rules, in order.
 abbrev pub rule_values : Project → ℕ → ℕ → Readings → List Bool
 rule_values network S time readings = map (rule_holds network S time readings) network.rules.list
 
@@ -202,6 +204,7 @@ pub record Offer : Type 0 where
 abbrev pub offer_of : ℕ → Rule → Action → Offer
 offer_of number rule action = record { rule = number; priority = rule.priority; link = action.link; to = action.to }
 
+-- The offers of a rule with a value.
 abbrev pub offers_of : ℕ → Rule → Bool → List Offer
 offers_of number rule value =
     map (offer_of number rule) (if value then rule.yes.list else rule.no.list)

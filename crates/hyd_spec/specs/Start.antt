@@ -1,8 +1,8 @@
 -- The start of a period: pump patterns, then simple controls.
 -- Source: EPANET 2.2 User Manual, chapter 3 (controls) and appendix C ([CONTROLS], [PUMPS]).
-use Rattle.std.specs.Prelude.{ℕ, ◌+◌, ◌%◌, ℤ, pos, negsuc, Bool, true, false, ◌||◌, ◌==◌, List, [], ◌∷◌, Option, Some, None, fold, slice_set, slice_index_or, int_le, if◌then◌else◌}
-use Rattle.hyd_spec.specs.Types.{Project, Link, LinkKind, PumpLink, LinkState, Closed, Speed, Control, When, AtLevel, AtTime, AtClock}
-use Rattle.hyd_spec.specs.Rational.{whole}
+use Rattle.std.specs.Prelude.{ℕ, ◌+◌, ◌%◌, ℤ, pos, Bool, ◌||◌, ◌==◌, List, [], ◌∷◌, Some, fold, slice_set, slice_index_or, int_le, if◌then◌else◌}
+use Rattle.hyd_spec.specs.Types.{Project, Link, LinkKind, PumpLink, LinkState, Closed, Speed, When, AtLevel, AtTime, AtClock}
+use Rattle.hyd_num.specs.Rational.{whole}
 use Rattle.hyd_spec.specs.Tank.{reaches}
 use Rattle.hyd_spec.specs.Quantity.{multiplier_at}
 
@@ -56,7 +56,7 @@ control_acts network time acts (AtClock at) = at == clock_at network time
 abbrev pub controlled : Project → ℕ → (ℕ → Bool → ℤ → Bool) → List LinkState → List LinkState
 controlled network time acts states =
     fold (λ links control. if control_acts network time acts control.when then slice_set links control.link control.to else links)
-        states network.controls.list
+    states network.controls.list
 
 -- The link states of a period that starts at `time`, from those commanded before.
 abbrev pub started : Project → ℕ → (ℕ → Bool → ℤ → Bool) → List LinkState → List LinkState

@@ -1,10 +1,9 @@
 -- Tanks: what their level becomes under a constant inflow, and when they count as full or empty.
 -- Levels and inflows of a history are S-th parts of ticks.
 -- Source: EPANET 2.2 User Manual, chapter 3 (tanks; hydraulic simulation model).
-use Rattle.std.specs.Prelude.{◌≡◌, ℕ, ◌+◌, ◌*◌, ◌^◌, ℤ, pos, ◌+ℤ◌, ◌-ℤ◌, ◌*ℤ◌, ◌≤ℤ◌, neg_ℤ, Bool, true, false, List, if◌then◌else◌, int_le, unsigned_abs, MatchBool}
-use Rattle.std.specs.Int.{int_max, int_min}
+use Rattle.std.specs.Prelude.{◌≡◌, ℕ, ◌*◌, ◌^◌, ℤ, pos, ◌+ℤ◌, ◌-ℤ◌, ◌*ℤ◌, ◌≤ℤ◌, neg_ℤ, Bool, true, false, List, if◌then◌else◌, int_le, unsigned_abs, MatchBool}
 use Rattle.hyd_spec.specs.Types.{Project, Tank, TankState, Full, Between, Empty}
-use Rattle.hyd_spec.specs.Rational.{Rational, is_at_most, whole}
+use Rattle.hyd_num.specs.Rational.{Rational, is_at_most, whole}
 use Rattle.hyd_spec.specs.Scale.{at_scale}
 use Rattle.hyd_spec.specs.Assignment.{net_outflow}
 use Rattle.hyd_spec.specs.Network.{tank_node}
@@ -53,8 +52,8 @@ abbrev pub IsNextLevel : ℕ → Tank → ℤ → ℤ → ℕ → ℤ → Type 0
 IsNextLevel S tank level inflow seconds next =
     let exact = exact_level tank level inflow seconds in
     MatchBool (is_at_maximum S tank exact) (next ≡ at_scale S tank.maximum)
-      (MatchBool (is_at_minimum S tank exact) (next ≡ at_scale S tank.minimum)
-        (IsNearLevel S tank exact next))
+    (MatchBool (is_at_minimum S tank exact) (next ≡ at_scale S tank.minimum)
+    (IsNearLevel S tank exact next))
 
 -- ---- states
 
@@ -63,6 +62,8 @@ IsNextLevel S tank level inflow seconds next =
 abbrev pub state_band : ℤ
 state_band = pos 1524000000
 
+-- The state of a tank at a level: full from the maximum less the band on, empty up to the minimum plus the band,
+-- else between.
 abbrev pub tank_state : ℕ → Tank → ℤ → TankState
 tank_state S tank level =
     if int_le (at_scale S (tank.maximum -ℤ state_band)) level then Full

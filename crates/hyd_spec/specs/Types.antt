@@ -2,6 +2,7 @@
 -- of their own here.
 pub use Rattle.hyd_num.specs.declared.decimals.Decimal.{Decimal}
 pub use Rattle.hyd_num.specs.declared.units.FlowUnit.{FlowUnit}
+pub use Rattle.hyd_num.specs.declared.units.FlowUnit.TheVariants.{Cmd}
 pub use Rattle.hyd_num.specs.declared.capacities.Capacity.{Capacity}
 pub use Rattle.hyd_num.specs.declared.capacities.Origin.{Origin}
 pub use Rattle.hyd_num.specs.declared.capacities.Origin.TheVariants.{Pipe, Valve, Pump, Emitter, PressureDemand}
@@ -39,3 +40,9 @@ pub use Rattle.hyd_net.specs.declared.rules.Value.TheVariants.{Amount, Open as V
 pub use Rattle.hyd_net.specs.declared.rules.Action.{Action}
 pub use Rattle.hyd_spec.specs.declared.TankState.{TankState}
 pub use Rattle.hyd_spec.specs.declared.TankState.TheVariants.{Empty, Between, Full}
+pub use Rattle.hyd_spec.specs.declared.Problem.{Problem}
+pub use Rattle.hyd_spec.specs.declared.Problem.TheVariants.{Main, Pinned}
+pub use Rattle.hyd_spec.specs.declared.Side.{Side}
+pub use Rattle.hyd_spec.specs.declared.Side.TheVariants.{Upper, Lower}
+pub use Rattle.hyd_spec.specs.declared.StatusWord.{StatusWord}
+pub use Rattle.hyd_spec.specs.declared.StatusWord.TheVariants.{Open as WordOpen, Closed as WordClosed, Active as WordActive, Unsure as WordUnsure}

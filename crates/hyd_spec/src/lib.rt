@@ -12,3 +12,33 @@ pub enum TankState {
     /// At or near its maximum level: nothing flows in.
     Full,
 }
+
+/// Which heads the tanks have in a comparison.
+#[derive(Debug, Clone, Copy, PartialEq, Eq, Drop)]
+pub enum Problem {
+    /// Each tank at the end of its level interval that lies on the side of the vector.
+    Main,
+    /// The tank of this number at the other end, all others as in `Main`.
+    Pinned(u32),
+}
+
+/// On which side of the heads of every assignment a vector lies (supersolutions and subsolutions of
+/// Ortega and Rheinboldt 1970).
+#[derive(Debug, Clone, Copy, PartialEq, Eq, Drop)]
+pub enum Side {
+    /// Above: a surplus at every junction.
+    Upper,
+    /// Below: a deficit at every junction.
+    Lower,
+}
+
+/// The status of a link as the report prints it.
+#[derive(Debug, Clone, Copy, PartialEq, Eq, Drop)]
+pub enum StatusWord {
+    Open,
+    Closed,
+    /// A valve that holds its setting.
+    Active,
+    /// The intervals leave the status undecided.
+    Unsure,
+}

@@ -1,0 +1,26 @@
+-- Intervals of whole numbers.
+use Rattle.std.specs.Prelude.{ℤ, ◌+ℤ◌, ◌-ℤ◌}
+
+-- All numbers from lo to hi.
+pub record Interval : Type 0 where
+  pub lo : ℤ
+  pub hi : ℤ
+
+-- A single number.
+abbrev pub exactly : ℤ → Interval
+exactly z = record { lo = z; hi = z }
+
+abbrev pub width : Interval → ℤ
+width x = x.hi -ℤ x.lo
+
+-- Both ends moved outward by a margin.
+abbrev pub widened : ℤ → Interval → Interval
+widened margin x = record { lo = x.lo -ℤ margin; hi = x.hi +ℤ margin }
+
+-- Both ends moved by the same amount.
+abbrev pub shifted : ℤ → Interval → Interval
+shifted by x = record { lo = x.lo +ℤ by; hi = x.hi +ℤ by }
+
+-- The sum of a number of each.
+abbrev pub sum_of : Interval → Interval → Interval
+sum_of x y = record { lo = x.lo +ℤ y.lo; hi = x.hi +ℤ y.hi }

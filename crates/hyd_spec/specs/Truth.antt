@@ -1,0 +1,43 @@
+-- Three-valued truth: what holds of all points of the intervals, of none, or is open.
+use Rattle.std.specs.Prelude.{Bool, true, false, List, [], ◌∷◌}
+
+pub data Truth : Type 0 where
+  Yes : Truth
+  No : Truth
+  Unknown : Truth
+
+-- What is so at both ends of an interval is so; what differs is open.
+abbrev pub at_both_ends : Bool → Bool → Truth
+at_both_ends true true = Yes
+at_both_ends false false = No
+at_both_ends a b = Unknown
+
+abbrev pub is_yes : Truth → Bool
+is_yes Yes = true
+is_yes truth = false
+
+abbrev pub is_unknown : Truth → Bool
+is_unknown Unknown = true
+is_unknown truth = false
+
+-- One holds: yes with any yes, else open with any open.
+abbrev pub either : Truth → Truth → Truth
+either Yes b = Yes
+either No b = b
+either Unknown Yes = Yes
+either Unknown b = Unknown
+
+-- Both hold: no with any no, else open with any open.
+abbrev pub both : Truth → Truth → Truth
+both No b = No
+both Yes b = b
+both Unknown No = No
+both Unknown b = Unknown
+
+abbrev pub some_holds : List Truth → Truth
+some_holds [] = No
+some_holds (truth ∷ rest) = either truth (some_holds rest)
+
+abbrev pub all_hold : List Truth → Truth
+all_hold [] = Yes
+all_hold (truth ∷ rest) = both truth (all_hold rest)
