@@ -9,3 +9,7 @@ AreDistinct ids = AllPairs (λ first later. first ≢ later) ids
 pub record IsTable (ids : List (List ℕ)) : Type 0 where
   pub distinct : AreDistinct ids
   pub few : length ids ≤ 2 ^ 31
+
+-- an ID has 1 to 31 bytes
+abbrev pub IsId : List ℕ → Type 0
+IsId id = (1 ≤ length id) × (length id ≤ 31)

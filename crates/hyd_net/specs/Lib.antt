@@ -1,3 +1,10 @@
+pub mod Commands
 pub mod Ids
 pub mod Lending
 pub mod ListView
+pub mod Made
+pub mod Ranges
+pub mod Sizes
+pub mod Sound
+pub mod States
+pub mod Views

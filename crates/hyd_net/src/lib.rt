@@ -3,6 +3,7 @@
 #![tactic(auto)]
 
 mod cause;
+mod comparison;
 mod controls;
 mod links;
 mod list;
@@ -12,8 +13,11 @@ mod options;
 mod patterns;
 mod project;
 mod rules;
+#[cfg(test)]
+mod tests;
 
 pub use cause::Cause;
+pub use comparison::same;
 pub use controls::{Control, When};
 pub use links::{Link, LinkKind, LinkState, OpenValve, ShutoffHead};
 pub use list::List;

@@ -1,5 +1,5 @@
 //! `Names`, the table of the IDs of nodes or of links.
-ghost use Rattle.std.specs.Prelude.{◌≡◌, ◌+◌, ◌^◌, ◌<◌, ◌↔◌, [], ◌∷◌, ◌++◌, length, position, slice_get, if◌then◌else◌, Contains, IsSome, IfSome, IfOk, OnErr, false};
+ghost use Rattle.std.specs.Prelude.{◌≡◌, ◌+◌, ◌^◌, ◌<◌, ◌↔◌, [], ◌∷◌, ◌++◌, length, position, slice_get, if◌then◌else◌, Contains, IsSome, IfSome, IfOk, OnErr, IsTrue, false};
 ghost use Rattle.std.specs.Str.{bytes_eq};
 ghost use Rattle.hyd_net.specs.Ids.{AreDistinct};
 
@@ -71,5 +71,12 @@ impl Names {
         ensures { slice_get self.now number ≡ Some result.now }
     {
         self.ids.as_slice()[number as usize].as_slice()
+    }
+
+    /// Whether two tables have the same IDs in the same order.
+    pub(crate) fn same(&self, other: &Names) -> bool
+        ensures { IsTrue result ↔ (self.now ≡ other.now) }
+    {
+        self.ids.as_slice() == other.ids.as_slice()
     }
 }

@@ -1,0 +1,38 @@
+-- Ranges of whole numbers, and of the quantities and numbers of a file.
+use Rattle.std.specs.Prelude.{ℕ, ◌*◌, ◌^◌, ◌<◌, List, length, ℤ, pos, neg_ℤ, ◌≤ℤ◌}
+use Rattle.std.specs.List.{HoldsAt}
+use Rattle.hyd_num.specs.declared.decimals.Decimal.{Decimal}
+
+-- z lies from low to high, both included
+pub record Lies (low high z : ℤ) : Type 0 where
+  pub at_least : low ≤ℤ z
+  pub at_most : z ≤ℤ high
+
+-- z lies from minus the limit to the limit
+abbrev pub LiesWithin : ℕ → ℤ → Type 0
+LiesWithin limit z = Lies (neg_ℤ (pos limit)) (pos limit) z
+
+-- a head, an elevation or a level in ticks of 10^-13 metres: at most 10,000 metres up or down
+abbrev pub IsHead : ℤ → Type 0
+IsHead ticks = LiesWithin (10 ^ 17) ticks
+
+-- a flow in ticks of 10^-7 cubic metres a day: at most 10^8 cubic metres a day either way
+abbrev pub IsFlow : ℤ → Type 0
+IsFlow ticks = LiesWithin (10 ^ 15) ticks
+
+-- a setting or a multiplier in billionths: at least 0 and at most a whole number
+abbrev pub IsUpTo : ℕ → ℤ → Type 0
+IsUpTo most nano = Lies (pos 0) (pos (most * 10 ^ 9)) nano
+
+-- a number of the file that is at least 0 and at most a whole number
+abbrev pub IsNumberUpTo : ℕ → Decimal → Type 0
+IsNumberUpTo most number = IsUpTo most number.nano
+
+-- a number of the file that is above 0 and at most a whole number
+abbrev pub IsPositiveUpTo : ℕ → Decimal → Type 0
+IsPositiveUpTo most number = Lies (pos 1) (pos (most * 10 ^ 9)) number.nano
+
+-- a number in range of a table, and a fact about what it numbers
+pub record Numbers {X : Type 0} (P : X → Type 0) (table : List X) (number : ℕ) : Type 0 where
+  pub in_range : number < length table
+  pub holds : HoldsAt P table number

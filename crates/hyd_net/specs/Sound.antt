@@ -1,0 +1,97 @@
+-- What holds of the project of every input file that is read: its ids, counts, numbers and quantities are in range, and each rounded
+-- form is the one that the numbers beside it make. (EPANET 2.2 User Manual, Input File Format, for what the sections hold.)
+use Rattle.std.specs.Prelude.{◌≡◌, ◌≢◌, ℕ, ◌+◌, ◌*◌, ◌^◌, ◌<◌, ◌≤◌, length, sum_by, nat_lt, if◌then◌else◌}
+use Rattle.std.specs.List.{All}
+use Rattle.hyd_net.specs.Ids.{AreDistinct, IsId}
+use Rattle.hyd_net.specs.Ranges.{LiesWithin}
+use Rattle.hyd_net.specs.States.{CanHave}
+use Rattle.hyd_net.specs.Sizes.{HasQuantities}
+use Rattle.hyd_net.specs.Made.{IsAllMade}
+use Rattle.hyd_net.specs.Commands.{node_count, IsControl, IsRule}
+use Rattle.hyd_net.specs.declared.nodes.Junction.{Junction}
+use Rattle.hyd_net.specs.declared.links.Link.{Link}
+use Rattle.hyd_net.specs.declared.patterns.Pattern.{Pattern}
+use Rattle.hyd_net.specs.declared.rules.Rule.{Rule}
+use Rattle.hyd_net.specs.declared.options.Times.{Times}
+use Rattle.hyd_net.specs.declared.project.Project.{Project}
+
+-- ---- IDs
+
+-- one ID for each node and each link, all distinct in their table, of 1 to 31 bytes
+pub record HasIds (p : Project) : Type 0 where
+  pub each_node : length p.node_ids ≡ node_count p
+  pub each_link : length p.link_ids ≡ length p.links.list
+  pub distinct_nodes : AreDistinct p.node_ids
+  pub distinct_links : AreDistinct p.link_ids
+  pub node_ids : All IsId p.node_ids
+  pub link_ids : All IsId p.link_ids
+
+-- ---- counts
+
+-- the rows of DEMANDS that a junction has for certain: where it has one demand, that may be the one of its own row
+abbrev pub demand_rows : Junction → ℕ
+demand_rows j = if nat_lt 1 (length j.demands.list) then length j.demands.list else 0
+
+-- the clauses and actions of a rule
+abbrev pub part_count : Rule → ℕ
+part_count r = length r.clauses.list + length r.yes.list + length r.no.list
+
+pub record IsWithinLimits (p : Project) : Type 0 where
+  pub junctions : length p.junctions.list ≤ 10000
+  pub reservoirs : length p.reservoirs.list ≤ 1000
+  pub tanks : length p.tanks.list ≤ 32
+  pub links : length p.links.list ≤ 20000
+  pub patterns : length p.patterns.list ≤ 1000
+  pub multipliers : sum_by (λ (q : Pattern). length q.multipliers.list) p.patterns.list ≤ 1000000
+  pub demands : sum_by demand_rows p.junctions.list ≤ 100000
+  pub controls : length p.controls.list ≤ 10000
+  pub rules : length p.rules.list ≤ 10000
+  pub parts : sum_by part_count p.rules.list ≤ 100000
+
+-- ---- links
+
+-- both ends are nodes, and not the same one
+pub record HasEnds (nodes : ℕ) (l : Link) : Type 0 where
+  pub from_node : l.from < nodes
+  pub to_node : l.to < nodes
+  pub apart : l.from ≢ l.to
+
+-- ---- patterns
+
+-- a pattern has a multiplier, and each is at most 10^6 up or down
+pub record IsPattern (p : Pattern) : Type 0 where
+  pub not_empty : 1 ≤ length p.multipliers.list
+  pub range : All (LiesWithin (10 ^ 6 * 10 ^ 9)) p.multipliers.list
+
+-- ---- times
+
+-- times are at most 10^8 seconds, steps at least one; the hydraulic step is at most the pattern step and the report step, the rule step
+-- at most the hydraulic one; the start is a time of day
+pub record AreTimes (t : Times) : Type 0 where
+  pub duration : t.duration ≤ 10 ^ 8
+  pub hydraulic : 1 ≤ t.hydraulic
+  pub within_pattern : t.hydraulic ≤ t.pattern
+  pub within_report : t.hydraulic ≤ t.report
+  pub pattern : t.pattern ≤ 10 ^ 8
+  pub pattern_start : t.pattern_start ≤ 10 ^ 8
+  pub report : t.report ≤ 10 ^ 8
+  pub report_start : t.report_start ≤ 10 ^ 8
+  pub start_clock : t.start_clock < 86400
+  pub rule : 1 ≤ t.rule
+  pub within_hydraulic : t.rule ≤ t.hydraulic
+
+-- ---- all of it
+
+pub record Sound (p : Project) : Type 0 where
+  pub ids : HasIds p
+  pub counts : IsWithinLimits p
+  -- both ends of each link are nodes that differ
+  pub links : All (HasEnds (node_count p)) p.links.list
+  -- the state of each link at time 0 is one that it can have
+  pub states : All (λ l. CanHave l.kind l.start) p.links.list
+  pub quantities : HasQuantities p
+  pub patterns : All IsPattern p.patterns.list
+  pub controls : All (IsControl p) p.controls.list
+  pub rules : All (IsRule p) p.rules.list
+  pub times : AreTimes p.times
+  pub made : IsAllMade p

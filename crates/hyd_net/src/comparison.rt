@@ -1,0 +1,340 @@
+//! Comparison of two projects.
+#![tactic(auto)]
+
+ghost use Rattle.std.specs.Prelude.{◌≡◌, ◌↔◌, IsTrue, map};
+ghost use Rattle.std.specs.Option.{option_map};
+ghost use Rattle.hyd_net.specs.Views.{bare_list, plain_list, plain_capacity, plain_valve, plain_state, plain_kind, plain_link, plain_tank, plain_junction, plain_pattern, plain_control, plain_value, plain_clause, plain_rule_clause, plain_action, plain_rule, plain_project};
+
+use crate::controls::Control;
+use crate::links::{Link, LinkKind, LinkState, OpenValve};
+use crate::list::List;
+use crate::nodes::{Demand, Junction, Reservoir, Tank};
+use crate::options::{Options, Times};
+use crate::patterns::Pattern;
+use crate::project::Project;
+use crate::rules::{Action, Clause, Rule, RuleClause, Value};
+use hyd_num::{Capacity, Decimal, FlowUnit, Scaled, Span};
+
+/// Values that are compared without the numbers of the file that are kept beside a rounded form.
+trait Alike {
+    ghost plain: { Self → Self };
+
+    fn same(&self, other: &Self) -> bool
+        ensures { IsTrue result ↔ (plain self.now ≡ plain other.now) };
+}
+
+fn same_items<T: Alike>(a: &[T], b: &[T]) -> bool
+    ensures { IsTrue result ↔ (map T.plain a.now ≡ map T.plain b.now) }
+{
+    if a.len() != b.len() {
+        return false;
+    }
+    for i in 0..a.len() {
+        if !a[i].same(&b[i]) {
+            return false;
+        }
+    }
+    true
+}
+
+fn same_list<T: Alike + Drop>(a: &List<T>, b: &List<T>) -> bool
+    ensures { IsTrue result ↔ (plain_list T.plain a.now ≡ plain_list T.plain b.now) }
+{
+    same_items(a.as_slice(), b.as_slice())
+}
+
+fn same_end(a: Scaled, b: Scaled) -> bool
+    ensures { IsTrue result ↔ (a ≡ b) }
+{
+    a == b
+}
+
+fn same_span(a: Span, b: Span) -> bool
+    ensures { IsTrue result ↔ (a ≡ b) }
+{
+    a == b
+}
+
+fn same_pattern(a: Option<u32>, b: Option<u32>) -> bool
+    ensures { IsTrue result ↔ (a ≡ b) }
+{
+    a == b
+}
+
+impl Alike for Capacity {
+    ghost plain = { plain_capacity };
+
+    fn same(&self, other: &Capacity) -> bool {
+        same_end(self.lo, other.lo) && same_end(self.hi, other.hi)
+    }
+}
+
+fn same_emitter(a: &Option<Capacity>, b: &Option<Capacity>) -> bool
+    ensures { IsTrue result ↔ (option_map plain_capacity a.now ≡ option_map plain_capacity b.now) }
+{
+    match (a, b) {
+        (Some(x), Some(y)) => x.same(y),
+        (None, None) => true,
+        _ => false,
+    }
+}
+
+impl Alike for OpenValve {
+    ghost plain = { plain_valve };
+
+    fn same(&self, other: &OpenValve) -> bool {
+        match (self, other) {
+            (OpenValve::Quadratic(x), OpenValve::Quadratic(y)) => x.same(y),
+            (OpenValve::Linear, OpenValve::Linear) => true,
+            _ => false,
+        }
+    }
+}
+
+impl Alike for LinkKind {
+    ghost plain = { plain_kind };
+
+    fn same(&self, other: &LinkKind) -> bool {
+        match (self, other) {
+            (LinkKind::Pipe(x), LinkKind::Pipe(y)) => x.same(y),
+            (LinkKind::CheckPipe(x), LinkKind::CheckPipe(y)) => x.same(y),
+            (
+                LinkKind::Pump {
+                    cap: x,
+                    shutoff: s,
+                    pattern: p,
+                    ..
+                },
+                LinkKind::Pump {
+                    cap: y,
+                    shutoff: t,
+                    pattern: q,
+                    ..
+                },
+            ) => x.same(y) && same_span(*s, *t) && same_pattern(*p, *q),
+            (LinkKind::Tcv { valve: x }, LinkKind::Tcv { valve: y }) => x.same(y),
+            (LinkKind::Fcv { valve: x }, LinkKind::Fcv { valve: y }) => x.same(y),
+            _ => false,
+        }
+    }
+}
+
+impl Alike for LinkState {
+    ghost plain = { plain_state };
+
+    fn same(&self, other: &LinkState) -> bool {
+        match (self, other) {
+            (LinkState::Open, LinkState::Open) => true,
+            (LinkState::Closed, LinkState::Closed) => true,
+            (LinkState::Speed(x), LinkState::Speed(y)) => x == y,
+            (LinkState::Throttle { nano: x, law: f }, LinkState::Throttle { nano: y, law: g }) => x
+                == y
+                && f.same(g),
+            (LinkState::Limit { nano: x, ticks: f }, LinkState::Limit { nano: y, ticks: g }) => x
+                == y
+                && f == g,
+            _ => false,
+        }
+    }
+}
+
+impl Alike for Link {
+    ghost plain = { plain_link };
+
+    fn same(&self, other: &Link) -> bool {
+        self.from == other.from
+            && self.to == other.to
+            && self.kind.same(&other.kind)
+            && self.start.same(&other.start)
+    }
+}
+
+impl Alike for Demand {
+    ghost plain = { λ d. d };
+
+    fn same(&self, other: &Demand) -> bool {
+        *self == *other
+    }
+}
+
+impl Alike for Reservoir {
+    ghost plain = { λ r. r };
+
+    fn same(&self, other: &Reservoir) -> bool {
+        *self == *other
+    }
+}
+
+fn same_demands(a: &List<Demand>, b: &List<Demand>) -> bool
+    ensures { IsTrue result ↔ (bare_list a.now ≡ bare_list b.now) }
+{
+    same_items(a.as_slice(), b.as_slice())
+}
+
+fn same_reservoirs(a: &List<Reservoir>, b: &List<Reservoir>) -> bool
+    ensures { IsTrue result ↔ (bare_list a.now ≡ bare_list b.now) }
+{
+    same_items(a.as_slice(), b.as_slice())
+}
+
+fn same_multipliers(a: &List<i64>, b: &List<i64>) -> bool
+    ensures { IsTrue result ↔ (bare_list a.now ≡ bare_list b.now) }
+{
+    a.as_slice() == b.as_slice()
+}
+
+fn same_bytes(a: &List<u8>, b: &List<u8>) -> bool
+    ensures { IsTrue result ↔ (bare_list a.now ≡ bare_list b.now) }
+{
+    a.as_slice() == b.as_slice()
+}
+
+impl Alike for Junction {
+    ghost plain = { plain_junction };
+
+    fn same(&self, other: &Junction) -> bool {
+        self.elevation == other.elevation
+            && same_demands(&self.demands, &other.demands)
+            && same_emitter(&self.emitter, &other.emitter)
+    }
+}
+
+impl Alike for Tank {
+    ghost plain = { plain_tank };
+
+    fn same(&self, other: &Tank) -> bool {
+        self.bottom == other.bottom
+            && self.initial == other.initial
+            && self.minimum == other.minimum
+            && self.maximum == other.maximum
+            && self.area == other.area
+    }
+}
+
+impl Alike for Pattern {
+    ghost plain = { plain_pattern };
+
+    fn same(&self, other: &Pattern) -> bool {
+        same_multipliers(&self.multipliers, &other.multipliers)
+    }
+}
+
+impl Alike for Control {
+    ghost plain = { plain_control };
+
+    fn same(&self, other: &Control) -> bool {
+        self.link == other.link && self.to.same(&other.to) && self.when == other.when
+    }
+}
+
+impl Alike for Value {
+    ghost plain = { plain_value };
+
+    fn same(&self, other: &Value) -> bool {
+        match (self, other) {
+            (Value::Amount { span: x, .. }, Value::Amount { span: y, .. }) => same_span(*x, *y),
+            (Value::Open, Value::Open) => true,
+            (Value::Closed, Value::Closed) => true,
+            (Value::Active, Value::Active) => true,
+            _ => false,
+        }
+    }
+}
+
+impl Alike for Clause {
+    ghost plain = { plain_clause };
+
+    fn same(&self, other: &Clause) -> bool {
+        self.what == other.what && self.relation == other.relation && self.value.same(&other.value)
+    }
+}
+
+impl Alike for RuleClause {
+    ghost plain = { plain_rule_clause };
+
+    fn same(&self, other: &RuleClause) -> bool {
+        self.joined == other.joined && self.clause.same(&other.clause)
+    }
+}
+
+impl Alike for Action {
+    ghost plain = { plain_action };
+
+    fn same(&self, other: &Action) -> bool {
+        self.link == other.link && self.to.same(&other.to)
+    }
+}
+
+impl Alike for Rule {
+    ghost plain = { plain_rule };
+
+    fn same(&self, other: &Rule) -> bool {
+        same_bytes(&self.id, &other.id)
+            && same_list(&self.clauses, &other.clauses)
+            && same_list(&self.yes, &other.yes)
+            && same_list(&self.no, &other.no)
+            && self.priority == other.priority
+    }
+}
+
+fn same_unit(a: FlowUnit, b: FlowUnit) -> bool
+    ensures { IsTrue result ↔ (a ≡ b) }
+{
+    a == b
+}
+
+fn same_number(a: Decimal, b: Decimal) -> bool
+    ensures { IsTrue result ↔ (a ≡ b) }
+{
+    a == b
+}
+
+fn same_options(a: &Options, b: &Options) -> bool
+    ensures { IsTrue result ↔ (a.now ≡ b.now) }
+{
+    same_unit(a.unit, b.unit)
+        && a.pda == b.pda
+        && same_number(a.p0, b.p0)
+        && same_number(a.pf, b.pf)
+        && same_number(a.multiplier, b.multiplier)
+        && same_pattern(a.default_pattern, b.default_pattern)
+}
+
+fn same_times(a: &Times, b: &Times) -> bool
+    ensures { IsTrue result ↔ (a.now ≡ b.now) }
+{
+    *a == *b
+}
+
+fn same_settings(a: &Project, b: &Project) -> bool
+    ensures { IsTrue result ↔ ((a.now.options ≡ b.now.options) × (a.now.times ≡ b.now.times)
+        × (a.now.node_ids ≡ b.now.node_ids) × (a.now.link_ids ≡ b.now.link_ids)) }
+{
+    same_options(&a.options, &b.options)
+        && same_times(&a.times, &b.times)
+        && a.node_ids.same(&b.node_ids)
+        && a.link_ids.same(&b.link_ids)
+}
+
+fn same_nodes(a: &Project, b: &Project) -> bool
+    ensures { IsTrue result ↔ ((plain_list plain_junction a.now.junctions ≡ plain_list plain_junction b.now.junctions)
+        × (bare_list a.now.reservoirs ≡ bare_list b.now.reservoirs)
+        × (plain_list plain_tank a.now.tanks ≡ plain_list plain_tank b.now.tanks)) }
+{
+    same_list(&a.junctions, &b.junctions)
+        && same_reservoirs(&a.reservoirs, &b.reservoirs)
+        && same_list(&a.tanks, &b.tanks)
+}
+
+/// Whether all fields of two projects are equal, the numbers of the file aside from which a
+/// capacity, a shutoff head, a tank's area and the amount of a clause were made.
+pub fn same(a: &Project, b: &Project) -> bool
+    ensures { IsTrue result ↔ (plain_project a.now ≡ plain_project b.now) }
+{
+    same_settings(a, b)
+        && same_nodes(a, b)
+        && same_list(&a.links, &b.links)
+        && same_list(&a.patterns, &b.patterns)
+        && same_list(&a.controls, &b.controls)
+        && same_list(&a.rules, &b.rules)
+}
