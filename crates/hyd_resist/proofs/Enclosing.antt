@@ -17,10 +17,10 @@ pub denominator_above : (s : Scaled) → 0 < denominator s
 denominator_above s = pow_pos (down s.exp)
 
 -- a rounded lower end of something at most x, and a rounded upper end of something at least x
-down_below : (p q : ℕ) (s : Scaled) (x : Fraction) → 0 < q → IsDown p q s → AtMost (fraction p q) x → AtMost (as_fraction s) x
+pub down_below : (p q : ℕ) (s : Scaled) (x : Fraction) → 0 < q → IsDown p q s → AtMost (fraction p q) x → AtMost (as_fraction s) x
 down_below p q s x above d below = AtMost-along (as_fraction s) (fraction p q) x above (record { crossed = d.at_most }) below
 
-up_above : (p q : ℕ) (s : Scaled) (x : Fraction) → 0 < q → IsUp p q s → AtMost x (fraction p q) → AtMost x (as_fraction s)
+pub up_above : (p q : ℕ) (s : Scaled) (x : Fraction) → 0 < q → IsUp p q s → AtMost x (fraction p q) → AtMost x (as_fraction s)
 up_above p q s x above u over = AtMost-along x (fraction p q) (as_fraction s) above over (record { crossed = u.at_least })
 
 pub ratio-encloses : (p q : ℕ) (r : Pair) → IsRatio p q r → Encloses r (fraction p q)

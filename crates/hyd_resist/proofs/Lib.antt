@@ -13,3 +13,4 @@ pub mod Factors
 pub mod Products
 pub mod RootWidths
 pub mod PipePairs
+pub mod OnePair

@@ -14,7 +14,7 @@ use Rattle.hyd_resist.proofs.SquaredFlows.{ratio-above}
 use Rattle.hyd_resist.proofs.Widths.{IsNear, high, low, ratio-near, product-near, quotient-near, sum-near, power-near, wider, near-sharp}
 use Rattle.hyd_resist.proofs.RootWidths.{root-near}
 
-some_factor : (p q : ℕ) (s : Scaled) → 0 < p → IsUp p q s → 0 < q
+pub some_factor : (p q : ℕ) (s : Scaled) → 0 < p → IsUp p q s → 0 < q
 some_factor p zero s above made = absurd (nothing_left p (denominator s) above (denominator_above s) (omega (arith, made.at_least)))
   where
     nothing_left : (n d : ℕ) → 0 < n → 0 < d → n * d ≤ 0 → ⊥

@@ -2,7 +2,7 @@
 //! Analysis Algorithms).
 #![tactic(auto)]
 
-ghost use Rattle.std.specs.Prelude.{◌≡◌, ◌≤◌, ◌<◌, ◌^◌, pos, ◌≤ℤ◌, ◌<ℤ◌, IfOk, OnErr};
+ghost use Rattle.std.specs.Prelude.{◌≡◌, ◌≤◌, ◌<◌, ◌^◌, pos, ◌≤ℤ◌, ◌<ℤ◌, IfOk, OnOk, OnErr};
 ghost use Rattle.hyd_num.specs.Pairs.{pair_reach};
 ghost use Rattle.hyd_num.specs.Chain.{IsMinorPair, IsFrictionPair, IsMade};
 ghost use Rattle.hyd_spec.specs.Enclosure.{IsEnclosure, IsSharp};
@@ -24,6 +24,7 @@ pub fn valve_capacity(diameter: Decimal, k: Decimal, us: bool) -> Result<Capacit
     ensures made { IfOk result (λ c. IsMade c) }
     ensures encloses { IfOk result (λ c. IsEnclosure c) }
     ensures sharp { IfOk result (λ c. IsSharp c) }
+    ensures accepted { OnOk result (¬ IsRefused (Origin.Valve diameter k us)) }
     ensures refused { OnErr result (IsRefused (Origin.Valve diameter k us)) }
 {
     capacity(
@@ -52,6 +53,7 @@ pub fn pipe_capacity(
     ensures made { IfOk result (λ c. IsMade c) }
     ensures encloses { IfOk result (λ c. IsEnclosure c) }
     ensures sharp { IfOk result (λ c. IsSharp c) }
+    ensures accepted { OnOk result (¬ IsRefused (Origin.Pipe length diameter roughness minor us)) }
     ensures refused { OnErr result (IsRefused (Origin.Pipe length diameter roughness minor us)) }
 {
     let origin = Origin::Pipe {

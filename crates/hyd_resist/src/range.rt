@@ -1,7 +1,7 @@
 //! Which enclosures are capacities.
 #![tactic(auto)]
 
-ghost use Rattle.std.specs.Prelude.{◌≡◌, ◌*◌, ◌^◌, ◌≤◌, ◌<◌, IfOk, OnErr};
+ghost use Rattle.std.specs.Prelude.{◌≡◌, ◌*◌, ◌^◌, ◌≤◌, ◌<◌, IfOk, OnOk, OnErr};
 ghost use Rattle.std.specs.Bool.{OnTrue, OnFalse};
 ghost use Rattle.hyd_num.specs.Scaled.{numerator, denominator};
 ghost use Rattle.hyd_num.specs.Chain.{StandsFor, IsMade};
@@ -29,6 +29,7 @@ pub fn capacity(pair: Pair, origin: Origin) -> Result<Capacity, CapRange>
     ensures made { IfOk result (λ c. IsMade c) }
     ensures encloses { IfOk result (λ c. IsEnclosure c) }
     ensures sharp { IfOk result (λ c. IsSharp c) }
+    ensures accepted { OnOk result (¬ IsRefused origin) }
     ensures refused { OnErr result (IsRefused origin) }
 {
     if is_below_least(pair.lo) {
@@ -49,6 +50,7 @@ pub fn capacity_inside(pair: Pair, origin: Origin) -> Capacity
     ensures made { IsMade result }
     ensures encloses { IsEnclosure result }
     ensures sharp { IsSharp result }
+    ensures accepted { ¬ IsRefused origin }
 {
     Capacity {
         lo: pair.lo,

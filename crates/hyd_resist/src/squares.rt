@@ -2,7 +2,7 @@
 //! that drives it (EPANET 2.2 User Manual, The Network Model and Analysis Algorithms).
 #![tactic(auto)]
 
-ghost use Rattle.std.specs.Prelude.{◌≡◌, ◌≤◌, ◌<◌, ◌*◌, ◌^◌, pos, ◌≤ℤ◌, ◌<ℤ◌, IfOk, OnErr};
+ghost use Rattle.std.specs.Prelude.{◌≡◌, ◌≤◌, ◌<◌, ◌*◌, ◌^◌, pos, ◌≤ℤ◌, ◌<ℤ◌, IfOk, OnOk, OnErr};
 ghost use Rattle.hyd_num.specs.Pairs.{pair_reach};
 ghost use Rattle.hyd_num.specs.Quantity.{billionths, flow_fraction, pressure_fraction, head_ticks};
 ghost use Rattle.hyd_num.specs.Chain.{IsPairOf, IsSquareOver, IsMade};
@@ -30,6 +30,7 @@ pub fn pump_capacity(
     ensures made { IfOk result (λ c. IsMade c) }
     ensures encloses { IfOk result (λ c. IsEnclosure c) }
     ensures sharp { IfOk result (λ c. IsSharp c) }
+    ensures accepted { OnOk result (¬ IsRefused (Origin.Pump flow drop thirds unit)) }
     ensures refused { OnErr result (IsRefused (Origin.Pump flow drop thirds unit)) }
 {
     let flows = flow_in_ticks(flow, unit);
@@ -53,6 +54,7 @@ pub fn emitter_capacity(c: Decimal, unit: FlowUnit) -> Result<Capacity, CapRange
     ensures made { IfOk result (λ made. IsMade made) }
     ensures encloses { IfOk result (λ made. IsEnclosure made) }
     ensures sharp { IfOk result (λ made. IsSharp made) }
+    ensures accepted { OnOk result (¬ IsRefused (Origin.Emitter c unit)) }
     ensures refused { OnErr result (IsRefused (Origin.Emitter c unit)) }
 {
     let flows = flow_in_ticks(c, unit);

@@ -1,6 +1,7 @@
 use Rattle.std.proofs.Common.{refl}
 use Rattle.hyd_resist.proofs.Enclosures.{IsEnclosure-made}
 use Rattle.hyd_resist.proofs.Sharpness.{pair-sharp}
+use Rattle.hyd_resist.proofs.OnePair.{not_refused}
 use Rattle.hyd_resist.proofs.range.capacity_inside.Goals as goal
 
 pub returns-clause-made : goal.returns-clause-made
@@ -11,3 +12,6 @@ returns-clause-encloses c = IsEnclosure-made _ (record { pair = c.args.pair; low
 
 pub returns-clause-sharp : goal.returns-clause-sharp
 returns-clause-sharp c = pair-sharp c.args.origin c.args.pair c.requires.pair
+
+pub returns-clause-accepted : goal.returns-clause-accepted
+returns-clause-accepted c = not_refused c.args.origin c.args.pair c.requires.pair c.requires.least c.requires.greatest
