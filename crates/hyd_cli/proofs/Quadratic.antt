@@ -1,0 +1,94 @@
+-- Quadratic laws: what the roots of the code are, and that both laws rise with the head difference.
+use Rattle.std.proofs.Common.{◌≡◌, ℕ, suc, ◌*◌, ◌^◌, ◌<◌, ◌≤◌, ℤ, pos, negsuc, neg_ℤ, ◌≤ℤ◌, ◌<ℤ◌, unsigned_abs, ap, subst, arith}
+use Rattle.std.proofs.Math.Nat.{mul-le-mul_left, mul-le-mul_right, le_of_mul-le-mul_right}
+use Rattle.std.proofs.lemmas.Nat.{pow_pos}
+use Rattle.std.proofs.lemmas.Int.{ints}
+use borrow.Author.Differences.{down}
+use Rattle.hyd_num.specs.declared.binary.Scaled.{Scaled}
+use Rattle.hyd_num.specs.Scaled.{numerator, denominator}
+use Rattle.hyd_num.specs.Roots.{IsSquareRootDown, IsSquareRootUp}
+use Rattle.hyd_spec.specs.Types.{Capacity}
+use Rattle.hyd_spec.specs.Enclosing.{root_down, root_up, quad_low, quad_high}
+use Rattle.hyd_laws.proofs.Roots.{root_down-is, root_up-is}
+
+positive : (s : Scaled) → 0 < denominator s
+positive s = pow_pos (down s.exp)
+
+-- ---- the capacity's upper end is at least its lower one
+
+least_over : (nl dl nh dh : ℕ) → 0 < dl → nl * dh ≤ nh * dl → dl ≤ nl * 2 ^ 61 → dh ≤ nh * 2 ^ 61
+least_over nl dl nh dh above ordered least =
+    let l : dl * dh ≤ nl * 2 ^ 61 * dh = mul-le-mul_right dh least in
+    let m : dh * dl ≤ nh * 2 ^ 61 * dl = omega (arith, l, ordered) in
+    le_of_mul-le-mul_right m above
+
+pub upper_least : (c : Capacity) → denominator c.hi ≤ numerator c.hi * 2 ^ 61
+upper_least c = least_over (numerator c.lo) (denominator c.lo) (numerator c.hi) (denominator c.hi) (positive c.lo) c.ordered c.least
+
+-- ---- the roots are those of the laws
+
+down_is : (p q r : ℕ) → 0 < q → IsSquareRootDown p q r → r ≡ root_down p q
+down_is p q r above root =
+    let is = root_down-is p q above in
+    let l : r ≤ root_down p q = is.greatest r root.at_most in
+    let m : root_down p q ≤ r = root.greatest (root_down p q) is.at_most in
+    omega arith
+
+up_is : (p q r : ℕ) → 0 < q → IsSquareRootUp p q r → r ≡ root_up p q
+up_is p q r above root =
+    let is = root_up-is p q above in
+    let l : root_up p q ≤ r = is.least r root.at_least in
+    let m : r ≤ root_up p q = root.least (root_up p q) is.at_least in
+    omega arith
+
+down_at : (s : Scaled) (d m r : ℕ) → m ≡ d → IsSquareRootDown (numerator s * m) (denominator s) r → r ≡ root_down (numerator s * d) (denominator s)
+down_at s d m r e root = subst (λ (n : ℕ). r ≡ root_down (numerator s * n) (denominator s)) e (down_is _ _ r (positive s) root)
+
+up_at : (s : Scaled) (d m r : ℕ) → m ≡ d → IsSquareRootUp (numerator s * m) (denominator s) r → r ≡ root_up (numerator s * d) (denominator s)
+up_at s d m r e root = subst (λ (n : ℕ). r ≡ root_up (numerator s * n) (denominator s)) e (up_is _ _ r (positive s) root)
+
+pub low_forward : (c : Capacity) (d : ℤ) (m r : ℕ) → pos 0 ≤ℤ d → m ≡ unsigned_abs d → IsSquareRootDown (numerator c.lo * m) (denominator c.lo) r → pos r ≡ quad_low c d
+low_forward c (pos d) m r le e root = ap pos (down_at c.lo d m r e root)
+low_forward c (negsuc d) m r le e root = absurd (omega (arith, ints, le))
+
+pub low_reverse : (c : Capacity) (d : ℤ) (m r : ℕ) → d <ℤ pos 0 → m ≡ unsigned_abs d → IsSquareRootUp (numerator c.hi * m) (denominator c.hi) r → neg_ℤ (pos r) ≡ quad_low c d
+low_reverse c (pos d) m r lt e root = absurd (omega (arith, ints, lt))
+low_reverse c (negsuc d) m r lt e root = ap (λ (n : ℕ). neg_ℤ (pos n)) (up_at c.hi (suc d) m r e root)
+
+pub high_forward : (c : Capacity) (d : ℤ) (m r : ℕ) → pos 0 ≤ℤ d → m ≡ unsigned_abs d → IsSquareRootUp (numerator c.hi * m) (denominator c.hi) r → pos r ≡ quad_high c d
+high_forward c (pos d) m r le e root = ap pos (up_at c.hi d m r e root)
+high_forward c (negsuc d) m r le e root = absurd (omega (arith, ints, le))
+
+pub high_reverse : (c : Capacity) (d : ℤ) (m r : ℕ) → d <ℤ pos 0 → m ≡ unsigned_abs d → IsSquareRootDown (numerator c.lo * m) (denominator c.lo) r → neg_ℤ (pos r) ≡ quad_high c d
+high_reverse c (pos d) m r lt e root = absurd (omega (arith, ints, lt))
+high_reverse c (negsuc d) m r lt e root = ap (λ (n : ℕ). neg_ℤ (pos n)) (down_at c.lo (suc d) m r e root)
+
+-- ---- both laws rise
+
+root_down_rises : (a b q : ℕ) → 0 < q → a ≤ b → root_down a q ≤ root_down b q
+root_down_rises a b q above le =
+    let fits : root_down a q * root_down a q * q ≤ a = (root_down-is a q above).at_most in
+    (root_down-is b q above).greatest (root_down a q) (omega arith)
+
+root_up_rises : (a b q : ℕ) → 0 < q → a ≤ b → root_up a q ≤ root_up b q
+root_up_rises a b q above le =
+    let fits : b ≤ root_up b q * root_up b q * q = (root_up-is b q above).at_least in
+    (root_up-is a q above).least (root_up b q) (omega arith)
+
+down_rises : (s : Scaled) (a b : ℕ) → a ≤ b → root_down (numerator s * a) (denominator s) ≤ root_down (numerator s * b) (denominator s)
+down_rises s a b le = root_down_rises _ _ _ (positive s) (mul-le-mul_left (numerator s) le)
+
+up_rises : (s : Scaled) (a b : ℕ) → a ≤ b → root_up (numerator s * a) (denominator s) ≤ root_up (numerator s * b) (denominator s)
+up_rises s a b le = root_up_rises _ _ _ (positive s) (mul-le-mul_left (numerator s) le)
+
+pub quad_low_rises : (c : Capacity) (a b : ℤ) → a ≤ℤ b → quad_low c a ≤ℤ quad_low c b
+quad_low_rises c (pos a) (pos b) le = let l = down_rises c.lo a b (omega (arith, ints, le)) in omega (arith, ints, l)
+quad_low_rises c (pos a) (negsuc b) le = absurd (omega (arith, ints, le))
+quad_low_rises c (negsuc a) (pos b) le = omega (arith, ints)
+quad_low_rises c (negsuc a) (negsuc b) le = let l = up_rises c.hi (suc b) (suc a) (omega (arith, ints, le)) in omega (arith, ints, l)
+
+pub quad_high_rises : (c : Capacity) (a b : ℤ) → a ≤ℤ b → quad_high c a ≤ℤ quad_high c b
+quad_high_rises c (pos a) (pos b) le = let l = up_rises c.hi a b (omega (arith, ints, le)) in omega (arith, ints, l)
+quad_high_rises c (pos a) (negsuc b) le = absurd (omega (arith, ints, le))
+quad_high_rises c (negsuc a) (pos b) le = omega (arith, ints)
+quad_high_rises c (negsuc a) (negsuc b) le = let l = down_rises c.lo (suc b) (suc a) (omega (arith, ints, le)) in omega (arith, ints, l)

@@ -1,0 +1,13 @@
+pub mod Command
+pub mod Statuses
+pub mod Run
+pub mod Answers
+pub mod Printing
+pub mod Lines
+pub mod SingleValve
+pub mod Solution
+pub mod FirstRun
+pub mod Texts
+pub mod Delivery
+pub mod Reading
+pub mod Network

@@ -1,0 +1,33 @@
+//! What a quadratic law passes at a head difference of whole head ticks, at least and at most, in whole flow ticks.
+#![tactic(auto)]
+
+ghost use Rattle.std.specs.Prelude.{◌≡◌, ◌*◌, ◌^◌, ◌≤◌, unsigned_abs};
+ghost use Rattle.hyd_spec.specs.Enclosing.{quad_low, quad_high};
+
+use hyd_num::{Capacity, sqrt_down, sqrt_up};
+
+/// At most the flow, in flow ticks, that the head difference `d`, in head ticks, drives.
+pub fn quad_low(capacity: &Capacity, d: i64) -> i128
+    requires { unsigned_abs d ≤ 3 * 10 ^ 18 }
+    ensures value { result ≡ quad_low capacity.now d }
+    ensures small { unsigned_abs result ≤ 2 ^ 64 }
+{
+    let magnitude = d.unsigned_abs();
+    if d >= 0 {
+        return i128::from(sqrt_down(capacity.lo, magnitude));
+    }
+    -i128::from(sqrt_up(capacity.hi, magnitude))
+}
+
+/// At least that flow.
+pub fn quad_high(capacity: &Capacity, d: i64) -> i128
+    requires { unsigned_abs d ≤ 3 * 10 ^ 18 }
+    ensures value { result ≡ quad_high capacity.now d }
+    ensures small { unsigned_abs result ≤ 2 ^ 64 }
+{
+    let magnitude = d.unsigned_abs();
+    if d >= 0 {
+        return i128::from(sqrt_up(capacity.hi, magnitude));
+    }
+    -i128::from(sqrt_down(capacity.lo, magnitude))
+}

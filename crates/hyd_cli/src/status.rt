@@ -1,0 +1,34 @@
+//! How a command ends.
+
+ghost use Rattle.std.specs.Prelude.{◌≡◌};
+ghost use Rattle.hyd_cli.specs.Statuses.{number_of};
+
+/// The answer of a command. Its number is the exit status of the program.
+#[derive(Debug, Clone, Copy, PartialEq, Eq, Drop)]
+pub enum Status {
+    /// The run finished.
+    Done = 0,
+    /// No memory was found; nothing was created, written or printed.
+    OutOfMemory = 1,
+    /// The words aren't a command.
+    Usage = 2,
+    /// A call of `open` or `read` failed.
+    ReadFault = 3,
+    /// A call of `create`, `write` or `print` failed.
+    WriteFault = 4,
+    /// The text of the network was refused.
+    InputRefused = 5,
+    /// The run stopped: no certificate exists, or a matter is open.
+    Undecided = 6,
+    /// A call of `write` or `print` took nothing of a nonempty piece.
+    Stalled = 10,
+}
+
+impl Status {
+    /// The exit status of the program.
+    pub fn number(self) -> u8
+        ensures { result ≡ number_of self }
+    {
+        self as u8
+    }
+}

@@ -1,0 +1,68 @@
+//! What holds of the run of a network of the first form.
+#![tactic(auto)]
+
+ghost use Rattle.std.specs.Prelude.{◌≡◌, ◌^◌, ℕ, ℤ, pos, Bool, true, false, List, [], ◌∷◌};
+ghost use Rattle.hyd_num.specs.Decimals.{head_quantity, pressure_quantity, flow_quantity};
+ghost use Rattle.hyd_num.specs.declared.units.FlowUnit.{FlowUnit};
+ghost use Rattle.hyd_spec.specs.Types.{Project};
+ghost use Rattle.hyd_spec.specs.declared.Problem.TheVariants.{Main};
+ghost use Rattle.hyd_spec.specs.declared.Side.{Side};
+ghost use Rattle.hyd_spec.specs.declared.Side.TheVariants.{Upper, Lower};
+ghost use Rattle.hyd_spec.specs.Interval.{Interval};
+ghost use Rattle.hyd_spec.specs.Grid.{Grid};
+ghost use Rattle.hyd_spec.specs.Certificate.{IsCertificate, IsTight};
+ghost use Rattle.hyd_spec.specs.CertificateText.{certificate_text};
+ghost use Rattle.hyd_spec.specs.Record.{initial_standing};
+ghost use Rattle.hyd_spec.specs.Valid.{IsGridAt};
+ghost use Rattle.hyd_spec.specs.Stops.{HasNoCertificate, NoCertificate};
+ghost use Rattle.hyd_spec.specs.ReportLine.{ReportLine, report_text, done_line, stop_line};
+ghost use Rattle.hyd_spec.specs.Report.{Prints, IsReport};
+ghost use Rattle.hyd_spec.specs.Claims.{LiesBetween, at_part};
+ghost use Rattle.hyd_spec.specs.FirstForm.{IsFirstNetwork};
+ghost use Rattle.hyd_spec.specs.Headline.{EveryHistoryAgrees, IsRun, Sharpness, IsSharpFound, RunWrites, Finished, Stopped};
+ghost use Rattle.hyd_laws.specs.Laws.{LiesIn};
+ghost use Rattle.hyd_cli.specs.FirstRun.{first_row, first_found, last_standing};
+ghost use Rattle.hyd_cli.specs.Solution.{IsTightHead};
+
+/// The printed ends of an interval enclose each of its values, at every scale.
+fn printed_values()
+    ensures heads { (us : Bool) (S : ℕ) (interval ends : Interval) (z : ℤ) → Prints (head_quantity us) interval ends
+        → LiesIn S interval z → LiesBetween ends (at_part S (head_quantity us) z) }
+    ensures pressures { (us : Bool) (S : ℕ) (interval ends : Interval) (z : ℤ) → Prints (pressure_quantity us) interval ends
+        → LiesIn S interval z → LiesBetween ends (at_part S (pressure_quantity us) z) }
+    ensures flows { (unit : FlowUnit) (S : ℕ) (interval ends : Interval) (z : ℤ) → Prints (flow_quantity unit) interval ends
+        → LiesIn S interval z → LiesBetween ends (at_part S (flow_quantity unit) z) }
+{}
+
+/// Certificates of both sides are the record of a valid run, and every history agrees with it and
+/// with its report. Tight ones are as sharp as can be asked for.
+fn first_histories()
+    ensures agree { (network : Project) → IsFirstNetwork network → (grid : Grid) → IsGridAt network (initial_standing network) grid
+        → (upper lower : ℤ) → IsCertificate grid Main Upper (upper ∷ []) → IsCertificate grid Main Lower (lower ∷ [])
+        → (lines : List ReportLine) → IsReport network grid (initial_standing network) (first_row upper lower) lines
+        → EveryHistoryAgrees network (first_found network grid upper lower lines ∷ []) }
+    ensures valid { (network : Project) → IsFirstNetwork network → (grid : Grid) → IsGridAt network (initial_standing network) grid
+        → (upper lower : ℤ) → IsCertificate grid Main Upper (upper ∷ []) → IsCertificate grid Main Lower (lower ∷ [])
+        → (lines : List ReportLine) → IsReport network grid (initial_standing network) (first_row upper lower) lines
+        → IsRun network (first_found network grid upper lower lines ∷ []) (last_standing network) }
+    ensures sharp { (network : Project) → IsFirstNetwork network → (sharpness : Sharpness) → sharpness.tight ≡ true
+        → (grid : Grid) (upper lower : ℤ) (lines : List ReportLine)
+        → IsTight grid Main Upper (upper ∷ []) → IsTight grid Main Lower (lower ∷ [])
+        → IsSharpFound network sharpness (first_found network grid upper lower lines) }
+{}
+
+/// The certificate and the report of a run that found the tight heads, or that some side has none.
+fn first_runs()
+    ensures finished { (network : Project) → IsFirstNetwork network → (upper lower : ℤ)
+        → IsTightHead network Upper upper → IsTightHead network Lower lower
+        → (lines : List ReportLine) → ((grid : Grid) → IsGridAt network (initial_standing network) grid
+        → IsReport network grid (initial_standing network) (first_row upper lower) lines)
+        → (written printed : List ℕ) → written ≡ certificate_text 1 0 (first_row upper lower ∷ []) 1 true
+        → printed ≡ report_text network lines (done_line 1)
+        → RunWrites network 200 (record { width = pos (10 ^ 11); tight = true }) Finished written printed }
+    ensures stopped { (network : Project) → IsFirstNetwork network → (side : Side)
+        → HasNoCertificate network (initial_standing network) Main side
+        → (written printed : List ℕ) → written ≡ certificate_text 1 0 [] 0 false
+        → printed ≡ report_text network [] (stop_line network 0 0 (NoCertificate Main side 0))
+        → RunWrites network 200 (record { width = pos (10 ^ 11); tight = true }) (Stopped (NoCertificate Main side 0)) written printed }
+{}

@@ -1,0 +1,16 @@
+pub mod Integers
+pub mod Roots
+pub mod LossLaws
+pub mod LinkLaws
+pub mod EachLaw
+pub mod Nodes
+pub mod Sums
+pub mod Outflows
+pub mod Comparison
+pub mod Pinning
+pub mod Boxed
+pub mod Grids
+pub mod Levelling
+pub mod Deciding
+pub mod Worked
+pub mod Rising
