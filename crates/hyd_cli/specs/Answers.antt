@@ -97,16 +97,17 @@ pub record Delivered (network : Project) (status : Status) (before now : Seen) :
   pub written : now.written ≡ where_told before.files certificate
   pub printed : now.printed ≡ append_known before.printed report
 
--- The certificate's file wasn't created, and nothing was written or printed.
+-- Nothing was written or printed, as where the certificate's file couldn't be created.
 pub record NothingPut (before now : Seen) : Type 0 where
   pub written : now.written ≡ before.written
   pub printed : now.printed ≡ before.printed
 
 -- A front of the certificate was written to the file created in this call, where files are told, and a front of the report
--- was printed.
+-- was printed: nothing of it before the whole certificate was written.
 pub record FrontsPut (certificate report : List ℕ) (before now : Seen) : Type 0 where
   pub written : PutOut (where_told before.files []) now.written certificate
   pub printed : PutOut before.printed now.printed report
+  pub in_order : (now.printed ≡ before.printed) ⊎ (now.written ≡ where_told before.files certificate)
 
 -- A fault broke the delivery of a run of the network off.
 pub record BrokeOff (network : Project) (before now : Seen) : Type 0 where

@@ -3,7 +3,7 @@
 ghost use Rattle.std.specs.Prelude.{◌≡◌, ◌≢◌, ◌⊎◌, ◌<◌, ℕ, List, Option, Some, None, IsTrue, IfOk, IfErr, IfSome, IfNone, OnOk, OnErr, length, map, string_bytes};
 ghost use Rattle.hyd_io.specs.Told.{IsTold, file_at};
 ghost use Rattle.hyd_spec.specs.Types.{Project};
-ghost use Rattle.hyd_spec.specs.FirstForm.{IsFirstForm, IsFirstNetwork, HasNoForm};
+ghost use Rattle.hyd_spec.specs.FirstForm.{IsFirstNetwork, Words, HasForm, HasNoForm};
 ghost use Rattle.hyd_cli.specs.Command.{Names, command};
 ghost use Rattle.hyd_cli.specs.Statuses.{IsEnd};
 ghost use Rattle.hyd_cli.specs.Answers.{seen, status_of, IsUntouched, ChangesOnly, HasCause, Leaves, AnswersUsage, AnswersRefused, AnswersNetwork, AnswersRun};
@@ -47,9 +47,9 @@ pub fn tool<D: Desk>(alloc: Global, words: &[String], desk: &mut D) -> Status
     ensures refused { (names : Names) (text : List ℕ) → command (map string_bytes words.now) ≡ Some names
         → IsTold (D.files desk.old) names.net text → HasNoForm text → AnswersRefused result
         (seen D.files D.written D.printed desk.old) (seen D.files D.written D.printed desk.new) }
-    ensures run { (names : Names) (text : List ℕ) (network : Project)
+    ensures run { (names : Names) (text : List ℕ) (w : Words)
         → command (map string_bytes words.now) ≡ Some names
-        → IsTold (D.files desk.old) names.net text → IsFirstForm text network → AnswersRun text result
+        → IsTold (D.files desk.old) names.net text → HasForm text w → AnswersRun text result
         (seen D.files D.written D.printed desk.old) (seen D.files D.written D.printed desk.new) }
     ensures holds { (names : Names) → command (map string_bytes words.now) ≡ Some names → IsEnd result
         → file_at (D.files desk.new) names.cert ≡ D.written desk.new }
@@ -74,8 +74,8 @@ fn run<D: Desk>(alloc: Global, net: &str, cert: &str, desk: &mut D) -> Status
     ensures refused { (text : List ℕ) → IsTold (D.files desk.old) net.now text → HasNoForm text
         → AnswersRefused result
         (seen D.files D.written D.printed desk.old) (seen D.files D.written D.printed desk.new) }
-    ensures run { (text : List ℕ) (network : Project)
-        → IsTold (D.files desk.old) net.now text → IsFirstForm text network → AnswersRun text result
+    ensures run { (text : List ℕ) (w : Words)
+        → IsTold (D.files desk.old) net.now text → HasForm text w → AnswersRun text result
         (seen D.files D.written D.printed desk.old) (seen D.files D.written D.printed desk.new) }
     ensures holds { IsEnd result → file_at (D.files desk.new) cert.now ≡ D.written desk.new }
     ensures others { ChangesOnly cert.now

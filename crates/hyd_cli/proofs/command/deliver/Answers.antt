@@ -1,5 +1,5 @@
 -- Where the file was created, fronts of both texts were put out.
-use Rattle.std.proofs.Common.{◌≡◌, ℕ, List, Option, inr, ◌∙◌, rules}
+use Rattle.std.proofs.Common.{◌≡◌, ℕ, List, Option, inl, inr, ◌∙◌, rules}
 use Rattle.hyd_io.specs.Told.{PutOut}
 use Rattle.hyd_io.proofs.ToldLemmas.{put_out_nothing}
 use Rattle.hyd_cli.proofs.command.deliver.Goals as goal
@@ -14,7 +14,8 @@ returns-in-Err-clause-fronts g c =
     inr (record {
       written = search rules;
       printed = nothing_more (g.D.Desk.printed c.args.desk.now) (g.D.Desk.printed c.put_bytes.new.desk) c.args.texts.now.report.items printed_stays;
+      in_order = inl printed_stays;
     })
 
 pub returns-in-Err-put_bytes-clause-fronts : goal.returns-in-Err-put_bytes-clause-fronts
-returns-in-Err-put_bytes-clause-fronts g c = inr (record { written = search rules; printed = search rules })
+returns-in-Err-put_bytes-clause-fronts g c = inr (record { written = search rules; printed = search rules; in_order = inr (search rules) })

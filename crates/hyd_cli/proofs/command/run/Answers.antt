@@ -8,9 +8,9 @@ use Rattle.hyd_cli.proofs.LengthLemmas.{length-form}
 use Rattle.hyd_cli.proofs.command.run.Goals as goal
 
 pub returns-in-Ok-None-clause-run : goal.returns-in-Ok-None-clause-run
-returns-in-Ok-None-clause-run g c text network told form =
+returns-in-Ok-None-clause-run g c text w told form =
     let long : 67108864 < length text = rw c.in-Ok-None.field-0-is at (c.in-Ok-None.ensures.long text told) in
-    absurd (omega (arith, long, length-form text form.chosen form.has_form))
+    absurd (omega (arith, long, length-form text w form))
 
 pub returns-in-Ok-Some-read_form-clause-leaves : goal.returns-in-Ok-Some-read_form-clause-leaves
 returns-in-Ok-Some-read_form-clause-leaves g c =
@@ -27,7 +27,7 @@ returns-in-Ok-Some-read_form-clause-refused g c text told no_form =
     absurd (no_form form.chosen form.has_form)
 
 pub returns-in-Ok-Some-read_form-clause-run : goal.returns-in-Ok-Some-read_form-clause-run
-returns-in-Ok-Some-read_form-clause-run g c text network told _ =
+returns-in-Ok-Some-read_form-clause-run g c text _ told _ =
     let before = seen g.D.Desk.files g.D.Desk.written g.D.Desk.printed c.args.desk.now in
     let between = seen g.D.Desk.files g.D.Desk.written g.D.Desk.printed c.read_text.new.desk in
     let now = seen g.D.Desk.files g.D.Desk.written g.D.Desk.printed c.answer.new.desk in
@@ -41,8 +41,8 @@ returns-in-Ok-Some-read_form-clause-others g c other differs =
     c.answer.ensures.others other differs ∙ ap (λ (files : Option Files). file_at files other) c.read_text.ensures.untouched.files
 
 pub returns-in-Ok-None-read_form-clause-run : goal.returns-in-Ok-None-read_form-clause-run
-returns-in-Ok-None-read_form-clause-run g c text network told form =
+returns-in-Ok-None-read_form-clause-run g c text w told form =
     let same : c.in-Ok-Some.text.items ≡ text = rw c.in-Ok-Some.field-0-is at (c.in-Ok-Some.ensures.text text told) in
     let none : HasNoForm c.deref.result.now = rw c.in-Ok-None-read_form.field-0-is at c.in-Ok-None-read_form.ensures.none in
     let no_form : HasNoForm text = rw (c.deref.ensures.value, same) at none in
-    absurd (no_form form.chosen form.has_form)
+    absurd (no_form w form)

@@ -18,6 +18,6 @@ pub run-requires-clause-creates : goal.run-requires-clause-creates
 run-requires-clause-creates g c = c.requires.creates (record { net = c.in-Some.net.now; cert = c.in-Some.cert.now }) (sym c.in-Some.ensures)
 
 pub returns-in-Some-clause-run : goal.returns-in-Some-clause-run
-returns-in-Some-clause-run g c names text network is_command told form =
+returns-in-Some-clause-run g c names text w is_command told form =
     let known : Names = record { net = c.in-Some.net.now; cert = c.in-Some.cert.now } in
-    c.run.ensures.run text network (told_of_names (IsTold (g.D.Desk.files c.args.desk.now)) (command (map string_bytes c.args.words.now)) known names text (sym c.in-Some.ensures) is_command told) form
+    c.run.ensures.run text w (told_of_names (IsTold (g.D.Desk.files c.args.desk.now)) (command (map string_bytes c.args.words.now)) known names text (sym c.in-Some.ensures) is_command told) form
