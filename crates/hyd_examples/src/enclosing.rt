@@ -1,11 +1,10 @@
 //! The enclosing functions of links and demands.
-#![tactic(none)]
+#![tactic(auto)]
 
-ghost use Rattle.std.specs.Prelude.{◌≡◌, ℕ, ℤ, pos, neg_ℤ, ◌^◌, Bool, true, false, List, [], ◌∷◌, map, Some, None};
-ghost use Rattle.hyd_num.specs.Rational.{Rational, floor, ceiling};
+ghost use Rattle.std.specs.Prelude.{◌≡◌, pos, neg_ℤ, [], ◌∷◌, map, Some, None};
 ghost use Rattle.hyd_spec.specs.Types.{Capacity};
-ghost use Rattle.hyd_spec.specs.Law.{Law, Shut, Straight, Lifted, ForwardOnly, ReverseOnly, Capped, Quad};
-ghost use Rattle.hyd_spec.specs.Enclosing.{root_down, root_up, low, high, DemandLaw, Fixed, Driven, demand_low, demand_high, quad_low, quad_high, emitter_low, emitter_high};
+ghost use Rattle.hyd_spec.specs.Law.{Shut, Straight, Lifted, ForwardOnly, ReverseOnly, Capped, Quad};
+ghost use Rattle.hyd_spec.specs.Enclosing.{root_down, root_up, low, high, Fixed, Driven, demand_low, demand_high, emitter_low, emitter_high};
 
 /// Whole roots of whole numbers, of halves and of quarters, rounded down and up.
 pub fn roots()

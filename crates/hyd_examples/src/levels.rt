@@ -1,13 +1,12 @@
 //! Levels of tanks.
-#![tactic(none)]
+#![tactic(auto)]
 
-ghost use Rattle.std.specs.Prelude.{◌≡◌, ℕ, ℤ, pos, neg_ℤ, Bool, true, false, List, [], ◌∷◌, map, Some, None};
-ghost use Rattle.hyd_num.specs.Rational.{floor, ceiling, whole};
+ghost use Rattle.std.specs.Prelude.{◌≡◌, pos, neg_ℤ, true, false, [], ◌∷◌, map, Some, None};
+ghost use Rattle.hyd_num.specs.Rational.{floor, ceiling};
 ghost use Rattle.hyd_spec.specs.Types.{Tank};
 ghost use Rattle.hyd_spec.specs.declared.TankState.TheVariants.{Empty, Between, Full};
-ghost use Rattle.hyd_spec.specs.Interval.{Interval};
-ghost use Rattle.hyd_spec.specs.Tank.{exact_level, carried_level, tank_state, reaches};
-ghost use Rattle.hyd_spec.specs.Levels.{end_of, lower_end, upper_end, levels_after, carried_levels, next_levels, state_of, may_reach, must_reach};
+ghost use Rattle.hyd_spec.specs.Tank.{exact_level, carried_level, tank_state};
+ghost use Rattle.hyd_spec.specs.Levels.{end_of, lower_end, upper_end, carried_levels, next_levels, state_of, may_reach, must_reach};
 
 /// The state of a tank at the edges of the bands, in whole ticks and in thirds of a tick.
 pub fn states()

@@ -1,11 +1,11 @@
 //! Numbers of the file, units and printed numbers.
-#![tactic(none)]
+#![tactic(auto)]
 
-ghost use Rattle.std.specs.Prelude.{◌≡◌, ℕ, ℤ, pos, neg_ℤ, Bool, true, false, List, [], ◌∷◌, map, codes};
+ghost use Rattle.std.specs.Prelude.{◌≡◌, ℤ, pos, neg_ℤ, ◌*ℤ◌, ◌^◌, true, false, [], ◌∷◌, map, codes};
 ghost use Rattle.hyd_num.specs.Numeral.{is_numeral, nano_of};
-ghost use Rattle.hyd_num.specs.Quantity.{head_ticks, flow_ticks, pressure_numerator, pressure_denominator};
-ghost use Rattle.hyd_num.specs.Decimals.{decimal_text, setting_text};
-ghost use Rattle.hyd_num.specs.Rational.{floor, ceiling, is_less, is_at_most};
+ghost use Rattle.hyd_num.specs.Quantity.{is_us_unit, flow_factor, head_ticks, flow_ticks, pressure_numerator, pressure_denominator};
+ghost use Rattle.hyd_num.specs.Decimals.{decimal_text, setting_text, head_quantity, pressure_quantity, flow_quantity};
+ghost use Rattle.hyd_num.specs.Rational.{floor, ceiling};
 ghost use Rattle.hyd_num.specs.declared.units.FlowUnit.TheVariants.{Cfs, Gpm, Mgd, Imgd, Afd, Lps, Lpm, Mld, Cmh, Cmd};
 ghost use Rattle.hyd_spec.specs.ReportLine.{clock_text};
 
@@ -89,4 +89,76 @@ pub fn rounded()
         ≡ pos 3 ∷ neg_ℤ (pos 4) ∷ pos 2 ∷ neg_ℤ (pos 2) ∷ pos 0 ∷ neg_ℤ (pos 1) ∷ pos 0 ∷ neg_ℤ (pos 3) ∷ [] }
     ensures up { map ceiling (record { num = pos 7; den = 2 } ∷ record { num = neg_ℤ (pos 7); den = 2 } ∷ record { num = pos 8; den = 4 } ∷ record { num = neg_ℤ (pos 8); den = 4 } ∷ record { num = pos 0; den = 5 } ∷ record { num = neg_ℤ (pos 1); den = 4333 } ∷ record { num = pos 1; den = 4333 } ∷ record { num = neg_ℤ (pos 12); den = 5 } ∷ [])
         ≡ pos 4 ∷ neg_ℤ (pos 3) ∷ pos 2 ∷ neg_ℤ (pos 2) ∷ pos 0 ∷ pos 0 ∷ pos 1 ∷ neg_ℤ (pos 2) ∷ [] }
+{}
+
+/// Heads and pressures as they are printed: the ends of an interval are rounded outward.
+pub fn printed_heads()
+    ensures head_feet_down { map (λ t. decimal_text (floor (record { num = pos (10 ^ 4) *ℤ (head_quantity true t).num; den = (head_quantity true t).den }))) (pos 0 ∷ pos 1 ∷ neg_ℤ (pos 1) ∷ pos 1000000000 ∷ neg_ℤ (pos 1000000001) ∷ pos 304800000 ∷ pos 304800001 ∷ pos 10000000000005 ∷ [])
+        ≡ codes "0.0000" ∷ codes "0.0000" ∷ codes "-0.0001" ∷ codes "0.0003" ∷ codes "-0.0004" ∷ codes "0.0001" ∷ codes "0.0001" ∷ codes "3.2808" ∷ [] }
+    ensures pressure_feet_down { map (λ t. decimal_text (floor (record { num = pos (10 ^ 4) *ℤ (pressure_quantity true t).num; den = (pressure_quantity true t).den }))) (pos 0 ∷ pos 1 ∷ neg_ℤ (pos 1) ∷ pos 1000000000 ∷ neg_ℤ (pos 1000000001) ∷ pos 304800000 ∷ pos 304800001 ∷ pos 10000000000005 ∷ [])
+        ≡ codes "0.0000" ∷ codes "0.0000" ∷ codes "-0.0001" ∷ codes "0.0001" ∷ codes "-0.0002" ∷ codes "0.0000" ∷ codes "0.0000" ∷ codes "1.4215" ∷ [] }
+    ensures head_feet_up { map (λ t. decimal_text (ceiling (record { num = pos (10 ^ 4) *ℤ (head_quantity true t).num; den = (head_quantity true t).den }))) (pos 0 ∷ pos 1 ∷ neg_ℤ (pos 1) ∷ pos 1000000000 ∷ neg_ℤ (pos 1000000001) ∷ pos 304800000 ∷ pos 304800001 ∷ pos 10000000000005 ∷ [])
+        ≡ codes "0.0000" ∷ codes "0.0001" ∷ codes "0.0000" ∷ codes "0.0004" ∷ codes "-0.0003" ∷ codes "0.0001" ∷ codes "0.0002" ∷ codes "3.2809" ∷ [] }
+    ensures pressure_feet_up { map (λ t. decimal_text (ceiling (record { num = pos (10 ^ 4) *ℤ (pressure_quantity true t).num; den = (pressure_quantity true t).den }))) (pos 0 ∷ pos 1 ∷ neg_ℤ (pos 1) ∷ pos 1000000000 ∷ neg_ℤ (pos 1000000001) ∷ pos 304800000 ∷ pos 304800001 ∷ pos 10000000000005 ∷ [])
+        ≡ codes "0.0000" ∷ codes "0.0001" ∷ codes "0.0000" ∷ codes "0.0002" ∷ codes "-0.0001" ∷ codes "0.0001" ∷ codes "0.0001" ∷ codes "1.4216" ∷ [] }
+    ensures head_metres_down { map (λ t. decimal_text (floor (record { num = pos (10 ^ 4) *ℤ (head_quantity false t).num; den = (head_quantity false t).den }))) (pos 0 ∷ pos 1 ∷ neg_ℤ (pos 1) ∷ pos 1000000000 ∷ neg_ℤ (pos 1000000001) ∷ pos 304800000 ∷ pos 304800001 ∷ pos 10000000000005 ∷ [])
+        ≡ codes "0.0000" ∷ codes "0.0000" ∷ codes "-0.0001" ∷ codes "0.0001" ∷ codes "-0.0002" ∷ codes "0.0000" ∷ codes "0.0000" ∷ codes "1.0000" ∷ [] }
+    ensures pressure_metres_down { map (λ t. decimal_text (floor (record { num = pos (10 ^ 4) *ℤ (pressure_quantity false t).num; den = (pressure_quantity false t).den }))) (pos 0 ∷ pos 1 ∷ neg_ℤ (pos 1) ∷ pos 1000000000 ∷ neg_ℤ (pos 1000000001) ∷ pos 304800000 ∷ pos 304800001 ∷ pos 10000000000005 ∷ [])
+        ≡ codes "0.0000" ∷ codes "0.0000" ∷ codes "-0.0001" ∷ codes "0.0001" ∷ codes "-0.0002" ∷ codes "0.0000" ∷ codes "0.0000" ∷ codes "1.0000" ∷ [] }
+    ensures head_metres_up { map (λ t. decimal_text (ceiling (record { num = pos (10 ^ 4) *ℤ (head_quantity false t).num; den = (head_quantity false t).den }))) (pos 0 ∷ pos 1 ∷ neg_ℤ (pos 1) ∷ pos 1000000000 ∷ neg_ℤ (pos 1000000001) ∷ pos 304800000 ∷ pos 304800001 ∷ pos 10000000000005 ∷ [])
+        ≡ codes "0.0000" ∷ codes "0.0001" ∷ codes "0.0000" ∷ codes "0.0001" ∷ codes "-0.0001" ∷ codes "0.0001" ∷ codes "0.0001" ∷ codes "1.0001" ∷ [] }
+    ensures pressure_metres_up { map (λ t. decimal_text (ceiling (record { num = pos (10 ^ 4) *ℤ (pressure_quantity false t).num; den = (pressure_quantity false t).den }))) (pos 0 ∷ pos 1 ∷ neg_ℤ (pos 1) ∷ pos 1000000000 ∷ neg_ℤ (pos 1000000001) ∷ pos 304800000 ∷ pos 304800001 ∷ pos 10000000000005 ∷ [])
+        ≡ codes "0.0000" ∷ codes "0.0001" ∷ codes "0.0000" ∷ codes "0.0001" ∷ codes "-0.0001" ∷ codes "0.0001" ∷ codes "0.0001" ∷ codes "1.0001" ∷ [] }
+{}
+
+/// Flows as they are printed in each unit, rounded outward.
+pub fn printed_flows()
+    ensures cfs_down { map (λ t. decimal_text (floor (record { num = pos (10 ^ 4) *ℤ (flow_quantity Cfs t).num; den = (flow_quantity Cfs t).den }))) (pos 0 ∷ pos 1 ∷ neg_ℤ (pos 1) ∷ pos 999 ∷ neg_ℤ (pos 1000) ∷ pos 123456789 ∷ neg_ℤ (pos 24465755455488) ∷ [])
+        ≡ codes "0.0000" ∷ codes "0.0000" ∷ codes "-0.0001" ∷ codes "0.0000" ∷ codes "-0.0001" ∷ codes "0.0050" ∷ codes "-1000.0000" ∷ [] }
+    ensures cfs_up { map (λ t. decimal_text (ceiling (record { num = pos (10 ^ 4) *ℤ (flow_quantity Cfs t).num; den = (flow_quantity Cfs t).den }))) (pos 0 ∷ pos 1 ∷ neg_ℤ (pos 1) ∷ pos 999 ∷ neg_ℤ (pos 1000) ∷ pos 123456789 ∷ neg_ℤ (pos 24465755455488) ∷ [])
+        ≡ codes "0.0000" ∷ codes "0.0001" ∷ codes "0.0000" ∷ codes "0.0001" ∷ codes "0.0000" ∷ codes "0.0051" ∷ codes "-1000.0000" ∷ [] }
+    ensures gpm_down { map (λ t. decimal_text (floor (record { num = pos (10 ^ 4) *ℤ (flow_quantity Gpm t).num; den = (flow_quantity Gpm t).den }))) (pos 0 ∷ pos 1 ∷ neg_ℤ (pos 1) ∷ pos 999 ∷ neg_ℤ (pos 1000) ∷ pos 123456789 ∷ neg_ℤ (pos 24465755455488) ∷ [])
+        ≡ codes "0.0000" ∷ codes "0.0000" ∷ codes "-0.0001" ∷ codes "0.0000" ∷ codes "-0.0001" ∷ codes "2.2648" ∷ codes "-448831.1689" ∷ [] }
+    ensures gpm_up { map (λ t. decimal_text (ceiling (record { num = pos (10 ^ 4) *ℤ (flow_quantity Gpm t).num; den = (flow_quantity Gpm t).den }))) (pos 0 ∷ pos 1 ∷ neg_ℤ (pos 1) ∷ pos 999 ∷ neg_ℤ (pos 1000) ∷ pos 123456789 ∷ neg_ℤ (pos 24465755455488) ∷ [])
+        ≡ codes "0.0000" ∷ codes "0.0001" ∷ codes "0.0000" ∷ codes "0.0001" ∷ codes "0.0000" ∷ codes "2.2649" ∷ codes "-448831.1688" ∷ [] }
+    ensures mgd_down { map (λ t. decimal_text (floor (record { num = pos (10 ^ 4) *ℤ (flow_quantity Mgd t).num; den = (flow_quantity Mgd t).den }))) (pos 0 ∷ pos 1 ∷ neg_ℤ (pos 1) ∷ pos 999 ∷ neg_ℤ (pos 1000) ∷ pos 123456789 ∷ neg_ℤ (pos 24465755455488) ∷ [])
+        ≡ codes "0.0000" ∷ codes "0.0000" ∷ codes "-0.0001" ∷ codes "0.0000" ∷ codes "-0.0001" ∷ codes "0.0032" ∷ codes "-646.3169" ∷ [] }
+    ensures mgd_up { map (λ t. decimal_text (ceiling (record { num = pos (10 ^ 4) *ℤ (flow_quantity Mgd t).num; den = (flow_quantity Mgd t).den }))) (pos 0 ∷ pos 1 ∷ neg_ℤ (pos 1) ∷ pos 999 ∷ neg_ℤ (pos 1000) ∷ pos 123456789 ∷ neg_ℤ (pos 24465755455488) ∷ [])
+        ≡ codes "0.0000" ∷ codes "0.0001" ∷ codes "0.0000" ∷ codes "0.0001" ∷ codes "0.0000" ∷ codes "0.0033" ∷ codes "-646.3168" ∷ [] }
+    ensures imgd_down { map (λ t. decimal_text (floor (record { num = pos (10 ^ 4) *ℤ (flow_quantity Imgd t).num; den = (flow_quantity Imgd t).den }))) (pos 0 ∷ pos 1 ∷ neg_ℤ (pos 1) ∷ pos 999 ∷ neg_ℤ (pos 1000) ∷ pos 123456789 ∷ neg_ℤ (pos 24465755455488) ∷ [])
+        ≡ codes "0.0000" ∷ codes "0.0000" ∷ codes "-0.0001" ∷ codes "0.0000" ∷ codes "-0.0001" ∷ codes "0.0027" ∷ codes "-538.1714" ∷ [] }
+    ensures imgd_up { map (λ t. decimal_text (ceiling (record { num = pos (10 ^ 4) *ℤ (flow_quantity Imgd t).num; den = (flow_quantity Imgd t).den }))) (pos 0 ∷ pos 1 ∷ neg_ℤ (pos 1) ∷ pos 999 ∷ neg_ℤ (pos 1000) ∷ pos 123456789 ∷ neg_ℤ (pos 24465755455488) ∷ [])
+        ≡ codes "0.0000" ∷ codes "0.0001" ∷ codes "0.0000" ∷ codes "0.0001" ∷ codes "0.0000" ∷ codes "0.0028" ∷ codes "-538.1713" ∷ [] }
+    ensures afd_down { map (λ t. decimal_text (floor (record { num = pos (10 ^ 4) *ℤ (flow_quantity Afd t).num; den = (flow_quantity Afd t).den }))) (pos 0 ∷ pos 1 ∷ neg_ℤ (pos 1) ∷ pos 999 ∷ neg_ℤ (pos 1000) ∷ pos 123456789 ∷ neg_ℤ (pos 24465755455488) ∷ [])
+        ≡ codes "0.0000" ∷ codes "0.0000" ∷ codes "-0.0001" ∷ codes "0.0000" ∷ codes "-0.0001" ∷ codes "0.0100" ∷ codes "-1983.4711" ∷ [] }
+    ensures afd_up { map (λ t. decimal_text (ceiling (record { num = pos (10 ^ 4) *ℤ (flow_quantity Afd t).num; den = (flow_quantity Afd t).den }))) (pos 0 ∷ pos 1 ∷ neg_ℤ (pos 1) ∷ pos 999 ∷ neg_ℤ (pos 1000) ∷ pos 123456789 ∷ neg_ℤ (pos 24465755455488) ∷ [])
+        ≡ codes "0.0000" ∷ codes "0.0001" ∷ codes "0.0000" ∷ codes "0.0001" ∷ codes "0.0000" ∷ codes "0.0101" ∷ codes "-1983.4710" ∷ [] }
+    ensures lps_down { map (λ t. decimal_text (floor (record { num = pos (10 ^ 4) *ℤ (flow_quantity Lps t).num; den = (flow_quantity Lps t).den }))) (pos 0 ∷ pos 1 ∷ neg_ℤ (pos 1) ∷ pos 999 ∷ neg_ℤ (pos 1000) ∷ pos 123456789 ∷ neg_ℤ (pos 24465755455488) ∷ [])
+        ≡ codes "0.0000" ∷ codes "0.0000" ∷ codes "-0.0001" ∷ codes "0.0000" ∷ codes "-0.0001" ∷ codes "0.1428" ∷ codes "-28316.8466" ∷ [] }
+    ensures lps_up { map (λ t. decimal_text (ceiling (record { num = pos (10 ^ 4) *ℤ (flow_quantity Lps t).num; den = (flow_quantity Lps t).den }))) (pos 0 ∷ pos 1 ∷ neg_ℤ (pos 1) ∷ pos 999 ∷ neg_ℤ (pos 1000) ∷ pos 123456789 ∷ neg_ℤ (pos 24465755455488) ∷ [])
+        ≡ codes "0.0000" ∷ codes "0.0001" ∷ codes "0.0000" ∷ codes "0.0001" ∷ codes "0.0000" ∷ codes "0.1429" ∷ codes "-28316.8465" ∷ [] }
+    ensures lpm_down { map (λ t. decimal_text (floor (record { num = pos (10 ^ 4) *ℤ (flow_quantity Lpm t).num; den = (flow_quantity Lpm t).den }))) (pos 0 ∷ pos 1 ∷ neg_ℤ (pos 1) ∷ pos 999 ∷ neg_ℤ (pos 1000) ∷ pos 123456789 ∷ neg_ℤ (pos 24465755455488) ∷ [])
+        ≡ codes "0.0000" ∷ codes "0.0000" ∷ codes "-0.0001" ∷ codes "0.0000" ∷ codes "-0.0001" ∷ codes "8.5733" ∷ codes "-1699010.7956" ∷ [] }
+    ensures lpm_up { map (λ t. decimal_text (ceiling (record { num = pos (10 ^ 4) *ℤ (flow_quantity Lpm t).num; den = (flow_quantity Lpm t).den }))) (pos 0 ∷ pos 1 ∷ neg_ℤ (pos 1) ∷ pos 999 ∷ neg_ℤ (pos 1000) ∷ pos 123456789 ∷ neg_ℤ (pos 24465755455488) ∷ [])
+        ≡ codes "0.0000" ∷ codes "0.0001" ∷ codes "0.0000" ∷ codes "0.0001" ∷ codes "0.0000" ∷ codes "8.5734" ∷ codes "-1699010.7955" ∷ [] }
+    ensures mld_down { map (λ t. decimal_text (floor (record { num = pos (10 ^ 4) *ℤ (flow_quantity Mld t).num; den = (flow_quantity Mld t).den }))) (pos 0 ∷ pos 1 ∷ neg_ℤ (pos 1) ∷ pos 999 ∷ neg_ℤ (pos 1000) ∷ pos 123456789 ∷ neg_ℤ (pos 24465755455488) ∷ [])
+        ≡ codes "0.0000" ∷ codes "0.0000" ∷ codes "-0.0001" ∷ codes "0.0000" ∷ codes "-0.0001" ∷ codes "0.0123" ∷ codes "-2446.5756" ∷ [] }
+    ensures mld_up { map (λ t. decimal_text (ceiling (record { num = pos (10 ^ 4) *ℤ (flow_quantity Mld t).num; den = (flow_quantity Mld t).den }))) (pos 0 ∷ pos 1 ∷ neg_ℤ (pos 1) ∷ pos 999 ∷ neg_ℤ (pos 1000) ∷ pos 123456789 ∷ neg_ℤ (pos 24465755455488) ∷ [])
+        ≡ codes "0.0000" ∷ codes "0.0001" ∷ codes "0.0000" ∷ codes "0.0001" ∷ codes "0.0000" ∷ codes "0.0124" ∷ codes "-2446.5755" ∷ [] }
+    ensures cmh_down { map (λ t. decimal_text (floor (record { num = pos (10 ^ 4) *ℤ (flow_quantity Cmh t).num; den = (flow_quantity Cmh t).den }))) (pos 0 ∷ pos 1 ∷ neg_ℤ (pos 1) ∷ pos 999 ∷ neg_ℤ (pos 1000) ∷ pos 123456789 ∷ neg_ℤ (pos 24465755455488) ∷ [])
+        ≡ codes "0.0000" ∷ codes "0.0000" ∷ codes "-0.0001" ∷ codes "0.0000" ∷ codes "-0.0001" ∷ codes "0.5144" ∷ codes "-101940.6478" ∷ [] }
+    ensures cmh_up { map (λ t. decimal_text (ceiling (record { num = pos (10 ^ 4) *ℤ (flow_quantity Cmh t).num; den = (flow_quantity Cmh t).den }))) (pos 0 ∷ pos 1 ∷ neg_ℤ (pos 1) ∷ pos 999 ∷ neg_ℤ (pos 1000) ∷ pos 123456789 ∷ neg_ℤ (pos 24465755455488) ∷ [])
+        ≡ codes "0.0000" ∷ codes "0.0001" ∷ codes "0.0000" ∷ codes "0.0001" ∷ codes "0.0000" ∷ codes "0.5145" ∷ codes "-101940.6477" ∷ [] }
+    ensures cmd_down { map (λ t. decimal_text (floor (record { num = pos (10 ^ 4) *ℤ (flow_quantity Cmd t).num; den = (flow_quantity Cmd t).den }))) (pos 0 ∷ pos 1 ∷ neg_ℤ (pos 1) ∷ pos 999 ∷ neg_ℤ (pos 1000) ∷ pos 123456789 ∷ neg_ℤ (pos 24465755455488) ∷ [])
+        ≡ codes "0.0000" ∷ codes "0.0000" ∷ codes "-0.0001" ∷ codes "0.0000" ∷ codes "-0.0001" ∷ codes "12.3456" ∷ codes "-2446575.5456" ∷ [] }
+    ensures cmd_up { map (λ t. decimal_text (ceiling (record { num = pos (10 ^ 4) *ℤ (flow_quantity Cmd t).num; den = (flow_quantity Cmd t).den }))) (pos 0 ∷ pos 1 ∷ neg_ℤ (pos 1) ∷ pos 999 ∷ neg_ℤ (pos 1000) ∷ pos 123456789 ∷ neg_ℤ (pos 24465755455488) ∷ [])
+        ≡ codes "0.0000" ∷ codes "0.0001" ∷ codes "0.0000" ∷ codes "0.0001" ∷ codes "-0.0001" ∷ codes "12.3457" ∷ codes "-2446575.5455" ∷ [] }
+{}
+
+/// Each unit in cubic metres a day, and which go with feet, inches and pounds a square inch.
+pub fn units()
+    ensures factors { map flow_factor (Cfs ∷ Gpm ∷ Mgd ∷ Imgd ∷ Afd ∷ Lps ∷ Lpm ∷ Mld ∷ Cmh ∷ Cmd ∷ [])
+        ≡ (record { num = 24465755455488; den = 10000000000 }) ∷ (record { num = 545099296896; den = 100000000000 }) ∷ (record { num = 3785411784; den = 1000000 }) ∷ (record { num = 454609; den = 100 }) ∷ (record { num = 123348183754752; den = 100000000000 }) ∷ (record { num = 864; den = 10 }) ∷ (record { num = 144; den = 100 }) ∷ (record { num = 1000; den = 1 }) ∷ (record { num = 24; den = 1 }) ∷ (record { num = 1; den = 1 }) ∷ [] }
+    ensures us { map is_us_unit (Cfs ∷ Gpm ∷ Mgd ∷ Imgd ∷ Afd ∷ Lps ∷ Lpm ∷ Mld ∷ Cmh ∷ Cmd ∷ [])
+        ≡ true ∷ true ∷ true ∷ true ∷ true ∷ false ∷ false ∷ false ∷ false ∷ false ∷ [] }
 {}

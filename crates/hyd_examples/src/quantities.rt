@@ -1,11 +1,11 @@
 //! Quantities at a scale, lifts of pumps, demands and heads under patterns.
-#![tactic(none)]
+#![tactic(auto)]
 
-ghost use Rattle.std.specs.Prelude.{◌≡◌, ℕ, ℤ, pos, neg_ℤ, ◌^◌, Bool, true, false, List, [], ◌∷◌, map, codes, Some, None};
-ghost use Rattle.hyd_num.specs.Rational.{Rational, floor, ceiling};
-ghost use Rattle.hyd_spec.specs.Types.{Project, Decimal, FourThirds, Given, Demand, Reservoir};
+ghost use Rattle.std.specs.Prelude.{◌≡◌, pos, neg_ℤ, true, false, [], ◌∷◌, map, Some, None};
+ghost use Rattle.hyd_num.specs.Rational.{floor, ceiling};
+ghost use Rattle.hyd_spec.specs.Types.{Project, Decimal, FourThirds, Given, Demand, Junction, Reservoir};
 ghost use Rattle.hyd_spec.specs.Scale.{at_scale, tolerance, total, cut};
-ghost use Rattle.hyd_spec.specs.Quantity.{shutoff_head, lift_of, multipliers_of, multiplier_at, category_demand, reservoir_head, pressure_value};
+ghost use Rattle.hyd_spec.specs.Quantity.{lift_of, multipliers_of, multiplier_at, category_demand, demand_of, reservoir_head};
 
 /// Quotients cut toward zero.
 pub fn cuts()
@@ -75,6 +75,16 @@ pub fn demands()
         → category.base ≡ pos 1000000007 → category.pattern ≡ None → network.options.default_pattern ≡ None
         → map (λ time. category_demand network time category) (0 ∷ 1799 ∷ 1800 ∷ 5400 ∷ 9000 ∷ 12600 ∷ 86399 ∷ [])
         ≡ pos 1234567899 ∷ pos 1234567899 ∷ pos 1234567899 ∷ pos 1234567899 ∷ pos 1234567899 ∷ pos 1234567899 ∷ pos 1234567899 ∷ [] }
+{}
+
+/// The demand of a junction of three categories, each cut for itself.
+pub fn sums()
+    ensures { (network : Project) (junction : Junction) → multipliers_of network 0 ≡ pos 1000000000 ∷ pos 2000000000 ∷ pos 0 ∷ neg_ℤ (pos 500000000) ∷ []
+        → network.times.pattern ≡ 3600 → network.times.pattern_start ≡ 1800 → network.options.multiplier.nano ≡ pos 1234567891
+        → network.options.default_pattern ≡ None
+        → junction.demands.list ≡ (record { base = pos 1000000001; pattern = Some 0 }) ∷ (record { base = neg_ℤ (pos 7); pattern = None }) ∷ (record { base = pos 333333333; pattern = Some 0 }) ∷ []
+        → map (λ time. demand_of network time junction) (0 ∷ 1799 ∷ 1800 ∷ 5400 ∷ 9000 ∷ 12600 ∷ 86399 ∷ [])
+        ≡ pos 1646090513 ∷ pos 1646090513 ∷ pos 3292181035 ∷ neg_ℤ (pos 8) ∷ neg_ℤ (pos 823045267) ∷ pos 1646090513 ∷ pos 1646090513 ∷ [] }
 {}
 
 /// The head of a reservoir under a pattern, cut toward zero, and without one.

@@ -1,14 +1,13 @@
 //! Rules: clauses, premises, ranks and changes.
-#![tactic(none)]
+#![tactic(auto)]
 
-ghost use Rattle.std.specs.Prelude.{◌≡◌, ℕ, ℤ, pos, neg_ℤ, Bool, true, false, List, [], ◌∷◌, map, Some, None};
-ghost use Rattle.hyd_num.specs.Rational.{Rational, whole};
+ghost use Rattle.std.specs.Prelude.{◌≡◌, pos, neg_ℤ, true, false, [], ◌∷◌, map, Some, None};
+ghost use Rattle.hyd_num.specs.Rational.{whole};
 ghost use Rattle.hyd_num.specs.declared.decimals.Span.{Span};
-ghost use Rattle.hyd_spec.specs.Types.{Project, Decimal, Rule, Clause, And, Or, Less, NotMore, More, NotLess, Equal, Unequal, Time, Clock, Amount, ValueOpen, ValueClosed, ValueActive, Linear, LinkState, Open, Closed, Speed, Throttle, Limit};
-ghost use Rattle.hyd_spec.specs.Interval.{Interval};
-ghost use Rattle.hyd_spec.specs.Truth.{Truth, Yes, No, Unknown, at_both_ends, some_holds, all_hold};
-ghost use Rattle.hyd_spec.specs.Rules.{StateWord, IsOpen, IsClosed, IsActive, state_word, setting_of, is_same_state, compares, is_word, status_holds, holds_on, Readings, parts_of, groups_in, is_above, best_offer, rule_changes, acted};
-ghost use Rattle.hyd_spec.specs.Decided.{least_magnitude, greatest_magnitude, tank_watches};
+ghost use Rattle.hyd_spec.specs.Types.{Project, Decimal, Rule, Clause, And, Or, Less, NotMore, More, NotLess, Equal, Unequal, Time, Clock, Amount, ValueOpen, ValueClosed, ValueActive, Linear, Open, Closed, Speed, Throttle, Limit};
+ghost use Rattle.hyd_spec.specs.Truth.{Yes, No, Unknown, at_both_ends, some_holds, all_hold};
+ghost use Rattle.hyd_spec.specs.Rules.{IsOpen, IsClosed, IsActive, state_word, setting_of, is_same_state, compares, status_holds, holds_on, Readings, parts_of, groups_in, is_above, rule_changes, acted};
+ghost use Rattle.hyd_spec.specs.Decided.{least_magnitude, greatest_magnitude};
 
 /// The word and the setting of a commanded state.
 pub fn words()

@@ -1,14 +1,13 @@
 //! The start of a period: pump patterns and simple controls.
-#![tactic(none)]
+#![tactic(auto)]
 
-ghost use Rattle.std.specs.Prelude.{◌≡◌, ℕ, ℤ, pos, neg_ℤ, Bool, true, false, List, [], ◌∷◌, map, Some, None};
-ghost use Rattle.hyd_spec.specs.Types.{Project, Capacity, ShutoffHead, PumpLink, Tcv, Linear, LinkState, Open, Closed, Speed, Throttle, Limit, AtLevel, AtTime, AtClock};
-ghost use Rattle.hyd_spec.specs.Interval.{Interval};
+ghost use Rattle.std.specs.Prelude.{◌≡◌, pos, neg_ℤ, true, false, [], ◌∷◌, map, Some, None};
+ghost use Rattle.hyd_spec.specs.Types.{Project, Capacity, ShutoffHead, PumpLink, Tcv, Linear, Open, Closed, Speed, AtLevel, AtTime, AtClock};
 ghost use Rattle.hyd_spec.specs.Quantity.{multipliers_of};
-ghost use Rattle.hyd_spec.specs.Start.{clock_at, speed_state, is_pattern_boundary, patterned, control_acts, controlled};
+ghost use Rattle.hyd_spec.specs.Start.{clock_at, speed_state, is_pattern_boundary, patterned, controlled};
 ghost use Rattle.hyd_spec.specs.Truth.{Yes, No, Unknown};
 ghost use Rattle.hyd_spec.specs.Decided.{control_truth, acts_on};
-ghost use Rattle.hyd_spec.specs.Report.{start_changes, control_changes, is_report_time};
+ghost use Rattle.hyd_spec.specs.Report.{control_changes, is_report_time};
 ghost use Rattle.hyd_num.specs.declared.decimals.Span.{Span};
 
 /// A pump at speed 0 or below is closed.

@@ -1,15 +1,14 @@
 //! Surpluses and boxes of a small network.
-#![tactic(none)]
+#![tactic(auto)]
 
-ghost use Rattle.std.specs.Prelude.{◌≡◌, ℕ, ℤ, pos, neg_ℤ, Bool, true, false, List, [], ◌∷◌, map, Some, None};
+ghost use Rattle.std.specs.Prelude.{◌≡◌, pos, neg_ℤ, [], ◌∷◌, map, Some};
 ghost use Rattle.hyd_spec.specs.Types.{Capacity};
 ghost use Rattle.hyd_spec.specs.declared.Problem.TheVariants.{Main, Pinned};
 ghost use Rattle.hyd_spec.specs.declared.Side.TheVariants.{Upper, Lower};
-ghost use Rattle.hyd_spec.specs.Interval.{Interval, exactly, width, widened, shifted, sum_of};
-ghost use Rattle.hyd_spec.specs.Enclosing.{low, high, Fixed};
-ghost use Rattle.hyd_spec.specs.Grid.{all_heads, fixed_heads};
-ghost use Rattle.hyd_spec.specs.Surplus.{net, net_low, net_high, link_ends, margin};
-ghost use Rattle.hyd_spec.specs.Boxes.{difference, flow_box, out_box, inflow_box, emitter_box};
+ghost use Rattle.hyd_spec.specs.Enclosing.{Fixed};
+ghost use Rattle.hyd_spec.specs.Grid.{all_heads};
+ghost use Rattle.hyd_spec.specs.Surplus.{net_low, net_high, link_ends, margin};
+ghost use Rattle.hyd_spec.specs.Boxes.{difference, flow_box, out_box, inflow_box};
 ghost use Rattle.hyd_examples.specs.Sample.{sample, first, second, from_reservoir, between, into_tank, against_tank, closed};
 
 /// The heads of all nodes: the tank stands on the side of the vector, and on the other side where it is pinned.
