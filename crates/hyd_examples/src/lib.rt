@@ -5,6 +5,7 @@
 
 pub mod enclosing;
 pub mod levels;
+pub mod losses;
 pub mod numbers;
 pub mod outcomes;
 pub mod quantities;
