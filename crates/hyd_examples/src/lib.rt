@@ -1,0 +1,15 @@
+//! The definitions of the network and of its numbers, each compared on small cases with an
+//! independent calculation in exact whole numbers and fractions. Each function's contract is a
+//! table of computed values. No function here has a body.
+#![tactic(auto)]
+
+pub mod enclosing;
+pub mod levels;
+pub mod losses;
+pub mod numbers;
+pub mod outcomes;
+pub mod quantities;
+pub mod rules;
+pub mod starts;
+pub mod surpluses;
+pub mod texts;
