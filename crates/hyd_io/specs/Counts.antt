@@ -1,5 +1,5 @@
 -- The four counts of a desk, and when one of them rose.
-use Rattle.std.specs.Prelude.{◌≡◌, ℕ, ◌+◌, ◌-◌, ◌^◌, ◌≤◌, min, Bool, List, [], ◌∷◌, Option, Some, None, zero, suc}
+use Rattle.std.specs.Prelude.{◌≡◌, ℕ, ◌+◌, ◌-◌, ◌^◌, ◌≤◌, min, List, [], ◌∷◌, Option, Some, None, zero, suc}
 use Rattle.hyd_io.specs.declared.desk.Faults.{Faults}
 use Rattle.hyd_io.specs.declared.input.InFault.{InFault}
 use Rattle.hyd_io.specs.declared.input.InFault.TheVariants.{OutOfMemory, Fault as ReadFault, TooLong}
@@ -18,13 +18,6 @@ pub record NeverFall (before now : Faults) : Type 0 where
   pub write : before.write ≤ now.write
   pub print : before.print ≤ now.print
   pub stall : before.stall ≤ now.stall
-
--- what the counts say of an error of `read_all`: a fault comes only where the read faults rose, and
--- the others leave all counts as they were
-abbrev pub HasInCause : InFault → Faults → Faults → Type 0
-HasInCause OutOfMemory before now = now ≡ before
-HasInCause ReadFault before now = Rose before.read now.read
-HasInCause TooLong before now = now ≡ before
 
 -- one fault more of each kind, and one stall more; the other counts stay
 abbrev pub with_read_fault : Faults → Faults
@@ -45,3 +38,11 @@ counts_after with_fault piece None counts = with_fault counts
 counts_after with_fault [] (Some n) counts = counts
 counts_after with_fault (c ∷ cs) (Some zero) counts = with_stall counts
 counts_after with_fault (c ∷ cs) (Some (suc n)) counts = counts
+
+-- what the counts say of an error of `read_all`: a fault comes only where the read faults rose, and
+-- the others leave all counts as they were
+abbrev pub HasInCause : InFault → Faults → Faults → Type 0
+HasInCause OutOfMemory before now = now ≡ before
+HasInCause ReadFault before now = now ≡ with_read_fault before
+HasInCause TooLong before now = now ≡ before
+
