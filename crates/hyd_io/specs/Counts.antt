@@ -1,5 +1,5 @@
--- The four counts of a desk, and when one of them rose.
-use Rattle.std.specs.Prelude.{◌≡◌, ℕ, ◌+◌, ◌-◌, ◌^◌, ◌≤◌, min, List, [], ◌∷◌, Option, Some, None, zero, suc}
+-- The four counts of a desk, and what raises them.
+use Rattle.std.specs.Prelude.{◌≡◌, ℕ, ◌+◌, ◌-◌, ◌^◌, ◌≤◌, min}
 use Rattle.hyd_io.specs.declared.desk.Faults.{Faults}
 use Rattle.hyd_io.specs.declared.input.InFault.{InFault}
 use Rattle.hyd_io.specs.declared.input.InFault.TheVariants.{OutOfMemory, Fault as ReadFault, TooLong}
@@ -7,10 +7,6 @@ use Rattle.hyd_io.specs.declared.input.InFault.TheVariants.{OutOfMemory, Fault a
 -- one more, or the last value that a count can have, at which it stays
 abbrev pub next_count : ℕ → ℕ
 next_count n = min (n + 1) (2 ^ 64 - 1)
-
--- The count rose: it is greater than before, or it stands at 2^64 - 1, its last value.
-abbrev pub Rose : ℕ → ℕ → Type 0
-Rose before now = next_count before ≤ now
 
 -- no count is below what it was
 pub record NeverFall (before now : Faults) : Type 0 where
@@ -32,17 +28,9 @@ with_print_fault counts = record counts { print = next_count counts.print }
 abbrev pub with_stall : Faults → Faults
 with_stall counts = record counts { stall = next_count counts.stall }
 
--- the counts after a call that puts a piece out and took so many bytes, `None` where it failed
-abbrev pub counts_after : (Faults → Faults) → List ℕ → Option ℕ → Faults → Faults
-counts_after with_fault piece None counts = with_fault counts
-counts_after with_fault [] (Some n) counts = counts
-counts_after with_fault (c ∷ cs) (Some zero) counts = with_stall counts
-counts_after with_fault (c ∷ cs) (Some (suc n)) counts = counts
-
--- what the counts say of an error of `read_all`: a fault comes only where the read faults rose, and
--- the others leave all counts as they were
+-- what the counts say of an error of `read_all`: a fault is one read fault more, and the
+-- others leave all counts as they were
 abbrev pub HasInCause : InFault → Faults → Faults → Type 0
 HasInCause OutOfMemory before now = now ≡ before
 HasInCause ReadFault before now = now ≡ with_read_fault before
 HasInCause TooLong before now = now ≡ before
-

@@ -4,7 +4,7 @@ use Rattle.std.specs.List.{list_any}
 use Rattle.std.specs.BTreeMap.{BTreeMap, get_by_text}
 use Rattle.hyd_io.specs.declared.desk.Faults.{Faults}
 use Rattle.hyd_io.specs.Told.{Files}
-use Rattle.hyd_io.specs.Counts.{next_count, with_read_fault, with_write_fault, with_print_fault, counts_after}
+use Rattle.hyd_io.specs.Counts.{next_count}
 
 -- what a map of files holds at a name
 abbrev pub file_bytes : {A B : Type 0} → BTreeMap (String A) (Vec ℕ B) → Files
@@ -64,7 +64,6 @@ pub record CountsCall (old : Memory) (failed : Bool) (new : Memory) : Type 0 whe
 pub record OpensToo (old : Memory) (name : List ℕ) (failed : Bool) (new : Memory) : Type 0 where
   pub counted : CountsCall old failed new
   pub absent : old.files name ≡ None → failed ≡ true
-  pub counts : new.counts ≡ (if failed then with_read_fault old.counts else old.counts)
   pub writes : new.writes ≡ old.writes
   pub prints : new.prints ≡ old.prints
 
@@ -73,7 +72,6 @@ pub record ReadsToo (old : Memory) (failed : Bool) (new : Memory) : Type 0 where
   pub counted : CountsCall old failed new
   pub exactly : failed ≡ is_to_fail old
   pub unread : failed ≡ true → new.unread ≡ old.unread
-  pub counts : new.counts ≡ (if failed then with_read_fault old.counts else old.counts)
   pub writes : new.writes ≡ old.writes
   pub prints : new.prints ≡ old.prints
 
@@ -81,7 +79,6 @@ pub record ReadsToo (old : Memory) (failed : Bool) (new : Memory) : Type 0 where
 pub record CreatesToo (old : Memory) (failed : Bool) (new : Memory) : Type 0 where
   pub counted : CountsCall old failed new
   pub files : failed ≡ true → new.files ≡ old.files
-  pub counts : new.counts ≡ (if failed then with_write_fault old.counts else old.counts)
   pub writes : new.writes ≡ old.writes
   pub prints : new.prints ≡ old.prints
 
@@ -94,7 +91,6 @@ TakesWhole old piece taken = IfSome taken (λ n. n ≡ (if is_to_starve old then
 pub record WritesToo (old : Memory) (piece : List ℕ) (taken : Option ℕ) (new : Memory) : Type 0 where
   pub counted : CountsCall old (is_none taken) new
   pub takes : TakesWhole old piece taken
-  pub counts : new.counts ≡ counts_after with_write_fault piece taken old.counts
   pub writes : new.writes ≡ next_count old.writes
   pub prints : new.prints ≡ old.prints
 
@@ -102,6 +98,5 @@ pub record WritesToo (old : Memory) (piece : List ℕ) (taken : Option ℕ) (new
 pub record PrintsToo (old : Memory) (piece : List ℕ) (taken : Option ℕ) (new : Memory) : Type 0 where
   pub counted : CountsCall old (is_none taken) new
   pub takes : TakesWhole old piece taken
-  pub counts : new.counts ≡ counts_after with_print_fault piece taken old.counts
   pub writes : new.writes ≡ old.writes
   pub prints : new.prints ≡ next_count old.prints

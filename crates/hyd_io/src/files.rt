@@ -1,7 +1,6 @@
 //! The desk on real files and standard output.
 
-ghost use Rattle.std.specs.Prelude.{◌≡◌, true, not, None, refl, if◌then◌else◌};
-ghost use Rattle.hyd_io.specs.Counts.{with_read_fault, with_write_fault, with_print_fault, counts_after};
+ghost use Rattle.std.specs.Prelude.{◌≡◌, true, not, None, refl};
 
 use crate::desk::{Desk, Failed, Faults, stalls_after};
 use std::fs;
@@ -74,20 +73,16 @@ impl<R: Files + Print + Drop> Desk for FileDesk<R> {
     ghost may_create = { λ _. true };
 
     // A file is then open to be read exactly where the call didn't fail.
-    ghost open_also = { λ old _ failed new. (new.reading ≡ not failed)
-        × (new.counts ≡ (if failed then with_read_fault old.counts else old.counts)) };
+    ghost open_also = { λ _ _ failed new. new.reading ≡ not failed };
 
-    ghost read_also = { λ old failed new. (new.reading ≡ old.reading)
-        × (new.counts ≡ (if failed then with_read_fault old.counts else old.counts)) };
+    // The other calls leave open what is open.
+    ghost read_also = { λ old _ new. new.reading ≡ old.reading };
 
-    ghost create_also = { λ old failed new. (new.reading ≡ old.reading)
-        × (new.counts ≡ (if failed then with_write_fault old.counts else old.counts)) };
+    ghost create_also = { λ old _ new. new.reading ≡ old.reading };
 
-    ghost write_also = { λ old piece taken new. (new.reading ≡ old.reading)
-        × (new.counts ≡ counts_after with_write_fault piece taken old.counts) };
+    ghost write_also = { λ old _ _ new. new.reading ≡ old.reading };
 
-    ghost print_also = { λ old piece taken new. (new.reading ≡ old.reading)
-        × (new.counts ≡ counts_after with_print_fault piece taken old.counts) };
+    ghost print_also = { λ old _ _ new. new.reading ≡ old.reading };
 
     ghost is_content = { λ _. refl };
 
