@@ -3,7 +3,7 @@ use Rattle.std.specs.Prelude.{◌≡◌, ◌≢◌, ℕ, ◌⊎◌, List, [], �
 use Rattle.hyd_io.specs.declared.desk.Faults.{Faults}
 use Rattle.hyd_io.specs.declared.output.OutFault.{OutFault}
 use Rattle.hyd_io.specs.declared.output.OutFault.TheVariants.{Fault, Stalled as Stall}
-use Rattle.hyd_io.specs.Counts.{Rose}
+use Rattle.hyd_io.specs.Counts.{with_read_fault, with_write_fault, with_print_fault, with_stall}
 use Rattle.hyd_io.specs.Told.{Files, where_told, append_known, file_at, PutOut}
 use Rattle.hyd_spec.specs.Types.{Project}
 use Rattle.hyd_spec.specs.FirstForm.{IsFirstForm}
@@ -48,12 +48,12 @@ ChangesOnly name before now = (other : List ℕ) → other ≢ name → file_at 
 
 -- ---- faults
 
--- A fault comes only where its count rose: the read faults, the write or the print faults, the stalls. Where no
--- call failed or stalled the counts stay.
+-- A fault comes only where one call failed or stalled, the last one: its count is one more, the read faults, the write or the
+-- print faults, or the stalls, and no other count changed. Else the counts stay.
 abbrev pub HasCause : Status → Faults → Faults → Type 0
-HasCause ReadFault before now = Rose before.read now.read
-HasCause WriteFault before now = Rose before.write now.write ⊎ Rose before.print now.print
-HasCause Stalled before now = Rose before.stall now.stall
+HasCause ReadFault before now = now ≡ with_read_fault before
+HasCause WriteFault before now = (now ≡ with_write_fault before) ⊎ (now ≡ with_print_fault before)
+HasCause Stalled before now = now ≡ with_stall before
 HasCause status before now = now ≡ before
 
 -- The answer of a fault of a channel.

@@ -1,4 +1,4 @@
--- The four counts of a desk, and when one of them rose.
+-- The four counts of a desk, and what raises them.
 use Rattle.std.specs.Prelude.{◌≡◌, ℕ, ◌+◌, ◌-◌, ◌^◌, ◌≤◌, min}
 use Rattle.hyd_io.specs.declared.desk.Faults.{Faults}
 use Rattle.hyd_io.specs.declared.input.InFault.{InFault}
@@ -8,10 +8,6 @@ use Rattle.hyd_io.specs.declared.input.InFault.TheVariants.{OutOfMemory, Fault a
 abbrev pub next_count : ℕ → ℕ
 next_count n = min (n + 1) (2 ^ 64 - 1)
 
--- The count rose: it is greater than before, or it stands at 2^64 - 1, its last value.
-abbrev pub Rose : ℕ → ℕ → Type 0
-Rose before now = next_count before ≤ now
-
 -- no count is below what it was
 pub record NeverFall (before now : Faults) : Type 0 where
   pub read : before.read ≤ now.read
@@ -19,9 +15,22 @@ pub record NeverFall (before now : Faults) : Type 0 where
   pub print : before.print ≤ now.print
   pub stall : before.stall ≤ now.stall
 
--- what the counts say of an error of `read_all`: a fault comes only where the read faults rose, and
--- the others leave all counts as they were
+-- one fault more of each kind, and one stall more; the other counts stay
+abbrev pub with_read_fault : Faults → Faults
+with_read_fault counts = record counts { read = next_count counts.read }
+
+abbrev pub with_write_fault : Faults → Faults
+with_write_fault counts = record counts { write = next_count counts.write }
+
+abbrev pub with_print_fault : Faults → Faults
+with_print_fault counts = record counts { print = next_count counts.print }
+
+abbrev pub with_stall : Faults → Faults
+with_stall counts = record counts { stall = next_count counts.stall }
+
+-- what the counts say of an error of `read_all`: a fault is one read fault more, and the
+-- others leave all counts as they were
 abbrev pub HasInCause : InFault → Faults → Faults → Type 0
 HasInCause OutOfMemory before now = now ≡ before
-HasInCause ReadFault before now = Rose before.read now.read
+HasInCause ReadFault before now = now ≡ with_read_fault before
 HasInCause TooLong before now = now ≡ before

@@ -1,11 +1,11 @@
 -- The two channels of a pen, and what the counts say of its faults.
-use Rattle.std.specs.Prelude.{ℕ, List, Option}
+use Rattle.std.specs.Prelude.{◌≡◌, ℕ, List, Option}
 use Rattle.hyd_io.specs.declared.desk.Faults.{Faults}
 use Rattle.hyd_io.specs.declared.output.Channel.{Channel}
 use Rattle.hyd_io.specs.declared.output.Channel.TheVariants.{Cert, Report}
 use Rattle.hyd_io.specs.declared.output.OutFault.{OutFault}
 use Rattle.hyd_io.specs.declared.output.OutFault.TheVariants.{Fault, Stalled}
-use Rattle.hyd_io.specs.Counts.{Rose}
+use Rattle.hyd_io.specs.Counts.{with_write_fault, with_print_fault, with_stall}
 
 -- the first of the two on channel Cert, the second on channel Report
 abbrev pub by_channel : {A : Type 0} → Channel → A → A → A
@@ -22,14 +22,15 @@ abbrev pub OnReport : Channel → Type 0 → Type 0
 OnReport Cert P = Unit {0}
 OnReport Report P = P
 
--- the count of the channel's faults
-abbrev pub faults_of : Channel → Faults → ℕ
-faults_of to counts = by_channel to counts.write counts.print
+-- one fault more of the channel's
+abbrev pub with_fault_of : Channel → Faults → Faults
+with_fault_of Cert counts = with_write_fault counts
+with_fault_of Report counts = with_print_fault counts
 
--- a fault comes only where the channel's count rose, a stall only where the stalls rose
+-- a fault is one more of the channel's, a stall one more stall, and no other count changes
 abbrev pub HasOutCause : Channel → OutFault → Faults → Faults → Type 0
-HasOutCause to Fault before now = Rose (faults_of to before) (faults_of to now)
-HasOutCause to Stalled before now = Rose before.stall now.stall
+HasOutCause to Fault before now = now ≡ with_fault_of to before
+HasOutCause to Stalled before now = now ≡ with_stall before
 
 -- a pen: where it writes, the fault that it keeps, and the bytes that it holds back
 pub record PenState : Type 0 where

@@ -4,7 +4,7 @@ ghost use Rattle.std.specs.Prelude.{◌≡◌, ◌≢◌, ℕ, ◌<◌, ◌≤�
 ghost use Rattle.hyd_io.specs.declared.desk.Faults.{Faults};
 ghost use Rattle.hyd_io.specs.Told.{Files, where_told, append_known, prepend_known, file_at, with_empty, content_of};
 ghost use Rattle.std.specs.Result.{result_ok};
-ghost use Rattle.hyd_io.specs.Counts.{Rose, NeverFall, next_count};
+ghost use Rattle.hyd_io.specs.Counts.{NeverFall, next_count, with_read_fault, with_write_fault, with_print_fault, with_stall};
 
 use thiserror::Error;
 
@@ -68,7 +68,7 @@ pub trait Desk {
         requires allowed { IsTrue (may_open name.now) }
         ensures told { OnOk result (rest self.new ≡ file_at (files self.old) name.now) }
         ensures nothing { OnErr result (rest self.new ≡ where_told (files self.old) []) }
-        ensures fault { OnErr result (Rose (counts self.old).read (counts self.new).read) }
+        ensures fault { OnErr result (counts self.new ≡ with_read_fault (counts self.old)) }
         ensures steady { OnOk result (counts self.new ≡ counts self.old) }
         ensures never_fall { NeverFall (counts self.old) (counts self.new) }
         ensures files_stay { files self.new ≡ files self.old }
@@ -86,7 +86,7 @@ pub trait Desk {
         ensures front { IfOk result (λ n.
             rest self.old ≡ prepend_known (take n buffer.new) (rest self.new)) }
         ensures end { IfOk result (λ n. n ≡ 0 → rest self.old ≡ where_told (rest self.old) []) }
-        ensures fault { OnErr result (Rose (counts self.old).read (counts self.new).read) }
+        ensures fault { OnErr result (counts self.new ≡ with_read_fault (counts self.old)) }
         ensures steady { OnOk result (counts self.new ≡ counts self.old) }
         ensures never_fall { NeverFall (counts self.old) (counts self.new) }
         ensures files_stay { files self.new ≡ files self.old }
@@ -111,7 +111,7 @@ pub trait Desk {
         ensures others { (other : List ℕ) → other ≢ name.now
             → file_at (files self.new) other ≡ file_at (files self.old) other }
         ensures still_told { is_some (files self.new) ≡ is_some (files self.old) }
-        ensures fault { OnErr result (Rose (counts self.old).write (counts self.new).write) }
+        ensures fault { OnErr result (counts self.new ≡ with_write_fault (counts self.old)) }
         ensures steady { OnOk result (counts self.new ≡ counts self.old) }
         ensures never_fall { NeverFall (counts self.old) (counts self.new) }
         ensures rest_stays { rest self.new ≡ rest self.old }
@@ -127,9 +127,9 @@ pub trait Desk {
         ensures appended { IfOk result (λ n.
             written self.new ≡ append_known (written self.old) (take n piece.now)) }
         ensures nothing { OnErr result (written self.new ≡ written self.old) }
-        ensures fault { OnErr result (Rose (counts self.old).write (counts self.new).write) }
+        ensures fault { OnErr result (counts self.new ≡ with_write_fault (counts self.old)) }
         ensures stalled { IfOk result (λ n. n ≡ 0 → piece.now ≢ []
-            → Rose (counts self.old).stall (counts self.new).stall) }
+            → counts self.new ≡ with_stall (counts self.old)) }
         ensures steady { IfOk result (λ n. 0 < n → counts self.new ≡ counts self.old) }
         ensures idle { OnOk result (piece.now ≡ [] → counts self.new ≡ counts self.old) }
         ensures never_fall { NeverFall (counts self.old) (counts self.new) }
@@ -149,9 +149,9 @@ pub trait Desk {
         ensures appended { IfOk result (λ n.
             printed self.new ≡ append_known (printed self.old) (take n piece.now)) }
         ensures nothing { OnErr result (printed self.new ≡ printed self.old) }
-        ensures fault { OnErr result (Rose (counts self.old).print (counts self.new).print) }
+        ensures fault { OnErr result (counts self.new ≡ with_print_fault (counts self.old)) }
         ensures stalled { IfOk result (λ n. n ≡ 0 → piece.now ≢ []
-            → Rose (counts self.old).stall (counts self.new).stall) }
+            → counts self.new ≡ with_stall (counts self.old)) }
         ensures steady { IfOk result (λ n. 0 < n → counts self.new ≡ counts self.old) }
         ensures idle { OnOk result (piece.now ≡ [] → counts self.new ≡ counts self.old) }
         ensures never_fall { NeverFall (counts self.old) (counts self.new) }

@@ -75,6 +75,15 @@ impl<R: Files + Print + Drop> Desk for FileDesk<R> {
     // A file is then open to be read exactly where the call didn't fail.
     ghost open_also = { λ _ _ failed new. new.reading ≡ not failed };
 
+    // The other calls leave open what is open.
+    ghost read_also = { λ old _ new. new.reading ≡ old.reading };
+
+    ghost create_also = { λ old _ new. new.reading ≡ old.reading };
+
+    ghost write_also = { λ old _ _ new. new.reading ≡ old.reading };
+
+    ghost print_also = { λ old _ _ new. new.reading ≡ old.reading };
+
     ghost is_content = { λ _. refl };
 
     fn open(&mut self, name: &str) -> Result<(), Failed> {
