@@ -165,17 +165,20 @@ mod tests {
     use std::test::Fail;
 
     #[test]
-    fn keeps_a_file(rt: HostRuntime) -> Result<(), Fail> {
+    fn keeps_what_was_written_last(rt: HostRuntime) -> Result<(), Fail> {
         let name = "hyd_io_file_desk.tmp";
         let mut desk = FileDesk::new(rt.clone()?);
-        desk.create(name)?;
-        let mut pen = Pen::new(Channel::Cert);
-        pen.put(&mut desk, b"one line\n")?;
-        pen.flush(&mut desk)?;
-        desk.open(name)?;
-        let bytes = read_all(rt.alloc(), &mut desk, 100)?;
+        let long = vec![in rt.alloc(); 7u8; 20000]?;
+        for content in [long.as_slice(), b"one line\n".as_slice()] {
+            desk.create(name)?;
+            let mut pen = Pen::new(Channel::Cert);
+            pen.put(&mut desk, content)?;
+            pen.flush(&mut desk)?;
+            desk.open(name)?;
+            let bytes = read_all(rt.alloc(), &mut desk, 20000)?;
+            assert_eq!(rt; bytes.as_slice(), content);
+        }
         fs::remove_file(&rt, name)?;
-        assert_eq!(rt; bytes.as_slice(), b"one line\n".as_slice());
         assert_eq!(rt; desk.counts.read, 0);
         assert!(rt; desk.open("hyd_io_no_such_file.tmp").is_err());
         assert_eq!(rt; desk.counts.read, 1);
