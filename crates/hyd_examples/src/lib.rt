@@ -9,6 +9,7 @@ pub mod levels;
 pub mod losses;
 pub mod numbers;
 pub mod outcomes;
+pub mod parts;
 pub mod quantities;
 pub mod rules;
 pub mod starts;
