@@ -3,11 +3,13 @@
 //! table of computed values. No function here has a body.
 #![tactic(auto)]
 
+pub mod decisions;
 pub mod enclosing;
 pub mod levels;
 pub mod losses;
 pub mod numbers;
 pub mod outcomes;
+pub mod parts;
 pub mod quantities;
 pub mod rules;
 pub mod starts;

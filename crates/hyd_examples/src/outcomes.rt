@@ -3,13 +3,14 @@
 
 ghost use Rattle.std.specs.Prelude.{◌≡◌, pos, neg_ℤ, true, false, [], ◌∷◌, map, length, slice_get, Some, None};
 ghost use Rattle.hyd_num.specs.declared.decimals.Span.{Span};
+ghost use Rattle.hyd_num.specs.declared.units.FlowUnit.TheVariants.{Gpm, Cmd};
 ghost use Rattle.hyd_num.specs.Rational.{whole};
-ghost use Rattle.hyd_spec.specs.Types.{Project, Decimal, Capacity, Junction, Tank, FourThirds, Given, CheckPipe, PumpLink, Tcv, Fcv, Linear, Open, Closed, Speed, Throttle, Limit, Head, Pressure, Level, Flow, Setting, AtLevel};
+ghost use Rattle.hyd_spec.specs.Types.{Project, Decimal, Capacity, Junction, Tank, Amount, Less, NotMore, More, NotLess, FourThirds, Given, CheckPipe, PumpLink, Tcv, Fcv, Linear, Open, Closed, Speed, Throttle, Limit, Head, Pressure, Level, Flow, Setting, AtLevel};
 ghost use Rattle.hyd_spec.specs.declared.TankState.TheVariants.{Empty, Between, Full};
 ghost use Rattle.hyd_spec.specs.declared.StatusWord.TheVariants.{Open as WordOpen, Closed as WordClosed, Active as WordActive, Unsure as WordUnsure};
 ghost use Rattle.hyd_spec.specs.Enclosing.{low, high};
 ghost use Rattle.hyd_spec.specs.LinkLaw.{law_of};
-ghost use Rattle.hyd_spec.specs.Rules.{measured};
+ghost use Rattle.hyd_spec.specs.Rules.{measured, holds_on};
 ghost use Rattle.hyd_spec.specs.Decided.{tank_watches};
 ghost use Rattle.hyd_spec.specs.Report.{by_drive, by_setting, status_of, tank_event, control_event};
 ghost use Rattle.hyd_spec.specs.ReportLine.{FilledLine, EmptiedLine, ReachedLine};
@@ -115,6 +116,46 @@ pub fn tank_laws()
     ensures between_high { (network : Project) → length network.junctions.list ≡ 1 → length network.reservoirs.list ≡ 0
         → map (high (law_of network (Between ∷ Between ∷ []) (record { from = 1; to = 2; kind = Tcv Linear; start = Open }) Open)) (neg_ℤ (pos 125) ∷ pos 0 ∷ pos 125 ∷ [])
         ≡ neg_ℤ (pos 1003352) ∷ pos 0 ∷ pos 1003353 ∷ [] }
+{}
+
+/// Clauses on a pressure about the amount, which in pounds a square inch isn't a whole number of head ticks.
+pub fn pressure_clauses()
+    ensures pounds_less { (network : Project) (junction : Junction) (span : Span) (number : Decimal) → length network.junctions.list ≡ 1 → length network.reservoirs.list ≡ 0
+        → slice_get network.junctions.list 0 ≡ Some junction → junction.elevation ≡ pos 40 → network.options.unit ≡ Gpm → number.nano ≡ pos 1
+        → map (λ head. holds_on network 1 0 (record { heads = head ∷ []; levels = []; flows = []; links = [] }) (Pressure 0) Less (Amount span number)) (pos 7074 ∷ pos 7075 ∷ []) ≡ true ∷ false ∷ [] }
+    ensures pounds_notmore { (network : Project) (junction : Junction) (span : Span) (number : Decimal) → length network.junctions.list ≡ 1 → length network.reservoirs.list ≡ 0
+        → slice_get network.junctions.list 0 ≡ Some junction → junction.elevation ≡ pos 40 → network.options.unit ≡ Gpm → number.nano ≡ pos 1
+        → map (λ head. holds_on network 1 0 (record { heads = head ∷ []; levels = []; flows = []; links = [] }) (Pressure 0) NotMore (Amount span number)) (pos 7074 ∷ pos 7075 ∷ []) ≡ true ∷ false ∷ [] }
+    ensures pounds_more { (network : Project) (junction : Junction) (span : Span) (number : Decimal) → length network.junctions.list ≡ 1 → length network.reservoirs.list ≡ 0
+        → slice_get network.junctions.list 0 ≡ Some junction → junction.elevation ≡ pos 40 → network.options.unit ≡ Gpm → number.nano ≡ pos 1
+        → map (λ head. holds_on network 1 0 (record { heads = head ∷ []; levels = []; flows = []; links = [] }) (Pressure 0) More (Amount span number)) (pos 7074 ∷ pos 7075 ∷ []) ≡ false ∷ true ∷ [] }
+    ensures pounds_notless { (network : Project) (junction : Junction) (span : Span) (number : Decimal) → length network.junctions.list ≡ 1 → length network.reservoirs.list ≡ 0
+        → slice_get network.junctions.list 0 ≡ Some junction → junction.elevation ≡ pos 40 → network.options.unit ≡ Gpm → number.nano ≡ pos 1
+        → map (λ head. holds_on network 1 0 (record { heads = head ∷ []; levels = []; flows = []; links = [] }) (Pressure 0) NotLess (Amount span number)) (pos 7074 ∷ pos 7075 ∷ []) ≡ false ∷ true ∷ [] }
+    ensures pounds_below_less { (network : Project) (junction : Junction) (span : Span) (number : Decimal) → length network.junctions.list ≡ 1 → length network.reservoirs.list ≡ 0
+        → slice_get network.junctions.list 0 ≡ Some junction → junction.elevation ≡ pos 40 → network.options.unit ≡ Gpm → number.nano ≡ neg_ℤ (pos 1)
+        → map (λ head. holds_on network 1 0 (record { heads = head ∷ []; levels = []; flows = []; links = [] }) (Pressure 0) Less (Amount span number)) (neg_ℤ (pos 6995) ∷ neg_ℤ (pos 6994) ∷ []) ≡ true ∷ false ∷ [] }
+    ensures pounds_below_notmore { (network : Project) (junction : Junction) (span : Span) (number : Decimal) → length network.junctions.list ≡ 1 → length network.reservoirs.list ≡ 0
+        → slice_get network.junctions.list 0 ≡ Some junction → junction.elevation ≡ pos 40 → network.options.unit ≡ Gpm → number.nano ≡ neg_ℤ (pos 1)
+        → map (λ head. holds_on network 1 0 (record { heads = head ∷ []; levels = []; flows = []; links = [] }) (Pressure 0) NotMore (Amount span number)) (neg_ℤ (pos 6995) ∷ neg_ℤ (pos 6994) ∷ []) ≡ true ∷ false ∷ [] }
+    ensures pounds_below_more { (network : Project) (junction : Junction) (span : Span) (number : Decimal) → length network.junctions.list ≡ 1 → length network.reservoirs.list ≡ 0
+        → slice_get network.junctions.list 0 ≡ Some junction → junction.elevation ≡ pos 40 → network.options.unit ≡ Gpm → number.nano ≡ neg_ℤ (pos 1)
+        → map (λ head. holds_on network 1 0 (record { heads = head ∷ []; levels = []; flows = []; links = [] }) (Pressure 0) More (Amount span number)) (neg_ℤ (pos 6995) ∷ neg_ℤ (pos 6994) ∷ []) ≡ false ∷ true ∷ [] }
+    ensures pounds_below_notless { (network : Project) (junction : Junction) (span : Span) (number : Decimal) → length network.junctions.list ≡ 1 → length network.reservoirs.list ≡ 0
+        → slice_get network.junctions.list 0 ≡ Some junction → junction.elevation ≡ pos 40 → network.options.unit ≡ Gpm → number.nano ≡ neg_ℤ (pos 1)
+        → map (λ head. holds_on network 1 0 (record { heads = head ∷ []; levels = []; flows = []; links = [] }) (Pressure 0) NotLess (Amount span number)) (neg_ℤ (pos 6995) ∷ neg_ℤ (pos 6994) ∷ []) ≡ false ∷ true ∷ [] }
+    ensures metres_less { (network : Project) (junction : Junction) (span : Span) (number : Decimal) → length network.junctions.list ≡ 1 → length network.reservoirs.list ≡ 0
+        → slice_get network.junctions.list 0 ≡ Some junction → junction.elevation ≡ pos 40 → network.options.unit ≡ Cmd → number.nano ≡ pos 1
+        → map (λ head. holds_on network 1 0 (record { heads = head ∷ []; levels = []; flows = []; links = [] }) (Pressure 0) Less (Amount span number)) (pos 10039 ∷ pos 10040 ∷ pos 10041 ∷ []) ≡ true ∷ false ∷ false ∷ [] }
+    ensures metres_notmore { (network : Project) (junction : Junction) (span : Span) (number : Decimal) → length network.junctions.list ≡ 1 → length network.reservoirs.list ≡ 0
+        → slice_get network.junctions.list 0 ≡ Some junction → junction.elevation ≡ pos 40 → network.options.unit ≡ Cmd → number.nano ≡ pos 1
+        → map (λ head. holds_on network 1 0 (record { heads = head ∷ []; levels = []; flows = []; links = [] }) (Pressure 0) NotMore (Amount span number)) (pos 10039 ∷ pos 10040 ∷ pos 10041 ∷ []) ≡ true ∷ true ∷ false ∷ [] }
+    ensures metres_more { (network : Project) (junction : Junction) (span : Span) (number : Decimal) → length network.junctions.list ≡ 1 → length network.reservoirs.list ≡ 0
+        → slice_get network.junctions.list 0 ≡ Some junction → junction.elevation ≡ pos 40 → network.options.unit ≡ Cmd → number.nano ≡ pos 1
+        → map (λ head. holds_on network 1 0 (record { heads = head ∷ []; levels = []; flows = []; links = [] }) (Pressure 0) More (Amount span number)) (pos 10039 ∷ pos 10040 ∷ pos 10041 ∷ []) ≡ false ∷ false ∷ true ∷ [] }
+    ensures metres_notless { (network : Project) (junction : Junction) (span : Span) (number : Decimal) → length network.junctions.list ≡ 1 → length network.reservoirs.list ≡ 0
+        → slice_get network.junctions.list 0 ≡ Some junction → junction.elevation ≡ pos 40 → network.options.unit ≡ Cmd → number.nano ≡ pos 1
+        → map (λ head. holds_on network 1 0 (record { heads = head ∷ []; levels = []; flows = []; links = [] }) (Pressure 0) NotLess (Amount span number)) (pos 10039 ∷ pos 10040 ∷ pos 10041 ∷ []) ≡ false ∷ true ∷ true ∷ [] }
 {}
 
 /// What clauses measure: heads, pressures, levels, flows and settings.
