@@ -25,7 +25,8 @@ pub fn pressures_pounds()
     ensures minimum { (network : Project) → network.options.unit ≡ Gpm → network.options.p0.nano ≡ pos 5000000000
         → (floor (minimum_pressure network) ∷ ceiling (minimum_pressure network) ∷ []) ≡ pos 35171936302792 ∷ pos 35171936302793 ∷ [] }
     ensures required { (network : Project) → network.options.unit ≡ Gpm → network.options.pf.nano ≡ pos 20000000001
-        → (floor (required_pressure network) ∷ ceiling (required_pressure network) ∷ []) ≡ pos 140687745218204 ∷ pos 140687745218205 ∷ [] }
+        → (floor (required_pressure network) ∷ ceiling (required_pressure network) ∷ []) ≡ pos 140687745218204 ∷ pos 140687745218205
+        ∷ [] }
 {}
 
 /// The minimum and the required pressure in metres, rounded down and up.
@@ -33,7 +34,8 @@ pub fn pressures_metres()
     ensures minimum { (network : Project) → network.options.unit ≡ Cmd → network.options.p0.nano ≡ pos 5000000000
         → (floor (minimum_pressure network) ∷ ceiling (minimum_pressure network) ∷ []) ≡ pos 50000000000000 ∷ pos 50000000000000 ∷ [] }
     ensures required { (network : Project) → network.options.unit ≡ Cmd → network.options.pf.nano ≡ pos 20000000001
-        → (floor (required_pressure network) ∷ ceiling (required_pressure network) ∷ []) ≡ pos 200000000010000 ∷ pos 200000000010000 ∷ [] }
+        → (floor (required_pressure network) ∷ ceiling (required_pressure network) ∷ []) ≡ pos 200000000010000 ∷ pos 200000000010000
+        ∷ [] }
 {}
 
 /// Which demands depend on the pressure.
@@ -70,35 +72,52 @@ pub fn valves()
 
 /// The lines of a text.
 pub fn lines()
-    ensures { map text_lines (codes "" ∷ codes "\n" ∷ codes "a" ∷ codes "a\n" ∷ codes "a\n\n" ∷ codes "a\r\nb" ∷ codes "\na\r\r\n" ∷ codes "\r" ∷ codes "[A]\nb  c\n" ∷ [])
-        ≡ ([]) ∷ (codes "" ∷ []) ∷ (codes "a" ∷ []) ∷ (codes "a" ∷ []) ∷ (codes "a" ∷ codes "" ∷ []) ∷ (codes "a" ∷ codes "b" ∷ []) ∷ (codes "" ∷ codes "a\r" ∷ []) ∷ (codes "" ∷ []) ∷ (codes "[A]" ∷ codes "b  c" ∷ []) ∷ [] }
+    ensures { map text_lines (codes "" ∷ codes "\n" ∷ codes "a" ∷ codes "a\n" ∷ codes "a\n\n" ∷ codes "a\r\nb" ∷ codes "\na\r\r\n" ∷ codes "\r"
+        ∷ codes "[A]\nb  c\n" ∷ [])
+        ≡ ([]) ∷ (codes "" ∷ []) ∷ (codes "a" ∷ []) ∷ (codes "a" ∷ []) ∷ (codes "a" ∷ codes "" ∷ []) ∷ (codes "a" ∷ codes "b" ∷ [])
+        ∷ (codes "" ∷ codes "a\r" ∷ []) ∷ (codes "" ∷ []) ∷ (codes "[A]" ∷ codes "b  c" ∷ []) ∷ [] }
 {}
 
 /// The words of a line.
 pub fn words()
     ensures { map line_words (codes "" ∷ codes "  " ∷ codes "a" ∷ codes " a b" ∷ codes "a\tb \t c" ∷ codes "[A] " ∷ [])
-        ≡ ([]) ∷ ([]) ∷ (codes "a" ∷ []) ∷ (codes "a" ∷ codes "b" ∷ []) ∷ (codes "a" ∷ codes "b" ∷ codes "c" ∷ []) ∷ (codes "[A]" ∷ []) ∷ [] }
+        ≡ ([]) ∷ ([]) ∷ (codes "a" ∷ []) ∷ (codes "a" ∷ codes "b" ∷ []) ∷ (codes "a" ∷ codes "b" ∷ codes "c" ∷ []) ∷ (codes "[A]" ∷ [])
+        ∷ [] }
 {}
 
 /// Fractions compared with 1/2.
 pub fn order()
-    ensures less { map (λ x. is_less x (record { num = pos 1; den = 2 })) ((record { num = pos 1; den = 2 }) ∷ (record { num = neg_ℤ (pos 1); den = 2 }) ∷ (record { num = pos 2; den = 4 }) ∷ (record { num = pos 3; den = 2 }) ∷ (record { num = neg_ℤ (pos 5); den = 3 }) ∷ [])
+    ensures less { map (λ x. is_less x (record { num = pos 1; den = 2 })) ((record { num = pos 1; den = 2 }) ∷ (record { num = neg_ℤ (pos 1); den = 2 })
+        ∷ (record { num = pos 2; den = 4 }) ∷ (record { num = pos 3; den = 2 }) ∷ (record { num = neg_ℤ (pos 5); den = 3 }) ∷ [])
         ≡ false ∷ true ∷ false ∷ false ∷ true ∷ [] }
-    ensures at_most { map (λ x. is_at_most x (record { num = pos 1; den = 2 })) ((record { num = pos 1; den = 2 }) ∷ (record { num = neg_ℤ (pos 1); den = 2 }) ∷ (record { num = pos 2; den = 4 }) ∷ (record { num = pos 3; den = 2 }) ∷ (record { num = neg_ℤ (pos 5); den = 3 }) ∷ [])
+    ensures at_most { map (λ x. is_at_most x (record { num = pos 1; den = 2 })) ((record { num = pos 1; den = 2 })
+        ∷ (record { num = neg_ℤ (pos 1); den = 2 }) ∷ (record { num = pos 2; den = 4 }) ∷ (record { num = pos 3; den = 2 })
+        ∷ (record { num = neg_ℤ (pos 5); den = 3 }) ∷ [])
         ≡ true ∷ true ∷ true ∷ false ∷ true ∷ [] }
-    ensures negated { map (λ x. floor (negated x)) ((record { num = pos 1; den = 2 }) ∷ (record { num = neg_ℤ (pos 1); den = 2 }) ∷ (record { num = pos 2; den = 4 }) ∷ (record { num = pos 3; den = 2 }) ∷ (record { num = neg_ℤ (pos 5); den = 3 }) ∷ [])
+    ensures negated { map (λ x. floor (negated x)) ((record { num = pos 1; den = 2 }) ∷ (record { num = neg_ℤ (pos 1); den = 2 })
+        ∷ (record { num = pos 2; den = 4 }) ∷ (record { num = pos 3; den = 2 }) ∷ (record { num = neg_ℤ (pos 5); den = 3 }) ∷ [])
         ≡ neg_ℤ (pos 1) ∷ pos 0 ∷ neg_ℤ (pos 1) ∷ neg_ℤ (pos 2) ∷ pos 1 ∷ [] }
-    ensures total { map (λ x. floor (total_of x (record { num = pos 4; den = 3 }))) ((record { num = pos 1; den = 2 }) ∷ (record { num = neg_ℤ (pos 1); den = 2 }) ∷ (record { num = pos 2; den = 4 }) ∷ (record { num = pos 3; den = 2 }) ∷ (record { num = neg_ℤ (pos 5); den = 3 }) ∷ [])
+    ensures total { map (λ x. floor (total_of x (record { num = pos 4; den = 3 }))) ((record { num = pos 1; den = 2 })
+        ∷ (record { num = neg_ℤ (pos 1); den = 2 }) ∷ (record { num = pos 2; den = 4 }) ∷ (record { num = pos 3; den = 2 })
+        ∷ (record { num = neg_ℤ (pos 5); den = 3 }) ∷ [])
         ≡ pos 1 ∷ pos 0 ∷ pos 1 ∷ pos 2 ∷ neg_ℤ (pos 1) ∷ [] }
 {}
 
 /// What links take out of nodes, and bring to tanks.
 pub fn flows()
-    ensures outflow { map (λ node. net_outflow node ((record { from = 0; to = 1; kind = Tcv Linear; start = Open }) ∷ (record { from = 1; to = 2; kind = Tcv Linear; start = Closed }) ∷ (record { from = 2; to = 0; kind = Tcv Linear; start = Open }) ∷ (record { from = 1; to = 0; kind = Tcv Linear; start = Throttle (pos 5) Linear }) ∷ []) (pos 100 ∷ neg_ℤ (pos 30) ∷ pos 7 ∷ pos 5 ∷ [])) (0 ∷ 1 ∷ 2 ∷ 3 ∷ [])
+    ensures outflow { map (λ node. net_outflow node ((record { from = 0; to = 1; kind = Tcv Linear; start = Open })
+        ∷ (record { from = 1; to = 2; kind = Tcv Linear; start = Closed })
+        ∷ (record { from = 2; to = 0; kind = Tcv Linear; start = Open })
+        ∷ (record { from = 1; to = 0; kind = Tcv Linear; start = Throttle (pos 5) Linear }) ∷ []) (pos 100 ∷ neg_ℤ (pos 30) ∷ pos 7
+        ∷ pos 5 ∷ [])) (0 ∷ 1 ∷ 2 ∷ 3 ∷ [])
         ≡ pos 88 ∷ neg_ℤ (pos 125) ∷ pos 37 ∷ pos 0 ∷ [] }
-    ensures inflow { (network : Project) → network.links.list ≡ (record { from = 0; to = 1; kind = Tcv Linear; start = Open }) ∷ (record { from = 1; to = 2; kind = Tcv Linear; start = Closed }) ∷ (record { from = 2; to = 0; kind = Tcv Linear; start = Open }) ∷ (record { from = 1; to = 0; kind = Tcv Linear; start = Throttle (pos 5) Linear }) ∷ []
+    ensures inflow { (network : Project) → network.links.list ≡ (record { from = 0; to = 1; kind = Tcv Linear; start = Open })
+        ∷ (record { from = 1; to = 2; kind = Tcv Linear; start = Closed })
+        ∷ (record { from = 2; to = 0; kind = Tcv Linear; start = Open })
+        ∷ (record { from = 1; to = 0; kind = Tcv Linear; start = Throttle (pos 5) Linear }) ∷ []
         → length network.junctions.list ≡ 1 → length network.reservoirs.list ≡ 0
-        → map (λ tank. tank_inflow network tank (pos 100 ∷ neg_ℤ (pos 30) ∷ pos 7 ∷ pos 5 ∷ [])) (0 ∷ 1 ∷ []) ≡ pos 125 ∷ neg_ℤ (pos 37) ∷ [] }
+        → map (λ tank. tank_inflow network tank (pos 100 ∷ neg_ℤ (pos 30) ∷ pos 7 ∷ pos 5 ∷ [])) (0 ∷ 1 ∷ []) ≡ pos 125
+        ∷ neg_ℤ (pos 37) ∷ [] }
 {}
 
 /// Heads and states of two tanks at their levels.
@@ -111,13 +130,18 @@ pub fn tanks()
 
 /// What is known at the start of the run: levels, tank states and the commanded states of the file.
 pub fn start()
-    ensures standing { (network : Project) (a b : Tank) → network.tanks.list ≡ a ∷ b ∷ [] → network.links.list ≡ (record { from = 0; to = 1; kind = Tcv Linear; start = Open }) ∷ (record { from = 1; to = 2; kind = Tcv Linear; start = Closed }) ∷ (record { from = 2; to = 0; kind = Tcv Linear; start = Open }) ∷ (record { from = 1; to = 0; kind = Tcv Linear; start = Throttle (pos 5) Linear }) ∷ []
+    ensures standing { (network : Project) (a b : Tank) → network.tanks.list ≡ a ∷ b
+        ∷ [] → network.links.list ≡ (record { from = 0; to = 1; kind = Tcv Linear; start = Open })
+        ∷ (record { from = 1; to = 2; kind = Tcv Linear; start = Closed })
+        ∷ (record { from = 2; to = 0; kind = Tcv Linear; start = Open })
+        ∷ (record { from = 1; to = 0; kind = Tcv Linear; start = Throttle (pos 5) Linear }) ∷ []
         → a.initial ≡ pos 6096000000 → b.initial ≡ neg_ℤ (pos 5)
         → a.minimum ≡ pos 0 → a.maximum ≡ pos 15240000000 → b.minimum ≡ neg_ℤ (pos 5) → b.maximum ≡ pos 4572000000
         → initial_standing network ≡ record {
           number = 0;
           time = 0;
-          levels = (record { lo = pos 6096000000; hi = pos 6096000000 }) ∷ (record { lo = neg_ℤ (pos 5); hi = neg_ℤ (pos 5) }) ∷ [];
+          levels = (record { lo = pos 6096000000; hi = pos 6096000000 })
+              ∷ (record { lo = neg_ℤ (pos 5); hi = neg_ℤ (pos 5) }) ∷ [];
           tanks = Between ∷ Empty ∷ [];
           commanded = Open ∷ Closed ∷ Open ∷ Throttle (pos 5) Linear ∷ [];
           finished = false;

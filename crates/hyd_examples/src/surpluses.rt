@@ -21,25 +21,33 @@ pub fn heads()
 
 /// The surplus of both junctions under four vectors, with all tanks alike and with the tank pinned.
 pub fn surplus()
-    ensures main_first { map (λ u. net_low sample Main u 0 first) ((pos 90 ∷ pos 70 ∷ []) ∷ (pos 100 ∷ pos 101 ∷ []) ∷ (pos 40 ∷ pos 45 ∷ []) ∷ (pos 10000000000000 ∷ neg_ℤ (pos 10000000000000) ∷ []) ∷ [])
+    ensures main_first { map (λ u. net_low sample Main u 0 first) ((pos 90 ∷ pos 70 ∷ []) ∷ (pos 100 ∷ pos 101 ∷ []) ∷ (pos 40 ∷ pos 45 ∷ [])
+        ∷ (pos 10000000000000 ∷ neg_ℤ (pos 10000000000000) ∷ []) ∷ [])
         ≡ pos 140901 ∷ pos 273411 ∷ neg_ℤ (pos 521245) ∷ pos 160536453118696073 ∷ [] }
-    ensures main_second { map (λ u. net_low sample Main u 1 second) ((pos 90 ∷ pos 70 ∷ []) ∷ (pos 100 ∷ pos 101 ∷ []) ∷ (pos 40 ∷ pos 45 ∷ []) ∷ (pos 10000000000000 ∷ neg_ℤ (pos 10000000000000) ∷ []) ∷ [])
+    ensures main_second { map (λ u. net_low sample Main u 1 second) ((pos 90 ∷ pos 70 ∷ []) ∷ (pos 100 ∷ pos 101 ∷ []) ∷ (pos 40 ∷ pos 45 ∷ [])
+        ∷ (pos 10000000000000 ∷ neg_ℤ (pos 10000000000000) ∷ []) ∷ [])
         ≡ pos 52171 ∷ pos 329028 ∷ pos 40064 ∷ neg_ℤ (pos 20070) ∷ [] }
-    ensures pinned_first { map (λ u. net_low sample (Pinned 0) u 0 first) ((pos 90 ∷ pos 70 ∷ []) ∷ (pos 100 ∷ pos 101 ∷ []) ∷ (pos 40 ∷ pos 45 ∷ []) ∷ (pos 10000000000000 ∷ neg_ℤ (pos 10000000000000) ∷ []) ∷ [])
+    ensures pinned_first { map (λ u. net_low sample (Pinned 0) u 0 first) ((pos 90 ∷ pos 70 ∷ []) ∷ (pos 100 ∷ pos 101 ∷ []) ∷ (pos 40 ∷ pos 45 ∷ [])
+        ∷ (pos 10000000000000 ∷ neg_ℤ (pos 10000000000000) ∷ []) ∷ [])
         ≡ pos 229196 ∷ pos 361706 ∷ neg_ℤ (pos 521245) ∷ pos 160536453118784368 ∷ [] }
-    ensures pinned_second { map (λ u. net_low sample (Pinned 0) u 1 second) ((pos 90 ∷ pos 70 ∷ []) ∷ (pos 100 ∷ pos 101 ∷ []) ∷ (pos 40 ∷ pos 45 ∷ []) ∷ (pos 10000000000000 ∷ neg_ℤ (pos 10000000000000) ∷ []) ∷ [])
+    ensures pinned_second { map (λ u. net_low sample (Pinned 0) u 1 second) ((pos 90 ∷ pos 70 ∷ []) ∷ (pos 100 ∷ pos 101 ∷ []) ∷ (pos 40 ∷ pos 45 ∷ [])
+        ∷ (pos 10000000000000 ∷ neg_ℤ (pos 10000000000000) ∷ []) ∷ [])
         ≡ pos 140466 ∷ pos 417323 ∷ pos 40064 ∷ neg_ℤ (pos 20070) ∷ [] }
 {}
 
 /// Its mirror.
 pub fn deficit()
-    ensures main_first { map (λ u. net_high sample Main u 0 first) ((pos 90 ∷ pos 70 ∷ []) ∷ (pos 100 ∷ pos 101 ∷ []) ∷ (pos 40 ∷ pos 45 ∷ []) ∷ (pos 10000000000000 ∷ neg_ℤ (pos 10000000000000) ∷ []) ∷ [])
+    ensures main_first { map (λ u. net_high sample Main u 0 first) ((pos 90 ∷ pos 70 ∷ []) ∷ (pos 100 ∷ pos 101 ∷ []) ∷ (pos 40 ∷ pos 45 ∷ [])
+        ∷ (pos 10000000000000 ∷ neg_ℤ (pos 10000000000000) ∷ []) ∷ [])
         ≡ pos 237225 ∷ pos 369735 ∷ neg_ℤ (pos 521243) ∷ pos 160536453118792397 ∷ [] }
-    ensures main_second { map (λ u. net_high sample Main u 1 second) ((pos 90 ∷ pos 70 ∷ []) ∷ (pos 100 ∷ pos 101 ∷ []) ∷ (pos 40 ∷ pos 45 ∷ []) ∷ (pos 10000000000000 ∷ neg_ℤ (pos 10000000000000) ∷ []) ∷ [])
+    ensures main_second { map (λ u. net_high sample Main u 1 second) ((pos 90 ∷ pos 70 ∷ []) ∷ (pos 100 ∷ pos 101 ∷ []) ∷ (pos 40 ∷ pos 45 ∷ [])
+        ∷ (pos 10000000000000 ∷ neg_ℤ (pos 10000000000000) ∷ []) ∷ [])
         ≡ pos 140467 ∷ pos 417325 ∷ pos 40065 ∷ neg_ℤ (pos 20070) ∷ [] }
-    ensures pinned_first { map (λ u. net_high sample (Pinned 0) u 0 first) ((pos 90 ∷ pos 70 ∷ []) ∷ (pos 100 ∷ pos 101 ∷ []) ∷ (pos 40 ∷ pos 45 ∷ []) ∷ (pos 10000000000000 ∷ neg_ℤ (pos 10000000000000) ∷ []) ∷ [])
+    ensures pinned_first { map (λ u. net_high sample (Pinned 0) u 0 first) ((pos 90 ∷ pos 70 ∷ []) ∷ (pos 100 ∷ pos 101 ∷ []) ∷ (pos 40 ∷ pos 45 ∷ [])
+        ∷ (pos 10000000000000 ∷ neg_ℤ (pos 10000000000000) ∷ []) ∷ [])
         ≡ pos 148930 ∷ pos 281440 ∷ neg_ℤ (pos 521243) ∷ pos 160536453118704102 ∷ [] }
-    ensures pinned_second { map (λ u. net_high sample (Pinned 0) u 1 second) ((pos 90 ∷ pos 70 ∷ []) ∷ (pos 100 ∷ pos 101 ∷ []) ∷ (pos 40 ∷ pos 45 ∷ []) ∷ (pos 10000000000000 ∷ neg_ℤ (pos 10000000000000) ∷ []) ∷ [])
+    ensures pinned_second { map (λ u. net_high sample (Pinned 0) u 1 second) ((pos 90 ∷ pos 70 ∷ []) ∷ (pos 100 ∷ pos 101 ∷ []) ∷ (pos 40 ∷ pos 45 ∷ [])
+        ∷ (pos 10000000000000 ∷ neg_ℤ (pos 10000000000000) ∷ []) ∷ [])
         ≡ pos 52172 ∷ pos 329030 ∷ pos 40065 ∷ neg_ℤ (pos 20070) ∷ [] }
 {}
 

@@ -15,16 +15,49 @@ ghost use Rattle.hyd_spec.specs.ReportLine.{state_words, line_text, ControlLine,
 pub fn certificates()
     ensures empty { certificate_text 3 0 ([]) 0 false
         ≡ codes "HYDCERT 1 3 0\nEND 0 STOPPED\n" }
-    ensures heads { certificate_text 2 0 ((record { number = 0; time = 0; length = 0; main = record { upper = pos 5 ∷ neg_ℤ (pos 1000000000000000000) ∷ []; lower = pos 0 ∷ neg_ℤ (pos 7) ∷ [] }; pinned = [] }) ∷ []) 1 true
+    ensures heads { certificate_text 2 0 ((record {
+      number = 0;
+      time = 0;
+      length = 0;
+      main = record {
+        upper = pos 5 ∷ neg_ℤ (pos 1000000000000000000)
+            ∷ [];
+        lower = pos 0 ∷ neg_ℤ (pos 7) ∷ [];
+      };
+      pinned = [];
+    }) ∷ []) 1 true
         ≡ codes "HYDCERT 1 2 0\nPERIOD 0 0 0\nMU 5\nMU -1000000000000000000\nML 0\nML -7\nEND 1 FINISHED\n" }
-    ensures tank { certificate_text 1 1 ((record { number = 0; time = 0; length = 3600; main = record { upper = pos 12 ∷ []; lower = neg_ℤ (pos 12) ∷ [] }; pinned = (record { upper = pos 13 ∷ []; lower = neg_ℤ (pos 1) ∷ [] }) ∷ [] }) ∷ (record { number = 1; time = 3600; length = 0; main = record { upper = pos 1 ∷ []; lower = pos 2 ∷ [] }; pinned = (record { upper = pos 3 ∷ []; lower = pos 4 ∷ [] }) ∷ [] }) ∷ []) 2 true
+    ensures tank { certificate_text 1 1 ((record {
+      number = 0;
+      time = 0;
+      length = 3600;
+      main = record {
+        upper = pos 12 ∷ [];
+        lower = neg_ℤ (pos 12)
+            ∷ [];
+      };
+      pinned = (record { upper = pos 13 ∷ []; lower = neg_ℤ (pos 1) ∷ [] }) ∷ [];
+    })
+        ∷ (record {
+          number = 1;
+          time = 3600;
+          length = 0;
+          main = record {
+            upper = pos 1 ∷ [];
+            lower = pos 2
+                ∷ [];
+          };
+          pinned = (record { upper = pos 3 ∷ []; lower = pos 4 ∷ [] }) ∷ [];
+        }) ∷ []) 2 true
         ≡ codes "HYDCERT 1 1 1\nPERIOD 0 0 3600\nMU 12\nML -12\nPU 13\nPL -1\nPERIOD 1 3600 0\nMU 1\nML 2\nPU 3\nPL 4\nEND 2 FINISHED\n" }
 {}
 
 /// How the state that a link was given is printed.
 pub fn states()
-    ensures { map (λ state. words (state_words state)) (Open ∷ Closed ∷ Speed (pos 1200000000) ∷ Throttle (pos 5) Linear ∷ Limit (pos 1000000000000) (pos 7) ∷ [])
-        ≡ codes "OPEN" ∷ codes "CLOSED" ∷ codes "SETTING 1.200000000" ∷ codes "SETTING 0.000000005" ∷ codes "SETTING 1000.000000000" ∷ [] }
+    ensures { map (λ state. words (state_words state)) (Open ∷ Closed ∷ Speed (pos 1200000000) ∷ Throttle (pos 5) Linear
+        ∷ Limit (pos 1000000000000) (pos 7) ∷ [])
+        ≡ codes "OPEN" ∷ codes "CLOSED" ∷ codes "SETTING 1.200000000" ∷ codes "SETTING 0.000000005" ∷ codes "SETTING 1000.000000000"
+        ∷ [] }
 {}
 
 /// Each line of a report.
@@ -44,19 +77,23 @@ pub fn lines()
     ensures reservoir { (network : Project) → network.node_ids ≡ codes "J1" ∷ codes "R" ∷ codes "T" ∷ [] → length network.junctions.list ≡ 1
         → line_text network (ReservoirLine 0 (record { lo = pos 1000001; hi = pos 1000001 }))
         ≡ codes "RESERVOIR R head 100.0001 100.0001\n" }
-    ensures tank { (network : Project) → network.node_ids ≡ codes "J1" ∷ codes "R" ∷ codes "T" ∷ [] → length network.junctions.list ≡ 1 → length network.reservoirs.list ≡ 1
+    ensures tank { (network : Project) → network.node_ids ≡ codes "J1" ∷ codes "R" ∷ codes "T"
+        ∷ [] → length network.junctions.list ≡ 1 → length network.reservoirs.list ≡ 1
         → line_text network (TankLine 0 (record { lo = pos 9; hi = pos 30007 }) (record { lo = pos 2; hi = pos 30000 }) (record { lo = neg_ℤ (pos 1); hi = pos 1 }) Between)
         ≡ codes "TANK T head 0.0009 3.0007 level 0.0002 3.0000 inflow -0.0001 0.0001 state BETWEEN\n" }
     ensures link { (network : Project) → network.link_ids ≡ codes "P" ∷ []
         → line_text network (LinkLine 0 (record { lo = neg_ℤ (pos 5); hi = pos 123456789 }) WordActive)
         ≡ codes "LINK P flow -0.0005 12345.6789 status ACTIVE\n" }
-    ensures filled { (network : Project) → network.node_ids ≡ codes "J1" ∷ codes "R" ∷ codes "T" ∷ [] → length network.junctions.list ≡ 1 → length network.reservoirs.list ≡ 1
+    ensures filled { (network : Project) → network.node_ids ≡ codes "J1" ∷ codes "R" ∷ codes "T"
+        ∷ [] → length network.junctions.list ≡ 1 → length network.reservoirs.list ≡ 1
         → line_text network (FilledLine 3725 0)
         ≡ codes "EVENT 1:02:05 TANK T FULL\n" }
-    ensures emptied { (network : Project) → network.node_ids ≡ codes "J1" ∷ codes "R" ∷ codes "T" ∷ [] → length network.junctions.list ≡ 1 → length network.reservoirs.list ≡ 1
+    ensures emptied { (network : Project) → network.node_ids ≡ codes "J1" ∷ codes "R" ∷ codes "T"
+        ∷ [] → length network.junctions.list ≡ 1 → length network.reservoirs.list ≡ 1
         → line_text network (EmptiedLine 3725 0)
         ≡ codes "EVENT 1:02:05 TANK T EMPTY\n" }
-    ensures reached { (network : Project) → network.node_ids ≡ codes "J1" ∷ codes "R" ∷ codes "T" ∷ [] → length network.junctions.list ≡ 1 → length network.reservoirs.list ≡ 1
+    ensures reached { (network : Project) → network.node_ids ≡ codes "J1" ∷ codes "R" ∷ codes "T"
+        ∷ [] → length network.junctions.list ≡ 1 → length network.reservoirs.list ≡ 1
         → line_text network (ReachedLine 3725 0 1)
         ≡ codes "EVENT 1:02:05 TANK T CONTROL 2\n" }
     ensures rule { (network : Project) (rule : Rule) → network.rules.list ≡ rule ∷ [] → rule.id.list ≡ codes "U1" → network.link_ids ≡ codes "P" ∷ []
@@ -69,7 +106,8 @@ pub fn stops()
     ensures no_certificate { (network : Project) → network.node_ids ≡ codes "J1" ∷ codes "R" ∷ codes "T" ∷ []
         → stop_line network 3 3725 (NoCertificate Main Upper 0)
         ≡ codes "STOP period 3 time 1:02:05 NOCERT MAIN UPPER JUNCTION J1\n" }
-    ensures no_certificate_pinned { (network : Project) → network.node_ids ≡ codes "J1" ∷ codes "R" ∷ codes "T" ∷ [] → length network.junctions.list ≡ 1 → length network.reservoirs.list ≡ 1
+    ensures no_certificate_pinned { (network : Project) → network.node_ids ≡ codes "J1" ∷ codes "R" ∷ codes "T"
+        ∷ [] → length network.junctions.list ≡ 1 → length network.reservoirs.list ≡ 1
         → stop_line network 3 3725 (NoCertificate (Pinned 0) Lower 0)
         ≡ codes "STOP period 3 time 1:02:05 NOCERT PINNED T LOWER JUNCTION J1\n" }
     ensures rounds { (network : Project)
@@ -81,7 +119,8 @@ pub fn stops()
     ensures event { (network : Project)
         → stop_line network 3 3725 (EventOpen 107 108)
         ≡ codes "STOP period 3 time 1:02:05 EVENT 107 108\n" }
-    ensures tank { (network : Project) → network.node_ids ≡ codes "J1" ∷ codes "R" ∷ codes "T" ∷ [] → length network.junctions.list ≡ 1 → length network.reservoirs.list ≡ 1
+    ensures tank { (network : Project) → network.node_ids ≡ codes "J1" ∷ codes "R" ∷ codes "T"
+        ∷ [] → length network.junctions.list ≡ 1 → length network.reservoirs.list ≡ 1
         → stop_line network 3 3725 (TankOpen 0 (record { lo = neg_ℤ (pos 3); hi = pos 1524000001 }))
         ≡ codes "STOP period 3 time 1:02:05 TANK T -3 1524000001\n" }
     ensures control { (network : Project)
