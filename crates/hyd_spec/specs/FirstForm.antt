@@ -61,8 +61,8 @@ pub record Words : Type 0 where
   pub diameter : List ℕ
   pub setting : List ℕ
 
--- The IDs differ, elevation and head are at most 10^4 in magnitude, the demand at most 10^8; the diameter is 10 to
--- 10,000, the setting 1 to 1,000.
+-- The IDs of the two nodes differ; elevation and head are at most 10^4 in magnitude, the demand at most 10^8; the
+-- diameter is 10 to 10,000, the setting 1 to 1,000.
 pub record AreWords (w : Words) : Type 0 where
   pub junction : IsId w.junction
   pub reservoir : IsId w.reservoir
