@@ -49,7 +49,7 @@ plus_nothing z = omega (arith, ints)
 pub demand_is : (network : Project) (junction : Junction) (base : ℤ) → IsPlain network
     → junction.demands.list ≡ record { base = base; pattern = None } ∷ [] → demand_of network 0 junction ≡ base
 demand_is network junction base plain list =
-    rw (list, plain.default_pattern, plain.multiplier) (plus_nothing _ ∙ cut_whole base)
+    rw (list, plain.options.default_pattern, plain.options.multiplier) (plus_nothing _ ∙ cut_whole base)
 
 -- it doesn't depend on the pressure
 same_either_way : (b : Bool) → (if b then false else false) ≡ false
@@ -98,7 +98,7 @@ junctions_are network valve first is xs h =
     let parts = first.has_parts in
     let found = single Junction GridJunction (IsJunctionOf network 0) parts.junction xs (subst (λ js. AllZip (IsJunctionOf network 0) js xs) parts.junctions h) in
     let fixed : found.only.demand ≡ Fixed valve.demand =
-    fixed_law network _ found.only.demand parts.plain.demand_driven found.related.demand ∙ ap Fixed (demand_read network valve first is) in
+    fixed_law network _ found.only.demand parts.plain.options.demand_driven found.related.demand ∙ ap Fixed (demand_read network valve first is) in
     let emitter : found.only.emitter ≡ None = found.related.emitter ∙ parts.junction_is.no_emitter in
     (found.only.elevation, found.is_only ∙ (λ i. record { elevation = found.only.elevation; demand = fixed i; emitter = emitter i } ∷ []))
 
@@ -137,7 +137,7 @@ pub has_grid : (network : Project) → IsFirstNetwork network → (grid : Grid) 
 has_grid network first =
     let parts = first.has_parts in
     let junction : GridJunction = record { elevation = parts.junction.elevation; demand = Fixed (demand_of network 0 parts.junction); emitter = parts.junction.emitter } in
-    let is_junction : IsJunctionOf network 0 parts.junction junction = record { elevation = refl; demand = fixed_is_law network (demand_of network 0 parts.junction) parts.plain.demand_driven; emitter = refl } in
+    let is_junction : IsJunctionOf network 0 parts.junction junction = record { elevation = refl; demand = fixed_is_law network (demand_of network 0 parts.junction) parts.plain.options.demand_driven; emitter = refl } in
     let start = initial_standing network in (
       record {
         junctions = junction ∷ [];

@@ -31,6 +31,7 @@ use Rattle.hyd_laws.specs.Laws.{LevelsLie, IsSoundGrid, IsSoundLaw, IsSoundCapac
 use Rattle.hyd_laws.proofs.EachLaw.{IsSoundCapacity-made}
 use Rattle.hyd_laws.proofs.Comparison.{below_main, above_main}
 use Rattle.hyd_cli.specs.FirstRun.{first_row, first_found}
+use Rattle.hyd_cli.proofs.FirstReport.{reported_at_once, no_controls}
 use Rattle.hyd_cli.proofs.LinesHold.{IsCovered, flow_holds, state_lines_hold}
 
 -- ---- the network at the start
@@ -184,22 +185,16 @@ no_end_lines network grid standing row lines last (ends_last e) = refl
 no_end_lines network grid standing row lines last (ends_by_rules (by_rules matter closed)) = absurd (matter.not_last last)
 no_end_lines network grid standing row lines last (ends_by_clock (by_clock matter latest)) = absurd (matter.not_last last)
 
-no_control_lines : (network : Project) (standing : Standing) → network.controls.list ≡ [] → control_lines network standing ≡ []
-no_control_lines network standing e = rw e refl
-
-reports_at_start : (network : Project) → IsPlain network → is_report_time network 0 ≡ true
-reports_at_start network plain = rw (plain.report_start, plain.report_step) refl
-
 pub only_state_lines : (network : Project) → IsFirstNetwork network → (grid : Grid) (row : Record) (lines : List ReportLine)
     → IsReport network grid (initial_standing network) row lines
     → (state : List ReportLine) × AreStateLines network grid (initial_standing network) row state × (lines ≡ state ++ [])
 only_state_lines network first grid row lines report =
     let plain = first.has_parts.plain in
     let start = initial_standing network in
-    let ends = no_end_lines network grid start row report.at_end (sym plain.duration) report.at_end_are in
-    let controls = no_control_lines network start plain.no_controls in (
+    let ends = no_end_lines network grid start row report.at_end (sym plain.times.duration) report.at_end_are in
+    let controls = no_controls network plain in (
       report.state,
-      subst (λ (b : Bool). MatchBool b (AreStateLines network grid start row report.state) (report.state ≡ [])) (reports_at_start network plain) report.state_are,
+      subst (λ (b : Bool). MatchBool b (AreStateLines network grid start row report.state) (report.state ≡ [])) (reported_at_once network plain) report.state_are,
       report.lines_are ∙ ap (λ (ls : List ReportLine). ls ++ (report.state ++ report.at_end)) controls ∙ ap (λ (ls : List ReportLine). report.state ++ ls) ends,
     )
 
@@ -230,7 +225,7 @@ first_agrees network first S some period grid upper lower lines begins is at abo
     let start = initial_standing network in
     record {
       time = so.time;
-      length_is = no_length network S period first.has_parts.plain.duration so.time is.lasts;
+      length_is = no_length network S period first.has_parts.plain.times.duration so.time is.lasts;
       tanks = so.tanks;
       links = so.links;
       above_lower = above_main network S period.time start.levels period.levels period.tanks period.links period.given grid (lower ∷ []) over.compared below;

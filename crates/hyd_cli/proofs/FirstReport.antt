@@ -39,12 +39,12 @@ first_lines p = TimeLine 0 ∷ (JunctionLine 0 p.head p.pressure p.outflow ∷ (
 -- ---- the file's units
 
 in_metres : (network : Project) → IsPlain network → is_us network ≡ false
-in_metres network plain = rw plain.unit refl
+in_metres network plain = rw plain.options.unit refl
 
-reported_at_once : (network : Project) → IsPlain network → is_report_time network 0 ≡ true
-reported_at_once network plain = rw (plain.report_start, plain.report_step) refl
+pub reported_at_once : (network : Project) → IsPlain network → is_report_time network 0 ≡ true
+reported_at_once network plain = rw (plain.times.report_start, plain.times.report_step) refl
 
-no_controls : (network : Project) → IsPlain network → control_lines network (initial_standing network) ≡ []
+pub no_controls : (network : Project) → IsPlain network → control_lines network (initial_standing network) ≡ []
 no_controls network plain = rw plain.no_controls refl
 
 plus_nothing : (z : ℤ) → z +ℤ pos 0 ≡ z
@@ -79,7 +79,7 @@ junction_line network plain elevation valve upper lower p = record {
 
     outflow : Prints (flow_quantity network.options.unit) (record { lo = (valve.demand -ℤ pos 10) +ℤ pos 0; hi = (valve.demand +ℤ pos 10) +ℤ pos 0 }) p.outflow
     outflow = bounds (flow_quantity network.options.unit)
-        (subst (λ unit. Prints (flow_quantity unit) (record { lo = valve.demand -ℤ pos 10; hi = valve.demand +ℤ pos 10 }) p.outflow) (sym plain.unit) p.outflow_is)
+        (subst (λ unit. Prints (flow_quantity unit) (record { lo = valve.demand -ℤ pos 10; hi = valve.demand +ℤ pos 10 }) p.outflow) (sym plain.options.unit) p.outflow_is)
 
 reservoir_line : (network : Project) → IsPlain network → (elevation : ℤ) (valve : SingleValve) (upper lower : ℤ) (p : Printed elevation valve upper lower)
     → IsReservoirLine network 0 valve.head (ReservoirLine 0 p.height)
@@ -97,7 +97,7 @@ link_line network first elevation valve upper lower p = record {
   box = record { lo = quad_low valve.capacity (valve.head -ℤ upper) -ℤ pos 10; hi = quad_high valve.capacity (valve.head -ℤ lower) +ℤ pos 10 };
   box_is = refl;
   flow = p.flow;
-  flow_is = subst (λ unit. Prints (flow_quantity unit) (record { lo = quad_low valve.capacity (valve.head -ℤ upper) -ℤ pos 10; hi = quad_high valve.capacity (valve.head -ℤ lower) +ℤ pos 10 }) p.flow) (sym first.has_parts.plain.unit) p.flow_is;
+  flow_is = subst (λ unit. Prints (flow_quantity unit) (record { lo = quad_low valve.capacity (valve.head -ℤ upper) -ℤ pos 10; hi = quad_high valve.capacity (valve.head -ℤ lower) +ℤ pos 10 }) p.flow) (sym first.has_parts.plain.options.unit) p.flow_is;
   is_line = ap (λ word. LinkLine 0 p.flow word) (sym (throttled network first _));
 }
 
@@ -123,6 +123,6 @@ report_is network first elevation valve upper lower p = record {
   state_are = subst (λ b. MatchBool b (AreStateLines network (valve_grid elevation valve) (initial_standing network) (first_row upper lower) (first_lines p)) (first_lines p ≡ []))
       (sym (reported_at_once network first.has_parts.plain)) (state_lines network first elevation valve upper lower p);
   at_end = [];
-  at_end_are = at_end (sym first.has_parts.plain.duration);
+  at_end_are = at_end (sym first.has_parts.plain.times.duration);
   lines_are = sym (ap (λ front. front ++ (first_lines p ++ [])) (no_controls network first.has_parts.plain) ∙ append-nil (first_lines p));
 }

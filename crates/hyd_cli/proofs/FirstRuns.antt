@@ -1,5 +1,5 @@
 -- The run of a network of the first form: its record is valid, and what is written and printed of it is right.
-use Rattle.std.proofs.Common.{◌≡◌, ℕ, ◌*◌, ◌^◌, ◌≤◌, ℤ, pos, Bool, true, false, List, [], ◌∷◌, ◌++◌, All, length, unsigned_abs, refl, sym, ap, subst, ◌∙◌, arith}
+use Rattle.std.proofs.Common.{◌≡◌, ℕ, ◌*◌, ◌^◌, ◌<◌, ◌≤◌, ℤ, pos, Bool, true, false, List, [], ◌∷◌, ◌++◌, All, length, unsigned_abs, refl, sym, ap, subst, ◌∙◌, arith}
 use Rattle.std.proofs.lemmas.Int.{ints}
 use Rattle.std.proofs.lemmas.List.Elements.{All-nil, All-cons}
 use Rattle.hyd_num.specs.Numeral.{nano_of}
@@ -16,7 +16,7 @@ use Rattle.hyd_spec.specs.Certificate.{IsCertificate, IsTight}
 use Rattle.hyd_spec.specs.CertificateText.{IsVector, IsRow, certificate_text}
 use Rattle.hyd_spec.specs.Record.{Record, Vectors, initial_standing, vector_of}
 use Rattle.hyd_spec.specs.Valid.{IsProblem, IsGridAt, DemandsAreInRange, demand_limit, finishes}
-use Rattle.hyd_spec.specs.Stops.{HasNoCertificate, NoCertificate}
+use Rattle.hyd_spec.specs.Stops.{HasNoCertificate, EarlierHaveCertificates, NoCertificate}
 use Rattle.hyd_spec.specs.ReportLine.{ReportLine, report_text, done_line, stop_line}
 use Rattle.hyd_spec.specs.Report.{IsReport}
 use Rattle.hyd_spec.specs.FirstForm.{IsFirstNetwork}
@@ -33,6 +33,12 @@ one_junction network first = ap (λ (js : List Junction). length js) first.has_p
 
 no_tank : (network : Project) → IsFirstNetwork network → tank_count network ≡ 0
 no_tank network first = rw first.has_parts.plain.no_tanks refl
+
+few_junctions : (network : Project) → IsFirstNetwork network → junction_count network < 2 ^ 32
+few_junctions network first = let e = one_junction network first in omega (arith, e)
+
+few_tanks : (network : Project) → IsFirstNetwork network → tank_count network < 2 ^ 32
+few_tanks network first = let e = no_tank network first in omega (arith, e)
 
 -- ---- demands
 
@@ -81,7 +87,7 @@ found_valid network first grid at upper lower above below lines report = record 
       pinned_each = sym (no_tank network first);
       each = first_certificates network first grid upper lower above below;
     };
-    leads_on = finishes (record { is_last = sym first.has_parts.plain.duration; no_length = refl; next_is = refl });
+    leads_on = finishes (record { is_last = sym first.has_parts.plain.times.duration; no_length = refl; next_is = refl });
   };
   report = report;
 }
@@ -151,6 +157,8 @@ writes_finished network first upper lower above below lines reports written prin
       sharp = (first_tight network first grid upper lower lines over under, tt);
       ends_so = refl;
       certificate = record {
+        junctions_fit = few_junctions network first;
+        tanks_fit = few_tanks network first;
         rows_fit = first_rows network first grid upper lower over.is_certificate under.is_certificate;
         periods_fit = omega arith;
         is_text = written_is ∙ same_counts network first (first_row upper lower ∷ []) 1 true;
@@ -161,18 +169,21 @@ writes_finished network first upper lower above below lines reports written prin
 
 pub writes_stopped : (network : Project) → IsFirstNetwork network → (side : Side)
     → HasNoCertificate network (initial_standing network) Main side
+    → EarlierHaveCertificates network (initial_standing network) Main side
     → (written printed : List ℕ) → written ≡ certificate_text 1 0 [] 0 false
     → printed ≡ report_text network [] (stop_line network 0 0 (NoCertificate Main side 0))
     → RunWrites network 200 (record { width = pos (10 ^ 11); tight = true }) (Stopped (NoCertificate Main side 0)) written printed
-writes_stopped network first side lacks written printed written_is printed_is =
+writes_stopped network first side lacks earlier written printed written_is printed_is =
     let one = one_junction network first in
     record {
       founds = [];
       left = initial_standing network;
       is_run = none;
       sharp = tt;
-      ends_so = (refl, (omega (arith, one), lacks));
+      ends_so = (refl, (omega (arith, one), (earlier, lacks)));
       certificate = record {
+        junctions_fit = few_junctions network first;
+        tanks_fit = few_tanks network first;
         rows_fit = All-nil (IsRow (junction_count network) (tank_count network));
         periods_fit = omega arith;
         is_text = written_is ∙ same_counts network first [] 0 false;

@@ -1,17 +1,17 @@
 -- The nearest head that passes is the tight vector of a network of the first form, and where none passes there is no
 -- certificate.
-use Rattle.std.proofs.Common.{◌≤◌, ℤ, List, [], ◌∷◌, All, unsigned_abs, sym, subst}
+use Rattle.std.proofs.Common.{◌≤◌, ℤ, List, [], ◌∷◌, All, unsigned_abs, sym, subst, arith}
 use Rattle.std.proofs.lemmas.List.Elements.{All-nil, All-cons}
 use Rattle.hyd_spec.specs.Types.{Project, Junction}
-use Rattle.hyd_spec.specs.declared.Problem.TheVariants.{Main}
+use Rattle.hyd_spec.specs.declared.Problem.TheVariants.{Main, Pinned}
 use Rattle.hyd_spec.specs.declared.Side.{Side}
-use Rattle.hyd_spec.specs.declared.Side.TheVariants.{Upper}
+use Rattle.hyd_spec.specs.declared.Side.TheVariants.{Upper, Lower}
 use Rattle.hyd_spec.specs.Quantity.{demand_of}
 use Rattle.hyd_spec.specs.Grid.{Grid}
 use Rattle.hyd_spec.specs.Certificate.{IsCertificate, IsTight}
 use Rattle.hyd_spec.specs.Record.{initial_standing}
 use Rattle.hyd_spec.specs.Valid.{IsGridAt, DemandsAreInRange, demand_limit}
-use Rattle.hyd_spec.specs.Stops.{HasNoCertificate}
+use Rattle.hyd_spec.specs.Stops.{HasNoCertificate, EarlierHaveCertificates}
 use Rattle.hyd_spec.specs.FirstForm.{IsFirstNetwork}
 use Rattle.hyd_cli.specs.declared.valve.SingleValve.{SingleValve}
 use Rattle.hyd_cli.specs.SingleValve.{IsValveOf, IsNearest, NonePasses}
@@ -25,11 +25,22 @@ tight_head network valve first is side h nearest grid at =
     let found = grid_is network valve first is grid at in
     subst (λ (g : Grid). IsTight g Main side (h ∷ [])) (sym found.1) (tight found.0 valve side h nearest)
 
-pub upper_certificate : (network : Project) (valve : SingleValve) → IsFirstNetwork network → IsValveOf network valve
+upper_certificate : (network : Project) (valve : SingleValve) → IsFirstNetwork network → IsValveOf network valve
     → (h : ℤ) → IsNearest valve Upper h → (grid : Grid) → IsGridAt network (initial_standing network) grid
     → (u : List ℤ) × IsCertificate grid Main Upper u
 upper_certificate network valve first is h nearest grid at =
     (h ∷ [], (tight_head network valve first is Upper h nearest grid at).is_certificate)
+
+-- nothing comes before UPPER, and before LOWER UPPER alone
+pub before_upper : (network : Project) → EarlierHaveCertificates network (initial_standing network) Main Upper
+before_upper network grid at earlier other is lt = absurd (omega (arith, lt))
+
+pub before_lower : (network : Project) (valve : SingleValve) → IsFirstNetwork network → IsValveOf network valve
+    → (h : ℤ) → IsNearest valve Upper h → EarlierHaveCertificates network (initial_standing network) Main Lower
+before_lower network valve first is h nearest grid at Main Upper problem lt = upper_certificate network valve first is h nearest grid at
+before_lower network valve first is h nearest grid at Main Lower problem lt = absurd (omega (arith, lt))
+before_lower network valve first is h nearest grid at (Pinned tank) Upper problem lt = absurd (omega (arith, lt))
+before_lower network valve first is h nearest grid at (Pinned tank) Lower problem lt = absurd (omega (arith, lt))
 
 pub demands_in_range : (network : Project) (valve : SingleValve) → IsFirstNetwork network → IsValveOf network valve → DemandsAreInRange network 0
 demands_in_range network valve first is =

@@ -4,7 +4,7 @@ use Rattle.std.specs.Prelude.{Option, Some, slice_get}
 use Rattle.std.specs.List.{AllByRecursion}
 use Rattle.std.proofs.lemmas.Int.{ints}
 use Rattle.std.proofs.lemmas.Option.{slice_get-get_or, slice_get_within}
-use Rattle.hyd_num.specs.Integers.{times_minus}
+use Rattle.hyd_num.proofs.Integers.{times_minus}
 use Rattle.hyd_num.specs.Decimals.{head_quantity, pressure_quantity, flow_quantity}
 use Rattle.hyd_spec.specs.Types.{Project, Reservoir, Tank, Link, LinkState}
 use Rattle.hyd_spec.specs.declared.Problem.TheVariants.{Main}

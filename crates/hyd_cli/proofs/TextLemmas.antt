@@ -22,9 +22,9 @@ use Rattle.hyd_spec.specs.CertificateText.{line, header_line, period_line, end_l
 use Rattle.hyd_cli.specs.FirstRun.{first_row}
 use Rattle.hyd_spec.specs.ReportLine.{node_id, side_word, clock_text, line_text, report_text, done_line}
 use Rattle.hyd_spec.specs.declared.StatusWord.TheVariants.{Active}
-use Rattle.hyd_spec.specs.ReportLine.{TimeLine, JunctionLine, ReservoirLine, LinkLine, reservoir_id, link_id}
+use Rattle.hyd_spec.specs.ReportLine.{TimeLine, JunctionLine, ReservoirLine, LinkLine, reservoir_id, link_id, junction_words, reservoir_words, link_words}
 use Rattle.hyd_cli.specs.Texts.{finished_certificate, stopped_certificate, stopped_report, IsFinishedReport}
-use Rattle.hyd_cli.specs.Lines.{junction_words, reservoir_words, valve_words, AppendsJunction, AppendsReservoir, AppendsValve}
+use Rattle.hyd_cli.specs.Lines.{AppendsJunction, AppendsReservoir, AppendsValve}
 
 -- parts of a certificate of one record with two heads, as they are joined
 record_parts : (h p mu su nl ml sl e : List ℕ)
@@ -69,14 +69,14 @@ pub report_text_is : (network : Project) (head pressure outflow height flow : In
     → start ≡ [] → first ≡ codes "HYD 1\nTIME 0:00:00\n" → last ≡ codes "DONE 1\n"
     → j ≡ node_id network 0 → r ≡ reservoir_id network 0 → l ≡ link_id network 0
     → a ≡ start ++ joined (first ∷ []) → b ≡ a ++ line (junction_words j head pressure outflow)
-    → c ≡ b ++ line (reservoir_words r height) → d ≡ c ++ line (valve_words l flow) → out ≡ d ++ joined (last ∷ [])
+    → c ≡ b ++ line (reservoir_words r height) → d ≡ c ++ line (link_words l flow Active) → out ≡ d ++ joined (last ∷ [])
     → out ≡ report_text network (TimeLine 0 ∷ (JunctionLine 0 head pressure outflow ∷ (ReservoirLine 0 height ∷ (LinkLine 0 flow Active ∷ [])))) (done_line 1)
 unfolding digits
 report_text_is network head pressure outflow height flow start a b c d out first last j r l is_start is_first is_last is_j is_r is_l ea eb ec ed eo =
     rw (ed, ec, eb, ea, is_start, is_first, is_last, is_j, is_r, is_l) at eo
     ∙ report_parts (line (codes "HYD" ∷ (decimal 1 ∷ []))) (line_text network (TimeLine 0))
     (line (junction_words (node_id network 0) head pressure outflow)) (line (reservoir_words (reservoir_id network 0) height))
-    (line (valve_words (link_id network 0) flow)) (done_line 1)
+    (line (link_words (link_id network 0) flow Active)) (done_line 1)
 
 -- ---- the network's IDs
 

@@ -11,6 +11,7 @@ use Rattle.hyd_cli.specs.declared.form.ValveRow.{ValveRow}
 abbrev pub texts : List (Bor (List ℕ)) → List (List ℕ)
 texts words = map (λ (word : Bor (List ℕ)). word.now) words
 
+-- the words of a valve's row
 abbrev pub valve_words : ValveRow → List (List ℕ)
 valve_words row =
     row.id.now ∷ (row.from.now ∷ (row.to.now ∷ (row.diameter.now ∷ (row.kind.now ∷ (row.setting.now ∷ (row.minor.now ∷ []))))))
@@ -62,9 +63,9 @@ pub record AreIds (w : Words) : Type 0 where
 
 -- five numbers in their ranges
 pub record AreNumbers (w : Words) : Type 0 where
-  pub elevation : IsNumberWithin 0 (10 ^ 4 * 10 ^ 9) w.elevation
-  pub demand : IsNumberWithin 0 (10 ^ 8 * 10 ^ 9) w.demand
-  pub head : IsNumberWithin 0 (10 ^ 4 * 10 ^ 9) w.head
+  pub elevation : IsNumberWithin (10 ^ 4 * 10 ^ 9) w.elevation
+  pub demand : IsNumberWithin (10 ^ 8 * 10 ^ 9) w.demand
+  pub head : IsNumberWithin (10 ^ 4 * 10 ^ 9) w.head
   pub diameter : IsPositiveWithin (10 * 10 ^ 9) (10000 * 10 ^ 9) w.diameter
   pub setting : IsPositiveWithin (1 * 10 ^ 9) (1000 * 10 ^ 9) w.setting
 

@@ -5,10 +5,11 @@ use Rattle.hyd_spec.specs.Headline.{Outcome, Sharpness, RunWrites, outcome_numbe
 use Rattle.hyd_cli.specs.Statuses.{number_of}
 use Rattle.hyd_cli.specs.declared.status.Status.{Status}
 
--- the number of rounds, and the sharpness, of a run: every vector is tight
+-- the number of rounds that a run may take
 abbrev pub rounds : ℕ
 rounds = 200
 
+-- how sharp a run is: every vector is tight
 abbrev pub sharpness : Sharpness
 sharpness = record { width = pos (10 ^ 11); tight = true }
 

@@ -15,10 +15,11 @@ pub record IsValveOf (network : Project) (valve : SingleValve) : Type 0 where
   pub setting : ℤ
   pub capacity : map (λ link. link.start) network.links.list ≡ Throttle setting (Quadratic valve.capacity) ∷ []
 
--- The surplus of the junction at a head, at least and at most: its demand, less what the valve brings to it.
+-- At most the surplus of the junction at a head (flow ticks): its demand, less what the valve brings to it.
 abbrev pub surplus_low : SingleValve → ℤ → ℤ
 surplus_low valve h = valve.demand -ℤ quad_high valve.capacity (valve.head -ℤ h)
 
+-- At least it.
 abbrev pub surplus_high : SingleValve → ℤ → ℤ
 surplus_high valve h = valve.demand -ℤ quad_low valve.capacity (valve.head -ℤ h)
 
@@ -26,6 +27,7 @@ surplus_high valve h = valve.demand -ℤ quad_low valve.capacity (valve.head -�
 abbrev pub margin : ℕ
 margin = (1 + 3) * 10
 
+-- The head is a certificate of a side: its surplus, or its deficit, is above the margin.
 abbrev pub HeadPasses : SingleValve → Side → ℤ → Type 0
 HeadPasses valve Upper h = pos (margin + 1) ≤ℤ surplus_low valve h
 HeadPasses valve Lower h = surplus_high valve h ≤ℤ neg_ℤ (pos (margin + 1))

@@ -1,14 +1,14 @@
 -- What the heads that were found are: the tight vectors of the network at the start of its run, or none on a side.
-use Rattle.std.specs.Prelude.{ℤ, [], ◌∷◌, ⊤, List}
+use Rattle.std.specs.Prelude.{ℤ, [], ◌∷◌, ⊤}
 use Rattle.hyd_spec.specs.Types.{Project}
 use Rattle.hyd_spec.specs.declared.Problem.TheVariants.{Main}
 use Rattle.hyd_spec.specs.declared.Side.{Side}
 use Rattle.hyd_spec.specs.declared.Side.TheVariants.{Upper, Lower}
 use Rattle.hyd_spec.specs.Grid.{Grid}
-use Rattle.hyd_spec.specs.Certificate.{IsCertificate, IsTight}
+use Rattle.hyd_spec.specs.Certificate.{IsTight}
 use Rattle.hyd_spec.specs.Record.{initial_standing}
 use Rattle.hyd_spec.specs.Valid.{IsGridAt}
-use Rattle.hyd_spec.specs.Stops.{HasNoCertificate}
+use Rattle.hyd_spec.specs.Stops.{HasNoCertificate, EarlierHaveCertificates}
 use Rattle.hyd_cli.specs.declared.solve.Solution.{Solution}
 use Rattle.hyd_cli.specs.declared.solve.Solution.TheVariants.{Heads, NoCertificate}
 
@@ -27,10 +27,7 @@ abbrev pub LacksOnSide : Project → Solution → Type 0
 LacksOnSide network (Heads upper lower) = ⊤
 LacksOnSide network (NoCertificate side) = HasNoCertificate network (initial_standing network) Main side
 
--- UPPER comes first: where LOWER has no certificate, UPPER has one.
-abbrev pub UpperComesFirst : Project → Solution → Type 0
-UpperComesFirst network (Heads upper lower) = ⊤
-UpperComesFirst network (NoCertificate Upper) = ⊤
-UpperComesFirst network (NoCertificate Lower) =
-    (grid : Grid) → IsGridAt network (initial_standing network) grid
-    → (u : List ℤ) × IsCertificate grid Main Upper u
+-- Where no certificate is named, every problem and side before has one.
+abbrev pub EarlierHave : Project → Solution → Type 0
+EarlierHave network (Heads upper lower) = ⊤
+EarlierHave network (NoCertificate side) = EarlierHaveCertificates network (initial_standing network) Main side

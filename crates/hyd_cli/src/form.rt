@@ -175,9 +175,9 @@ fn number(word: &[u8]) -> Option<Decimal>
 // A number whose magnitude is at most this many billionths.
 fn number_within(word: &[u8], greatest: u128) -> Option<Decimal>
     requires { greatest ≤ 10 ^ 21 }
-    ensures within { IfSome result (λ number. IsNumberWithin 0 greatest word.now) }
+    ensures within { IfSome result (λ number. IsNumberWithin greatest word.now) }
     ensures value { IfSome result (λ number. number.nano ≡ nano_of word.now) }
-    ensures none { IfNone result (¬ IsNumberWithin 0 greatest word.now) }
+    ensures none { IfNone result (¬ IsNumberWithin greatest word.now) }
 {
     let number = number(word)?;
     if number.nano.unsigned_abs() > greatest {

@@ -127,7 +127,7 @@ pub fn stops()
         → stop_line network 3 3725 (ControlOpen 2 (record { lo = pos 99; hi = pos 101 }))
         ≡ codes "STOP period 3 time 1:02:05 CONTROL 3 99 101\n" }
     ensures rule { (network : Project) (rule : Rule) → network.rules.list ≡ rule ∷ [] → rule.id.list ≡ codes "U1"
-        → stop_line network 3 3725 (RuleOpen (record { rule = 0; clause = 1; lo = record { num = neg_ℤ (pos 9); den = 1 }; hi = record { num = pos 12; den = 1 } }))
+        → stop_line network 3 3725 (RuleOpen (record { rule = 0; clause = 1; lo = neg_ℤ (pos 9); hi = pos 12 }))
         ≡ codes "STOP period 3 time 1:02:05 RULE U1 CLAUSE 2 -9 12\n" }
 {}
 

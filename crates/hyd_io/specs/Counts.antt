@@ -15,16 +15,19 @@ pub record NeverFall (before now : Faults) : Type 0 where
   pub print : before.print ≤ now.print
   pub stall : before.stall ≤ now.stall
 
--- one fault more of each kind, and one stall more; the other counts stay
+-- one read fault more; the other counts stay
 abbrev pub with_read_fault : Faults → Faults
 with_read_fault counts = record counts { read = next_count counts.read }
 
+-- one write fault more
 abbrev pub with_write_fault : Faults → Faults
 with_write_fault counts = record counts { write = next_count counts.write }
 
+-- one print fault more
 abbrev pub with_print_fault : Faults → Faults
 with_print_fault counts = record counts { print = next_count counts.print }
 
+-- one stall more
 abbrev pub with_stall : Faults → Faults
 with_stall counts = record counts { stall = next_count counts.stall }
 

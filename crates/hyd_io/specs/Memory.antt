@@ -46,10 +46,11 @@ empty_memory = record {
 abbrev pub is_listed : List ℕ → ℕ → Bool
 is_listed list call = list_any (λ n. n == call) list
 
--- whether the next call is to fail, and whether it is to take nothing
+-- whether the next call is to fail
 abbrev pub is_to_fail : Memory → Bool
 is_to_fail m = is_listed m.failing (next_count m.calls)
 
+-- whether it is to take nothing
 abbrev pub is_to_starve : Memory → Bool
 is_to_starve m = is_listed m.starving (next_count m.calls)
 

@@ -3,6 +3,7 @@ use Rattle.std.specs.Prelude.{drop, option_map, string_bytes}
 use Rattle.hyd_io.specs.declared.memory.MemDesk.{MemDesk}
 use Rattle.hyd_io.specs.Memory.{Memory, file_bytes}
 
+-- what a desk in memory holds
 abbrev pub memory : MemDesk → Memory
 memory desk = record {
   files = file_bytes desk.files;

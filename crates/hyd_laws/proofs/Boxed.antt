@@ -5,7 +5,7 @@ use Rattle.std.specs.List.{AllByRecursion}
 use Rattle.std.specs.Option.{IfSome}
 use Rattle.std.proofs.lemmas.Int.{ints}
 use Rattle.std.proofs.lemmas.Option.{slice_get-get_or, slice_get_within}
-use Rattle.hyd_num.specs.Integers.{times_plus, times_minus}
+use Rattle.hyd_num.proofs.Integers.{times_plus, times_minus}
 use Rattle.hyd_spec.specs.Types.{Project, Junction, Link, LinkState, Capacity}
 use Rattle.hyd_spec.specs.declared.TankState.{TankState}
 use Rattle.hyd_spec.specs.declared.Side.TheVariants.{Upper, Lower}

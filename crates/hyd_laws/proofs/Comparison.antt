@@ -5,7 +5,7 @@ use Rattle.std.specs.List.{AllByRecursion, AllZip}
 use Rattle.std.specs.Option.{IfSome}
 use Rattle.std.proofs.lemmas.Int.{ints, by_lt_z}
 use Rattle.std.proofs.lemmas.Option.{slice_get_within, get_or_from_slice_get}
-use Rattle.hyd_num.specs.Integers.{times_plus, times_minus, times_rises, times_neg}
+use Rattle.hyd_num.proofs.Integers.{times_plus, times_minus, times_rises, times_neg}
 use Rattle.hyd_spec.specs.Types.{Project, Junction, LinkState}
 use Rattle.hyd_spec.specs.declared.TankState.{TankState}
 use Rattle.hyd_spec.specs.declared.Side.TheVariants.{Upper, Lower}

@@ -5,7 +5,7 @@ use Rattle.std.specs.List.{AllByRecursion, list_any, list_all}
 use Rattle.std.proofs.Math.IntN.{*ℤ_comm}
 use Rattle.std.proofs.lemmas.Int.{ints}
 use Rattle.std.proofs.lemmas.Bool.{cases_Bool}
-use Rattle.hyd_num.specs.Integers.{times_rises, times_reflects}
+use Rattle.hyd_num.proofs.Integers.{times_rises, times_reflects}
 use Rattle.hyd_num.specs.Rational.{Rational, is_at_most, is_less, whole}
 use Rattle.hyd_spec.specs.Types.{Tank, Clause, Relation, Less, NotMore, More, NotLess, Equal, Unequal}
 use Rattle.hyd_spec.specs.Interval.{Interval}

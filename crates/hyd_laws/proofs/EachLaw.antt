@@ -4,7 +4,7 @@ use Rattle.std.proofs.Math.Nat.{mul_comm}
 use Rattle.std.proofs.lemmas.Int.{ints}
 use Rattle.hyd_num.specs.Scaled.{numerator, denominator}
 use Rattle.hyd_num.specs.Rational.{Rational, floor, ceiling}
-use Rattle.hyd_num.specs.Integers.{times_rises, times_reflects, times_times}
+use Rattle.hyd_num.proofs.Integers.{times_rises, times_reflects, times_times}
 use Rattle.hyd_num.specs.Chain.{IsMade, StandsFor, IsFrictionPair, IsPipePairWith}
 use Rattle.hyd_num.specs.declared.decimals.Decimal.{Decimal}
 use Rattle.hyd_num.specs.declared.pairs.Pair.{Pair}

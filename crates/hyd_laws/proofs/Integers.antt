@@ -4,7 +4,7 @@ use Rattle.std.proofs.lemmas.Int.{ints, clamps, by_lt_z}
 use Rattle.std.proofs.lemmas.Nat.{div-add-mod'}
 use Rattle.std.specs.Int.{int_max, int_min, int_div_euclid}
 use Rattle.hyd_num.specs.Rational.{Rational, floor, ceiling, negated}
-use Rattle.hyd_num.specs.Integers.{times_plus, times_neg, times_rises, times_reflects, times_one}
+use Rattle.hyd_num.proofs.Integers.{times_plus, times_neg, times_rises, times_reflects, times_one}
 
 -- ---- floors and ceilings
 

@@ -5,7 +5,7 @@ use Rattle.std.specs.Int.{int_max, int_min}
 use Rattle.std.proofs.Math.IntN.{*ℤ_comm}
 use Rattle.std.proofs.lemmas.Int.{ints}
 use Rattle.std.proofs.lemmas.Bool.{MatchBool-at_true, MatchBool-at_false, cases_Bool, cond_both}
-use Rattle.hyd_num.specs.Integers.{times_plus, times_minus, times_rises, times_reflects}
+use Rattle.hyd_num.proofs.Integers.{times_plus, times_minus, times_rises, times_reflects}
 use Rattle.hyd_num.specs.Rational.{Rational, floor, ceiling, is_at_most, whole}
 use Rattle.hyd_spec.specs.Types.{Tank}
 use Rattle.hyd_spec.specs.Scale.{at_scale}

@@ -14,3 +14,4 @@ pub mod Levelling
 pub mod Deciding
 pub mod Worked
 pub mod Rising
+pub mod RunRecords

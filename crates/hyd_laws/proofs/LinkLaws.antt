@@ -4,7 +4,7 @@ use Rattle.std.proofs.Math.Nat.{mul-le-mul_right, mul-le-mul_left, le_of_mul-le-
 use Rattle.std.proofs.lemmas.Int.{ints}
 use Rattle.std.specs.Int.{int_max, int_min}
 use Rattle.hyd_num.specs.Rational.{Rational, floor, ceiling}
-use Rattle.hyd_num.specs.Integers.{times_plus, times_neg, times_rises, times_reflects, times_times}
+use Rattle.hyd_num.proofs.Integers.{times_plus, times_neg, times_rises, times_reflects, times_times}
 use Rattle.hyd_spec.specs.Scale.{at_scale}
 use Rattle.hyd_spec.specs.Enclosing.{root_down, root_up, low, high}
 use Rattle.hyd_spec.specs.Law.{Relation, Loss, Shut, lifted, odd_at_least, odd_at_most, loses_at_least, loses_at_most, flow_at_least, flow_at_most}

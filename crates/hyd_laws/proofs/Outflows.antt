@@ -5,7 +5,7 @@ use Rattle.std.specs.Option.{IfSome}
 use Rattle.std.specs.Int.{int_min}
 use Rattle.std.proofs.lemmas.Int.{ints}
 use Rattle.std.proofs.lemmas.Bool.{MatchBool-at_true, MatchBool-at_false, cases_Bool, cond_both}
-use Rattle.hyd_num.specs.Integers.{times_minus, times_rises, times_reflects, times_neg}
+use Rattle.hyd_num.proofs.Integers.{times_minus, times_rises, times_reflects, times_neg}
 use Rattle.hyd_num.specs.Rational.{Rational, floor, ceiling, negated, is_at_most}
 use Rattle.hyd_spec.specs.Types.{Project, Junction, Capacity, Decimal, Origin}
 use Rattle.hyd_spec.specs.Scale.{at_scale}

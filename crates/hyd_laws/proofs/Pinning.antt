@@ -4,7 +4,7 @@ use Rattle.std.specs.Prelude.{map}
 use Rattle.std.specs.List.{AllByRecursion}
 use Rattle.std.proofs.lemmas.Int.{ints, by_lt_z}
 use Rattle.std.proofs.lemmas.Bool.{cases_eq, eq-eqb, ne_eqb}
-use Rattle.hyd_num.specs.Integers.{times_plus, times_minus, times_neg}
+use Rattle.hyd_num.proofs.Integers.{times_plus, times_minus, times_neg}
 use Rattle.hyd_spec.specs.Types.{Project, Reservoir, LinkState, Tank}
 use Rattle.hyd_spec.specs.declared.TankState.{TankState}
 use Rattle.hyd_spec.specs.declared.Side.TheVariants.{Upper, Lower}

@@ -1,10 +1,10 @@
 -- Worked examples.
-use Rattle.std.proofs.Common.{◌≡◌, ℕ, ◌*◌, ◌^◌, ◌<◌, ◌≤◌, ℤ, pos, ◌+ℤ◌, ◌*ℤ◌, ◌≤ℤ◌, refl, sym, ap, subst, arith, Bool, true, false, inl, inr, [], ◌∷◌, IsTrue, IsFalse}
+use Rattle.std.proofs.Common.{◌≡◌, ℕ, ◌*◌, ◌^◌, ◌<◌, ◌≤◌, ℤ, pos, ◌+ℤ◌, ◌*ℤ◌, ◌≤ℤ◌, refl, sym, ap, subst, arith, Bool, true, false, inl, inr, [], ◌∷◌, IsTrue}
 use Rattle.std.specs.Prelude.{Some, int_le, unsigned_abs}
 use Rattle.std.proofs.Math.Nat.{mul-le-mul_right, pow-le-pow_left}
 use Rattle.std.proofs.lemmas.Nat.{mul-pow}
 use Rattle.std.proofs.lemmas.Int.{ints}
-use Rattle.std.proofs.lemmas.Bool.{cases_Bool}
+use Rattle.std.proofs.lemmas.Bool.{cases_Bool, cases_lt}
 use borrow.Author.Differences.{up}
 use Rattle.hyd_num.specs.Fraction.{Fraction, fraction, times, minus, over, power, AtMost}
 use Rattle.hyd_num.specs.Quantity.{ordinary, feet, feet_across}
@@ -14,7 +14,7 @@ use Rattle.hyd_spec.specs.Quantity.{category_demand, multipliers_of}
 use Rattle.hyd_spec.specs.Loss.{head_in_feet, flow_in_cfs, PipeLossAtMost, PipeLossAtLeast, ValveLossAtMost, ValveLossAtLeast}
 use Rattle.hyd_spec.specs.Law.{Law, Capped, flow_at_least, flow_at_most}
 use Rattle.hyd_spec.specs.Tank.{exact_level, reaches}
-use Rattle.hyd_spec.specs.Levels.{IsFirstSecond}
+use Rattle.hyd_spec.specs.Length.{IsLeast}
 use Rattle.hyd_laws.proofs.Outflows.{le-yes}
 
 -- the minor loss of a diameter and a coefficient
@@ -48,12 +48,15 @@ early s le = elim (cases_Bool (filled (pos 314159265400) s)) [
 ]
 
 pub first_filled : (tank : Tank) → tank.area ≡ pos 314159265400
-    → IsFirstSecond (λ s. reaches 1 true (pos (5 * 10 ^ 13)) (exact_level tank (pos 0) (pos (5 * 10 ^ 10)) s)) 86400 27144
+    → IsLeast (λ s. IsTrue (reaches 1 true (pos (5 * 10 ^ 13)) (exact_level tank (pos 0) (pos (5 * 10 ^ 10)) s))) 27144
 first_filled tank area = record {
-  at_least_one = λ below. omega arith;
-  within = omega arith;
-  holds = λ below. subst (λ (z : ℤ). IsTrue (filled z 27144)) (sym area) refl;
-  first = λ s some le. subst (λ (z : ℤ). IsFalse (filled z s)) (sym area) (early s le);
+  holds = subst (λ (z : ℤ). IsTrue (filled z 27144)) (sym area) refl;
+  least = λ k held. elim (cases_lt k 27144) [
+    | inl lt ↦ absurd (
+        let no : filled (pos 314159265400) k ≡ false = early k lt in
+        let yes : filled (pos 314159265400) k ≡ true = subst (λ (z : ℤ). filled z k ≡ true) area held in cc)
+    | inr ge ↦ ge
+  ];
 }
 
 pub capped_at_most : (setting : ℤ) (valve : Law) (S : ℕ) (x : ℤ) → flow_at_most (Capped setting valve) S x (at_scale S setting)

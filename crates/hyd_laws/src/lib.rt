@@ -6,4 +6,5 @@ pub mod certificates;
 pub mod decisions;
 pub mod examples;
 pub mod laws;
+pub mod runs;
 pub mod tanks;

@@ -1,4 +1,5 @@
 -- Controls and rules: what they name, and the ranges of what they compare with.
+-- Source: EPANET 2.2 User Manual, appendix C ([CONTROLS], [RULES]); the ranges are this program's.
 use Rattle.std.specs.Prelude.{ℕ, ◌+◌, ◌^◌, ◌<◌, ◌≤◌, ◌⊎◌, length, IfSome, pos, ⊤}
 use Rattle.std.specs.List.{All}
 use Rattle.hyd_net.specs.Ids.{IsId}
@@ -37,6 +38,7 @@ IsMoment p (LevelAt tank above ticks) = (tank < length p.tanks.list) × IsHead t
 IsMoment p (TimeAt seconds) = seconds ≤ 10 ^ 8
 IsMoment p (ClockAt seconds) = seconds < 86400
 
+-- a control sets a link that is there to a state that it can have, at a moment in range
 pub record IsControl (p : Project) (control : Control) : Type 0 where
   pub command : CanCommand p control.link control.to
   pub moment : IsMoment p control.when
@@ -87,11 +89,13 @@ IsComparedWith Clock (Amount span number) = Lies (pos 0) (pos 86399) span.lo
 IsComparedWith _ (Amount span number) = ⊤
 IsComparedWith _ _ = ⊥
 
+-- a clause speaks of what is there, and compares it as it can be compared
 pub record IsClause (p : Project) (clause : Clause) : Type 0 where
   pub what : SpeaksOf p clause.what
   pub relation : Compares clause.what clause.relation
   pub value : IsComparedWith clause.what clause.value
 
+-- a rule's ID, clauses, actions and priority are in range
 pub record IsRule (p : Project) (rule : Rule) : Type 0 where
   pub id : IsId rule.id.list
   pub clauses : All (λ c. IsClause p c.clause) rule.clauses.list

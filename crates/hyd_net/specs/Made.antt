@@ -1,4 +1,4 @@
--- That each rounded form is the one that the numbers of the file beside it make.
+-- That each rounded form is the one that the numbers of the file beside it make. The digits of pi are this program's.
 use Rattle.std.specs.Prelude.{◌≡◌, ℕ, ◌*◌, ◌^◌, ◌<◌, length, IfSome, ℤ, pos, ◌*ℤ◌, ⊤}
 use Rattle.std.specs.List.{All, HoldsAt}
 use Rattle.hyd_num.specs.Chain.{IsMade}
@@ -54,6 +54,7 @@ IsAmount unit (Status link) nano span = ⊥
 IsAmount unit Time nano span = IsSeconds nano span
 IsAmount unit Clock nano span = IsSeconds nano span
 
+-- what a clause compares with is made of its number
 abbrev pub IsValueMade : FlowUnit → What → Value → Type 0
 IsValueMade unit what (Amount span number) = IsAmount unit what number.nano span
 IsValueMade unit what _ = ⊤
@@ -73,10 +74,12 @@ abbrev pub IsShutoffMade : FlowUnit → ShutoffHead → Span → Type 0
 IsShutoffMade unit (FourThirds head) shutoff = IsRounded (pos 4 *ℤ head_ticks (is_us_unit unit) head.nano) 3 shutoff
 IsShutoffMade unit (Given head) shutoff = IsExactly (head_ticks (is_us_unit unit) head.nano) shutoff
 
+-- the law of an open valve is made of its numbers
 abbrev pub IsValveMade : OpenValve → Type 0
 IsValveMade (Quadratic cap) = IsMade cap
 IsValveMade Linear = ⊤
 
+-- what a link is, is made of its numbers
 abbrev pub IsKindMade : FlowUnit → LinkKind → Type 0
 IsKindMade unit (Pipe cap) = IsMade cap
 IsKindMade unit (CheckPipe cap) = IsMade cap
@@ -112,11 +115,13 @@ abbrev pub IsLawAcross : ℤ → OpenValve → Type 0
 IsLawAcross across (Quadratic cap) = IsOriginAcross across cap.origin
 IsLawAcross across Linear = ⊤
 
+-- a valve has this diameter
 abbrev pub IsKindAcross : ℤ → LinkKind → Type 0
 IsKindAcross across (Tcv valve) = IsLawAcross across valve
 IsKindAcross across (Fcv valve) = IsLawAcross across valve
 IsKindAcross across _ = ⊤
 
+-- a throttled valve's law has this diameter
 abbrev pub IsStateAcross : ℤ → LinkState → Type 0
 IsStateAcross across (Throttle nano law) = IsLawAcross across law
 IsStateAcross across _ = ⊤
@@ -130,11 +135,13 @@ pub record IsAcross (p : Project) (number : ℕ) (across : ℤ) : Type 0 where
 
 -- ---- all of them
 
+-- the amounts and states of a rule are made of their numbers
 pub record IsRuleMade (unit : FlowUnit) (r : Rule) : Type 0 where
   pub clauses : All (λ c. IsValueMade unit c.clause.what c.clause.value) r.clauses.list
   pub yes : All (λ a. IsStateMade unit a.to) r.yes.list
   pub no : All (λ a. IsStateMade unit a.to) r.no.list
 
+-- each rounded form of a project is made of its numbers
 pub record IsAllMade (p : Project) : Type 0 where
   pub emitters : All (λ j. IfSome j.emitter IsMade) p.junctions.list
   pub areas : All (IsAreaMade p.options.unit) p.tanks.list

@@ -1,4 +1,5 @@
 -- The ranges of a network's quantities, in the file's units.
+-- Source: EPANET 2.2 User Manual, appendix C; the ranges are this program's.
 use Rattle.std.specs.Prelude.{◌≡◌, ℕ, ◌*◌, ◌^◌, Bool, true, List, length, Option, IfSome, ℤ, pos, ◌+ℤ◌, ◌-ℤ◌, ◌*ℤ◌, ◌≤ℤ◌, ⊤}
 use Rattle.std.specs.List.{All}
 use Rattle.hyd_num.specs.Quantity.{is_us_unit, head_ticks, flow_ticks, pressure_numerator, pressure_denominator}
@@ -32,6 +33,7 @@ pub record IsPressure (unit : FlowUnit) (pressure : Decimal) : Type 0 where
   pub not_negative : pos 0 ≤ℤ pressure.nano
   pub at_most : pressure_numerator (is_us_unit unit) pressure.nano ≤ℤ pos (10 ^ 17 * pressure_denominator (is_us_unit unit))
 
+-- the numbers of the options are in range
 pub record HasOptions (options : Options) (patterns : List Pattern) : Type 0 where
   pub multiplier : IsNumberUpTo (10 ^ 6) options.multiplier
   pub minimum : IsPressure options.unit options.p0
@@ -42,6 +44,7 @@ pub record HasOptions (options : Options) (patterns : List Pattern) : Type 0 whe
 
 -- ---- nodes
 
+-- a base demand is a flow, and its pattern is there
 pub record IsDemand (patterns : List Pattern) (demand : Demand) : Type 0 where
   pub base : IsFlow demand.base
   pub pattern : HasPattern (λ _. ⊤) patterns demand.pattern
@@ -51,10 +54,12 @@ pub record IsEmitterNumber (unit : FlowUnit) (coefficient : Decimal) (own : Flow
   pub range : IsPositiveUpTo (10 ^ 6) coefficient
   pub same_unit : own ≡ unit
 
+-- an emitter's coefficient is above 0 and at most 10^6, in the file's unit
 abbrev pub IsEmitter : FlowUnit → Origin → Type 0
 IsEmitter unit (EmitterOrigin coefficient own) = IsEmitterNumber unit coefficient own
 IsEmitter unit _ = ⊥
 
+-- the numbers of a junction are in range
 pub record IsJunction (unit : FlowUnit) (patterns : List Pattern) (junction : Junction) : Type 0 where
   pub elevation : IsHead junction.elevation
   pub demands : All (IsDemand patterns) junction.demands.list
@@ -85,6 +90,7 @@ pub record IsPipeNumbers (unit : FlowUnit) (length diameter roughness minor : De
   pub fittings : IsNumberUpTo (10 ^ 6) minor
   pub same_system : us ≡ is_us_unit unit
 
+-- the numbers of a pipe are in range
 abbrev pub IsPipe : FlowUnit → Origin → Type 0
 IsPipe unit (PipeOrigin length diameter roughness minor us) = IsPipeNumbers unit length diameter roughness minor us
 IsPipe unit _ = ⊥
@@ -95,10 +101,12 @@ pub record IsValveNumbers (unit : FlowUnit) (diameter k : Decimal) (us : Bool) :
   pub coefficient : IsPositiveUpTo (10 ^ 6) k
   pub same_system : us ≡ is_us_unit unit
 
+-- the numbers of a valve with a loss coefficient are in range
 abbrev pub IsValveOrigin : FlowUnit → Origin → Type 0
 IsValveOrigin unit (ValveOrigin diameter k us) = IsValveNumbers unit diameter k us
 IsValveOrigin unit _ = ⊥
 
+-- an open valve's numbers are in range; a linear one has none
 abbrev pub IsValve : FlowUnit → OpenValve → Type 0
 IsValve unit (Quadratic cap) = IsValveOrigin unit cap.origin
 IsValve unit Linear = ⊤
@@ -122,10 +130,12 @@ pub record IsThreePoints (unit : FlowUnit) (head : Decimal) (thirds : ℕ) : Typ
   pub whole : thirds ≡ 1
   pub range : LiesWithin (10 ^ 16) (head_ticks (is_us_unit unit) head.nano)
 
+-- a pump curve of one or of three points
 abbrev pub IsCurve : FlowUnit → ShutoffHead → Decimal → ℕ → Type 0
 IsCurve unit (FourThirds head) drop thirds = IsOnePoint unit head drop thirds
 IsCurve unit (Given head) drop thirds = IsThreePoints unit head thirds
 
+-- the numbers of a pump are in range
 abbrev pub IsPumpOrigin : FlowUnit → ShutoffHead → Origin → Type 0
 IsPumpOrigin unit head (PumpOrigin flow drop thirds own) = IsPumpNumbers unit flow drop own × IsCurve unit head drop thirds
 IsPumpOrigin unit head _ = ⊥
@@ -140,6 +150,7 @@ HasSizes unit patterns (Fcv valve) = IsValve unit valve
 
 -- ---- all of them
 
+-- all quantities of a project are in range
 pub record HasQuantities (p : Project) : Type 0 where
   pub options : HasOptions p.options p.patterns.list
   pub junctions : All (IsJunction p.options.unit p.patterns.list) p.junctions.list

@@ -1,4 +1,4 @@
--- What holds of the project of every input file that is read: its ids, counts, numbers and quantities are in range, and each rounded
+-- What is asked of the project of an input file: its ids, counts, numbers and quantities are in range, and each rounded
 -- form is the one that the numbers beside it make. (EPANET 2.2 User Manual, Input File Format, for what the sections hold.)
 use Rattle.std.specs.Prelude.{◌≡◌, ◌≢◌, ℕ, ◌+◌, ◌*◌, ◌^◌, ◌<◌, ◌≤◌, length, sum_by, nat_lt, if◌then◌else◌}
 use Rattle.std.specs.List.{All}
@@ -36,6 +36,7 @@ demand_rows j = if nat_lt 1 (length j.demands.list) then length j.demands.list e
 abbrev pub part_count : Rule → ℕ
 part_count r = length r.clauses.list + length r.yes.list + length r.no.list
 
+-- no table is longer than the program's limit
 pub record IsWithinLimits (p : Project) : Type 0 where
   pub junctions : length p.junctions.list ≤ 10000
   pub reservoirs : length p.reservoirs.list ≤ 1000
@@ -82,12 +83,13 @@ pub record AreTimes (t : Times) : Type 0 where
 
 -- ---- all of it
 
+-- a project is sound
 pub record Sound (p : Project) : Type 0 where
   pub ids : HasIds p
   pub counts : IsWithinLimits p
   -- both ends of each link are nodes that differ
   pub links : All (HasEnds (node_count p)) p.links.list
-  -- the state of each link at time 0 is one that it can have
+  -- the state of each link before the pump patterns and controls of time 0 is one that it can have
   pub states : All (λ l. CanHave l.kind l.start) p.links.list
   pub quantities : HasQuantities p
   pub patterns : All IsPattern p.patterns.list

@@ -1,4 +1,5 @@
 -- Which states a link can have. Each state has one form: OPEN of a pump is speed 1, and speed 0 is `Closed`.
+-- Source: EPANET 2.2 User Manual, appendix C ([STATUS], [CONTROLS]).
 use Rattle.std.specs.Prelude.{ℤ, pos, ◌*◌, ◌^◌, ◌≤ℤ◌, ⊤}
 use Rattle.hyd_net.specs.Ranges.{Lies, IsUpTo, IsFlow}
 use Rattle.hyd_net.specs.declared.links.LinkKind.{LinkKind}
@@ -15,12 +16,13 @@ pub record IsFlowSetting (nano ticks : ℤ) : Type 0 where
   pub not_negative : pos 0 ≤ℤ nano
   pub flow : IsFlow ticks
 
--- a pipe is open or closed, one with a check valve is open; a pump is closed or runs at a speed; a valve is open, closed, or has a
+-- a pipe is open or closed, with a check valve or without; a pump is closed or runs at a speed; a valve is open, closed, or has a
 -- setting of its own kind
 abbrev pub CanHave : LinkKind → LinkState → Type 0
 CanHave (Pipe cap) Open = ⊤
 CanHave (Pipe cap) Closed = ⊤
 CanHave (CheckPipe cap) Open = ⊤
+CanHave (CheckPipe cap) Closed = ⊤
 CanHave (Pump cap shutoff head pattern) Closed = ⊤
 CanHave (Pump cap shutoff head pattern) (Speed nano) = IsSpeed nano
 CanHave (Tcv valve) Open = ⊤

@@ -6,8 +6,9 @@ use crate::links::LinkState;
 /// When a control acts.
 #[derive(Debug, Clone, Copy, PartialEq, Eq, Drop)]
 pub enum When {
-    /// While a tank's level is at least (`above`) or at most a level in ticks. The tank is given
-    /// by its number among the tanks.
+    /// At the start of a period at which a tank's level is at least (`above`) or at most a level
+    /// in ticks; a period ends where that begins to hold. The tank is given by its number among
+    /// the tanks.
     Level { tank: u32, above: bool, ticks: i64 },
     /// At a time in seconds.
     Time(u32),

@@ -64,6 +64,6 @@ pub struct Link {
     pub from: u32,
     pub to: u32,
     pub kind: LinkKind,
-    /// The state at time 0.
+    /// The state before the pump patterns and controls of time 0.
     pub start: LinkState,
 }

@@ -49,7 +49,8 @@ pub enum Relation {
 #[derive(Debug, Clone, Copy, PartialEq, Eq, Drop)]
 pub enum Value {
     /// The floor and the ceiling of an amount in head ticks, flow ticks, billionths or seconds,
-    /// and the number of the file from which it is made. A flow is cut toward zero first.
+    /// and the number of the file from which it is made; for a time its whole seconds. A flow is
+    /// cut toward zero first.
     Amount { span: Span, number: Decimal },
     Open,
     Closed,

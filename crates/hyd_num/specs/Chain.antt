@@ -1,7 +1,7 @@
 -- Which pair each kind of capacity is, step by step, from the numbers of a file. A capacity is the square of the flow in ticks
 -- that one head tick drives. Head losses are Manning's, with Chezy's form of the friction (EPANET 2.2 User Manual, Analysis
 -- Algorithms): in feet and cubic feet a second, 4.66 n^2 L d^-5.33 q^2 for friction and 0.02517 K d^-4 q^2 for minor losses.
---     A number that is negative, or 0 where a quotient needs it above 0, stands for no pair.
+--     A number that is negative counts as 0. Where a quotient needs a number above 0, one that counts as 0 stands for no pair.
 use Rattle.std.specs.Prelude.{◌≡◌, ℕ, zero, suc, ◌*◌, ◌^◌, Bool, ℤ, ◌-ℤ◌}
 use borrow.Author.Differences.{up}
 use Rattle.hyd_num.specs.declared.pairs.Pair.{Pair}
@@ -84,6 +84,7 @@ abbrev pub IsPipePairWith : ℕ → (length diameter roughness minor : Decimal) 
 IsPipePairWith zero length diameter roughness minor us r = IsPlainPipePair length diameter roughness us r
 IsPipePairWith (suc k) length diameter roughness minor us r = IsFittedPipePair length diameter roughness minor us r
 
+-- the pair of a pipe, with or without a minor loss
 abbrev pub IsPipePair : (length diameter roughness minor : Decimal) → Bool → Pair → Type 0
 IsPipePair length diameter roughness minor us r = IsPipePairWith (billionths minor) length diameter roughness minor us r
 

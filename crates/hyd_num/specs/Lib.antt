@@ -4,7 +4,6 @@ pub mod Pairs
 pub mod Numeral
 pub mod Quantity
 pub mod Chain
-pub mod Integers
 pub mod Cut
 pub mod Roots
 pub mod Decimals

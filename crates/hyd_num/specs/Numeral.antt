@@ -2,6 +2,7 @@
 --     A number is an optional sign, decimal digits with at most one point and at least one digit, then optionally an exponent:
 --     `e` or `E`, an optional sign and one to three digits. Its value is the text with the exponent applied, cut toward zero
 --     after nine decimals.
+--     Source: EPANET 2.2 User Manual, appendix C (numbers of an input file); the cut is this program's.
 use Rattle.std.specs.Prelude.{ℕ, ◌+◌, ◌-◌, ◌*◌, ◌/◌, ◌^◌, Bool, true, false, ◌==◌, ◌&&◌, ◌||◌, nat_le, if◌then◌else◌, List, [], ◌∷◌, ◌++◌, length, fold, ℤ, pos, ◌+ℤ◌, ◌-ℤ◌, neg_ℤ}
 use Rattle.std.specs.List.{before_first, after_first, list_all, list_any}
 use borrow.Author.Differences.{up, down}
@@ -27,6 +28,7 @@ abbrev pub behind_sign : List ℕ → List ℕ
 behind_sign [] = []
 behind_sign (c ∷ cs) = if is_sign c then cs else (c ∷ cs)
 
+-- a text begins with `-`
 abbrev pub is_negative : List ℕ → Bool
 is_negative [] = false
 is_negative (c ∷ cs) = c == 45
@@ -35,6 +37,7 @@ is_negative (c ∷ cs) = c == 45
 abbrev pub number : List ℕ → ℕ
 number digits = fold (λ n c. 10 * n + (c - 48)) 0 digits
 
+-- a magnitude with its sign
 abbrev pub signed : Bool → ℕ → ℤ
 signed negative n = if negative then neg_ℤ (pos n) else pos n
 
@@ -50,6 +53,7 @@ whole_digits text = before_first is_point (mantissa text)
 abbrev pub decimal_digits : List ℕ → List ℕ
 decimal_digits text = after_first is_point (mantissa text)
 
+-- a text has an exponent
 abbrev pub has_exponent : List ℕ → Bool
 has_exponent text = list_any is_exponent_mark (behind_sign text)
 
@@ -61,9 +65,19 @@ exponent_text text = after_first is_exponent_mark (behind_sign text)
 abbrev pub is_exponent : List ℕ → Bool
 is_exponent text = list_all is_digit (behind_sign text) && (nat_le 1 (length (behind_sign text)) && nat_le (length (behind_sign text)) 3)
 
+-- the mantissa has digits before and after its point alone, and one at least
+abbrev pub has_digits : List ℕ → Bool
+has_digits text =
+    (list_all is_digit (whole_digits text) && list_all is_digit (decimal_digits text))
+    && nat_le 1 (length (whole_digits text) + length (decimal_digits text))
+
+-- where there is an exponent, it has the form of one
+abbrev pub ends_well : List ℕ → Bool
+ends_well text = if has_exponent text then is_exponent (exponent_text text) else true
+
 -- a text that is a number
 unfoldable pub is_numeral : List ℕ → Bool
-is_numeral text = ((list_all is_digit (whole_digits text) && list_all is_digit (decimal_digits text)) && nat_le 1 (length (whole_digits text) + length (decimal_digits text))) && (if has_exponent text then is_exponent (exponent_text text) else true)
+is_numeral text = has_digits text && ends_well text
 
 -- the power of ten by which the number is multiplied, 0 where there is no exponent
 abbrev pub exponent : List ℕ → ℤ

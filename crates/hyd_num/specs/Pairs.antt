@@ -16,6 +16,7 @@ pub record IsRatio (p q : ℕ) (r : Pair) : Type 0 where
   pub low : IsDown p q r.lo
   pub high : IsUp p q r.hi
 
+-- each end is the product of the two ends of its kind, rounded outward
 pub record IsProduct (x y r : Pair) : Type 0 where
   pub low : IsDown (numerator x.lo * numerator y.lo) (denominator x.lo * denominator y.lo) r.lo
   pub high : IsUp (numerator x.hi * numerator y.hi) (denominator x.hi * denominator y.hi) r.hi
@@ -25,6 +26,7 @@ pub record IsQuotient (x y r : Pair) : Type 0 where
   pub low : IsDown (numerator x.lo * denominator y.hi) (denominator x.lo * numerator y.hi) r.lo
   pub high : IsUp (numerator x.hi * denominator y.lo) (denominator x.hi * numerator y.lo) r.hi
 
+-- each end is the sum of the two ends of its kind, rounded outward
 pub record IsSum (x y r : Pair) : Type 0 where
   pub low : IsDown (numerator x.lo * denominator y.lo + numerator y.lo * denominator x.lo) (denominator x.lo * denominator y.lo) r.lo
   pub high : IsUp (numerator x.hi * denominator y.hi + numerator y.hi * denominator x.hi) (denominator x.hi * denominator y.hi) r.hi

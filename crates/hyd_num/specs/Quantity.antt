@@ -1,6 +1,7 @@
 -- Exact quantities that numbers of a file stand for. A number comes as its billionths.
 --     A head tick is 10^-13 m, a flow tick 10^-7 m^3 a day. One foot is 0.3048 m, one inch 25.4 mm, and one foot of water
 --     0.4333 pounds a square inch.
+--     Source: EPANET 2.2 User Manual, appendix A (units of measurement); 0.4333 and the cut of flows are this program's.
 use Rattle.std.specs.Prelude.{ℕ, ◌*◌, ◌^◌, Bool, true, false, ℤ, pos, ◌*ℤ◌, int_div}
 use borrow.Author.Differences.{up}
 use Rattle.hyd_num.specs.Fraction.{Fraction, fraction}
@@ -60,6 +61,7 @@ abbrev pub pressure_numerator : Bool → ℤ → ℤ
 pressure_numerator true v = pos 30480000 *ℤ v
 pressure_numerator false v = pos 10000 *ℤ v
 
+-- the denominator of a pressure in head ticks
 abbrev pub pressure_denominator : Bool → ℕ
 pressure_denominator true = 4333
 pressure_denominator false = 1

@@ -5,12 +5,15 @@ use borrow.Author.Differences.{up, down}
 use Rattle.hyd_num.specs.declared.binary.Scaled.{Scaled}
 use Rattle.hyd_num.specs.Fraction.{Fraction, fraction}
 
+-- what stands above the line
 abbrev pub numerator : Scaled → ℕ
 numerator s = s.mant * 2 ^ up s.exp
 
+-- what stands below it
 abbrev pub denominator : Scaled → ℕ
 denominator s = 2 ^ down s.exp
 
+-- the number as a fraction
 abbrev pub as_fraction : Scaled → Fraction
 as_fraction s = fraction (numerator s) (denominator s)
 

@@ -7,7 +7,7 @@ use Rattle.hyd_spec.specs.Scale.{at_scale}
 use Rattle.hyd_spec.specs.Quantity.{reservoir_head}
 use Rattle.hyd_spec.specs.Law.{Follows}
 use Rattle.hyd_spec.specs.LinkLaw.{law_of}
-use Rattle.hyd_spec.specs.Network.{junction_count}
+use Rattle.hyd_spec.specs.Network.{junction_count, tank_count}
 use Rattle.hyd_spec.specs.Lists.{Each}
 use Rattle.hyd_spec.specs.Outflow.{IsWithinTolerance, FollowsDemand, FollowsEmitter}
 
@@ -79,10 +79,12 @@ pub record JunctionObeys (network : Project) (time S : ℕ) (given : Assignment)
   pub balance : IsBalanced S (net_outflow j network.links.list given.flows)
       (flow_at given.demands j) (flow_at given.emitters j)
 
--- An assignment of a period that begins at `time` with these levels (S-th parts of a head tick), tank
--- states and link states.
+-- An assignment of a period that begins at `time` with these levels (S-th parts of a head tick) and tank states, one
+-- for each tank, and link states.
 pub record IsAssignment (network : Project) (S time : ℕ) (levels : List ℤ) (tanks : List TankState)
     (links : List LinkState) (given : Assignment) : Type 0 where
+  pub level_each : length levels ≡ tank_count network
+  pub tank_each : length tanks ≡ tank_count network
   pub head_each : length given.heads ≡ junction_count network
   pub demand_each : length given.demands ≡ junction_count network
   pub emitter_each : length given.emitters ≡ junction_count network

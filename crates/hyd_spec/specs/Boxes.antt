@@ -1,4 +1,5 @@
 -- Boxes: intervals for flows, outflows and tank inflows, from certificates. Flows are in flow ticks.
+-- Source: this program's, from the bounds of heads (Rheinboldt 1970).
 use Rattle.std.specs.Prelude.{ℕ, ◌*◌, ℤ, pos, neg_ℤ, ◌-ℤ◌, List, Option, is_some, if◌then◌else◌}
 use Rattle.hyd_spec.specs.Types.{Capacity, Pinned, Upper, Lower}
 use Rattle.hyd_spec.specs.Interval.{Interval, widened, sum_of, exactly}

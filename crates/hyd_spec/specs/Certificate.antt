@@ -12,6 +12,7 @@ use Rattle.hyd_spec.specs.Surplus.{net_low, net_high, margin}
 abbrev pub box_limit : ℕ
 box_limit = 10 ^ 18
 
+-- A head (head ticks) lies in the box.
 pub record IsInBox (h : ℤ) : Type 0 where
   pub above_floor : neg_ℤ (pos box_limit) ≤ℤ h
   pub below_ceiling : h ≤ℤ pos box_limit
@@ -29,7 +30,7 @@ pub record IsCertificate (grid : Grid) (problem : Problem) (side : Side) (u : Li
 
 -- ---- raises
 
--- x is reached from y on a side: at least it for UPPER, at most it for LOWER.
+-- Going from y in the direction of a side one comes to x: x is at least y for UPPER, at most y for LOWER.
 abbrev pub IsBeyond : Side → ℤ → ℤ → Type 0
 IsBeyond Upper y x = y ≤ℤ x
 IsBeyond Lower y x = x ≤ℤ y

@@ -1,4 +1,5 @@
 -- The text of a certificate: a header, the records in order, and an end line. Each line ends by a line feed.
+-- Source: this program's format.
 use Rattle.std.specs.Prelude.{◌≡◌, ℕ, ◌<◌, ◌^◌, ℤ, Bool, List, [], ◌∷◌, ◌++◌, length, map, All, codes, if◌then◌else◌}
 use Rattle.std.specs.Fmt.{decimal, signed_decimal}
 use Rattle.hyd_spec.specs.Lists.{joined}
@@ -11,6 +12,7 @@ words [] = []
 words (word ∷ []) = word
 words (word ∷ rest) = word ++ (32 ∷ words rest)
 
+-- A line and its line feed.
 abbrev pub line : List (List ℕ) → List ℕ
 line parts = words parts ++ (10 ∷ [])
 
@@ -28,9 +30,12 @@ period_line row = line (codes "PERIOD" ∷ (decimal row.number ∷ (decimal row.
 abbrev pub head_lines : List ℕ → List ℤ → List ℕ
 head_lines key heads = joined (map (λ h. line (key ∷ (signed_decimal h ∷ []))) heads)
 
+-- The lines of a problem's two vectors, the UPPER one first, with a key for each.
 abbrev pub vectors_text : List ℕ → List ℕ → Vectors → List ℕ
 vectors_text upper lower vectors = head_lines upper vectors.upper ++ head_lines lower vectors.lower
 
+-- A record: its period, then the vectors with all tanks alike (MU, ML) and those with each tank pinned in turn (PU,
+-- PL).
 abbrev pub record_text : Record → List ℕ
 record_text row =
     period_line row ++ (vectors_text (codes "MU") (codes "ML") row.main
@@ -41,6 +46,7 @@ abbrev pub end_line : ℕ → Bool → List ℕ
 end_line periods finished =
     line (codes "END" ∷ (decimal periods ∷ ((if finished then codes "FINISHED" else codes "STOPPED") ∷ [])))
 
+-- A header for so many junctions and tanks, the records, and the end line.
 abbrev pub certificate_text : ℕ → ℕ → List Record → ℕ → Bool → List ℕ
 certificate_text junctions tanks rows periods finished =
     header_line junctions tanks ++ (joined (map record_text rows) ++ end_line periods finished)
@@ -64,8 +70,11 @@ pub record IsRow (junctions tanks : ℕ) (row : Record) : Type 0 where
   pub pinned_upper : All (λ vectors. IsVector junctions vectors.upper) row.pinned
   pub pinned_lower : All (λ vectors. IsVector junctions vectors.lower) row.pinned
 
--- The text is that of these counts and records, and of an end line with this number and word.
+-- The text is that of these counts and records, and of an end line with this number and word. All numbers but heads are
+-- below 2^32, so that no line has more than 64 bytes.
 pub record IsCertificateText (text : List ℕ) (junctions tanks : ℕ) (rows : List Record) (periods : ℕ) (finished : Bool) : Type 0 where
+  pub junctions_fit : junctions < 2 ^ 32
+  pub tanks_fit : tanks < 2 ^ 32
   pub rows_fit : All (IsRow junctions tanks) rows
   pub periods_fit : periods < 2 ^ 32
   pub is_text : text ≡ certificate_text junctions tanks rows periods finished

@@ -1,4 +1,5 @@
 -- What a line of the report claims of a period of a history.
+-- Source: this program's; the quantities are those that EPANET prints (2.2 User Manual, chapter on viewing results).
 use Rattle.std.specs.Prelude.{◌≡◌, ℕ, ◌+◌, ◌*◌, ◌^◌, ℤ, pos, ◌+ℤ◌, ◌-ℤ◌, ◌<ℤ◌, ◌≤ℤ◌, ◌*ℤ◌, IsTrue, Bool, true, false, List, Some, slice_get, ⊤, Contains, ◌≢◌, ◌%◌, IsFalse}
 use Rattle.hyd_num.specs.Rational.{Rational, is_at_most, whole}
 use Rattle.hyd_num.specs.Decimals.{head_quantity, pressure_quantity, flow_quantity}
@@ -27,17 +28,22 @@ pub record LiesBetween (ends : Interval) (x : Rational) : Type 0 where
 abbrev pub at_part : ℕ → (ℤ → Rational) → ℤ → Rational
 at_part S quantity parts = record { num = (quantity parts).num; den = (quantity parts).den * S }
 
+-- A head or level (S-th parts of a head tick) lies between the printed ends, in feet or metres.
 abbrev pub HeadLies : Project → ℕ → Interval → ℤ → Type 0
 HeadLies network S ends h = LiesBetween ends (at_part S (head_quantity (is_us network)) h)
 
+-- A pressure (S-th parts of a head tick) lies between the printed ends, in psi or metres.
 abbrev pub PressureLies : Project → ℕ → Interval → ℤ → Type 0
 PressureLies network S ends p = LiesBetween ends (at_part S (pressure_quantity (is_us network)) p)
 
+-- A flow (S-th parts of a flow tick) lies between the printed ends, in the file's flow unit.
 abbrev pub FlowLies : Project → ℕ → Interval → ℤ → Type 0
 FlowLies network S ends q = LiesBetween ends (at_part S (flow_quantity network.options.unit) q)
 
 -- ---- nodes
 
+-- Junction number j: its head, its pressure and its outflow (demand and emitter together) lie between the printed
+-- ends.
 pub record JunctionLies (network : Project) (S : ℕ) (period : Period) (j : ℕ) (head pressure outflow : Interval) : Type 0 where
   pub junction : Junction
   pub is_junction : slice_get network.junctions.list j ≡ Some junction
@@ -45,11 +51,13 @@ pub record JunctionLies (network : Project) (S : ℕ) (period : Period) (j : ℕ
   pub pressure_lies : PressureLies network S pressure (head_at period.given.heads j -ℤ at_scale S junction.elevation)
   pub outflow_lies : FlowLies network S outflow (flow_at period.given.demands j +ℤ flow_at period.given.emitters j)
 
+-- Reservoir number r: its head at the start of the period lies between the printed ends.
 pub record ReservoirLies (network : Project) (S : ℕ) (period : Period) (r : ℕ) (head : Interval) : Type 0 where
   pub reservoir : Reservoir
   pub is_reservoir : slice_get network.reservoirs.list r ≡ Some reservoir
   pub head_lies : HeadLies network S head (at_scale S (reservoir_head network period.time reservoir))
 
+-- Tank number k: its head, its level and its inflow lie between the printed ends, and its state is the printed one.
 pub record TankLies (network : Project) (S : ℕ) (period : Period) (k : ℕ) (head level inflow : Interval) (state : TankState) : Type 0 where
   pub tank : Tank
   pub is_tank : slice_get network.tanks.list k ≡ Some tank
@@ -66,8 +74,8 @@ difference_along network S period link =
     let heads = node_heads network S period.time period.levels period.given.heads in
     head_at heads link.from -ℤ head_at heads link.to
 
--- The driving difference of a running pump: the head difference and its lift, multiplied by the lift's
--- denominator.
+-- The driving difference of a running pump: the head difference and its lift (S-th parts of a head tick), multiplied by
+-- the lift's denominator, which leaves its sign.
 abbrev pub drive_of : ℕ → Rational → ℤ → ℤ
 drive_of S lift x = (pos lift.den *ℤ x) +ℤ (pos S *ℤ lift.num)
 
@@ -100,6 +108,7 @@ StatusHolds us word (PumpLink capacity shutoff head pattern) (Speed speed) S x =
 StatusHolds us word (Fcv valve) (Limit setting ticks) S x = SettingIs word valve S x ticks
 StatusHolds us word kind state S x = StateIs word state
 
+-- Link number l: its flow lies between the printed ends, and its status word holds.
 pub record LinkLies (network : Project) (S : ℕ) (period : Period) (l : ℕ) (flow : Interval) (word : StatusWord) : Type 0 where
   pub link : Link
   pub is_link : slice_get network.links.list l ≡ Some link
@@ -117,13 +126,14 @@ pub record ReachesAtEnd (network : Project) (S : ℕ) (period : Period) (time k 
   pub is_tank : slice_get network.tanks.list k ≡ Some tank
   pub reached : IsTrue (reaches S above target (exact_after network period k tank period.length))
 
--- The tank, which wasn't full (empty) at the start, reaches its maximum (minimum).
+-- The tank, which wasn't full at the start, reaches its maximum.
 pub record Fills (network : Project) (S : ℕ) (period : Period) (time k : ℕ) : Type 0 where
   pub tank : Tank
   pub is_tank : slice_get network.tanks.list k ≡ Some tank
   pub before : slice_get period.tanks k ≢ Some Full
   pub reaches_it : ReachesAtEnd network S period time k true tank.maximum
 
+-- The tank, which wasn't empty at the start, reaches its minimum.
 pub record Empties (network : Project) (S : ℕ) (period : Period) (time k : ℕ) : Type 0 where
   pub tank : Tank
   pub is_tank : slice_get network.tanks.list k ≡ Some tank

@@ -1,5 +1,7 @@
 -- Enclosing functions: for each law, a whole number of flow ticks below and one above the exact
 -- flow at a head difference of a whole number of head ticks. Both never fall as the difference rises.
+-- Source: interval arithmetic with outward rounding (Moore 1966, Interval Analysis), for the laws of EPANET 2.2 User
+-- Manual, chapter 3.
 use Rattle.std.specs.Prelude.{ℕ, zero, suc, ◌*◌, ◌^◌, ℤ, pos, negsuc, neg_ℤ, ◌+ℤ◌, ◌-ℤ◌, ◌*ℤ◌, nat_le, int_le, ◌==◌, ◌+◌, if◌then◌else◌, Option}
 use Rattle.std.specs.Int.{int_max, int_min}
 use Rattle.std.specs.Option.{option_map_or}
@@ -26,11 +28,12 @@ root_up p q = if root_down p q * root_down p q * q == p then root_down p q else 
 
 -- ---- quadratic laws
 
--- The root of the capacity times the head difference, with its sign.
+-- The root of the capacity times the head difference d (head ticks), with its sign: at most the exact flow (flow ticks).
 abbrev pub quad_low : Capacity → ℤ → ℤ
 quad_low capacity (pos d) = pos (root_down (numerator capacity.lo * d) (denominator capacity.lo))
 quad_low capacity (negsuc d) = neg_ℤ (pos (root_up (numerator capacity.hi * suc d) (denominator capacity.hi)))
 
+-- The same root, at least the exact flow.
 abbrev pub quad_high : Capacity → ℤ → ℤ
 quad_high capacity (pos d) = pos (root_up (numerator capacity.hi * d) (denominator capacity.hi))
 quad_high capacity (negsuc d) = neg_ℤ (pos (root_down (numerator capacity.lo * suc d) (denominator capacity.lo)))
@@ -85,9 +88,10 @@ demand_high (Driven demand capacity minimum required) p =
     else if int_le (floor required) p then demand
     else int_min demand (quad_high capacity (p -ℤ floor minimum))
 
--- An emitter passes by its quadratic law, none passes nothing.
+-- At most the exact emitter flow at a pressure p (head ticks): by its quadratic law, none where there is no emitter.
 abbrev pub emitter_low : Option Capacity → ℤ → ℤ
 emitter_low emitter p = option_map_or (λ capacity. quad_low capacity p) emitter (pos 0)
 
+-- At least it.
 abbrev pub emitter_high : Option Capacity → ℤ → ℤ
 emitter_high emitter p = option_map_or (λ capacity. quad_high capacity p) emitter (pos 0)

@@ -1,5 +1,6 @@
 -- The network of one period as certificates see it: laws of links and outflows, the heads of
 -- reservoirs, and an interval for each tank's head. Heads are in head ticks.
+-- Source: Rheinboldt 1970 (networks with given boundary values).
 use Rattle.std.specs.Prelude.{◌≡◌, ℕ, ℤ, List, [], ◌∷◌, ◌++◌, map, Option, MatchBool, ◌==◌, if◌then◌else◌}
 use Rattle.std.specs.List.{AllZip}
 use Rattle.hyd_num.specs.Chain.{IsMade}
@@ -40,15 +41,18 @@ pub record IsDriven (network : Project) (demand : ℤ) (law : DemandLaw) : Type 
   pub made : IsMade capacity
   pub is_law : law ≡ Driven demand capacity (minimum_pressure network) (required_pressure network)
 
+-- The law of a demand (flow ticks): driven by pressure where it depends on that, else fixed.
 abbrev pub IsDemandLaw : Project → ℤ → DemandLaw → Type 0
 IsDemandLaw network demand law =
     MatchBool (is_pressure_driven network demand) (IsDriven network demand law) (law ≡ Fixed demand)
 
+-- This is the junction of the grid at a time: its elevation, the law of its demand then, and its emitter.
 pub record IsJunctionOf (network : Project) (time : ℕ) (junction : Junction) (here : GridJunction) : Type 0 where
   pub elevation : here.elevation ≡ junction.elevation
   pub demand : IsDemandLaw network (demand_of network time junction) here.demand
   pub emitter : here.emitter ≡ junction.emitter
 
+-- The links with their nodes and their laws, in their states and between tanks in theirs.
 abbrev pub grid_links : Project → List TankState → List Link → List LinkState → List GridLink
 grid_links network tanks [] states = []
 grid_links network tanks (link ∷ links) [] = []
@@ -77,6 +81,7 @@ abbrev pub end_on : Side → Interval → ℤ
 end_on Upper x = x.hi
 end_on Lower x = x.lo
 
+-- The other side.
 abbrev pub opposite : Side → Side
 opposite Upper = Lower
 opposite Lower = Upper

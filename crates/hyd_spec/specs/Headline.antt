@@ -1,4 +1,5 @@
 -- The headline: what a run's certificate and report promise of every history.
+-- Source: this program's.
 use Rattle.std.specs.Prelude.{◌≡◌, ℕ, ◌≤◌, ℤ, ◌<ℤ◌, ◌⊎◌, Bool, true, false, MatchBool, List, [], ◌∷◌, ◌++◌, length, map, ⊤, Option, MatchOption}
 use Rattle.std.specs.Option.{option_map_or}
 use Rattle.std.specs.List.{AllByRecursion}
@@ -15,7 +16,6 @@ use Rattle.hyd_spec.specs.Record.{Record, Standing, initial_standing, vector_of}
 use Rattle.hyd_spec.specs.Decided.{links_at}
 use Rattle.hyd_spec.specs.Valid.{IsValid, IsProblem}
 use Rattle.hyd_spec.specs.Narrow.{IsNarrow}
-use Rattle.hyd_spec.specs.Certificate.{IsTight}
 use Rattle.hyd_spec.specs.CertificateText.{IsCertificateText, header_line, record_text, end_line}
 use Rattle.hyd_spec.specs.Stops.{StopCause, DemandOutOfRange, RoundsSpent, Stops}
 use Rattle.hyd_spec.specs.Report.{IsReport}
@@ -48,9 +48,11 @@ pub data IsRunFrom (network : Project) : Standing → List Found → Standing �
 abbrev pub IsRun : Project → List Found → Standing → Type 0
 IsRun network founds last = IsRunFrom network (initial_standing network) founds last
 
+-- The records of what was found.
 abbrev pub rows_of : List Found → List Record
 rows_of founds = map (λ found. found.row) founds
 
+-- Its report lines, period by period.
 abbrev pub lines_of : List Found → List ReportLine
 lines_of founds = joined (map (λ found. found.lines) founds)
 
@@ -110,6 +112,7 @@ abbrev pub last_line : Project → Standing → ℕ → Outcome → List ℕ
 last_line network standing n Finished = done_line n
 last_line network standing n (Stopped cause) = stop_line network standing.number standing.time cause
 
+-- The run has finished.
 abbrev pub is_finished : Outcome → Bool
 is_finished Finished = true
 is_finished (Stopped cause) = false
@@ -149,16 +152,18 @@ certificate_so_far network founds last =
     ++ (joined (map record_text (rows_of founds))
     ++ option_map_or (λ outcome. end_line (length founds) (is_finished outcome)) last [])
 
+-- The report as far as some records go, with its last line where the run's end is known.
 abbrev pub report_so_far : Project → Standing → List Found → Option Outcome → List ℕ
 report_so_far network left founds last =
     report_text network (lines_of founds) (option_map_or (last_line network left (length founds)) last [])
 
 -- A fault of the outside ended the work: what was written and printed are fronts of the certificate and of the report of a
 -- run, as far as it went, and every history agrees with it.
-pub record RunBreaksOff (network : Project) (rounds : ℕ) (written printed : List ℕ) : Type 0 where
+pub record RunBreaksOff (network : Project) (rounds : ℕ) (sharpness : Sharpness) (written printed : List ℕ) : Type 0 where
   pub founds : List Found
   pub left : Standing
   pub is_run : IsRun network founds left
+  pub sharp : AllByRecursion (IsSharpFound network sharpness) founds
   pub last : Option Outcome
   pub ends_so : MatchOption last ⊤ (EndsSo network left rounds)
   pub unwritten : List ℕ

@@ -58,10 +58,11 @@ GoesOn network S before [] = ⊤
 GoesOn network S before (period ∷ rest) =
     ComesAfter network S before period × (IsPeriod network S period × GoesOn network S period rest)
 
--- The levels and the link states that the file begins with.
+-- The levels that the file begins with (S-th parts of a head tick).
 abbrev pub initial_levels : Project → ℕ → List ℤ
 initial_levels network S = map (λ tank. at_scale S tank.initial) network.tanks.list
 
+-- The link states that the file begins with.
 abbrev pub initial_links : Project → List LinkState
 initial_links network = map (λ link. link.start) network.links.list
 

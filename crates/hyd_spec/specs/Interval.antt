@@ -1,4 +1,5 @@
 -- Intervals of whole numbers.
+-- Source: Moore 1966, Interval Analysis.
 use Rattle.std.specs.Prelude.{ℤ, ◌+ℤ◌, ◌-ℤ◌}
 
 -- All numbers from lo to hi.
@@ -10,6 +11,7 @@ pub record Interval : Type 0 where
 abbrev pub exactly : ℤ → Interval
 exactly z = record { lo = z; hi = z }
 
+-- How far its ends are apart.
 abbrev pub width : Interval → ℤ
 width x = x.hi -ℤ x.lo
 

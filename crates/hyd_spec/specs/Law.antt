@@ -1,6 +1,7 @@
 -- The exact law of a link or an emitter: which flow belongs to a head difference, stated without
 -- roots as two relations: the exact flow is at least a, the exact flow is at most a.
--- Source: EPANET 2.2 User Manual, chapter 3 (pipes, pumps, valves, emitters).
+-- Source: EPANET 2.2 User Manual, chapter 3 (pipes, pumps, valves, emitters); the straight law of a valve without loss
+-- coefficient is this program's.
 use Rattle.std.specs.Prelude.{ℕ, ◌*◌, ◌^◌, ℤ, pos, negsuc, neg_ℤ, unsigned_abs, ◌*ℤ◌, ◌+ℤ◌, ◌-ℤ◌, ◌≤ℤ◌, ◌⊎◌, suc, ⊤, Bool}
 use Rattle.hyd_num.specs.Fraction.{Fraction, fraction, over, power}
 use Rattle.hyd_num.specs.Quantity.{is_us_unit, billionths, head_ticks, flow_fraction, pressure_fraction}
@@ -50,15 +51,17 @@ pump_resistance flow drop thirds unit =
     over (record { num = unsigned_abs (head_ticks (is_us_unit unit) drop.nano); den = thirds })
     (power (flow_fraction unit (billionths flow)) 2)
 
+-- The resistance of an emitter: one psi or metre over the squared coefficient.
 abbrev pub emitter_resistance : Decimal → FlowUnit → Fraction
 emitter_resistance coefficient unit =
     over (pressure_fraction (is_us_unit unit) (10 ^ 9)) (power (flow_fraction unit (billionths coefficient)) 2)
 
+-- The resistance of a pressure-driven demand: the required less the minimum pressure, over the squared demand.
 abbrev pub pressure_resistance : ℤ → Decimal → Decimal → Bool → Fraction
 pressure_resistance demand minimum required us =
     over (pressure_fraction us (unsigned_abs (required.nano -ℤ minimum.nano))) (fraction (unsigned_abs demand ^ 2) 1)
 
--- The loss relations of what a capacity was made of.
+-- The relation "loses at most" of what a capacity was made of.
 abbrev pub loss_at_most : Origin → Loss
 loss_at_most (Pipe length diameter roughness minor us) = PipeLossAtMost us length diameter roughness minor
 loss_at_most (Valve diameter k us) = ValveLossAtMost us diameter k
@@ -66,6 +69,7 @@ loss_at_most (Pump flow drop thirds unit) = SquareLossAtMost (pump_resistance fl
 loss_at_most (Emitter coefficient unit) = SquareLossAtMost (emitter_resistance coefficient unit)
 loss_at_most (PressureDemand demand minimum required us) = SquareLossAtMost (pressure_resistance demand minimum required us)
 
+-- The relation "loses at least" of what a capacity was made of.
 abbrev pub loss_at_least : Origin → Loss
 loss_at_least (Pipe length diameter roughness minor us) = PipeLossAtLeast us length diameter roughness minor
 loss_at_least (Valve diameter k us) = ValveLossAtLeast us diameter k

@@ -9,7 +9,7 @@ use Rattle.hyd_spec.specs.Tank.{exact_level, carried_level, reaches, is_at_maxim
 use Rattle.hyd_spec.specs.Start.{clock_at}
 use Rattle.hyd_spec.specs.Rules.{Readings, rule_values, rule_changes}
 
--- A period of a history: when it begins, how long it lasts, and what holds throughout it. Levels are those
+-- A period of a history: when it begins, how long it lasts (seconds), and what holds throughout it. Levels are those
 -- of its beginning, in S-th parts of a head tick.
 pub record Period : Type 0 where
   pub time : ℕ
@@ -27,7 +27,8 @@ pub record IsLeast (P : ℕ → Type 0) (e : ℕ) : Type 0 where
 -- ---- by the clock
 
 -- A period that begins at `time` ends at e at the latest: a hydraulic step later, at the end of the run, where a step of the
--- patterns begins, at a report time, or where a control acts by time or clock.
+-- patterns begins, at a report time, or where a control acts by time or clock. The end of the run lies after `time` in
+-- every period but the last.
 pub data EndsByClock (network : Project) (time e : ℕ) : Type 0 where
   step : e ≡ time + network.times.hydraulic → EndsByClock network time e
   duration : e ≡ network.times.duration → EndsByClock network time e
@@ -41,15 +42,16 @@ pub data EndsByClock (network : Project) (time e : ℕ) : Type 0 where
 
 -- ---- by levels
 
--- The level of a tank at the start, and its exact level after some seconds.
+-- The level of a tank at the start (S-th parts of a head tick).
 abbrev pub level_at_start : Period → ℕ → ℤ
 level_at_start period k = slice_index_or period.levels k (pos 0)
 
+-- Its exact level some seconds after the start (S-th parts of a head tick), by the period's flows.
 abbrev pub exact_after : Project → Period → ℕ → Tank → ℕ → Rational
 exact_after network period k tank seconds =
     exact_level tank (level_at_start period k) (tank_inflow network k period.given.flows) seconds
 
--- The period ends `seconds` after its start: a tank that wasn't full reaches its maximum, one that wasn't empty its
+-- The period may end `seconds` after its start: a tank that wasn't full reaches its maximum, one that wasn't empty its
 -- minimum, or a level control that didn't hold at the start does.
 pub data EndsByLevel (network : Project) (S : ℕ) (period : Period) (seconds : ℕ) : Type 0 where
   full : (k : ℕ) (tank : Tank) → slice_get network.tanks.list k ≡ Some tank → slice_get period.tanks k ≢ Some Full

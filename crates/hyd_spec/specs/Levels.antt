@@ -1,6 +1,7 @@
 -- Level intervals: what a tank's level interval becomes under an interval of inflow, and when it
 -- reaches a target. Levels are in head ticks, inflows in flow ticks.
-use Rattle.std.specs.Prelude.{ℕ, ◌<◌, ◌≤◌, ℤ, pos, ◌+ℤ◌, ◌-ℤ◌, Bool, true, false, IsTrue, IsFalse, Option, Some, None, if◌then◌else◌}
+-- Source: EPANET 2.2 User Manual, chapter 3 (tanks), over intervals.
+use Rattle.std.specs.Prelude.{ℕ, ℤ, pos, ◌+ℤ◌, ◌-ℤ◌, Bool, true, false, Option, Some, None, if◌then◌else◌}
 use Rattle.std.specs.Int.{int_max, int_min}
 use Rattle.hyd_spec.specs.Types.{Tank, TankState, Full, Between, Empty}
 use Rattle.hyd_num.specs.Rational.{Rational, floor, ceiling}
@@ -14,9 +15,11 @@ end_of tank x inside =
     else if is_at_minimum 1 tank x then tank.minimum
     else inside
 
+-- A lower end: the bound, or the level rounded down and moved down by the room, but not below the minimum.
 abbrev pub lower_end : Tank → Rational → ℤ → ℤ
 lower_end tank x room = end_of tank x (int_max tank.minimum (floor x -ℤ room))
 
+-- An upper end: the bound, or the level rounded up and moved up by the room, but not above the maximum.
 abbrev pub upper_end : Tank → Rational → ℤ → ℤ
 upper_end tank x room = end_of tank x (int_min tank.maximum (ceiling x +ℤ room))
 
@@ -28,10 +31,11 @@ levels_after room tank level inflow seconds = record {
   hi = upper_end tank (exact_level tank level.hi inflow.hi seconds) room;
 }
 
--- The carried levels, and the levels at which the next period begins.
+-- The interval of carried levels.
 abbrev pub carried_levels : Tank → Interval → Interval → ℕ → Interval
 carried_levels tank level inflow seconds = levels_after (pos 0) tank level inflow seconds
 
+-- The level interval at which the next period begins: ten ticks more room at either end.
 abbrev pub next_levels : Tank → Interval → Interval → ℕ → Interval
 next_levels tank level inflow seconds = levels_after (pos 10) tank level inflow seconds
 
@@ -42,33 +46,20 @@ shared_state Between Between = Some Between
 shared_state Empty Empty = Some Empty
 shared_state a b = None
 
+-- The state of a tank at a level interval, if it has one.
 abbrev pub state_of : Tank → Interval → Option TankState
 state_of tank level = shared_state (tank_state 1 tank level.lo) (tank_state 1 tank level.hi)
 
 -- ---- reaching a target
 
--- At a second the level that moves fastest (slowest) toward the target has reached it: a rising one from
--- the upper (lower) ends of level and inflow.
+-- At a second the level that moves fastest toward the target has reached it: a rising one from the upper ends of level
+-- and inflow, a falling one from the lower ends.
 abbrev pub may_reach : Tank → Interval → Interval → ℤ → Bool → ℕ → Bool
 may_reach tank level inflow target true seconds = reaches 1 true target (exact_level tank level.hi inflow.hi seconds)
 may_reach tank level inflow target false seconds = reaches 1 false target (exact_level tank level.lo inflow.lo seconds)
 
+-- At a second the level that moves slowest toward the target has reached it: a rising one from the lower ends, a
+-- falling one from the upper ends.
 abbrev pub must_reach : Tank → Interval → Interval → ℤ → Bool → ℕ → Bool
 must_reach tank level inflow target true seconds = reaches 1 true target (exact_level tank level.lo inflow.lo seconds)
 must_reach tank level inflow target false seconds = reaches 1 false target (exact_level tank level.hi inflow.hi seconds)
-
--- The first second, from 1 on, at which a test holds; `cap` where none before it does.
-pub record IsFirstSecond (test : ℕ → Bool) (cap second : ℕ) : Type 0 where
-  pub within : second ≤ cap
-  pub at_least_one : second < cap → 1 ≤ second
-  pub holds : second < cap → IsTrue (test second)
-  pub first : (earlier : ℕ) → 1 ≤ earlier → earlier < second → IsFalse (test earlier)
-
--- The earliest and the latest first second at which the level reaches a target.
-abbrev pub IsEarliest : Tank → Interval → Interval → ℤ → Bool → ℕ → ℕ → Type 0
-IsEarliest tank level inflow target rising cap second =
-    IsFirstSecond (may_reach tank level inflow target rising) cap second
-
-abbrev pub IsLatest : Tank → Interval → Interval → ℤ → Bool → ℕ → ℕ → Type 0
-IsLatest tank level inflow target rising cap second =
-    IsFirstSecond (must_reach tank level inflow target rising) cap second

@@ -1,5 +1,6 @@
 -- The exact law of a link in its state, between tanks that may be full or empty.
--- Source: EPANET 2.2 User Manual, chapter 3 (pipes, pumps, valves; tanks), the laws of this program.
+-- Source: EPANET 2.2 User Manual, chapter 3 (pipes, pumps, valves; tanks); the reverse flow of a flow-control valve is
+-- this program's.
 use Rattle.std.specs.Prelude.{ℕ, Bool, true, false, ◌&&◌, ◌||◌, List, slice_get, if◌then◌else◌}
 use Rattle.std.specs.Option.{option_map_or}
 use Rattle.hyd_spec.specs.Types.{Project, Link, LinkKind, PipeLink, CheckPipe, PumpLink, Tcv, Fcv, OpenValve, Quadratic, Linear, LinkState, Open, Speed, Throttle, Limit, TankState, Full, Empty, Between}
@@ -29,31 +30,34 @@ own_law us kind state = Shut
 
 -- ---- full and empty tanks
 
+-- The tank is full.
 abbrev pub is_full : TankState → Bool
 is_full Full = true
 is_full Between = false
 is_full Empty = false
 
+-- The tank is empty.
 abbrev pub is_empty : TankState → Bool
 is_empty Full = false
 is_empty Between = false
 is_empty Empty = true
 
--- The node is a full tank, an empty tank.
+-- The node is a full tank.
 abbrev pub is_full_tank : Project → List TankState → ℕ → Bool
 is_full_tank network tanks node =
     is_tank network node && option_map_or is_full (slice_get tanks (tank_number network node)) false
 
+-- The node is an empty tank.
 abbrev pub is_empty_tank : Project → List TankState → ℕ → Bool
 is_empty_tank network tanks node =
     is_tank network node && option_map_or is_empty (slice_get tanks (tank_number network node)) false
 
--- Nothing flows from the first node of the link to the second: into a full tank or out of an
--- empty one. And the same in reverse.
+-- Nothing flows from the first node of the link to the second: into a full tank or out of an empty one.
 abbrev pub forbids_forward : Project → List TankState → Link → Bool
 forbids_forward network tanks link =
     is_full_tank network tanks link.to || is_empty_tank network tanks link.from
 
+-- Nothing flows from the second node of the link to the first.
 abbrev pub forbids_reverse : Project → List TankState → Link → Bool
 forbids_reverse network tanks link =
     is_full_tank network tanks link.from || is_empty_tank network tanks link.to

@@ -56,21 +56,23 @@ PipeLossAtLeast us length diameter roughness minor S q y =
 
 -- ---- valves
 
--- A flow of q loses at most, at least the head y in an open valve with a coefficient k above 0.
+-- A flow of q loses at most the head y in an open valve with a coefficient k above 0.
 abbrev pub ValveLossAtMost : Bool → Decimal → Decimal → ℕ → ℕ → ℕ → Type 0
 ValveLossAtMost us diameter k S q y =
     AtMost (times (minor_loss us diameter k) (power (flow_in_cfs S q) 2)) (head_in_feet S y)
 
+-- A flow of q loses at least the head y in an open valve with a coefficient k above 0.
 abbrev pub ValveLossAtLeast : Bool → Decimal → Decimal → ℕ → ℕ → ℕ → Type 0
 ValveLossAtLeast us diameter k S q y =
     AtMost (head_in_feet S y) (times (minor_loss us diameter k) (power (flow_in_cfs S q) 2))
 
 -- ---- quadratic relations
 
--- With a resistance r (head ticks for a squared flow tick): the loss r q^2 is at most y,
--- at least y. Pumps, emitters and pressure-driven demands follow such a relation.
+-- With a resistance r (head ticks for a squared flow tick) the loss r q^2 is at most y. Pumps, emitters and
+-- pressure-driven demands follow such a relation.
 abbrev pub SquareLossAtMost : Fraction → ℕ → ℕ → ℕ → Type 0
 SquareLossAtMost r S q y = r.num * (q * q) ≤ r.den * (S * y)
 
+-- The loss r q^2 is at least y.
 abbrev pub SquareLossAtLeast : Fraction → ℕ → ℕ → ℕ → Type 0
 SquareLossAtLeast r S q y = r.den * (S * y) ≤ r.num * (q * q)

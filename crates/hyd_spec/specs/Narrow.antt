@@ -1,4 +1,5 @@
 -- Narrow records: how wide the intervals of a period may be for its vectors to be taken as they are.
+-- Source: this program's.
 use Rattle.std.specs.Prelude.{ℤ, pos, ◌+ℤ◌, ◌-ℤ◌, ◌*ℤ◌, ◌≤ℤ◌, List, [], ◌∷◌}
 use Rattle.std.specs.Int.{int_max}
 use Rattle.hyd_spec.specs.Lists.{Each}

@@ -1,14 +1,18 @@
--- The network as the file gives it: how nodes are numbered, and what stands at a node.
+-- The network as the file gives it: how many nodes there are, and how they are numbered.
 -- Nodes are numbered junctions first, then reservoirs, then tanks.
+-- Source: EPANET 2.2 User Manual, chapter 3 (physical components); the numbering is this program's.
 use Rattle.std.specs.Prelude.{ℕ, ◌+◌, ◌-◌, Bool, length, nat_le}
 use Rattle.hyd_spec.specs.Types.{Project}
 
+-- The number of junctions.
 abbrev pub junction_count : Project → ℕ
 junction_count network = length network.junctions.list
 
+-- The number of reservoirs.
 abbrev pub reservoir_count : Project → ℕ
 reservoir_count network = length network.reservoirs.list
 
+-- The number of tanks.
 abbrev pub tank_count : Project → ℕ
 tank_count network = length network.tanks.list
 

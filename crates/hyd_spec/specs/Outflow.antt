@@ -1,6 +1,7 @@
 -- What leaves a junction beside its links: its demand flow and its emitter flow, at a pressure p
 -- (head above the elevation, S-th parts of a head tick). Flows are S-th parts of a flow tick.
--- Source: EPANET 2.2 User Manual, chapter 3 (demands, pressure-driven demand, emitters).
+-- Source: EPANET 2.2 User Manual, chapter 3 (demands, pressure-driven demand, emitters); a demand of 0 or less under
+-- pressure-driven analysis and an emitter at a negative pressure are this program's.
 use Rattle.std.specs.Prelude.{◌≡◌, ℕ, ℤ, pos, ◌+ℤ◌, ◌-ℤ◌, ◌≤ℤ◌, Bool, false, int_le, if◌then◌else◌, MatchBool, MatchOption}
 use Rattle.hyd_spec.specs.Types.{Project, Junction}
 use Rattle.hyd_num.specs.Rational.{Rational, negated, is_at_most}
@@ -30,18 +31,20 @@ part_at_least network demand =
     lifted (negated (minimum_pressure network))
     (odd_at_least (SquareLossAtMost resistance) (SquareLossAtLeast resistance))
 
+-- The flow between the two pressures is at most a number.
 abbrev pub part_at_most : Project → ℤ → Relation
 part_at_most network demand =
     let resistance = pressure_resistance demand network.options.p0 network.options.pf (is_us network) in
     lifted (negated (minimum_pressure network))
     (odd_at_most (SquareLossAtMost resistance) (SquareLossAtLeast resistance))
 
--- A pressure-driven demand's flow q at pressure p: within the tolerance of nothing up to the
--- minimum pressure, of the whole demand from the required one on, of the square root law between.
+-- Between the two pressures the square root law's flow is within the tolerance of q.
 pub record FollowsPart (network : Project) (demand : ℤ) (S : ℕ) (p q : ℤ) : Type 0 where
   pub at_least : part_at_least network demand S p (q -ℤ tolerance S)
   pub at_most : part_at_most network demand S p (q +ℤ tolerance S)
 
+-- The flow q of a pressure-driven demand (flow ticks) at pressure p: within the tolerance of nothing up to the
+-- minimum pressure, of the whole demand from the required one on, of the square root law between.
 abbrev pub FollowsPressure : Project → ℤ → ℕ → ℤ → ℤ → Type 0
 FollowsPressure network demand S p q =
     MatchBool (is_at_most (pressure_at S p) (minimum_pressure network)) (IsWithinTolerance S q (pos 0))

@@ -15,6 +15,7 @@ is_us network = is_us_unit network.options.unit
 
 -- ---- patterns
 
+-- The multipliers of a pattern, in nano; none where there is no such pattern.
 abbrev pub multipliers_of : Project → ℕ → List ℤ
 multipliers_of network pattern =
     option_map_or (λ p. p.multipliers.list) (slice_get network.patterns.list pattern) []
@@ -77,5 +78,6 @@ pressure_value us pressure = record { num = pressure_numerator us pressure.nano;
 abbrev pub minimum_pressure : Project → Rational
 minimum_pressure network = pressure_value (is_us network) network.options.p0
 
+-- The required pressure, in head ticks.
 abbrev pub required_pressure : Project → Rational
 required_pressure network = pressure_value (is_us network) network.options.pf

@@ -1,4 +1,5 @@
 -- Records of a certificate, and what is carried from one period to the next.
+-- Source: this program's.
 use Rattle.std.specs.Prelude.{ℕ, ℤ, Bool, false, List, [], map, slice_index_or}
 use Rattle.hyd_spec.specs.Types.{Project, TankState, LinkState, Problem, Main, Pinned, Side, Upper, Lower}
 use Rattle.hyd_spec.specs.Interval.{Interval, exactly}
@@ -27,6 +28,7 @@ abbrev pub vectors_of : Record → Problem → Vectors
 vectors_of row Main = row.main
 vectors_of row (Pinned tank) = slice_index_or row.pinned tank no_vectors
 
+-- The vector of a side.
 abbrev pub vector_on : Side → Vectors → List ℤ
 vector_on Upper vectors = vectors.upper
 vector_on Lower vectors = vectors.lower
@@ -35,7 +37,8 @@ vector_on Lower vectors = vectors.lower
 abbrev pub vector_of : Record → Problem → Side → List ℤ
 vector_of row problem side = vector_on side (vectors_of row problem)
 
--- What is known when a period begins: its number and time, an interval for each tank's level, the tanks' states,
+-- What is known when a period begins: its number and time (seconds), an interval for each tank's level (head ticks), the
+-- tanks' states,
 -- and the states that links were last commanded to be in. `finished` says that the period at the end of the run
 -- is over.
 pub record Standing : Type 0 where

@@ -1,5 +1,6 @@
 -- The report of a period: which lines it has and what numbers stand in them. A lower end is the
 -- greatest number of four decimals at most the value, an upper end the least at least it.
+-- Source: this program's format.
 use Rattle.std.specs.Prelude.{◌≡◌, ℕ, suc, ◌+◌, ◌-◌, ◌%◌, ℤ, pos, ◌+ℤ◌, ◌-ℤ◌, Bool, ◌&&◌, not, ◌==◌, nat_le, List, [], ◌∷◌, ◌++◌, Option, Some, None, map, slice_get, slice_set, slice_index_or, if◌then◌else◌, int_le, int_lt, ⊤, MatchBool}
 use Rattle.hyd_num.specs.Rational.{Rational, floor, ceiling}
 use Rattle.hyd_num.specs.Decimals.{head_quantity, pressure_quantity, flow_quantity, IsRoundedDown, IsRoundedUp}
@@ -44,6 +45,7 @@ abbrev pub start_changes : Project → ℕ → (ℕ → Bool → ℤ → Bool) �
 start_changes network time acts commanded =
     control_changes network time acts 0 network.controls.list (patterned network time commanded)
 
+-- One line for each change by a control at the start of a period, in order of the controls.
 abbrev pub control_lines : Project → Standing → List ReportLine
 control_lines network standing =
     map (λ change. ControlLine standing.time change.by change.link change.to)
@@ -63,6 +65,7 @@ LineEach P k (x ∷ xs) (l ∷ ls) = P k x l × LineEach P (suc k) xs ls
 LineEach P k [] (l ∷ ls) = ⊥
 LineEach P k (x ∷ xs) [] = ⊥
 
+-- The line of junction number j: its head by the record, its pressure above the elevation, its outflow box.
 pub record IsJunctionLine (network : Project) (grid : Grid) (row : Record) (j : ℕ) (junction : GridJunction) (each : ReportLine) : Type 0 where
   pub heads : Interval
   pub heads_are : heads ≡ record { lo = head_at row.main.lower j; hi = head_at row.main.upper j }
@@ -75,11 +78,13 @@ pub record IsJunctionLine (network : Project) (grid : Grid) (row : Record) (j : 
       (record { lo = heads.lo -ℤ junction.elevation; hi = heads.hi -ℤ junction.elevation }) pressure
   pub outflow_is : Prints (flow_quantity network.options.unit) (out_box junction heads.lo heads.hi) outflow
 
+-- The line of reservoir number r: its head at the time.
 pub record IsReservoirLine (network : Project) (r : ℕ) (height : ℤ) (each : ReportLine) : Type 0 where
   pub head : Interval
   pub is_line : each ≡ ReservoirLine r head
   pub head_is : Prints (head_quantity (is_us network)) (exactly height) head
 
+-- The line of tank number k: its level interval at the start, its head by it, its inflow and its state.
 pub record IsTankLine (network : Project) (grid : Grid) (standing : Standing) (row : Record) (k : ℕ) (tank : Tank) (each : ReportLine) : Type 0 where
   pub head : Interval
   pub level : Interval
@@ -116,6 +121,7 @@ status_of us (Fcv valve) (Limit setting ticks) d =
 status_of us kind (Throttle setting law) d = WordActive
 status_of us kind state d = WordOpen
 
+-- The line of link number l: its flow box and its status word.
 pub record IsLinkLine (network : Project) (grid : Grid) (standing : Standing) (row : Record) (l : ℕ) (link : Link) (each : ReportLine) : Type 0 where
   pub place : GridLink
   pub place_is : slice_get grid.links l ≡ Some place
@@ -148,6 +154,7 @@ tank_event time k tank state level =
     else if not (is_empty state) && int_le level.hi tank.minimum then EmptiedLine time k ∷ []
     else []
 
+-- The events of tanks, from tank number k on, at their intervals of carried levels.
 abbrev pub tank_events : ℕ → ℕ → List Tank → List TankState → List Interval → List ReportLine
 tank_events time k (tank ∷ tanks) (state ∷ states) (level ∷ levels) =
     tank_event time k tank state level ++ tank_events time (suc k) tanks states levels
@@ -164,6 +171,7 @@ control_event time before carried number control = by_when control.when
         else None
     by_when when = None
 
+-- The events at the end of a period: those of tanks in order, then those of level controls in order.
 abbrev pub event_lines : Project → Grid → Standing → Record → List ReportLine
 event_lines network grid standing row =
     let carried = carried_at network grid standing row row.length in
@@ -171,6 +179,7 @@ event_lines network grid standing row =
     tank_events time 0 network.tanks.list standing.tanks carried
     ++ present (map_from (control_event time standing.levels carried) 0 network.controls.list)
 
+-- One line for each change by a rule at the end of a period, in order of the links.
 abbrev pub rule_lines : Project → Grid → Standing → Record → List ReportLine
 rule_lines network grid standing row =
     map (λ change. RuleLine (standing.time + row.length) change.by change.link change.to)
@@ -187,6 +196,7 @@ pub data AreEndLines (network : Project) (grid : Grid) (standing : Standing) (ro
 
 -- ---- a period's lines
 
+-- The lines of a period: changes by controls, the state where it is a report time, then what its end brings.
 pub record IsReport (network : Project) (grid : Grid) (standing : Standing) (row : Record) (lines : List ReportLine) : Type 0 where
   pub state : List ReportLine
   pub state_are : MatchBool (is_report_time network standing.time) (AreStateLines network grid standing row state) (state ≡ [])

@@ -1,7 +1,7 @@
 -- Rules: which rules are true at an instant, and which state each link is given.
 -- OR binds tighter than AND: a premise is a row of groups joined by AND, each a row of clauses joined by OR.
--- Source: EPANET 2.2 User Manual, chapter 3 (rule-based controls) and appendix C ([RULES]); the order of
--- AND and OR is this program's.
+-- Source: EPANET 2.2 User Manual, chapter 3 (rule-based controls) and appendix C ([RULES]); the order of AND and OR,
+-- equality of times within a rule step and flows without their sign are this program's.
 use Rattle.std.specs.Prelude.{ℕ, suc, ◌+◌, ◌*◌, ◌-◌, ◌%◌, ℤ, pos, ◌-ℤ◌, Bool, true, false, ◌&&◌, not, nat_lt, nat_le, List, [], ◌∷◌, ◌++◌, Option, Some, None, map, slice_get, slice_index_or, int_lt, int_le, unsigned_abs, if◌then◌else◌, ◌==◌}
 use Rattle.std.specs.List.{list_any, list_all}
 use Rattle.std.specs.Option.{option_map_or, option_and_then}
@@ -21,6 +21,7 @@ pub data StateWord : Type 0 where
   IsClosed : StateWord
   IsActive : StateWord
 
+-- The word of a link's commanded state.
 abbrev pub state_word : LinkState → StateWord
 state_word Open = IsOpen
 state_word Closed = IsClosed
@@ -36,6 +37,7 @@ setting_of (Speed speed) = speed
 setting_of (Throttle setting law) = setting
 setting_of (Limit setting ticks) = setting
 
+-- Two numbers are equal.
 abbrev pub is_same_number : ℤ → ℤ → Bool
 is_same_number a b = int_le a b && int_le b a
 
@@ -54,18 +56,20 @@ state_of_link links link = slice_index_or links link Closed
 
 -- ---- what clauses look at
 
--- The network at an instant of a period: the heads of junctions and reservoirs, the carried levels of
--- tanks, the flows of links without their sign, and the links' commanded states. Heads and flows are
--- S-th parts of ticks, levels exact values in such parts.
+-- The network at an instant of a period: the heads of nodes, the carried levels of tanks, the flows of links without
+-- their sign, and the links' commanded states. Heads and flows are S-th parts of ticks, levels exact values in
+-- such parts. A tank's head is taken from its carried level and not from the heads.
 pub record Readings : Type 0 where
   pub heads : List ℤ
   pub levels : List Rational
   pub flows : List ℕ
   pub links : List LinkState
 
+-- The elevation of a junction (head ticks).
 abbrev pub elevation_of : Project → ℕ → ℤ
 elevation_of network node = option_map_or (λ j. j.elevation) (slice_get network.junctions.list node) (pos 0)
 
+-- The bottom of a tank (head ticks).
 abbrev pub bottom_of : Project → ℕ → ℤ
 bottom_of network tank = option_map_or (λ t. t.bottom) (slice_get network.tanks.list tank) (pos 0)
 
@@ -125,12 +129,13 @@ is_word IsClosed ValueClosed = true
 is_word IsActive ValueActive = true
 is_word word value = false
 
+-- A status clause holds: equal, or unequal.
 abbrev pub status_holds : Relation → StateWord → Value → Bool
 status_holds Unequal word value = not (is_word word value)
 status_holds relation word value = is_word word value
 
--- A clause on the time or the clock. Equality holds once, at the first instant of the rules at which the
--- value has come: `came` says that it came within the last rule step.
+-- A clause on the time or the clock. Equality holds where the value has come within the last rule step, as `came`
+-- says: so a time holds at one instant of the rules, and a time of day once a day.
 abbrev pub time_holds : Relation → ℕ → ℕ → Bool → Bool
 time_holds Equal now at came = came
 time_holds Unequal now at came = not came
@@ -141,17 +146,22 @@ abbrev pub seconds_of : Value → ℕ
 seconds_of (Amount span number) = unsigned_abs span.lo
 seconds_of value = 0
 
+-- A time has come within the last rule step.
+abbrev pub has_come : Project → ℕ → ℕ → Bool
+has_come network time at = nat_le at time && nat_lt time (at + network.times.rule)
+
+-- A time of day has come within the last rule step, where the clock shows `now`.
+abbrev pub has_come_today : Project → ℕ → ℕ → Bool
+has_come_today network now at = nat_lt ((now + day - at % day) % day) network.times.rule
+
 -- A clause on this subject holds at an instant.
 abbrev pub holds_on : Project → ℕ → ℕ → Readings → What → Relation → Value → Bool
 holds_on network S time readings (Status link) relation value =
     status_holds relation (state_word (state_of_link readings.links link)) value
 holds_on network S time readings Time relation value =
-    let at = seconds_of value in
-    time_holds relation time at (nat_le at time && nat_lt time (at + network.times.rule))
+    time_holds relation time (seconds_of value) (has_come network time (seconds_of value))
 holds_on network S time readings Clock relation value =
-    let at = seconds_of value in
-    let now = clock_at network time in
-    time_holds relation now at (nat_lt ((now + day - at % day) % day) network.times.rule)
+    time_holds relation (clock_at network time) (seconds_of value) (has_come_today network (clock_at network time) (seconds_of value))
 holds_on network S time readings what relation value =
     compares relation (measured network S readings what) (amount network what value)
 
@@ -172,6 +182,7 @@ abbrev pub put_before : Joined → Clause → Parts → Parts
 put_before And clause parts = record { front = []; rest = (clause ∷ parts.front) ∷ parts.rest }
 put_before Or clause parts = record { front = clause ∷ parts.front; rest = parts.rest }
 
+-- A premise, taken apart from its last clause on.
 abbrev pub parts_of : List RuleClause → Parts
 parts_of [] = record { front = []; rest = [] }
 parts_of (row ∷ rows) = put_before row.joined row.clause (parts_of rows)
@@ -180,6 +191,7 @@ parts_of (row ∷ rows) = put_before row.joined row.clause (parts_of rows)
 abbrev pub groups_in : Parts → List (List Clause)
 groups_in parts = elim parts.front [ [] ↦ parts.rest | clause ∷ more ↦ parts.front ∷ parts.rest ]
 
+-- The groups of a rule's premise, in order.
 abbrev pub groups_of : Rule → List (List Clause)
 groups_of rule = groups_in (parts_of rule.clauses.list)
 
@@ -201,6 +213,7 @@ pub record Offer : Type 0 where
   pub link : ℕ
   pub to : LinkState
 
+-- The offer of an action of rule number `number`.
 abbrev pub offer_of : ℕ → Rule → Action → Offer
 offer_of number rule action = record { rule = number; priority = rule.priority; link = action.link; to = action.to }
 

@@ -1,5 +1,6 @@
 -- The start of a period: pump patterns, then simple controls.
--- Source: EPANET 2.2 User Manual, chapter 3 (controls) and appendix C ([CONTROLS], [PUMPS]).
+-- Source: EPANET 2.2 User Manual, chapter 3 (controls) and appendix C ([CONTROLS], [PUMPS]); that a pump is set at time
+-- 0 and where a step of the patterns begins, and at no other time, is this program's.
 use Rattle.std.specs.Prelude.{ℕ, ◌+◌, ◌%◌, ℤ, pos, Bool, ◌||◌, ◌==◌, List, [], ◌∷◌, Some, fold, slice_set, slice_index_or, int_le, if◌then◌else◌}
 use Rattle.hyd_spec.specs.Types.{Project, Link, LinkKind, PumpLink, LinkState, Closed, Speed, When, AtLevel, AtTime, AtClock}
 use Rattle.hyd_num.specs.Rational.{whole}
@@ -27,6 +28,7 @@ abbrev pub is_pattern_boundary : Project → ℕ → Bool
 is_pattern_boundary network time =
     (time == 0) || ((time + network.times.pattern_start) % network.times.pattern == 0)
 
+-- The state of a link where a step of the patterns begins: a pump with a pattern takes its multiplier as speed.
 abbrev pub patterned_state : Project → ℕ → Link → LinkState → LinkState
 patterned_state network time link state = by_kind link.kind
   where
@@ -34,12 +36,14 @@ patterned_state network time link state = by_kind link.kind
     by_kind (PumpLink capacity shutoff head (Some pattern)) = speed_state (multiplier_at network pattern time)
     by_kind kind = state
 
+-- The states of all links where a step of the patterns begins.
 abbrev pub after_patterns : Project → ℕ → List Link → List LinkState → List LinkState
 after_patterns network time [] states = states
 after_patterns network time (link ∷ links) [] = []
 after_patterns network time (link ∷ links) (state ∷ states) =
     patterned_state network time link state ∷ after_patterns network time links states
 
+-- The states of all links after pump patterns at the start of a period.
 abbrev pub patterned : Project → ℕ → List LinkState → List LinkState
 patterned network time states =
     if is_pattern_boundary network time then after_patterns network time network.links.list states else states

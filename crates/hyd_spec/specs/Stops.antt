@@ -1,6 +1,7 @@
 -- Stop conditions: why a run can't go on from a standing.
-use Rattle.std.specs.Prelude.{◌≡◌, ℕ, ◌<◌, ◌≤◌, ℤ, pos, neg_ℤ, Bool, List, Some, None, length, replicate, slice_get, slice_index_or, unsigned_abs, position, is_none, false}
-use Rattle.hyd_spec.specs.Types.{Project, Junction, LinkState, Control, When, AtLevel, Problem, Side, Upper, Lower}
+-- Source: this program's.
+use Rattle.std.specs.Prelude.{◌≡◌, ℕ, ◌+◌, ◌*◌, ◌<◌, ◌≤◌, ℤ, pos, neg_ℤ, Bool, List, Some, None, length, replicate, slice_get, slice_index_or, unsigned_abs, position, is_none, false}
+use Rattle.hyd_spec.specs.Types.{Project, Junction, LinkState, Control, When, AtLevel, Problem, Main, Pinned, Side, Upper, Lower}
 use Rattle.hyd_spec.specs.Lists.{map_from}
 use Rattle.hyd_spec.specs.Interval.{Interval}
 use Rattle.hyd_spec.specs.Network.{junction_count}
@@ -49,6 +50,7 @@ abbrev pub beginning : Side → ℕ → List ℤ
 beginning Upper count = replicate count (neg_ℤ (pos box_limit))
 beginning Lower count = replicate count (pos box_limit)
 
+-- At a standing with demands in range no vector is a certificate of the problem and side.
 pub record HasNoCertificate (network : Project) (standing : Standing) (problem : Problem) (side : Side) : Type 0 where
   pub in_range : DemandsAreInRange network standing.time
   pub is_problem : IsProblem network problem
@@ -66,6 +68,21 @@ pub record SpendsRounds (network : Project) (standing : Standing) (problem : Pro
   pub by_rounds : AreRounds grid problem side rounds (beginning side (length grid.junctions)) reached
   pub not_one : IsCertificate grid problem side reached → ⊥
 
+-- ---- the order of problems and sides
+
+-- The turn of a problem and side in a period: MAIN UPPER, MAIN LOWER, then both sides of each tank pinned, in order.
+abbrev pub turn : Problem → Side → ℕ
+turn Main Upper = 0
+turn Main Lower = 1
+turn (Pinned tank) Upper = 2 * tank + 2
+turn (Pinned tank) Lower = 2 * tank + 3
+
+-- Every problem and side whose turn comes before has a certificate at the standing.
+abbrev pub EarlierHaveCertificates : Project → Standing → Problem → Side → Type 0
+EarlierHaveCertificates network standing problem side =
+    (grid : Grid) → IsGridAt network standing grid → (earlier : Problem) (other : Side) → IsProblem network earlier
+    → turn earlier other < turn problem side → (u : List ℤ) × IsCertificate grid earlier other u
+
 -- ---- matters under the tight vectors
 
 -- A record whose vectors are the tight ones at a standing with demands in range.
@@ -76,13 +93,14 @@ pub record IsTightRow (network : Project) (standing : Standing) (grid : Grid) (r
   pub each : (problem : Problem) (side : Side) → IsProblem network problem
       → IsTight grid problem side (vector_of row problem side)
 
--- Under the tight vectors the end of the period is open by a rule, or between two seconds.
+-- Under the tight vectors the end of the period is open by a rule.
 pub record LeavesRuleOpen (network : Project) (standing : Standing) (open_rule : OpenRule) : Type 0 where
   pub grid : Grid
   pub row : Record
   pub tight : IsTightRow network standing grid row
   pub is_open : EndsBy network grid standing row (RuleIsOpen open_rule)
 
+-- Under the tight vectors the end of the period is open between two seconds.
 pub record LeavesEventOpen (network : Project) (standing : Standing) (earliest latest : ℕ) : Type 0 where
   pub grid : Grid
   pub row : Record
@@ -99,18 +117,19 @@ pub record EndsAtLevels (network : Project) (standing : Standing) (levels : List
   pub ends : LeavesLinks network grid standing row seconds links
   pub levels_are : levels ≡ levels_next network grid standing row seconds
 
--- The first tank whose state is open at the level intervals.
+-- For each tank, whether its state is open at the level intervals.
 abbrev pub open_states : Project → List Interval → List Bool
 open_states network levels =
     map_from (λ k tank. is_none (state_of tank (slice_index_or levels k nowhere))) 0 network.tanks.list
 
+-- The first tank whose state is open at the level intervals of the decided end, and its interval.
 pub record LeavesTankOpen (network : Project) (standing : Standing) (tank : ℕ) (level : Interval) : Type 0 where
   pub levels : List Interval
   pub at_levels : EndsAtLevels network standing levels
   pub first : position (λ is_open. is_open) (open_states network levels) ≡ Some tank
   pub level_is : slice_get levels tank ≡ Some level
 
--- The first level control that is open at the level intervals, all tank states being decided.
+-- The control is a level control that is open at the level intervals.
 abbrev pub is_open_control : List Interval → Control → Bool
 is_open_control levels control = by_when control.when
   where
@@ -118,6 +137,7 @@ is_open_control levels control = by_when control.when
     by_when (AtLevel tank above ticks) = is_unknown (control_truth (slice_index_or levels tank nowhere) above ticks)
     by_when when = false
 
+-- The first level control that is open there, all tank states being decided, and its tank's interval.
 pub record LeavesControlOpen (network : Project) (standing : Standing) (number : ℕ) (level : Interval) : Type 0 where
   pub levels : List Interval
   pub at_levels : EndsAtLevels network standing levels
@@ -133,12 +153,16 @@ pub record LeavesControlOpen (network : Project) (standing : Standing) (number :
 
 -- ---- the condition
 
--- The cause holds at a standing, for this number of rounds. Whether the run is over there is said elsewhere.
+-- The cause holds at a standing, for this number of rounds, and is the first in the order of a period: demands, problems and
+-- sides by their turns, then the matters under the tight vectors. Whether the run is over there is said elsewhere.
 abbrev pub Stops : Project → Standing → ℕ → StopCause → Type 0
 Stops network standing rounds (DemandOutOfRange junction demand) = IsFirstDemand network standing.time junction demand
 Stops network standing rounds (NoCertificate problem side junction) =
-    (junction < junction_count network) × HasNoCertificate network standing problem side
-Stops network standing rounds (RoundsSpent problem side spent) = (spent ≡ rounds) × SpendsRounds network standing problem side rounds
+    (junction < junction_count network)
+    × (EarlierHaveCertificates network standing problem side × HasNoCertificate network standing problem side)
+Stops network standing rounds (RoundsSpent problem side spent) =
+    (spent ≡ rounds)
+    × (EarlierHaveCertificates network standing problem side × SpendsRounds network standing problem side rounds)
 Stops network standing rounds (RuleOpen open_rule) = LeavesRuleOpen network standing open_rule
 Stops network standing rounds (EventOpen earliest latest) = LeavesEventOpen network standing earliest latest
 Stops network standing rounds (TankOpen tank level) = LeavesTankOpen network standing tank level

@@ -16,11 +16,12 @@ net out into heads node (link ∷ links) =
     -ℤ where_so (link.to == node) (into link.law (head_at heads link.from -ℤ head_at heads node)))
     +ℤ net out into heads node links
 
--- The outflows of a junction at a head, at least and at most.
+-- At most the exact outflows of a junction (flow ticks) at a head.
 abbrev pub outflow_low : GridJunction → ℤ → ℤ
 outflow_low junction h =
     demand_low junction.demand (h -ℤ junction.elevation) +ℤ emitter_low junction.emitter (h -ℤ junction.elevation)
 
+-- At least them.
 abbrev pub outflow_high : GridJunction → ℤ → ℤ
 outflow_high junction h =
     demand_high junction.demand (h -ℤ junction.elevation) +ℤ emitter_high junction.emitter (h -ℤ junction.elevation)
@@ -36,6 +37,7 @@ abbrev pub net_high : Grid → Problem → List ℤ → ℕ → GridJunction →
 net_high grid problem u i junction =
     net high low (all_heads grid problem Lower u) i grid.links +ℤ outflow_high junction (head_at u i)
 
+-- One where it is so, else nothing.
 abbrev pub one_if : Bool → ℕ
 one_if true = 1
 one_if false = 0

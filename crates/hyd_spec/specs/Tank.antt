@@ -1,6 +1,7 @@
 -- Tanks: what their level becomes under a constant inflow, and when they count as full or empty.
 -- Levels and inflows of a history are S-th parts of ticks.
--- Source: EPANET 2.2 User Manual, chapter 3 (tanks; hydraulic simulation model).
+-- Source: EPANET 2.2 User Manual, chapter 3 (tanks; hydraulic simulation model); the ten ticks of a next level, the band
+-- in which a tank counts as full or empty, and that a level equal to a target has reached it, are this program's.
 use Rattle.std.specs.Prelude.{◌≡◌, ℕ, ◌*◌, ◌^◌, ℤ, pos, ◌+ℤ◌, ◌-ℤ◌, ◌*ℤ◌, ◌≤ℤ◌, neg_ℤ, Bool, true, false, List, if◌then◌else◌, int_le, unsigned_abs, MatchBool}
 use Rattle.hyd_spec.specs.Types.{Project, Tank, TankState, Full, Between, Empty}
 use Rattle.hyd_num.specs.Rational.{Rational, is_at_most, whole}
@@ -24,10 +25,11 @@ abbrev pub reaches : ℕ → Bool → ℤ → Rational → Bool
 reaches S true ticks x = is_at_most (whole (at_scale S ticks)) x
 reaches S false ticks x = is_at_most x (whole (at_scale S ticks))
 
--- The level x is at or above the maximum, at or below the minimum.
+-- The level x is at or above the maximum.
 abbrev pub is_at_maximum : ℕ → Tank → Rational → Bool
 is_at_maximum S tank x = reaches S true tank.maximum x
 
+-- The level x is at or below the minimum.
 abbrev pub is_at_minimum : ℕ → Tank → Rational → Bool
 is_at_minimum S tank x = reaches S false tank.minimum x
 

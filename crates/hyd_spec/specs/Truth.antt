@@ -1,6 +1,8 @@
 -- Three-valued truth: what holds of all points of the intervals, of none, or is open.
+-- Source: Kleene 1952 (strong three-valued logic).
 use Rattle.std.specs.Prelude.{Bool, true, false, List, [], ◌∷◌}
 
+-- True, false, or open.
 pub data Truth : Type 0 where
   Yes : Truth
   No : Truth
@@ -12,10 +14,12 @@ at_both_ends true true = Yes
 at_both_ends false false = No
 at_both_ends a b = Unknown
 
+-- It is true.
 abbrev pub is_yes : Truth → Bool
 is_yes Yes = true
 is_yes truth = false
 
+-- It is open.
 abbrev pub is_unknown : Truth → Bool
 is_unknown Unknown = true
 is_unknown truth = false
@@ -34,10 +38,12 @@ both Yes b = b
 both Unknown No = No
 both Unknown b = Unknown
 
+-- Some one of them holds.
 abbrev pub some_holds : List Truth → Truth
 some_holds [] = No
 some_holds (truth ∷ rest) = either truth (some_holds rest)
 
+-- All of them hold.
 abbrev pub all_hold : List Truth → Truth
 all_hold [] = Yes
 all_hold (truth ∷ rest) = both truth (all_hold rest)

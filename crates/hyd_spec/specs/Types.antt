@@ -1,5 +1,5 @@
--- The types of the program that definitions speak of, under one roof. Variants that two types share have a name
--- of their own here.
+-- The types of the program that definitions speak of, under one roof. Variants whose name another type or definition has
+-- too have a name of their own here.
 pub use Rattle.hyd_num.specs.declared.decimals.Decimal.{Decimal}
 pub use Rattle.hyd_num.specs.declared.units.FlowUnit.{FlowUnit}
 pub use Rattle.hyd_num.specs.declared.units.FlowUnit.TheVariants.{Cmd}

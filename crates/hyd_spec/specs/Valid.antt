@@ -1,4 +1,5 @@
 -- Valid records: what a record claims at a standing, and the standing that it leads on to.
+-- Source: this program's.
 use Rattle.std.specs.Prelude.{◌≡◌, ◌≢◌, ℕ, suc, ◌+◌, ◌<◌, ◌≤◌, ◌^◌, ℤ, Bool, true, false, IsFalse, List, [], ◌∷◌, Some, map, length, slice_index_or, unsigned_abs, All, Contains, ⊤}
 use Rattle.hyd_spec.specs.Types.{Project, TankState, LinkState, Control, AtLevel, Problem, Main, Pinned, Side}
 use Rattle.hyd_spec.specs.Lists.{map_from}
@@ -29,6 +30,7 @@ IsGridAt network standing grid =
 abbrev pub demand_limit : ℕ
 demand_limit = 10 ^ 15
 
+-- All demands at a time are in range.
 abbrev pub DemandsAreInRange : Project → ℕ → Type 0
 DemandsAreInRange network time =
     All (λ junction. unsigned_abs (demand_of network time junction) ≤ demand_limit) network.junctions.list
@@ -67,8 +69,8 @@ ControlsAreDecided network levels =
     → control.when ≡ AtLevel tank above ticks
     → IsFalse (is_unknown (control_truth (slice_index_or levels tank nowhere) above ticks))
 
--- A record leads on from a standing to the next one: its length is the decided one, and each matter of its end is
--- decided. At the end of the run it has length 0 and no matters.
+-- Before the end of the run a record leads on from a standing to the next one: its length is the decided one, and each
+-- matter of its end is decided.
 pub record Continues (network : Project) (grid : Grid) (standing : Standing) (row : Record) (next : Standing) : Type 0 where
   pub not_last : standing.time ≢ network.times.duration
   pub leaves_links : LeavesLinks network grid standing row row.length next.commanded
@@ -79,11 +81,14 @@ pub record Continues (network : Project) (grid : Grid) (standing : Standing) (ro
   pub time : next.time ≡ standing.time + row.length
   pub unfinished : next.finished ≡ false
 
+-- At the end of the run a record has length 0 and no matters: the levels, the states and the commands stay, and nothing
+-- follows.
 pub record Finishes (network : Project) (standing : Standing) (row : Record) (next : Standing) : Type 0 where
   pub is_last : standing.time ≡ network.times.duration
   pub no_length : row.length ≡ 0
   pub next_is : next ≡ record standing { number = suc standing.number; finished = true }
 
+-- A record leads on to the next standing, or finishes the run.
 pub data LeadsOn (network : Project) (grid : Grid) (standing : Standing) (row : Record) (next : Standing) : Type 0 where
   continues : Continues network grid standing row next → LeadsOn network grid standing row next
   finishes : Finishes network standing row next → LeadsOn network grid standing row next

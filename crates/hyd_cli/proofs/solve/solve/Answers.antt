@@ -3,7 +3,7 @@ use Rattle.std.proofs.lemmas.Int.{ints}
 use Rattle.hyd_spec.specs.declared.Side.TheVariants.{Upper, Lower}
 use Rattle.hyd_cli.specs.SingleValve.{IsNearest}
 use Rattle.hyd_cli.specs.Solution.{IsTightHead}
-use Rattle.hyd_cli.proofs.FirstSolution.{tight_head, upper_certificate, lacks_certificate}
+use Rattle.hyd_cli.proofs.FirstSolution.{tight_head, before_upper, before_lower, lacks_certificate}
 use Rattle.hyd_cli.proofs.solve.solve.Goals as goal
 
 pub returns-in_default-clause-none : goal.returns-in_default-clause-none
@@ -14,9 +14,12 @@ pub returns-in_default-nearest-clause-none : goal.returns-in_default-nearest-cla
 returns-in_default-nearest-clause-none c =
     lacks_certificate c.args.project.now c.single_valve-valve.result c.requires c.single_valve-valve.ensures Lower c.in_default-nearest.ensures
 
+pub returns-in_default-clause-order : goal.returns-in_default-clause-order
+returns-in_default-clause-order c = before_upper c.args.project.now
+
 pub returns-in_default-nearest-clause-order : goal.returns-in_default-nearest-clause-order
 returns-in_default-nearest-clause-order c =
-    upper_certificate c.args.project.now c.single_valve-valve.result c.requires c.single_valve-valve.ensures c.in-Some.upper c.in-Some.ensures
+    before_lower c.args.project.now c.single_valve-valve.result c.requires c.single_valve-valve.ensures c.in-Some.upper c.in-Some.ensures
 
 pub returns-clause-tight : goal.returns-clause-tight
 returns-clause-tight c =

@@ -1,0 +1,23 @@
+//! What a run is made of, and what is left of one that breaks off.
+#![tactic(auto)]
+
+ghost use Rattle.std.specs.Prelude.{◌≡◌, ℕ, List, ◌++◌};
+ghost use Rattle.hyd_spec.specs.Types.{Project};
+ghost use Rattle.hyd_spec.specs.Record.{Standing};
+ghost use Rattle.hyd_spec.specs.Valid.{AreValid};
+ghost use Rattle.hyd_spec.specs.Headline.{Found, IsRun, rows_of, Sharpness, Outcome, RunWrites, RunBreaksOff};
+
+/// The records of a run are valid one after another, from its start to the standing that it leaves.
+pub fn records()
+    ensures { (network : Project) (founds : List Found) (last : Standing) → IsRun network founds last
+        → AreValid network (rows_of founds) last }
+{}
+
+/// Fronts of what a whole run writes and prints are what one that breaks off may leave.
+pub fn fronts()
+    ensures { (network : Project) (rounds : ℕ) (sharpness : Sharpness) (outcome : Outcome)
+        (certificate report written unwritten printed unprinted : List ℕ)
+        → RunWrites network rounds sharpness outcome certificate report
+        → written ++ unwritten ≡ certificate → printed ++ unprinted ≡ report
+        → RunBreaksOff network rounds sharpness written printed }
+{}
