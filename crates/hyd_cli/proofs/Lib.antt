@@ -17,3 +17,4 @@ pub mod Reading
 pub mod Valves
 pub mod Unlike
 pub mod RunLemmas
+pub mod SoundNetworks

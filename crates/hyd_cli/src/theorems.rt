@@ -4,6 +4,7 @@
 ghost use Rattle.std.specs.Prelude.{◌≡◌, ◌^◌, ℕ, ℤ, pos, Bool, true, false, List, [], ◌∷◌};
 ghost use Rattle.hyd_num.specs.Decimals.{head_quantity, pressure_quantity, flow_quantity};
 ghost use Rattle.hyd_num.specs.declared.units.FlowUnit.{FlowUnit};
+ghost use Rattle.hyd_net.specs.Sound.{Sound};
 ghost use Rattle.hyd_spec.specs.Types.{Project};
 ghost use Rattle.hyd_spec.specs.declared.Problem.TheVariants.{Main};
 ghost use Rattle.hyd_spec.specs.declared.Side.{Side};
@@ -66,4 +67,9 @@ fn first_runs()
         → (written printed : List ℕ) → written ≡ certificate_text 1 0 [] 0 false
         → printed ≡ report_text network [] (stop_line network 0 0 (NoCertificate Main side 0))
         → RunWrites network 200 (record { width = pos (10 ^ 11); tight = true }) (Stopped (NoCertificate Main side 0)) written printed }
+{}
+
+/// A network of the first form is sound.
+fn sound_networks()
+    ensures { (network : Project) → IsFirstNetwork network → Sound network }
 {}
