@@ -14,3 +14,5 @@ pub mod Levelling
 pub mod Deciding
 pub mod Worked
 pub mod Rising
+pub mod Pieces
+pub mod CertificateLines

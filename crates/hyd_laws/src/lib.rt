@@ -7,3 +7,4 @@ pub mod decisions;
 pub mod examples;
 pub mod laws;
 pub mod tanks;
+pub mod texts;
