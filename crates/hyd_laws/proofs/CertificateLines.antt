@@ -52,9 +52,9 @@ heads-same key is_key (u ∷ us) [] n box_u box_v r s e = absurd (omega arith)
 heads-same key is_key (u ∷ us) (v ∷ vs) n box_u box_v r s e =
     let in_u = All-head IsInBox u us box_u in let in_v = All-head IsInBox v vs box_v in
     let k = line-same key key (signed_decimal u ∷ []) (signed_decimal v ∷ []) (head_lines key us ++ r) (head_lines key vs ++ s)
-      (is_key, (head-word u in_u, tt)) (is_key, (head-word v in_v, tt))
-      (sym (append_assoc (line (key ∷ (signed_decimal u ∷ []))) (head_lines key us) r)
-      ∙ (e ∙ append_assoc (line (key ∷ (signed_decimal v ∷ []))) (head_lines key vs) s)) in
+    (is_key, (head-word u in_u, tt)) (is_key, (head-word v in_v, tt))
+    (sym (append_assoc (line (key ∷ (signed_decimal u ∷ []))) (head_lines key us) r)
+    ∙ (e ∙ append_assoc (line (key ∷ (signed_decimal v ∷ []))) (head_lines key vs) s)) in
     let words_same = k.0 in let numeral : signed_decimal u ≡ signed_decimal v = cc in
     let first = head-same u v in_u in_v numeral in
     let rest = heads-same key is_key us vs (omega arith) (All-tail IsInBox u us box_u) (All-tail IsInBox v vs box_v) r s k.1 in
@@ -74,9 +74,9 @@ vectors-same : (upper lower : List ℕ) → IsWord upper → IsWord lower → (j
     → AreVectors junctions w → (r s : List ℕ) → vectors_text upper lower v ++ r ≡ vectors_text upper lower w ++ s → (v ≡ w) × (r ≡ s)
 vectors-same upper lower is_upper is_lower junctions v w are_v are_w r s e =
     let high = heads-same upper is_upper v.upper w.upper (are_v.0.one_each ∙ sym are_w.0.one_each) are_v.0.in_box are_w.0.in_box
-      (head_lines lower v.lower ++ r) (head_lines lower w.lower ++ s)
-      (sym (append_assoc (head_lines upper v.upper) (head_lines lower v.lower) r)
-      ∙ (e ∙ append_assoc (head_lines upper w.upper) (head_lines lower w.lower) s)) in
+    (head_lines lower v.lower ++ r) (head_lines lower w.lower ++ s)
+    (sym (append_assoc (head_lines upper v.upper) (head_lines lower v.lower) r)
+    ∙ (e ∙ append_assoc (head_lines upper w.upper) (head_lines lower w.lower) s)) in
     let low = heads-same lower is_lower v.lower w.lower (are_v.1.one_each ∙ sym are_w.1.one_each) are_v.1.in_box are_w.1.in_box r s high.1 in
     (vectors-equal v w high.0 low.0, low.1)
 
@@ -88,9 +88,9 @@ pinned-same junctions (v ∷ vs) [] n are_v are_w r s e = absurd (omega arith)
 pinned-same junctions (v ∷ vs) (w ∷ ws) n are_v are_w r s e =
     let P = AreVectors junctions in
     let first = vectors-same (codes "PU") (codes "PL") (search arith) (search arith) junctions v w (All-head P v vs are_v) (All-head P w ws are_w)
-      (pinned_text vs ++ r) (pinned_text ws ++ s)
-      (sym (append_assoc (vectors_text (codes "PU") (codes "PL") v) (pinned_text vs) r)
-      ∙ (e ∙ append_assoc (vectors_text (codes "PU") (codes "PL") w) (pinned_text ws) s)) in
+    (pinned_text vs ++ r) (pinned_text ws ++ s)
+    (sym (append_assoc (vectors_text (codes "PU") (codes "PL") v) (pinned_text vs) r)
+    ∙ (e ∙ append_assoc (vectors_text (codes "PU") (codes "PL") w) (pinned_text ws) s)) in
     let rest = pinned-same junctions vs ws (omega arith) (All-tail P v vs are_v) (All-tail P w ws are_w) r s first.1 in
     let here = first.0 in let others = rest.0 in (cc, rest.1)
 
@@ -117,22 +117,24 @@ record-same : (junctions tanks : ℕ) (row other : Record) → IsRow junctions t
     → record_text row ++ r ≡ record_text other ++ s → (row ≡ other) × (r ≡ s)
 record-same junctions tanks row other is_row is_other r s e =
     let first = line-same (codes "PERIOD") (codes "PERIOD") (decimal row.number ∷ (decimal row.time ∷ (decimal row.length ∷ [])))
-      (decimal other.number ∷ (decimal other.time ∷ (decimal other.length ∷ [])))
-      (vectors_text (codes "MU") (codes "ML") row.main ++ (pinned_text row.pinned ++ r))
-      (vectors_text (codes "MU") (codes "ML") other.main ++ (pinned_text other.pinned ++ s))
-      (period-words row.number row.time row.length is_row.number_fits is_row.time_fits is_row.length_fits)
-      (period-words other.number other.time other.length is_other.number_fits is_other.time_fits is_other.length_fits)
-      (sym (record-parts row r) ∙ (e ∙ record-parts other s)) in
+    (decimal other.number ∷ (decimal other.time ∷ (decimal other.length ∷ [])))
+    (vectors_text (codes "MU") (codes "ML") row.main ++ (pinned_text row.pinned ++ r))
+    (vectors_text (codes "MU") (codes "ML") other.main ++ (pinned_text other.pinned ++ s))
+    (period-words row.number row.time row.length is_row.number_fits is_row.time_fits is_row.length_fits)
+    (period-words other.number other.time other.length is_other.number_fits is_other.time_fits is_other.length_fits)
+    (sym (record-parts row r) ∙ (e ∙ record-parts other s)) in
     let main = vectors-same (codes "MU") (codes "ML") (search arith) (search arith) junctions row.main other.main
-      (is_row.main_upper, is_row.main_lower) (is_other.main_upper, is_other.main_lower)
-      (pinned_text row.pinned ++ r) (pinned_text other.pinned ++ s) first.1 in
+    (is_row.main_upper, is_row.main_lower) (is_other.main_upper, is_other.main_lower)
+    (pinned_text row.pinned ++ r) (pinned_text other.pinned ++ s) first.1 in
     let pinned = pinned-same junctions row.pinned other.pinned (is_row.pinned_each ∙ sym is_other.pinned_each)
-      (λ k d l. (is_row.pinned_upper k d l, is_row.pinned_lower k d l)) (λ k d l. (is_other.pinned_upper k d l, is_other.pinned_lower k d l))
-      r s main.1 in
-    let words = first.0 in
-    (record-equal row other (number-same row.number other.number is_row.number_fits is_other.number_fits (cc))
-    (number-same row.time other.time is_row.time_fits is_other.time_fits (cc))
-    (number-same row.length other.length is_row.length_fits is_other.length_fits (cc)) main.0 pinned.0, pinned.1)
+    (λ k d l. (is_row.pinned_upper k d l, is_row.pinned_lower k d l)) (λ k d l. (is_other.pinned_upper k d l, is_other.pinned_lower k d l))
+    r s main.1 in
+    let words = first.0 in (
+      record-equal row other (number-same row.number other.number is_row.number_fits is_other.number_fits (cc))
+          (number-same row.time other.time is_row.time_fits is_other.time_fits (cc))
+          (number-same row.length other.length is_row.length_fits is_other.length_fits (cc)) main.0 pinned.0,
+      pinned.1,
+    )
 
 -- ---- the end line
 
@@ -150,8 +152,8 @@ finished-same false false e = refl
 end-same : (p q : ℕ) (f g : Bool) → p < 2 ^ 32 → q < 2 ^ 32 → end_line p f ≡ end_line q g → (p ≡ q) × (f ≡ g)
 end-same p q f g fits_p fits_q e =
     let words = (line-same (codes "END") (codes "END") (decimal p ∷ ((if f then codes "FINISHED" else codes "STOPPED") ∷ []))
-      (decimal q ∷ ((if g then codes "FINISHED" else codes "STOPPED") ∷ [])) [] []
-      (end-words p f fits_p) (end-words q g fits_q) (ap (λ t. t ++ []) e)).0 in
+    (decimal q ∷ ((if g then codes "FINISHED" else codes "STOPPED") ∷ [])) [] []
+    (end-words p f fits_p) (end-words q g fits_q) (ap (λ t. t ++ []) e)).0 in
     (number-same p q fits_p fits_q (cc), finished-same f g (cc))
 
 -- a record doesn't begin as the end line does
@@ -159,10 +161,10 @@ end-apart : (junctions tanks periods : ℕ) (finished : Bool) (row : Record) →
     → (r : List ℕ) → end_line periods finished ≡ record_text row ++ r → ⊥
 end-apart junctions tanks periods finished row fits is_row r e =
     let words = (line-same (codes "END") (codes "PERIOD") (decimal periods ∷ ((if finished then codes "FINISHED" else codes "STOPPED") ∷ []))
-      (decimal row.number ∷ (decimal row.time ∷ (decimal row.length ∷ []))) []
-      (vectors_text (codes "MU") (codes "ML") row.main ++ (pinned_text row.pinned ++ r))
-      (end-words periods finished fits) (period-words row.number row.time row.length is_row.number_fits is_row.time_fits is_row.length_fits)
-      (append-nil (end_line periods finished) ∙ (e ∙ record-parts row r))).0 in
+    (decimal row.number ∷ (decimal row.time ∷ (decimal row.length ∷ []))) []
+    (vectors_text (codes "MU") (codes "ML") row.main ++ (pinned_text row.pinned ++ r))
+    (end-words periods finished fits) (period-words row.number row.time row.length is_row.number_fits is_row.time_fits is_row.length_fits)
+    (append-nil (end_line periods finished) ∙ (e ∙ record-parts row r))).0 in
     cc
 
 -- ---- all records and the end line
@@ -173,16 +175,16 @@ rows-same : (junctions tanks : ℕ) (rows others : List Record) → All (IsRow j
 rows-same junctions tanks [] [] are_rows are_others p q f g fits_p fits_q e = (refl, end-same p q f g fits_p fits_q e)
 rows-same junctions tanks [] (other ∷ others) are_rows are_others p q f g fits_p fits_q e =
     absurd (end-apart junctions tanks p f other fits_p (All-head (IsRow junctions tanks) other others are_others) (joined (map record_text others) ++ end_line q g)
-      (e ∙ append_assoc (record_text other) (joined (map record_text others)) (end_line q g)))
+    (e ∙ append_assoc (record_text other) (joined (map record_text others)) (end_line q g)))
 rows-same junctions tanks (row ∷ rows) [] are_rows are_others p q f g fits_p fits_q e =
     absurd (end-apart junctions tanks q g row fits_q (All-head (IsRow junctions tanks) row rows are_rows) (joined (map record_text rows) ++ end_line p f)
-      (sym e ∙ append_assoc (record_text row) (joined (map record_text rows)) (end_line p f)))
+    (sym e ∙ append_assoc (record_text row) (joined (map record_text rows)) (end_line p f)))
 rows-same junctions tanks (row ∷ rows) (other ∷ others) are_rows are_others p q f g fits_p fits_q e =
     let P = IsRow junctions tanks in
     let first = record-same junctions tanks row other (All-head P row rows are_rows) (All-head P other others are_others)
-      (joined (map record_text rows) ++ end_line p f) (joined (map record_text others) ++ end_line q g)
-      (sym (append_assoc (record_text row) (joined (map record_text rows)) (end_line p f))
-      ∙ (e ∙ append_assoc (record_text other) (joined (map record_text others)) (end_line q g))) in
+    (joined (map record_text rows) ++ end_line p f) (joined (map record_text others) ++ end_line q g)
+    (sym (append_assoc (record_text row) (joined (map record_text rows)) (end_line p f))
+    ∙ (e ∙ append_assoc (record_text other) (joined (map record_text others)) (end_line q g))) in
     let rest = rows-same junctions tanks rows others (All-tail P row rows are_rows) (All-tail P other others are_others) p q f g fits_p fits_q first.1 in
     (ap₂ (λ x xs. x ∷ xs) first.0 rest.0, rest.1)
 
@@ -199,9 +201,9 @@ pub counts-same : (text : List ℕ) (junctions junctions' tanks tanks' periods p
     → (junctions ≡ junctions') × (tanks ≡ tanks')
 counts-same text junctions junctions' tanks tanks' periods periods' rows rows' finished finished' n n' k k' a b =
     let words = (line-same (codes "HYDCERT") (codes "HYDCERT") (decimal 1 ∷ (decimal junctions ∷ (decimal tanks ∷ [])))
-      (decimal 1 ∷ (decimal junctions' ∷ (decimal tanks' ∷ [])))
-      (joined (map record_text rows) ++ end_line periods finished) (joined (map record_text rows') ++ end_line periods' finished')
-      (header-words junctions tanks n k) (header-words junctions' tanks' n' k') (sym a.is_text ∙ b.is_text)).0 in
+    (decimal 1 ∷ (decimal junctions' ∷ (decimal tanks' ∷ [])))
+    (joined (map record_text rows) ++ end_line periods finished) (joined (map record_text rows') ++ end_line periods' finished')
+    (header-words junctions tanks n k) (header-words junctions' tanks' n' k') (sym a.is_text ∙ b.is_text)).0 in
     (decimal-same junctions junctions' n n' (cc), decimal-same tanks tanks' k k' (cc))
 
 pub contents-same : (text : List ℕ) (junctions tanks periods periods' : ℕ) (rows rows' : List Record) (finished finished' : Bool)

@@ -45,6 +45,6 @@ line-same p q (x ∷ ps) [] r s is_p is_q e =
     let h = k.1.0 in absurd (omega arith)
 line-same p q (x ∷ ps) (y ∷ qs) r s is_p is_q e =
     let k = word-same p q (line (x ∷ ps) ++ r) (line (y ∷ qs) ++ s) 32 32 (omega arith) (omega arith) is_p.0 is_q.0
-      (sym (line-more p x ps r) ∙ (e ∙ line-more q y qs s)) in
+    (sym (line-more p x ps r) ∙ (e ∙ line-more q y qs s)) in
     let rest = line-same x y ps qs r s is_p.1 is_q.1 k.1.1 in
     (ap₂ (λ w ws. w ∷ ws) k.0 rest.0, rest.1)
