@@ -15,3 +15,5 @@ pub mod Deciding
 pub mod Worked
 pub mod Rising
 pub mod RunRecords
+pub mod Pieces
+pub mod CertificateLines
