@@ -1,2 +1,4 @@
 pub mod Sample
 pub mod Record
+pub mod Town
+pub mod TownPeriods
