@@ -38,3 +38,16 @@ pub fn lines()
     ensures text_at_one { (network : Project) → IsTown network → map (line_text network) (control_lines network standing_at_one) ≡ codes "CONTROL 1 1:00:00 LINK LIFT SETTING 1.200000000\n" ∷ codes "CONTROL 2 1:00:00 LINK LIFT CLOSED\n" ∷ [] }
     ensures text_when_full { (network : Project) → IsTown network → map (line_text network) (control_lines network standing_when_full) ≡ codes "CONTROL 3 2:01:53 LINK MAIN SETTING 900.000000000\n" ∷ codes "CONTROL 4 2:01:53 LINK FILL CLOSED\n" ∷ [] }
 {}
+
+/// Level controls at levels in thirds of a tick, on, above and below the control's level.
+pub fn levels()
+    ensures above { map (λ level. acts_at 3 (level ∷ []) 0 true (pos 50000000000000)) (pos 149999999999999 ∷ pos 150000000000000 ∷ pos 150000000000001 ∷ []) ≡ false ∷ true ∷ true ∷ [] }
+    ensures below { map (λ level. acts_at 3 (level ∷ []) 0 false (pos 50000000000000)) (pos 149999999999999 ∷ pos 150000000000000 ∷ pos 150000000000001 ∷ []) ≡ true ∷ true ∷ false ∷ [] }
+{}
+
+/// The states of the links in a period of a history, at levels in thirds of a tick: a level control acts from its level on.
+pub fn histories()
+    ensures reached { (network : Project) → IsTown network → started network 7313 (acts_at 3 (pos 150000000000000 ∷ pos 45000000000000 ∷ [])) standing_when_full.commanded ≡ Closed ∷ Closed ∷ Open ∷ wide_main ∷ unthrottled ∷ [] }
+    ensures not_reached { (network : Project) → IsTown network → started network 7313 (acts_at 3 (pos 149999999999999 ∷ pos 45000000000001 ∷ [])) standing_when_full.commanded ≡ Closed ∷ filling ∷ Open ∷ narrow_main ∷ unthrottled ∷ [] }
+    ensures only_below { (network : Project) → IsTown network → started network 7313 (acts_at 3 (pos 149999999999999 ∷ pos 45000000000000 ∷ [])) standing_when_full.commanded ≡ Closed ∷ filling ∷ Open ∷ wide_main ∷ unthrottled ∷ [] }
+{}
