@@ -15,4 +15,5 @@ pub mod rules;
 pub mod starts;
 pub mod surpluses;
 pub mod texts;
+pub mod town_ends;
 pub mod town_starts;
