@@ -2,3 +2,4 @@ pub mod Sample
 pub mod Record
 pub mod Town
 pub mod TownPeriods
+pub mod TownHistory

@@ -16,4 +16,5 @@ pub mod starts;
 pub mod surpluses;
 pub mod texts;
 pub mod town_ends;
+pub mod town_history;
 pub mod town_starts;
