@@ -17,4 +17,5 @@ pub mod surpluses;
 pub mod texts;
 pub mod town_ends;
 pub mod town_history;
+pub mod town_rules;
 pub mod town_starts;
