@@ -1,1 +1,2 @@
 pub mod TownIs
+pub mod VillageIs

@@ -3,3 +3,4 @@ pub mod Record
 pub mod Town
 pub mod TownPeriods
 pub mod TownHistory
+pub mod Village

@@ -3,6 +3,7 @@
 //! table of computed values. No function here has a body.
 #![tactic(auto)]
 
+pub mod clauses;
 pub mod decisions;
 pub mod enclosing;
 pub mod levels;
