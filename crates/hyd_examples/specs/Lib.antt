@@ -4,3 +4,5 @@ pub mod Town
 pub mod TownPeriods
 pub mod TownHistory
 pub mod Village
+pub mod Clauses
+pub mod TownReport

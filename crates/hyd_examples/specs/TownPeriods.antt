@@ -1,11 +1,9 @@
 -- Periods of the town: what is known when they begin, and the grid and the tight vectors of two of them.
 use Rattle.std.specs.Prelude.{pos, [], ◌∷◌, None, false}
-use Rattle.std.proofs.Common.{lit≤}
-use Rattle.hyd_spec.specs.Types.{Open, Closed, Speed, Value, Amount}
+use Rattle.hyd_spec.specs.Types.{Open, Closed, Speed}
 use Rattle.hyd_spec.specs.declared.TankState.TheVariants.{Empty, Between, Full}
 use Rattle.hyd_spec.specs.Law.{Shut, Straight, ForwardOnly, ReverseOnly, Capped}
 use Rattle.hyd_spec.specs.Enclosing.{Fixed}
-use Rattle.hyd_spec.specs.Interval.{Interval}
 use Rattle.hyd_spec.specs.Grid.{Grid, GridJunction}
 use Rattle.hyd_spec.specs.Record.{Record, Standing}
 use Rattle.hyd_examples.specs.Town.{filling, fast_filling, narrow_main, night_main, wide_main, unthrottled}
@@ -139,21 +137,3 @@ row_when_full = record {
       ∷ record { upper = pos 449999998505013 ∷ pos 215000000044850 ∷ []; lower = pos 449999998505012 ∷ pos 215000000044849 ∷ [] }
       ∷ [];
 }
-
--- The first of them with other heads of the first junction, and with other levels of the upper tank.
-abbrev pub row_between : Interval → Record
-row_between head = record row_at_two {
-  main = record { upper = head.hi ∷ pos 215076813815139 ∷ []; lower = head.lo ∷ pos 215076805275904 ∷ [] };
-}
-
-abbrev pub standing_between : Interval → Standing
-standing_between level = record standing_at_two { levels = level ∷ record { lo = pos 15076805853966; hi = pos 15076814393200 } ∷ [] }
-
--- Pressures of 34.9923185 and of 4.9965 m.
-abbrev pub metres_34_9923185 : Value
-metres_34_9923185 = Amount (record { lo = pos 349923185000000; hi = pos 349923185000000; ordered = record { le = tt } })
-    (record { nano = pos 34992318500; bounded = lit≤ tt })
-
-abbrev pub metres_4_9965 : Value
-metres_4_9965 = Amount (record { lo = pos 49965000000000; hi = pos 49965000000000; ordered = record { le = tt } })
-    (record { nano = pos 4996500000; bounded = lit≤ tt })

@@ -8,7 +8,6 @@ use Rattle.hyd_spec.specs.Types.{Project, Options, Times, Decimal, Junction, Res
 use Rattle.hyd_spec.specs.declared.TankState.TheVariants.{Between}
 use Rattle.hyd_spec.specs.Law.{Straight, Capped}
 use Rattle.hyd_spec.specs.Enclosing.{Fixed}
-use Rattle.hyd_spec.specs.Interval.{Interval}
 use Rattle.hyd_spec.specs.Grid.{Grid}
 use Rattle.hyd_spec.specs.Record.{Record, Standing}
 use Rattle.hyd_examples.specs.Town.{listed, zero_number, tenth, one, compared}
@@ -154,10 +153,3 @@ row_at_start = record {
   main = record { upper = pos 396239999592542 ∷ []; lower = pos 396239999592541 ∷ [] };
   pinned = record { upper = pos 396239999592542 ∷ []; lower = pos 396239999592541 ∷ [] } ∷ [];
 }
-
--- The same with other heads of the junction, and with other levels of the tank.
-abbrev pub row_between : Interval → Record
-row_between head = record row_at_start { main = record { upper = head.hi ∷ []; lower = head.lo ∷ [] } }
-
-abbrev pub standing_between : Interval → Standing
-standing_between level = record standing_at_start { levels = level ∷ [] }

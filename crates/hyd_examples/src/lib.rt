@@ -18,5 +18,6 @@ pub mod surpluses;
 pub mod texts;
 pub mod town_ends;
 pub mod town_history;
+pub mod town_report;
 pub mod town_rules;
 pub mod town_starts;
