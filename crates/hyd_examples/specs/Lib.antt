@@ -6,3 +6,4 @@ pub mod TownHistory
 pub mod Village
 pub mod Clauses
 pub mod TownReport
+pub mod TownReadings

@@ -5,7 +5,8 @@ use Rattle.std.specs.Int.Signed.{≤ℤ_refl}
 use Rattle.std.proofs.Common.{lit≤}
 use Rattle.hyd_num.specs.declared.decimals.Span.{Span}
 use Rattle.hyd_net.specs.ListView.{ListView}
-use Rattle.hyd_spec.specs.Types.{Project, Options, Times, Decimal, Cmd, Capacity, Junction, Demand, Reservoir, Tank, Link, PumpLink, Tcv, Fcv, Linear, FourThirds, LinkState, Open, Closed, Speed, Throttle, Limit, Pattern, Control, AtLevel, AtTime, AtClock, Rule, RuleClause, And, Or, Clause, What, Relation, Less, More, NotLess, Equal, Level, Flow, Status, Time, Clock, Value, Amount, ValueOpen, Action}
+use Rattle.hyd_spec.specs.Rules.{Offer}
+use Rattle.hyd_spec.specs.Types.{Project, Options, Times, Decimal, Cmd, Capacity, Junction, Reservoir, Tank, Link, PumpLink, Tcv, Fcv, Linear, FourThirds, LinkState, Open, Closed, Speed, Throttle, Limit, Pattern, Control, AtLevel, AtTime, AtClock, Rule, And, Or, Clause, What, Relation, Less, More, NotLess, Equal, Level, Flow, Status, Time, Clock, Value, Amount, ValueOpen}
 
 -- A list for which there is this much room more. No definition looks at the room.
 abbrev pub listed : {T : Type 0} → ℕ → List T → ListView T
@@ -224,6 +225,19 @@ idle room = record {
   priority = None;
 }
 
+-- The numbers of the five links, which are those of the five nodes too.
+abbrev pub numbers : List ℕ
+numbers = 0 ∷ 1 ∷ 2 ∷ 3 ∷ 4 ∷ []
+
+-- ---- two offers to one link
+
+-- An earlier rule opens the link, a later one closes it.
+abbrev pub earlier : Option ℤ → Offer
+earlier priority = record { rule = 0; priority = priority; link = 0; to = Open }
+
+abbrev pub later : Option ℤ → Offer
+later priority = record { rule = 1; priority = priority; link = 0; to = Closed }
+
 -- ---- the town
 
 -- The network is the town's, whatever the capacity of the pump's curve.
@@ -241,3 +255,22 @@ pub record IsTown (network : Project) : Type 0 where
   pub patterns : network.patterns.list ≡ speeds (room 18) ∷ []
   pub controls_are : network.controls.list ≡ controls
   pub rules : network.rules.list ≡ low room ∷ night room ∷ rest room ∷ idle room ∷ []
+
+-- One such network: its lists have no room.
+abbrev pub no_room : ℕ → ℕ
+no_room list = 0
+
+abbrev pub town : Capacity → Project
+town capacity = record {
+  options = options;
+  times = times;
+  node_ids = codes "EAST" ∷ codes "WEST" ∷ codes "SPRING" ∷ codes "NORTH" ∷ codes "SOUTH" ∷ [];
+  link_ids = codes "LIFT" ∷ codes "FILL" ∷ codes "UPPER" ∷ codes "MAIN" ∷ codes "LOWER" ∷ [];
+  junctions = listed 0 (east 0 ∷ west 0 ∷ []);
+  reservoirs = listed 0 (spring ∷ []);
+  tanks = listed 0 (north ∷ south ∷ []);
+  links = listed 0 (links capacity);
+  patterns = listed 0 (speeds 0 ∷ []);
+  controls = listed 0 controls;
+  rules = listed 0 (low no_room ∷ night no_room ∷ rest no_room ∷ idle no_room ∷ []);
+}

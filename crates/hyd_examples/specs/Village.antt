@@ -1,16 +1,15 @@
 -- A village in gallons a minute, feet and pounds a square inch: a reservoir, a tank, a junction and two valves, with a
 -- rule on pressures. Each definition is what the reader makes of the lines above it.
-use Rattle.std.specs.Prelude.{◌≡◌, ℕ, pos, false, List, [], ◌∷◌, None, Some, codes}
+use Rattle.std.specs.Prelude.{◌≡◌, ℕ, pos, false, List, [], ◌∷◌, None, codes}
 use Rattle.std.proofs.Common.{lit≤}
-use Rattle.hyd_num.specs.declared.decimals.Span.{Span}
 use Rattle.hyd_num.specs.declared.units.FlowUnit.TheVariants.{Gpm}
-use Rattle.hyd_spec.specs.Types.{Project, Options, Times, Decimal, Junction, Reservoir, Tank, Link, Tcv, Fcv, Linear, LinkState, Limit, Throttle, Rule, And, Or, Less, More, Pressure, Value, Amount}
+use Rattle.hyd_spec.specs.Types.{Project, Options, Times, Junction, Reservoir, Tank, Link, Tcv, Fcv, Linear, LinkState, Limit, Throttle, Rule, And, Or, Less, More, Pressure, Value, Amount}
 use Rattle.hyd_spec.specs.declared.TankState.TheVariants.{Between}
 use Rattle.hyd_spec.specs.Law.{Straight, Capped}
 use Rattle.hyd_spec.specs.Enclosing.{Fixed}
 use Rattle.hyd_spec.specs.Grid.{Grid}
 use Rattle.hyd_spec.specs.Record.{Record, Standing}
-use Rattle.hyd_examples.specs.Town.{listed, zero_number, tenth, one, compared}
+use Rattle.hyd_examples.specs.Town.{listed, no_room, zero_number, tenth, one, compared}
 
 -- UNITS GPM
 abbrev pub options : Options
@@ -123,6 +122,22 @@ pub record IsVillage (network : Project) : Type 0 where
   pub patterns : network.patterns.list ≡ []
   pub controls : network.controls.list ≡ []
   pub rules : network.rules.list ≡ rule room ∷ []
+
+-- One such network: its lists have no room.
+abbrev pub village : Project
+village = record {
+  options = options;
+  times = times;
+  node_ids = codes "J" ∷ codes "R" ∷ codes "T" ∷ [];
+  link_ids = codes "FILL" ∷ codes "DOWN" ∷ [];
+  junctions = listed 0 (junction 0 ∷ []);
+  reservoirs = listed 0 (reservoir ∷ []);
+  tanks = listed 0 (tank ∷ []);
+  links = listed 0 links;
+  patterns = listed 0 [];
+  controls = listed 0 [];
+  rules = listed 0 (rule no_room ∷ []);
+}
 
 -- ---- the period that begins at the start of the run
 

@@ -6,11 +6,16 @@ ghost use Rattle.hyd_spec.specs.Types.{Project, Less, NotMore, More, NotLess, Eq
 ghost use Rattle.hyd_spec.specs.Truth.{Yes, No, Unknown};
 ghost use Rattle.hyd_spec.specs.Grid.{grid_links};
 ghost use Rattle.hyd_spec.specs.Decided.{links_at, flow_boxes, inflow_boxes, rule_truths};
-ghost use Rattle.hyd_examples.specs.Town.{IsTown, amount};
+ghost use Rattle.hyd_examples.specs.Town.{IsTown, numbers, amount};
 ghost use Rattle.hyd_examples.specs.TownPeriods.{standing_at_start, standing_at_two, standing_when_full, standing_at_three, row_at_two};
-ghost use Rattle.hyd_examples.specs.Village.{IsVillage, pounds_12_9, pounds_4_3, pounds_4_333, pounds_12_999, grid_at_start, row_at_start};
+ghost use Rattle.hyd_examples.specs.Village.{IsVillage, village, pounds_12_9, pounds_4_3, pounds_4_333, pounds_12_999, grid_at_start, row_at_start};
 ghost use Rattle.hyd_examples.specs.Village.{standing_at_start as village_start};
 ghost use Rattle.hyd_examples.specs.Clauses.{village_truth, truth_at_two, town_truth, town_row, town_standing, village_row, village_standing, metres_34_9923185, metres_4_9965, heads_about_12_9, heads_about_12_999, levels_about_4_3, levels_about_4_333, heads_about_34_9923185, levels_about_4_9965};
+
+/// There is such a village.
+pub fn villages()
+    ensures { IsVillage village }
+{}
 
 /// The boxes of the village.
 pub fn boxes()
@@ -202,31 +207,31 @@ pub fn settings()
 /// Statuses of a running pump, valves with a setting and an open valve, and of a closed pump, a closed and a throttled valve.
 pub fn statuses()
     ensures at_three_equal_open { (network : Project) → IsTown network
-        → map (λ link. town_truth network standing_at_three 0 (Status link) Equal ValueOpen) (0 ∷ 1 ∷ 2 ∷ 3 ∷ 4 ∷ [])
+        → map (λ link. town_truth network standing_at_three 0 (Status link) Equal ValueOpen) numbers
         ≡ Yes ∷ No ∷ Yes ∷ No ∷ Yes ∷ [] }
     ensures at_three_unequal_open { (network : Project) → IsTown network
-        → map (λ link. town_truth network standing_at_three 0 (Status link) Unequal ValueOpen) (0 ∷ 1 ∷ 2 ∷ 3 ∷ 4 ∷ [])
+        → map (λ link. town_truth network standing_at_three 0 (Status link) Unequal ValueOpen) numbers
         ≡ No ∷ Yes ∷ No ∷ Yes ∷ No ∷ [] }
     ensures at_three_equal_closed { (network : Project) → IsTown network
-        → map (λ link. town_truth network standing_at_three 0 (Status link) Equal ValueClosed) (0 ∷ 1 ∷ 2 ∷ 3 ∷ 4 ∷ [])
+        → map (λ link. town_truth network standing_at_three 0 (Status link) Equal ValueClosed) numbers
         ≡ No ∷ No ∷ No ∷ No ∷ No ∷ [] }
     ensures at_three_unequal_closed { (network : Project) → IsTown network
-        → map (λ link. town_truth network standing_at_three 0 (Status link) Unequal ValueClosed) (0 ∷ 1 ∷ 2 ∷ 3 ∷ 4 ∷ [])
+        → map (λ link. town_truth network standing_at_three 0 (Status link) Unequal ValueClosed) numbers
         ≡ Yes ∷ Yes ∷ Yes ∷ Yes ∷ Yes ∷ [] }
     ensures at_three_equal_active { (network : Project) → IsTown network
-        → map (λ link. town_truth network standing_at_three 0 (Status link) Equal ValueActive) (0 ∷ 1 ∷ 2 ∷ 3 ∷ 4 ∷ [])
+        → map (λ link. town_truth network standing_at_three 0 (Status link) Equal ValueActive) numbers
         ≡ No ∷ Yes ∷ No ∷ Yes ∷ No ∷ [] }
     ensures at_three_unequal_active { (network : Project) → IsTown network
-        → map (λ link. town_truth network standing_at_three 0 (Status link) Unequal ValueActive) (0 ∷ 1 ∷ 2 ∷ 3 ∷ 4 ∷ [])
+        → map (λ link. town_truth network standing_at_three 0 (Status link) Unequal ValueActive) numbers
         ≡ Yes ∷ No ∷ Yes ∷ No ∷ Yes ∷ [] }
     ensures when_full_equal_open { (network : Project) → IsTown network
-        → map (λ link. town_truth network standing_when_full 0 (Status link) Equal ValueOpen) (0 ∷ 1 ∷ 2 ∷ 3 ∷ 4 ∷ [])
+        → map (λ link. town_truth network standing_when_full 0 (Status link) Equal ValueOpen) numbers
         ≡ No ∷ No ∷ Yes ∷ No ∷ No ∷ [] }
     ensures when_full_equal_closed { (network : Project) → IsTown network
-        → map (λ link. town_truth network standing_when_full 0 (Status link) Equal ValueClosed) (0 ∷ 1 ∷ 2 ∷ 3 ∷ 4 ∷ [])
+        → map (λ link. town_truth network standing_when_full 0 (Status link) Equal ValueClosed) numbers
         ≡ Yes ∷ Yes ∷ No ∷ No ∷ No ∷ [] }
     ensures when_full_equal_active { (network : Project) → IsTown network
-        → map (λ link. town_truth network standing_when_full 0 (Status link) Equal ValueActive) (0 ∷ 1 ∷ 2 ∷ 3 ∷ 4 ∷ [])
+        → map (λ link. town_truth network standing_when_full 0 (Status link) Equal ValueActive) numbers
         ≡ No ∷ No ∷ No ∷ Yes ∷ Yes ∷ [] }
 {}
 

@@ -9,8 +9,9 @@ ghost use Rattle.hyd_spec.specs.Rules.{head_of, pressure_of, state_of_link, rule
 ghost use Rattle.hyd_spec.specs.Decided.{links_at, readings_below, readings_above, rule_truths, decided_changes};
 ghost use Rattle.hyd_spec.specs.Report.{rule_lines};
 ghost use Rattle.hyd_spec.specs.ReportLine.{RuleLine, line_text};
-ghost use Rattle.hyd_examples.specs.Town.{IsTown, filling, fast_filling, narrow_main, night_main, wide_main, unthrottled};
+ghost use Rattle.hyd_examples.specs.Town.{IsTown, numbers, earlier, later, filling, fast_filling, narrow_main, night_main, wide_main, unthrottled};
 ghost use Rattle.hyd_examples.specs.TownPeriods.{standing_at_one, standing_at_two, standing_when_full, grid_at_two, grid_when_full, row_at_two, row_when_full};
+ghost use Rattle.hyd_examples.specs.TownReadings.{readings_none, readings_three, readings_edges, readings_past_edges, readings_of_halves};
 
 /// What the rules look at, from below and above.
 pub fn readings()
@@ -141,75 +142,27 @@ pub fn lines()
 /// The values of the rules at an instant, where all is exact.
 pub fn values()
     ensures none { (network : Project) → IsTown network
-        → rule_values network 1 7560 (record {
-          heads = pos 449999998505012 ∷ pos 215000000044849 ∷ pos 600000000000000
-              ∷ [];
-          levels = record { num = pos 99126415941547; den = 2 } ∷ whole (pos 15013103573490) ∷ [];
-          flows = 0 ∷ 0
-              ∷ 12000000000 ∷ 9000000000 ∷ 360000000 ∷ [];
-          links = Closed ∷ Closed ∷ Open ∷ wide_main ∷ unthrottled ∷ [];
-        })
-        ≡ false ∷ false ∷ true ∷ false ∷ [] }
+        → rule_values network 1 7560 readings_none ≡ false ∷ false ∷ true ∷ false ∷ [] }
     ensures three { (network : Project) → IsTown network
-        → rule_values network 1 8640 (record {
-          heads = pos 447653348193372 ∷ pos 215070399570619 ∷ pos 600000000000000
-              ∷ [];
-          levels = record { num = pos 142960044257659; den = 3 } ∷ record { num = pos 30140799101373; den = 2 }
-              ∷ [];
-          flows = 0 ∷ 20000000001 ∷ 11800000000 ∷ 8800000000 ∷ 160000000 ∷ [];
-          links = Closed ∷ Closed ∷ Open
-              ∷ wide_main ∷ unthrottled ∷ [];
-        })
-        ≡ true ∷ true ∷ false ∷ true ∷ [] }
+        → rule_values network 1 8640 readings_three ≡ true ∷ true ∷ false ∷ true ∷ [] }
     ensures edges { (network : Project) → IsTown network
-        → rule_values network 1 8640 (record {
-          heads = pos 447653348193372 ∷ pos 215070399570619 ∷ pos 600000000000000
-              ∷ [];
-          levels = whole (pos 48000000000000) ∷ whole (pos 19000000000000) ∷ [];
-          flows = 0 ∷ 20000000000 ∷ 11800000000
-              ∷ 8800000000 ∷ 160000000 ∷ [];
-          links = Speed (pos 900000000) ∷ fast_filling ∷ Open ∷ night_main ∷ Open ∷ [];
-        })
-        ≡ false ∷ true ∷ false ∷ true ∷ [] }
+        → rule_values network 1 8640 readings_edges ≡ false ∷ true ∷ false ∷ true ∷ [] }
     ensures past_edges { (network : Project) → IsTown network
-        → rule_values network 1 8640 (record {
-          heads = pos 447653348193372 ∷ pos 215070399570619 ∷ pos 600000000000000
-              ∷ [];
-          levels = record { num = pos 95999999999999; den = 2 } ∷ record { num = pos 38000000000001; den = 2 }
-              ∷ [];
-          flows = 0 ∷ 20000000000 ∷ 11800000000 ∷ 8800000000 ∷ 160000000 ∷ [];
-          links = Closed ∷ Closed ∷ Open
-              ∷ wide_main ∷ unthrottled ∷ [];
-        })
-        ≡ true ∷ true ∷ true ∷ false ∷ [] }
+        → rule_values network 1 8640 readings_past_edges ≡ true ∷ true ∷ true ∷ false ∷ [] }
 {}
 
 /// Heads of all nodes, pressures of junctions and tanks, and states of links, as rules read them.
 pub fn measures()
     ensures heads { (network : Project) → IsTown network
-        → map (head_of network 1 (record {
-          heads = pos 449999998505013 ∷ pos 215000000044850 ∷ pos 600000000000000
-              ∷ [];
-          levels = record { num = pos 99126415941547; den = 2 } ∷ record { num = pos 30026207146981; den = 2 }
-              ∷ [];
-          flows = [];
-          links = Closed ∷ Closed ∷ Open ∷ wide_main ∷ unthrottled ∷ [];
-        })) (0 ∷ 1 ∷ 2 ∷ 3 ∷ 4 ∷ [])
+        → map (head_of network 1 readings_of_halves) numbers
         ≡ whole (pos 449999998505013) ∷ whole (pos 215000000044850) ∷ whole (pos 600000000000000)
         ∷ record { num = pos 899126415941547; den = 2 } ∷ record { num = pos 430026207146981; den = 2 } ∷ [] }
     ensures pressures { (network : Project) → IsTown network
-        → map (pressure_of network 1 (record {
-          heads = pos 449999998505013 ∷ pos 215000000044850 ∷ pos 600000000000000
-              ∷ [];
-          levels = record { num = pos 99126415941547; den = 2 } ∷ record { num = pos 30026207146981; den = 2 }
-              ∷ [];
-          flows = [];
-          links = Closed ∷ Closed ∷ Open ∷ wide_main ∷ unthrottled ∷ [];
-        })) (0 ∷ 1 ∷ 3 ∷ 4 ∷ [])
+        → map (pressure_of network 1 readings_of_halves) (0 ∷ 1 ∷ 3 ∷ 4 ∷ [])
         ≡ whole (pos 349999998505013) ∷ whole (pos 165000000044850) ∷ record { num = pos 99126415941547; den = 2 }
         ∷ record { num = pos 30026207146981; den = 2 } ∷ [] }
     ensures states { (network : Project) → IsTown network
-        → map (state_of_link (links_at network standing_when_full)) (0 ∷ 1 ∷ 2 ∷ 3 ∷ 4 ∷ [])
+        → map (state_of_link (links_at network standing_when_full)) numbers
         ≡ Closed ∷ Closed ∷ Open ∷ wide_main ∷ unthrottled ∷ [] }
 {}
 
@@ -236,21 +189,18 @@ pub fn offers()
 /// The offer of highest rank to each link.
 pub fn best_offers()
     ensures three { (network : Project) → IsTown network
-        → map (λ link. best_offer link (offers_from 0 network.rules.list (true ∷ true ∷ false ∷ false ∷ []))) (0 ∷ 1 ∷ 2 ∷ 3
-        ∷ 4 ∷ [])
+        → map (λ link. best_offer link (offers_from 0 network.rules.list (true ∷ true ∷ false ∷ false ∷ []))) numbers
         ≡ None ∷ Some (record { rule = 0; priority = Some (pos 2000000000); link = 1; to = fast_filling }) ∷ None
         ∷ Some (record { rule = 1; priority = Some (pos 1000000000); link = 3; to = night_main })
         ∷ Some (record { rule = 2; priority = None; link = 4; to = Open }) ∷ [] }
     ensures all { (network : Project) → IsTown network
-        → map (λ link. best_offer link (offers_from 0 network.rules.list (true ∷ true ∷ true ∷ true ∷ []))) (0 ∷ 1 ∷ 2 ∷ 3 ∷ 4
-        ∷ [])
+        → map (λ link. best_offer link (offers_from 0 network.rules.list (true ∷ true ∷ true ∷ true ∷ []))) numbers
         ≡ Some (record { rule = 3; priority = None; link = 0; to = Speed (pos 500000000) })
         ∷ Some (record { rule = 0; priority = Some (pos 2000000000); link = 1; to = fast_filling }) ∷ None
         ∷ Some (record { rule = 1; priority = Some (pos 1000000000); link = 3; to = night_main })
         ∷ Some (record { rule = 2; priority = None; link = 4; to = unthrottled }) ∷ [] }
     ensures none { (network : Project) → IsTown network
-        → map (λ link. best_offer link (offers_from 0 network.rules.list (false ∷ false ∷ false ∷ false ∷ []))) (0 ∷ 1 ∷ 2 ∷ 3
-        ∷ 4 ∷ [])
+        → map (λ link. best_offer link (offers_from 0 network.rules.list (false ∷ false ∷ false ∷ false ∷ []))) numbers
         ≡ None ∷ None ∷ None ∷ None ∷ Some (record { rule = 2; priority = None; link = 4; to = Open }) ∷ [] }
 {}
 
@@ -258,7 +208,7 @@ pub fn best_offers()
 pub fn changed()
     ensures three { (network : Project) → IsTown network
         → map (λ link. change_of network (true ∷ true ∷ false ∷ false
-        ∷ []) link (state_of_link (links_at network standing_when_full) link)) (0 ∷ 1 ∷ 2 ∷ 3 ∷ 4 ∷ [])
+        ∷ []) link (state_of_link (links_at network standing_when_full) link)) numbers
         ≡ None ∷ Some (record { by = 0; link = 1; to = fast_filling }) ∷ None
         ∷ Some (record { by = 1; link = 3; to = night_main }) ∷ Some (record { by = 2; link = 4; to = Open }) ∷ [] }
     ensures three_in_order { (network : Project) → IsTown network
@@ -267,7 +217,7 @@ pub fn changed()
         ∷ record { by = 2; link = 4; to = Open } ∷ [] }
     ensures all { (network : Project) → IsTown network
         → map (λ link. change_of network (true ∷ true ∷ true ∷ true
-        ∷ []) link (state_of_link (links_at network standing_when_full) link)) (0 ∷ 1 ∷ 2 ∷ 3 ∷ 4 ∷ [])
+        ∷ []) link (state_of_link (links_at network standing_when_full) link)) numbers
         ≡ Some (record { by = 3; link = 0; to = Speed (pos 500000000) })
         ∷ Some (record { by = 0; link = 1; to = fast_filling }) ∷ None
         ∷ Some (record { by = 1; link = 3; to = night_main }) ∷ None ∷ [] }
@@ -277,7 +227,7 @@ pub fn changed()
         ∷ record { by = 1; link = 3; to = night_main } ∷ [] }
     ensures none { (network : Project) → IsTown network
         → map (λ link. change_of network (false ∷ false ∷ false ∷ false
-        ∷ []) link (state_of_link (links_at network standing_when_full) link)) (0 ∷ 1 ∷ 2 ∷ 3 ∷ 4 ∷ [])
+        ∷ []) link (state_of_link (links_at network standing_when_full) link)) numbers
         ≡ None ∷ None ∷ None ∷ None ∷ Some (record { by = 2; link = 4; to = Open }) ∷ [] }
     ensures none_in_order { (network : Project) → IsTown network
         → rule_changes network (false ∷ false ∷ false ∷ false ∷ []) (links_at network standing_when_full)
@@ -286,37 +236,20 @@ pub fn changed()
 
 /// Of two offers to a link the one of higher rank, of equal ranks the earlier one.
 pub fn ranks()
-    ensures none { map (λ priority. higher (record { rule = 0; priority = None; link = 0; to = Open }) (Some
-        (record { rule = 1; priority = priority; link = 0; to = Closed }))) (None
+    ensures none { map (λ priority. higher (earlier None) (Some (later priority))) (None ∷ Some (neg_ℤ (pos 1000000000))
+        ∷ Some (pos 0) ∷ Some (pos 1000000000) ∷ [])
+        ≡ Some (earlier None) ∷ Some (later (Some (neg_ℤ (pos 1000000000)))) ∷ Some (later (Some (pos 0)))
+        ∷ Some (later (Some (pos 1000000000))) ∷ [] }
+    ensures negative { map (λ priority. higher (earlier (Some (neg_ℤ (pos 1000000000)))) (Some (later priority))) (None
         ∷ Some (neg_ℤ (pos 1000000000)) ∷ Some (pos 0) ∷ Some (pos 1000000000) ∷ [])
-        ≡ Some (record { rule = 0; priority = None; link = 0; to = Open })
-        ∷ Some (record { rule = 1; priority = Some (neg_ℤ (pos 1000000000)); link = 0; to = Closed })
-        ∷ Some (record { rule = 1; priority = Some (pos 0); link = 0; to = Closed })
-        ∷ Some (record { rule = 1; priority = Some (pos 1000000000); link = 0; to = Closed }) ∷ [] }
-    ensures negative { map (λ priority. higher (record {
-      rule = 0;
-      priority = Some (neg_ℤ
-          (pos 1000000000));
-      link = 0;
-      to = Open;
-    }) (Some (record { rule = 1; priority = priority; link = 0; to = Closed }))) (None
+        ≡ Some (earlier (Some (neg_ℤ (pos 1000000000)))) ∷ Some (earlier (Some (neg_ℤ (pos 1000000000))))
+        ∷ Some (later (Some (pos 0))) ∷ Some (later (Some (pos 1000000000))) ∷ [] }
+    ensures nothing { map (λ priority. higher (earlier (Some (pos 0))) (Some (later priority))) (None
         ∷ Some (neg_ℤ (pos 1000000000)) ∷ Some (pos 0) ∷ Some (pos 1000000000) ∷ [])
-        ≡ Some (record { rule = 0; priority = Some (neg_ℤ (pos 1000000000)); link = 0; to = Open })
-        ∷ Some (record { rule = 0; priority = Some (neg_ℤ (pos 1000000000)); link = 0; to = Open })
-        ∷ Some (record { rule = 1; priority = Some (pos 0); link = 0; to = Closed })
-        ∷ Some (record { rule = 1; priority = Some (pos 1000000000); link = 0; to = Closed }) ∷ [] }
-    ensures nothing { map (λ priority. higher (record { rule = 0; priority = Some (pos 0); link = 0; to = Open }) (Some
-        (record { rule = 1; priority = priority; link = 0; to = Closed }))) (None
+        ≡ Some (earlier (Some (pos 0))) ∷ Some (earlier (Some (pos 0))) ∷ Some (earlier (Some (pos 0)))
+        ∷ Some (later (Some (pos 1000000000))) ∷ [] }
+    ensures one { map (λ priority. higher (earlier (Some (pos 1000000000))) (Some (later priority))) (None
         ∷ Some (neg_ℤ (pos 1000000000)) ∷ Some (pos 0) ∷ Some (pos 1000000000) ∷ [])
-        ≡ Some (record { rule = 0; priority = Some (pos 0); link = 0; to = Open })
-        ∷ Some (record { rule = 0; priority = Some (pos 0); link = 0; to = Open })
-        ∷ Some (record { rule = 0; priority = Some (pos 0); link = 0; to = Open })
-        ∷ Some (record { rule = 1; priority = Some (pos 1000000000); link = 0; to = Closed }) ∷ [] }
-    ensures one { map (λ priority. higher (record { rule = 0; priority = Some (pos 1000000000); link = 0; to = Open }) (Some
-        (record { rule = 1; priority = priority; link = 0; to = Closed }))) (None
-        ∷ Some (neg_ℤ (pos 1000000000)) ∷ Some (pos 0) ∷ Some (pos 1000000000) ∷ [])
-        ≡ Some (record { rule = 0; priority = Some (pos 1000000000); link = 0; to = Open })
-        ∷ Some (record { rule = 0; priority = Some (pos 1000000000); link = 0; to = Open })
-        ∷ Some (record { rule = 0; priority = Some (pos 1000000000); link = 0; to = Open })
-        ∷ Some (record { rule = 0; priority = Some (pos 1000000000); link = 0; to = Open }) ∷ [] }
+        ≡ Some (earlier (Some (pos 1000000000))) ∷ Some (earlier (Some (pos 1000000000)))
+        ∷ Some (earlier (Some (pos 1000000000))) ∷ Some (earlier (Some (pos 1000000000))) ∷ [] }
 {}

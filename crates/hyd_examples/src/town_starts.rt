@@ -2,15 +2,20 @@
 #![tactic(auto)]
 
 ghost use Rattle.std.specs.Prelude.{◌≡◌, pos, neg_ℤ, true, false, [], ◌∷◌, map, codes};
-ghost use Rattle.hyd_spec.specs.Types.{Project, Open, Closed, Speed};
+ghost use Rattle.hyd_spec.specs.Types.{Project, Capacity, Open, Closed, Speed};
 ghost use Rattle.hyd_spec.specs.Start.{started, acts_at};
 ghost use Rattle.hyd_spec.specs.History.{initial_links, initial_levels};
 ghost use Rattle.hyd_spec.specs.Record.{initial_standing};
 ghost use Rattle.hyd_spec.specs.Decided.{links_at, acts_on};
 ghost use Rattle.hyd_spec.specs.Report.{start_changes, control_lines};
 ghost use Rattle.hyd_spec.specs.ReportLine.{ControlLine, line_text};
-ghost use Rattle.hyd_examples.specs.Town.{IsTown, filling, fast_filling, narrow_main, night_main, wide_main, unthrottled};
+ghost use Rattle.hyd_examples.specs.Town.{IsTown, town, filling, fast_filling, narrow_main, night_main, wide_main, unthrottled};
 ghost use Rattle.hyd_examples.specs.TownPeriods.{standing_at_start, standing_at_one, standing_at_two, standing_when_full, standing_after_rules, standing_at_three};
+
+/// There is such a town.
+pub fn towns()
+    ensures { (capacity : Capacity) → IsTown (town capacity) }
+{}
 
 /// What is known at the start of the run.
 pub fn initial()
