@@ -14,6 +14,7 @@ listed spare items = record { list = items; spare = spare }
 
 -- ---- options and times
 
+-- Numbers of the file: 0, 0.1, 1, 10 and 50.
 abbrev pub zero_number : Decimal
 zero_number = record { nano = pos 0; bounded = lit≤ tt }
 
@@ -22,6 +23,12 @@ tenth = record { nano = pos 100000000; bounded = lit≤ tt }
 
 abbrev pub one : Decimal
 one = record { nano = pos 1000000000; bounded = lit≤ tt }
+
+abbrev pub ten : Decimal
+ten = record { nano = pos 10000000000; bounded = lit≤ tt }
+
+abbrev pub fifty : Decimal
+fifty = record { nano = pos 50000000000; bounded = lit≤ tt }
 
 -- UNITS CMD
 abbrev pub options : Options
@@ -70,9 +77,6 @@ west room = record {
 -- SPRING 60
 abbrev pub spring : Reservoir
 spring = record { head = pos 600000000000000; pattern = None }
-
-abbrev pub ten : Decimal
-ten = record { nano = pos 10000000000; bounded = lit≤ tt }
 
 -- NORTH 40 4.5 1 5 10 0
 abbrev pub north : Tank
@@ -123,10 +127,7 @@ unthrottled = Throttle (pos 0) Linear
 abbrev pub speeds : ℕ → Pattern
 speeds room = record { multipliers = listed room (pos 0 ∷ pos 1000000000 ∷ pos 0 ∷ pos 900000000 ∷ []) }
 
--- The curve of the pump has one point, at 1000 m3/d and 50 m.
-abbrev pub fifty : Decimal
-fifty = record { nano = pos 50000000000; bounded = lit≤ tt }
-
+-- The shutoff head of the pump: its curve has one point, of 1000 m3/d at 50 m.
 abbrev pub shutoff : Span
 shutoff = record { lo = pos 666666666666666; hi = pos 666666666666667; ordered = record { le = tt } }
 
@@ -162,6 +163,7 @@ controls =
 abbrev pub amount : ℤ → Value
 amount ticks = Amount (record { lo = ticks; hi = ticks; ordered = ≤ℤ_refl ticks }) zero_number
 
+-- A clause by its parts.
 abbrev pub compared : What → Relation → Value → Clause
 compared what relation value = record { what = what; relation = relation; value = value }
 

@@ -6,7 +6,7 @@ use Rattle.hyd_spec.specs.Law.{Shut, Straight, ForwardOnly, ReverseOnly, Capped}
 use Rattle.hyd_spec.specs.Enclosing.{Fixed}
 use Rattle.hyd_spec.specs.Grid.{Grid, GridJunction}
 use Rattle.hyd_spec.specs.Record.{Record, Standing}
-use Rattle.hyd_examples.specs.Town.{filling, fast_filling, narrow_main, night_main, wide_main, unthrottled}
+use Rattle.hyd_examples.specs.Town.{filling, fast_filling, narrow_main, night_main, unthrottled}
 
 -- ---- standings
 
@@ -84,12 +84,14 @@ standing_at_three = record {
 
 -- ---- the period that begins at 2:00, and the one after it
 
+-- The junctions, the same in both.
 abbrev pub east : GridJunction
 east = record { elevation = pos 100000000000000; demand = Fixed (pos 3000000000); emitter = None }
 
 abbrev pub west : GridJunction
 west = record { elevation = pos 50000000000000; demand = Fixed (pos 8640000000); emitter = None }
 
+-- The grid from 2:00 on.
 abbrev pub grid_at_two : Grid
 grid_at_two = record {
   junctions = east ∷ west ∷ [];
@@ -103,6 +105,7 @@ grid_at_two = record {
       ∷ record { from = 4; to = 1; law = Straight } ∷ [];
 }
 
+-- Its tight vectors.
 abbrev pub row_at_two : Record
 row_at_two = record {
   number = 2;
@@ -114,6 +117,7 @@ row_at_two = record {
       ∷ [];
 }
 
+-- The grid from 2:01:53 on.
 abbrev pub grid_when_full : Grid
 grid_when_full = record {
   junctions = east ∷ west ∷ [];
@@ -127,6 +131,7 @@ grid_when_full = record {
       ∷ record { from = 4; to = 1; law = ReverseOnly Straight } ∷ [];
 }
 
+-- Its tight vectors.
 abbrev pub row_when_full : Record
 row_when_full = record {
   number = 3;
