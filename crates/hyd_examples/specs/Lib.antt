@@ -1,2 +1,9 @@
 pub mod Sample
 pub mod Record
+pub mod Town
+pub mod TownPeriods
+pub mod TownHistory
+pub mod Village
+pub mod Clauses
+pub mod TownReport
+pub mod TownReadings

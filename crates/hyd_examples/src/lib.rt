@@ -3,6 +3,7 @@
 //! table of computed values. No function here has a body.
 #![tactic(auto)]
 
+pub mod clauses;
 pub mod decisions;
 pub mod enclosing;
 pub mod levels;
@@ -15,3 +16,8 @@ pub mod rules;
 pub mod starts;
 pub mod surpluses;
 pub mod texts;
+pub mod town_ends;
+pub mod town_history;
+pub mod town_report;
+pub mod town_rules;
+pub mod town_starts;

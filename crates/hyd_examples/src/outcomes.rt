@@ -11,7 +11,6 @@ ghost use Rattle.hyd_spec.specs.declared.StatusWord.TheVariants.{Open as WordOpe
 ghost use Rattle.hyd_spec.specs.Enclosing.{low, high};
 ghost use Rattle.hyd_spec.specs.LinkLaw.{law_of};
 ghost use Rattle.hyd_spec.specs.Rules.{measured, holds_on};
-ghost use Rattle.hyd_spec.specs.Decided.{tank_watches};
 ghost use Rattle.hyd_spec.specs.Report.{by_drive, by_setting, status_of, tank_event, control_event};
 ghost use Rattle.hyd_spec.specs.ReportLine.{FilledLine, EmptiedLine, ReachedLine};
 
@@ -83,13 +82,6 @@ pub fn control_events()
         ∷ control_event 60 ((record { lo = pos 150; hi = pos 150 }) ∷ []) ((record { lo = pos 150; hi = pos 160 })
         ∷ []) 4 (record { link = 0; to = Open; when = AtLevel 0 true (pos 150) }) ∷ [])
         ≡ Some (ReachedLine 60 0 4) ∷ None ∷ None ∷ [] }
-{}
-
-/// Tanks are watched for the bounds at which they don't stand.
-pub fn watches()
-    ensures { (a b c : Tank) → tank_watches 0 (a ∷ b ∷ c ∷ []) (Full ∷ Between ∷ Empty ∷ [])
-        ≡ (record { tank = 0; target = a.minimum; rising = false }) ∷ (record { tank = 1; target = b.maximum; rising = true })
-        ∷ (record { tank = 1; target = b.minimum; rising = false }) ∷ (record { tank = 2; target = c.maximum; rising = true }) ∷ [] }
 {}
 
 /// A valve between a junction and tanks, or two tanks: nothing flows into a full tank or out of an empty one.

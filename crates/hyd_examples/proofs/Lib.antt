@@ -1,0 +1,2 @@
+pub mod TownIs
+pub mod VillageIs
