@@ -1,21 +1,19 @@
 //! Laws of the texts of certificates.
 #![tactic(auto)]
 
-ghost use Rattle.std.specs.Prelude.{◌≡◌, ◌<◌, ◌^◌, ℕ, Bool, List};
+ghost use Rattle.std.specs.Prelude.{◌≡◌, ℕ, Bool, List};
 ghost use Rattle.hyd_spec.specs.Record.{Record};
 ghost use Rattle.hyd_spec.specs.CertificateText.{IsCertificateText};
 
-/// A text is a certificate text of one list of records at most, with one number and word in its end
-/// line. `decimal` writes a number's last 64 digits, so only counts of at most 64 digits are told
-/// apart by the header.
+/// A text is a certificate text of one pair of counts and one list of records at most, with one
+/// number and one word in its end line.
 pub fn one_reading()
     ensures counts { (text : List ℕ) (junctions junctions' tanks tanks' periods periods' : ℕ) (rows rows' : List Record)
-        (finished finished' : Bool) → junctions < 10 ^ 64 → junctions' < 10 ^ 64 → tanks < 10 ^ 64 → tanks' < 10 ^ 64
-        → IsCertificateText text junctions tanks rows periods finished
+        (finished finished' : Bool) → IsCertificateText text junctions tanks rows periods finished
         → IsCertificateText text junctions' tanks' rows' periods' finished'
         → (junctions ≡ junctions') × (tanks ≡ tanks') }
-    ensures contents { (text : List ℕ) (junctions tanks periods periods' : ℕ) (rows rows' : List Record)
+    ensures contents { (text : List ℕ) (junctions junctions' tanks tanks' periods periods' : ℕ) (rows rows' : List Record)
         (finished finished' : Bool) → IsCertificateText text junctions tanks rows periods finished
-        → IsCertificateText text junctions tanks rows' periods' finished'
+        → IsCertificateText text junctions' tanks' rows' periods' finished'
         → (rows ≡ rows') × ((periods ≡ periods') × (finished ≡ finished')) }
 {}
