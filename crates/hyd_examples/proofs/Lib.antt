@@ -1,2 +1,2 @@
 pub mod TownIs
-pub mod VillageIs
+pub mod HamletIs

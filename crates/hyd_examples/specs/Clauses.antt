@@ -1,4 +1,4 @@
--- What examples of clauses speak of: the truth of a clause in the village and in the town, and intervals about the numbers that
+-- What examples of clauses speak of: the truth of a clause in the hamlet and in the town, and intervals about the numbers that
 -- clauses compare with.
 use Rattle.std.specs.Prelude.{ℕ, pos, List, [], ◌∷◌}
 use Rattle.std.proofs.Common.{lit≤}
@@ -9,21 +9,21 @@ use Rattle.hyd_spec.specs.Interval.{Interval}
 use Rattle.hyd_spec.specs.Record.{Record, Standing}
 use Rattle.hyd_examples.specs.Town.{compared}
 use Rattle.hyd_examples.specs.TownPeriods.{standing_at_two, grid_at_two, grid_when_full, row_at_two, row_when_full}
-use Rattle.hyd_examples.specs.Village.{standing_at_start, grid_at_start, row_at_start}
+use Rattle.hyd_examples.specs.Hamlet.{standing_at_start, grid_at_start, row_at_start}
 
--- ---- the village
+-- ---- the hamlet
 
 -- A clause after six minutes.
-abbrev pub village_truth : Project → Standing → Record → What → Relation → Value → Truth
-village_truth network standing row what relation value =
+abbrev pub hamlet_truth : Project → Standing → Record → What → Relation → Value → Truth
+hamlet_truth network standing row what relation value =
     clause_truth network grid_at_start standing row 360 (compared what relation value)
 
 -- Its first period with other heads of the junction, and with other levels of the tank.
-abbrev pub village_row : Interval → Record
-village_row head = record row_at_start { main = record { upper = head.hi ∷ []; lower = head.lo ∷ [] } }
+abbrev pub hamlet_row : Interval → Record
+hamlet_row head = record row_at_start { main = record { upper = head.hi ∷ []; lower = head.lo ∷ [] } }
 
-abbrev pub village_standing : Interval → Standing
-village_standing level = record standing_at_start { levels = level ∷ [] }
+abbrev pub hamlet_standing : Interval → Standing
+hamlet_standing level = record standing_at_start { levels = level ∷ [] }
 
 -- Heads of the junction about 12.9 and 12.999 pounds a square inch above its elevation.
 abbrev pub heads_about_12_9 : List Interval

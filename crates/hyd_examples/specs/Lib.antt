@@ -3,7 +3,7 @@ pub mod Record
 pub mod Town
 pub mod TownPeriods
 pub mod TownHistory
-pub mod Village
+pub mod Hamlet
 pub mod Clauses
 pub mod TownReport
 pub mod TownReadings

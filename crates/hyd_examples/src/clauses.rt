@@ -8,86 +8,86 @@ ghost use Rattle.hyd_spec.specs.Grid.{grid_links};
 ghost use Rattle.hyd_spec.specs.Decided.{links_at, flow_boxes, inflow_boxes, rule_truths};
 ghost use Rattle.hyd_examples.specs.Town.{IsTown, numbers, amount};
 ghost use Rattle.hyd_examples.specs.TownPeriods.{standing_at_start, standing_at_two, standing_when_full, standing_at_three, row_at_two};
-ghost use Rattle.hyd_examples.specs.Village.{IsVillage, village, pounds_12_9, pounds_4_3, pounds_4_333, pounds_12_999, grid_at_start, row_at_start};
-ghost use Rattle.hyd_examples.specs.Village.{standing_at_start as village_start};
-ghost use Rattle.hyd_examples.specs.Clauses.{village_truth, truth_at_two, town_truth, town_row, town_standing, village_row, village_standing, metres_34_9923185, metres_4_9965, heads_about_12_9, heads_about_12_999, levels_about_4_3, levels_about_4_333, heads_about_34_9923185, levels_about_4_9965};
+ghost use Rattle.hyd_examples.specs.Hamlet.{IsHamlet, hamlet, pounds_12_9, pounds_4_3, pounds_4_333, pounds_12_999, grid_at_start, row_at_start};
+ghost use Rattle.hyd_examples.specs.Hamlet.{standing_at_start as hamlet_start};
+ghost use Rattle.hyd_examples.specs.Clauses.{hamlet_truth, truth_at_two, town_truth, town_row, town_standing, hamlet_row, hamlet_standing, metres_34_9923185, metres_4_9965, heads_about_12_9, heads_about_12_999, levels_about_4_3, levels_about_4_333, heads_about_34_9923185, levels_about_4_9965};
 
-/// There is such a village.
-pub fn villages()
-    ensures { IsVillage village }
+/// There is such a hamlet.
+pub fn hamlets()
+    ensures { IsHamlet hamlet }
 {}
 
-/// The boxes of the village.
+/// The boxes of the hamlet.
 pub fn boxes()
-    ensures links { (network : Project) → IsVillage network
-        → grid_links network village_start.tanks network.links.list (links_at network village_start) ≡ grid_at_start.links }
+    ensures links { (network : Project) → IsHamlet network
+        → grid_links network hamlet_start.tanks network.links.list (links_at network hamlet_start) ≡ grid_at_start.links }
     ensures flows { flow_boxes grid_at_start row_at_start
         ≡ record { lo = pos 5450992958; hi = pos 5450992978 } ∷ record { lo = pos 3270593095; hi = pos 3270601143 } ∷ [] }
-    ensures inflow { (network : Project) → IsVillage network
+    ensures inflow { (network : Project) → IsHamlet network
         → inflow_boxes network grid_at_start row_at_start ≡ record { lo = pos 2180391815; hi = pos 2180399883 } ∷ [] }
 {}
 
 /// A pressure of a junction about 12.9 pounds a square inch, which lies between two ticks.
 pub fn pounds()
-    ensures less { (network : Project) → IsVillage network
-        → map (λ heads. village_truth network village_start (village_row heads) (Pressure 0) Less pounds_12_9) heads_about_12_9
+    ensures less { (network : Project) → IsHamlet network
+        → map (λ heads. hamlet_truth network hamlet_start (hamlet_row heads) (Pressure 0) Less pounds_12_9) heads_about_12_9
         ≡ Yes ∷ Yes ∷ Unknown ∷ No ∷ No ∷ [] }
-    ensures at_most { (network : Project) → IsVillage network
-        → map (λ heads. village_truth network village_start (village_row heads) (Pressure 0) NotMore pounds_12_9) heads_about_12_9
+    ensures at_most { (network : Project) → IsHamlet network
+        → map (λ heads. hamlet_truth network hamlet_start (hamlet_row heads) (Pressure 0) NotMore pounds_12_9) heads_about_12_9
         ≡ Yes ∷ Yes ∷ Unknown ∷ No ∷ No ∷ [] }
-    ensures more { (network : Project) → IsVillage network
-        → map (λ heads. village_truth network village_start (village_row heads) (Pressure 0) More pounds_12_9) heads_about_12_9
+    ensures more { (network : Project) → IsHamlet network
+        → map (λ heads. hamlet_truth network hamlet_start (hamlet_row heads) (Pressure 0) More pounds_12_9) heads_about_12_9
         ≡ No ∷ No ∷ Unknown ∷ Yes ∷ Yes ∷ [] }
-    ensures at_least { (network : Project) → IsVillage network
-        → map (λ heads. village_truth network village_start (village_row heads) (Pressure 0) NotLess pounds_12_9) heads_about_12_9
+    ensures at_least { (network : Project) → IsHamlet network
+        → map (λ heads. hamlet_truth network hamlet_start (hamlet_row heads) (Pressure 0) NotLess pounds_12_9) heads_about_12_9
         ≡ No ∷ No ∷ Unknown ∷ Yes ∷ Yes ∷ [] }
 {}
 
 /// A pressure of a junction about 12.999 pounds a square inch, which is a whole number of ticks.
 pub fn whole_pounds()
-    ensures less { (network : Project) → IsVillage network
-        → map (λ heads. village_truth network village_start (village_row heads) (Pressure 0) Less pounds_12_999) heads_about_12_999
+    ensures less { (network : Project) → IsHamlet network
+        → map (λ heads. hamlet_truth network hamlet_start (hamlet_row heads) (Pressure 0) Less pounds_12_999) heads_about_12_999
         ≡ Yes ∷ Unknown ∷ No ∷ No ∷ Unknown ∷ No ∷ [] }
-    ensures at_most { (network : Project) → IsVillage network
-        → map (λ heads. village_truth network village_start (village_row heads) (Pressure 0) NotMore pounds_12_999) heads_about_12_999
+    ensures at_most { (network : Project) → IsHamlet network
+        → map (λ heads. hamlet_truth network hamlet_start (hamlet_row heads) (Pressure 0) NotMore pounds_12_999) heads_about_12_999
         ≡ Yes ∷ Yes ∷ Yes ∷ Unknown ∷ Unknown ∷ No ∷ [] }
-    ensures more { (network : Project) → IsVillage network
-        → map (λ heads. village_truth network village_start (village_row heads) (Pressure 0) More pounds_12_999) heads_about_12_999
+    ensures more { (network : Project) → IsHamlet network
+        → map (λ heads. hamlet_truth network hamlet_start (hamlet_row heads) (Pressure 0) More pounds_12_999) heads_about_12_999
         ≡ No ∷ No ∷ No ∷ Unknown ∷ Unknown ∷ Yes ∷ [] }
-    ensures at_least { (network : Project) → IsVillage network
-        → map (λ heads. village_truth network village_start (village_row heads) (Pressure 0) NotLess pounds_12_999) heads_about_12_999
+    ensures at_least { (network : Project) → IsHamlet network
+        → map (λ heads. hamlet_truth network hamlet_start (hamlet_row heads) (Pressure 0) NotLess pounds_12_999) heads_about_12_999
         ≡ No ∷ Unknown ∷ Yes ∷ Yes ∷ Unknown ∷ Yes ∷ [] }
 {}
 
 /// A pressure of a tank about 4.3 pounds a square inch, which lies between two ticks.
 pub fn tank_pounds()
-    ensures less { (network : Project) → IsVillage network
-        → map (λ level. village_truth network (village_standing level) row_at_start (Pressure 2) Less pounds_4_3) levels_about_4_3
+    ensures less { (network : Project) → IsHamlet network
+        → map (λ level. hamlet_truth network (hamlet_standing level) row_at_start (Pressure 2) Less pounds_4_3) levels_about_4_3
         ≡ Yes ∷ Yes ∷ Unknown ∷ Unknown ∷ No ∷ No ∷ Unknown ∷ [] }
-    ensures at_most { (network : Project) → IsVillage network
-        → map (λ level. village_truth network (village_standing level) row_at_start (Pressure 2) NotMore pounds_4_3) levels_about_4_3
+    ensures at_most { (network : Project) → IsHamlet network
+        → map (λ level. hamlet_truth network (hamlet_standing level) row_at_start (Pressure 2) NotMore pounds_4_3) levels_about_4_3
         ≡ Yes ∷ Yes ∷ Unknown ∷ Unknown ∷ No ∷ No ∷ Unknown ∷ [] }
-    ensures more { (network : Project) → IsVillage network
-        → map (λ level. village_truth network (village_standing level) row_at_start (Pressure 2) More pounds_4_3) levels_about_4_3
+    ensures more { (network : Project) → IsHamlet network
+        → map (λ level. hamlet_truth network (hamlet_standing level) row_at_start (Pressure 2) More pounds_4_3) levels_about_4_3
         ≡ No ∷ No ∷ Unknown ∷ Unknown ∷ Yes ∷ Yes ∷ Unknown ∷ [] }
-    ensures at_least { (network : Project) → IsVillage network
-        → map (λ level. village_truth network (village_standing level) row_at_start (Pressure 2) NotLess pounds_4_3) levels_about_4_3
+    ensures at_least { (network : Project) → IsHamlet network
+        → map (λ level. hamlet_truth network (hamlet_standing level) row_at_start (Pressure 2) NotLess pounds_4_3) levels_about_4_3
         ≡ No ∷ No ∷ Unknown ∷ Unknown ∷ Yes ∷ Yes ∷ Unknown ∷ [] }
 {}
 
 /// A pressure of a tank about 4.333 pounds a square inch, which is a whole number of ticks.
 pub fn tank_whole_pounds()
-    ensures less { (network : Project) → IsVillage network
-        → map (λ level. village_truth network (village_standing level) row_at_start (Pressure 2) Less pounds_4_333) levels_about_4_333
+    ensures less { (network : Project) → IsHamlet network
+        → map (λ level. hamlet_truth network (hamlet_standing level) row_at_start (Pressure 2) Less pounds_4_333) levels_about_4_333
         ≡ Yes ∷ Unknown ∷ Unknown ∷ No ∷ No ∷ [] }
-    ensures at_most { (network : Project) → IsVillage network
-        → map (λ level. village_truth network (village_standing level) row_at_start (Pressure 2) NotMore pounds_4_333) levels_about_4_333
+    ensures at_most { (network : Project) → IsHamlet network
+        → map (λ level. hamlet_truth network (hamlet_standing level) row_at_start (Pressure 2) NotMore pounds_4_333) levels_about_4_333
         ≡ Yes ∷ Yes ∷ Unknown ∷ Unknown ∷ No ∷ [] }
-    ensures more { (network : Project) → IsVillage network
-        → map (λ level. village_truth network (village_standing level) row_at_start (Pressure 2) More pounds_4_333) levels_about_4_333
+    ensures more { (network : Project) → IsHamlet network
+        → map (λ level. hamlet_truth network (hamlet_standing level) row_at_start (Pressure 2) More pounds_4_333) levels_about_4_333
         ≡ No ∷ No ∷ Unknown ∷ Unknown ∷ Yes ∷ [] }
-    ensures at_least { (network : Project) → IsVillage network
-        → map (λ level. village_truth network (village_standing level) row_at_start (Pressure 2) NotLess pounds_4_333) levels_about_4_333
+    ensures at_least { (network : Project) → IsHamlet network
+        → map (λ level. hamlet_truth network (hamlet_standing level) row_at_start (Pressure 2) NotLess pounds_4_333) levels_about_4_333
         ≡ No ∷ Unknown ∷ Unknown ∷ Yes ∷ Yes ∷ [] }
 {}
 
@@ -123,24 +123,24 @@ pub fn tank_metres()
         ≡ No ∷ Unknown ∷ Unknown ∷ Yes ∷ Yes ∷ [] }
 {}
 
-/// The rule of the village at some heads of the junction and levels of the tank.
+/// The rule of the hamlet at some heads of the junction and levels of the tank.
 pub fn rules()
-    ensures high { (network : Project) → IsVillage network
-        → map (λ level. rule_truths network grid_at_start (village_standing level) (village_row
+    ensures high { (network : Project) → IsHamlet network
+        → map (λ level. rule_truths network grid_at_start (hamlet_standing level) (hamlet_row
         (record { lo = pos 396240000000001; hi = pos 396240000000002 })) 360) (record { lo = pos 30402181382335; hi = pos 30402182094386 }
         ∷ record { lo = pos 30222181382334; hi = pos 30222182094385 }
         ∷ record { lo = pos 30170045602735; hi = pos 30170046314786 }
         ∷ record { lo = pos 30170045602735; hi = pos 30170046314787 } ∷ [])
         ≡ (Yes ∷ []) ∷ (No ∷ []) ∷ (Yes ∷ []) ∷ (Unknown ∷ []) ∷ [] }
-    ensures edge { (network : Project) → IsVillage network
-        → map (λ level. rule_truths network grid_at_start (village_standing level) (village_row
+    ensures edge { (network : Project) → IsHamlet network
+        → map (λ level. rule_truths network grid_at_start (hamlet_standing level) (hamlet_row
         (record { lo = pos 396240000000000; hi = pos 396240000000001 })) 360) (record { lo = pos 30402181382335; hi = pos 30402182094386 }
         ∷ record { lo = pos 30222181382334; hi = pos 30222182094385 }
         ∷ record { lo = pos 30170045602735; hi = pos 30170046314786 }
         ∷ record { lo = pos 30170045602735; hi = pos 30170046314787 } ∷ [])
         ≡ (Unknown ∷ []) ∷ (No ∷ []) ∷ (Unknown ∷ []) ∷ (Unknown ∷ []) ∷ [] }
-    ensures low { (network : Project) → IsVillage network
-        → map (λ level. rule_truths network grid_at_start (village_standing level) (village_row
+    ensures low { (network : Project) → IsHamlet network
+        → map (λ level. rule_truths network grid_at_start (hamlet_standing level) (hamlet_row
         (record { lo = pos 395543595661204; hi = pos 395543595661204 })) 360) (record { lo = pos 30402181382335; hi = pos 30402182094386 }
         ∷ record { lo = pos 30222181382334; hi = pos 30222182094385 }
         ∷ record { lo = pos 30170045602735; hi = pos 30170046314786 }

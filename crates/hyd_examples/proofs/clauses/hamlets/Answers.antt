@@ -1,5 +1,5 @@
 use Rattle.std.proofs.Common.{refl}
-use Rattle.hyd_examples.proofs.clauses.villages.Goals as goal
+use Rattle.hyd_examples.proofs.clauses.hamlets.Goals as goal
 use Rattle.hyd_examples.specs.Town.{no_room}
 
 pub returns : goal.returns

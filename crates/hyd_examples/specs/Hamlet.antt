@@ -1,4 +1,4 @@
--- A village in gallons a minute, feet and pounds a square inch: a reservoir, a tank, a junction and two valves, with a
+-- A hamlet in gallons a minute, feet and pounds a square inch: a reservoir, a tank, a junction and two valves, with a
 -- rule on pressures. Each definition is what the reader makes of the lines above it.
 use Rattle.std.specs.Prelude.{◌≡◌, ℕ, pos, false, List, [], ◌∷◌, None, codes}
 use Rattle.std.proofs.Common.{lit≤}
@@ -108,8 +108,8 @@ rule room = record {
   priority = None;
 }
 
--- The network is the village's.
-pub record IsVillage (network : Project) : Type 0 where
+-- The network is the hamlet's.
+pub record IsHamlet (network : Project) : Type 0 where
   pub room : ℕ → ℕ
   pub options_are : network.options ≡ options
   pub times_are : network.times ≡ times
@@ -124,8 +124,8 @@ pub record IsVillage (network : Project) : Type 0 where
   pub rules : network.rules.list ≡ rule room ∷ []
 
 -- One such network: its lists have no room.
-abbrev pub village : Project
-village = record {
+abbrev pub hamlet : Project
+hamlet = record {
   options = options;
   times = times;
   node_ids = codes "J" ∷ codes "R" ∷ codes "T" ∷ [];
