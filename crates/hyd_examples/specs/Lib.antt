@@ -1,2 +1,5 @@
 pub mod Sample
 pub mod Record
+pub mod Capacities
+pub mod Town
+pub mod Single

@@ -3,9 +3,12 @@
 //! table of computed values. No function here has a body.
 #![tactic(auto)]
 
+pub mod capacities;
+pub mod certificates;
 pub mod decisions;
 pub mod enclosing;
 pub mod levels;
+pub mod links;
 pub mod losses;
 pub mod numbers;
 pub mod outcomes;
@@ -15,3 +18,4 @@ pub mod rules;
 pub mod starts;
 pub mod surpluses;
 pub mod texts;
+pub mod towns;
