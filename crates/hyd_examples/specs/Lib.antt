@@ -3,3 +3,4 @@ pub mod Record
 pub mod Capacities
 pub mod Town
 pub mod Single
+pub mod Forms

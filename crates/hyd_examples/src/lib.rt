@@ -7,6 +7,7 @@ pub mod capacities;
 pub mod certificates;
 pub mod decisions;
 pub mod enclosing;
+pub mod forms;
 pub mod levels;
 pub mod links;
 pub mod losses;
