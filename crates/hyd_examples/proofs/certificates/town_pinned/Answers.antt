@@ -1,15 +1,14 @@
-use Rattle.std.proofs.Common.{refl}
+use Rattle.std.proofs.Common.{refl, ◌≡◌, pos, neg_ℤ, [], ◌∷◌, arith}
 use Rattle.hyd_examples.proofs.certificates.town_pinned.Goals as goal
 use Rattle.hyd_spec.specs.Enclosing.{root_up}
 use Rattle.hyd_laws.proofs.Roots.{root_down-quick, quick_root}
-use Rattle.std.proofs.Common.{◌≡◌, pos, neg_ℤ, [], ◌∷◌, arith}
 use Rattle.std.proofs.lemmas.Int.{ints}
 use Rattle.std.proofs.lemmas.List.Elements.{All-nil, All-cons}
-use Rattle.hyd_spec.specs.declared.Problem.TheVariants.{Main, Pinned}
+use Rattle.hyd_spec.specs.declared.Problem.TheVariants.{Pinned}
 use Rattle.hyd_spec.specs.declared.Side.TheVariants.{Upper, Lower}
 use Rattle.hyd_spec.specs.Certificate.{IsInBox, Passes}
 use Rattle.hyd_spec.specs.Surplus.{net_low, net_high}
-use Rattle.hyd_examples.proofs.Each.{each_one, each_two}
+use Rattle.hyd_examples.proofs.Each.{each_two}
 use Rattle.hyd_examples.specs.Town.{town, first, second}
 
 pub returns-clause-upper_passes : goal.returns-clause-upper_passes

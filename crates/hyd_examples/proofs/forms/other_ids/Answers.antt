@@ -1,9 +1,5 @@
-use Rattle.std.proofs.Common.{refl}
+use Rattle.std.proofs.Common.{refl, ◌≡◌, ◌≤◌, ℕ, List, [], length, get_or, codes, ap, sym, subst, arith, ◌∙◌}
 use Rattle.hyd_examples.proofs.forms.other_ids.Goals as goal
-use Rattle.std.proofs.Common.{◌≡◌, ◌≤◌, ◌≤ℤ◌, ◌*◌, ◌^◌, ℕ, ℤ, pos, List, [], ◌∷◌, length, get_or, codes, ap, sym, subst, arith}
-use Rattle.std.proofs.lemmas.Int.{ints}
-use Rattle.std.specs.Prelude.{unsigned_abs, codes}
-use Rattle.std.proofs.Common.{◌∙◌}
 use Rattle.std.specs.Prelude.{◌≢◌, slice_index}
 
 pub returns-clause-long_id : goal.returns-clause-long_id

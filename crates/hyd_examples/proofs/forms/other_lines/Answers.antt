@@ -1,8 +1,5 @@
-use Rattle.std.proofs.Common.{refl}
 use Rattle.hyd_examples.proofs.forms.other_lines.Goals as goal
-use Rattle.std.proofs.Common.{◌≡◌, ◌≤◌, ◌≤ℤ◌, ◌*◌, ◌^◌, ℕ, ℤ, pos, List, [], ◌∷◌, length, get_or, codes, ap, sym, subst, arith}
-use Rattle.std.proofs.lemmas.Int.{ints}
-use Rattle.std.specs.Prelude.{unsigned_abs, codes}
+use Rattle.std.proofs.Common.{◌≡◌, [], length, get_or, ap, arith}
 
 pub returns-clause-blank_line : goal.returns-clause-blank_line
 returns-clause-blank_line c = λ w form. let count : 10 ≡ 9 = ap length form.lines in omega (arith, count)

@@ -1,10 +1,8 @@
-use Rattle.std.proofs.Common.{refl}
 use Rattle.hyd_examples.proofs.forms.other_numbers.Goals as goal
-use Rattle.std.proofs.Common.{◌≡◌, ◌≤◌, ◌≤ℤ◌, ◌*◌, ◌^◌, ℕ, ℤ, pos, List, [], ◌∷◌, length, get_or, codes, ap, sym, subst, arith}
+use Rattle.std.proofs.Common.{◌≡◌, ◌≤◌, ◌≤ℤ◌, ℕ, pos, List, [], get_or, codes, ap, sym, subst, arith}
 use Rattle.std.proofs.lemmas.Int.{ints}
-use Rattle.std.specs.Prelude.{unsigned_abs, codes}
+use Rattle.std.specs.Prelude.{unsigned_abs, IsTrue}
 use Rattle.std.proofs.lemmas.Bool.{false≢true}
-use Rattle.std.specs.Prelude.{IsTrue}
 use Rattle.hyd_num.specs.Numeral.{is_numeral, nano_of, magnitude_of}
 
 pub returns-clause-no_number : goal.returns-clause-no_number
