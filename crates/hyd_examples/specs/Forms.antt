@@ -1,5 +1,5 @@
 -- Texts of the first form of input, and their words.
-use Rattle.std.specs.Prelude.{ℕ, List, codes}
+use Rattle.std.specs.Prelude.{ℕ, List, codes, ◌++◌}
 use Rattle.hyd_spec.specs.FirstForm.{Words}
 
 -- The example of the repository.
@@ -20,7 +20,8 @@ example_words = record {
 
 -- Numbers at their bounds, an ID of 31 bytes, tabs and further spaces, carriage returns, and no end of the last line.
 abbrev pub widest : List ℕ
-widest = codes "[OPTIONS]\r\nUNITS CMD\r\nHEADLOSS\tC-M\r\n[JUNCTIONS] \r\n  NNNNNNNNNNNNNNNNNNNNNNNNNNNNNNN\t-10000 1e8\r\n[RESERVOIRS]\r\n(R) +10000.\r\n[VALVES]\r\nv#1 (R) NNNNNNNNNNNNNNNNNNNNNNNNNNNNNNN 10 TCV 1.0E3 \t 0"
+widest = codes "[OPTIONS]\r\nUNITS CMD\r\nHEADLOSS\tC-M\r\n[JUNCTIONS] \r\n  NNNNNNNNNNNNNNNNNNNNNNNNNNNNNNN\t-10000 1e8\r\n"
+    ++ codes "[RESERVOIRS]\r\n(R) +10000.\r\n[VALVES]\r\nv#1 (R) NNNNNNNNNNNNNNNNNNNNNNNNNNNNNNN 10 TCV 1.0E3 \t 0"
 
 abbrev pub widest_words : Words
 widest_words = record {
@@ -33,3 +34,9 @@ widest_words = record {
   diameter = codes "10";
   setting = codes "1.0E3";
 }
+
+-- A text like the example, with these rows for the junction, the reservoir and the valve.
+abbrev pub text_of : List ℕ → List ℕ → List ℕ → List ℕ
+text_of junction reservoir valve =
+    codes "[OPTIONS]\nUNITS CMD\nHEADLOSS C-M\n[JUNCTIONS]\n" ++ (junction
+    ++ (codes "\n[RESERVOIRS]\n" ++ (reservoir ++ (codes "\n[VALVES]\n" ++ (valve ++ codes "\n")))))

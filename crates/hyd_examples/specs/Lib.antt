@@ -4,3 +4,4 @@ pub mod Capacities
 pub mod Town
 pub mod Single
 pub mod Forms
+pub mod Tanks

@@ -28,10 +28,18 @@ pub record TownParts : Type 0 where
 
 -- Node 2 is the reservoir, node 3 the tank.
 abbrev pub first : TownParts → GridJunction
-first parts = record { elevation = pos 100000000000000; demand = Driven (pos 8000000000) parts.driven (record { num = pos 50000000000000; den = 1 }) (record { num = pos 200000000000000; den = 1 }); emitter = None }
+first parts = record {
+  elevation = pos 100000000000000;
+  demand = Driven (pos 8000000000) parts.driven (record { num = pos 50000000000000; den = 1 }) (record { num = pos 200000000000000; den = 1 });
+  emitter = None;
+}
 
 abbrev pub second : TownParts → GridJunction
-second parts = record { elevation = pos 250000000000000; demand = Fixed (neg_ℤ (pos 1200000000)); emitter = Some parts.emitter }
+second parts = record {
+  elevation = pos 250000000000000;
+  demand = Fixed (neg_ℤ (pos 1200000000));
+  emitter = Some parts.emitter;
+}
 
 abbrev pub pipe : TownParts → GridLink
 pipe parts = record { from = 2; to = 0; law = Quad parts.pipe }
@@ -40,7 +48,11 @@ abbrev pub check_pipe : TownParts → GridLink
 check_pipe parts = record { from = 0; to = 1; law = ForwardOnly (Quad parts.check) }
 
 abbrev pub pump : TownParts → GridLink
-pump parts = record { from = 2; to = 1; law = ForwardOnly (Lifted (record { num = pos 1296000000000000000000000000000000; den = 3000000000000000000 }) (Quad parts.pump)) }
+pump parts = record {
+  from = 2;
+  to = 1;
+  law = ForwardOnly (Lifted (record { num = pos 1296000000000000000000000000000000; den = 3000000000000000000 }) (Quad parts.pump));
+}
 
 abbrev pub throttle_valve : TownParts → GridLink
 throttle_valve parts = record { from = 0; to = 3; law = Quad parts.valve }

@@ -3,10 +3,11 @@
 #![tactic(auto)]
 
 ghost use Rattle.std.specs.Prelude.{◌≡◌, pos, neg_ℤ, [], ◌∷◌, map, Some};
-ghost use Rattle.hyd_spec.specs.Types.{Capacity};
+ghost use Rattle.hyd_spec.specs.Types.{Capacity, Origin};
 ghost use Rattle.hyd_spec.specs.Law.{Quad};
-ghost use Rattle.hyd_spec.specs.Enclosing.{low, high, Driven, demand_low, demand_high, emitter_low, emitter_high};
-ghost use Rattle.hyd_examples.specs.Capacities.{IsValve, IsPipe, IsPipeInFeet, IsPump, IsPumpInFeet, IsEmitter, IsDriven, IsDrivenInPounds, differences};
+ghost use Rattle.hyd_spec.specs.Enclosing.{low, high, demand_low, demand_high, emitter_low, emitter_high};
+ghost use Rattle.hyd_examples.specs.Capacities.{IsValve, IsPipe, IsPipeInFeet, IsPump, IsPumpInFeet, IsEmitter, IsDriven, IsDrivenInPounds};
+ghost use Rattle.hyd_examples.specs.Capacities.{differences, driven, driven_in_pounds, around, around_in_pounds};
 
 /// A valve of 304.8 mm with the loss coefficient 100.
 pub fn valve()
@@ -71,27 +72,31 @@ pub fn emitter()
 /// A demand of 800 cubic metres a day between pressures of 5 and 20 m.
 pub fn demand_metres()
     ensures low { (capacity : Capacity) → IsDriven capacity
-        → map (demand_low (Driven (pos 8000000000) capacity (record { num = pos 50000000000000; den = 1 }) (record { num = pos 200000000000000; den = 1 }))) (neg_ℤ (pos 10000000000000)
-        ∷ pos 49999999999999 ∷ pos 50000000000000 ∷ pos 50000000000001 ∷ pos 100000000000000 ∷ pos 199999999999999 ∷ pos 200000000000000
-        ∷ pos 200000000000001 ∷ pos 1000000000000000 ∷ []) ≡ pos 0 ∷ pos 0 ∷ pos 0 ∷ pos 653 ∷ pos 4618802153 ∷ pos 7999999999 ∷ pos 8000000000
+        → map (demand_low (driven capacity)) around ≡ pos 0 ∷ pos 0 ∷ pos 0 ∷ pos 653 ∷ pos 4618802153 ∷ pos 7999999999 ∷ pos 8000000000
         ∷ pos 8000000000 ∷ pos 8000000000 ∷ [] }
     ensures high { (capacity : Capacity) → IsDriven capacity
-        → map (demand_high (Driven (pos 8000000000) capacity (record { num = pos 50000000000000; den = 1 }) (record { num = pos 200000000000000; den = 1 }))) (neg_ℤ (pos 10000000000000)
-        ∷ pos 49999999999999 ∷ pos 50000000000000 ∷ pos 50000000000001 ∷ pos 100000000000000 ∷ pos 199999999999999 ∷ pos 200000000000000
-        ∷ pos 200000000000001 ∷ pos 1000000000000000 ∷ []) ≡ pos 0 ∷ pos 0 ∷ pos 0 ∷ pos 654 ∷ pos 4618802154 ∷ pos 8000000000 ∷ pos 8000000000
+        → map (demand_high (driven capacity)) around ≡ pos 0 ∷ pos 0 ∷ pos 0 ∷ pos 654 ∷ pos 4618802154 ∷ pos 8000000000 ∷ pos 8000000000
         ∷ pos 8000000000 ∷ pos 8000000000 ∷ [] }
 {}
 
 /// A demand of 545.1 cubic metres a day between 5 and 20.000000001 pounds a square inch.
 pub fn demand_pounds()
     ensures low { (capacity : Capacity) → IsDrivenInPounds capacity
-        → map (demand_low (Driven (pos 5451000000) capacity (record { num = pos 152400000000000000; den = 4333 }) (record { num = pos 609600000030480000; den = 4333 }))) (neg_ℤ (pos 10000000000000)
-        ∷ pos 35171936302792 ∷ pos 35171936302793 ∷ pos 35171936302794 ∷ pos 100000000000000 ∷ pos 140687745218203 ∷ pos 140687745218204
-        ∷ pos 140687745218205 ∷ pos 140687745218206 ∷ pos 1000000000000000 ∷ []) ≡ pos 0 ∷ pos 0 ∷ pos 0 ∷ pos 530 ∷ pos 4272665960 ∷ pos 5450999999
+        → map (demand_low (driven_in_pounds capacity)) around_in_pounds ≡ pos 0 ∷ pos 0 ∷ pos 0 ∷ pos 530 ∷ pos 4272665960 ∷ pos 5450999999
         ∷ pos 5450999999 ∷ pos 5451000000 ∷ pos 5451000000 ∷ pos 5451000000 ∷ [] }
     ensures high { (capacity : Capacity) → IsDrivenInPounds capacity
-        → map (demand_high (Driven (pos 5451000000) capacity (record { num = pos 152400000000000000; den = 4333 }) (record { num = pos 609600000030480000; den = 4333 }))) (neg_ℤ (pos 10000000000000)
-        ∷ pos 35171936302792 ∷ pos 35171936302793 ∷ pos 35171936302794 ∷ pos 100000000000000 ∷ pos 140687745218203 ∷ pos 140687745218204
-        ∷ pos 140687745218205 ∷ pos 140687745218206 ∷ pos 1000000000000000 ∷ []) ≡ pos 0 ∷ pos 0 ∷ pos 531 ∷ pos 751 ∷ pos 4272665961 ∷ pos 5451000000
+        → map (demand_high (driven_in_pounds capacity)) around_in_pounds ≡ pos 0 ∷ pos 0 ∷ pos 531 ∷ pos 751 ∷ pos 4272665961 ∷ pos 5451000000
         ∷ pos 5451000000 ∷ pos 5451000000 ∷ pos 5451000000 ∷ pos 5451000000 ∷ [] }
+{}
+
+/// There are capacities with these ends, so none of these statements holds for want of one.
+pub fn exist()
+    ensures valve { (origin : Origin) → (capacity : Capacity) × IsValve capacity }
+    ensures pipe { (origin : Origin) → (capacity : Capacity) × IsPipe capacity }
+    ensures pipe_in_feet { (origin : Origin) → (capacity : Capacity) × IsPipeInFeet capacity }
+    ensures pump { (origin : Origin) → (capacity : Capacity) × IsPump capacity }
+    ensures pump_in_feet { (origin : Origin) → (capacity : Capacity) × IsPumpInFeet capacity }
+    ensures emitter { (origin : Origin) → (capacity : Capacity) × IsEmitter capacity }
+    ensures driven { (origin : Origin) → (capacity : Capacity) × IsDriven capacity }
+    ensures driven_in_pounds { (origin : Origin) → (capacity : Capacity) × IsDrivenInPounds capacity }
 {}

@@ -4,11 +4,12 @@
 
 ghost use Rattle.std.specs.Prelude.{◌≡◌, ℕ, pos, neg_ℤ, true, false, [], ◌∷◌, map, length, Option};
 ghost use Rattle.hyd_num.specs.declared.decimals.Span.{Span};
-ghost use Rattle.hyd_spec.specs.Types.{Project, Decimal, Capacity, PipeLink, CheckPipe, PumpLink, Tcv, Fcv, Quadratic, Linear, FourThirds, Given, Open, Closed, Speed, Throttle, Limit, Cmd};
-ghost use Rattle.hyd_spec.specs.declared.TankState.TheVariants.{Empty, Between, Full};
+ghost use Rattle.hyd_spec.specs.Types.{Project, Decimal, Capacity, PipeLink, CheckPipe, PumpLink, Tcv, Fcv, Quadratic, Linear};
+ghost use Rattle.hyd_spec.specs.Types.{FourThirds, Given, Open, Closed, Speed, Throttle, Limit, Cmd};
 ghost use Rattle.hyd_spec.specs.LinkLaw.{own_law, law_of};
 ghost use Rattle.hyd_spec.specs.Enclosing.{low, high};
 ghost use Rattle.hyd_examples.specs.Capacities.{IsValve, IsPipe, IsPump, IsPumpInFeet, differences};
+ghost use Rattle.hyd_examples.specs.Tanks.{between_tanks, pairs};
 
 /// A pipe that is open, and one that is closed.
 pub fn pipes()
@@ -156,18 +157,16 @@ pub fn pipes_at_tanks()
     ensures low { (network : Project) (capacity : Capacity) → network.options.unit ≡ Cmd → length network.junctions.list ≡ 1
         → length network.reservoirs.list ≡ 0
         → IsPipe capacity
-        → map (λ tanks. map (low (law_of network tanks (record { from = 1; to = 2; kind = PipeLink capacity; start = Open }) Open)) (pos 1000000000000000
-        ∷ neg_ℤ (pos 1000000000000000) ∷ [])) ((Full ∷ Full ∷ []) ∷ (Full ∷ Between ∷ []) ∷ (Full ∷ Empty ∷ []) ∷ (Between ∷ Full ∷ []) ∷ (Between
-        ∷ Between ∷ []) ∷ (Between ∷ Empty ∷ []) ∷ (Empty ∷ Full ∷ []) ∷ (Empty ∷ Between ∷ []) ∷ (Empty ∷ Empty ∷ []) ∷ [])
+        → map (λ tanks. map (low (law_of network tanks (between_tanks (PipeLink capacity)) Open)) (pos 1000000000000000 ∷ neg_ℤ (pos 1000000000000000)
+        ∷ [])) pairs
         ≡ (pos 0 ∷ pos 0 ∷ []) ∷ (pos 312321049455 ∷ pos 0 ∷ []) ∷ (pos 312321049455 ∷ pos 0 ∷ []) ∷ (pos 0 ∷ neg_ℤ (pos 312321049456) ∷ [])
         ∷ (pos 312321049455 ∷ neg_ℤ (pos 312321049456) ∷ []) ∷ (pos 312321049455 ∷ pos 0 ∷ []) ∷ (pos 0 ∷ neg_ℤ (pos 312321049456) ∷ []) ∷ (pos 0
         ∷ neg_ℤ (pos 312321049456) ∷ []) ∷ (pos 0 ∷ pos 0 ∷ []) ∷ [] }
     ensures high { (network : Project) (capacity : Capacity) → network.options.unit ≡ Cmd → length network.junctions.list ≡ 1
         → length network.reservoirs.list ≡ 0
         → IsPipe capacity
-        → map (λ tanks. map (high (law_of network tanks (record { from = 1; to = 2; kind = PipeLink capacity; start = Open }) Open)) (pos 1000000000000000
-        ∷ neg_ℤ (pos 1000000000000000) ∷ [])) ((Full ∷ Full ∷ []) ∷ (Full ∷ Between ∷ []) ∷ (Full ∷ Empty ∷ []) ∷ (Between ∷ Full ∷ []) ∷ (Between
-        ∷ Between ∷ []) ∷ (Between ∷ Empty ∷ []) ∷ (Empty ∷ Full ∷ []) ∷ (Empty ∷ Between ∷ []) ∷ (Empty ∷ Empty ∷ []) ∷ [])
+        → map (λ tanks. map (high (law_of network tanks (between_tanks (PipeLink capacity)) Open)) (pos 1000000000000000
+        ∷ neg_ℤ (pos 1000000000000000) ∷ [])) pairs
         ≡ (pos 0 ∷ pos 0 ∷ []) ∷ (pos 312321049456 ∷ pos 0 ∷ []) ∷ (pos 312321049456 ∷ pos 0 ∷ []) ∷ (pos 0 ∷ neg_ℤ (pos 312321049455) ∷ [])
         ∷ (pos 312321049456 ∷ neg_ℤ (pos 312321049455) ∷ []) ∷ (pos 312321049456 ∷ pos 0 ∷ []) ∷ (pos 0 ∷ neg_ℤ (pos 312321049455) ∷ []) ∷ (pos 0
         ∷ neg_ℤ (pos 312321049455) ∷ []) ∷ (pos 0 ∷ pos 0 ∷ []) ∷ [] }
@@ -178,17 +177,15 @@ pub fn check_pipes_at_tanks()
     ensures low { (network : Project) (capacity : Capacity) → network.options.unit ≡ Cmd → length network.junctions.list ≡ 1
         → length network.reservoirs.list ≡ 0
         → IsPipe capacity
-        → map (λ tanks. map (low (law_of network tanks (record { from = 1; to = 2; kind = CheckPipe capacity; start = Open }) Open)) (pos 1000000000000000
-        ∷ neg_ℤ (pos 1000000000000000) ∷ [])) ((Full ∷ Full ∷ []) ∷ (Full ∷ Between ∷ []) ∷ (Full ∷ Empty ∷ []) ∷ (Between ∷ Full ∷ []) ∷ (Between
-        ∷ Between ∷ []) ∷ (Between ∷ Empty ∷ []) ∷ (Empty ∷ Full ∷ []) ∷ (Empty ∷ Between ∷ []) ∷ (Empty ∷ Empty ∷ []) ∷ [])
+        → map (λ tanks. map (low (law_of network tanks (between_tanks (CheckPipe capacity)) Open)) (pos 1000000000000000
+        ∷ neg_ℤ (pos 1000000000000000) ∷ [])) pairs
         ≡ (pos 0 ∷ pos 0 ∷ []) ∷ (pos 312321049455 ∷ pos 0 ∷ []) ∷ (pos 312321049455 ∷ pos 0 ∷ []) ∷ (pos 0 ∷ pos 0 ∷ []) ∷ (pos 312321049455 ∷ pos 0
         ∷ []) ∷ (pos 312321049455 ∷ pos 0 ∷ []) ∷ (pos 0 ∷ pos 0 ∷ []) ∷ (pos 0 ∷ pos 0 ∷ []) ∷ (pos 0 ∷ pos 0 ∷ []) ∷ [] }
     ensures high { (network : Project) (capacity : Capacity) → network.options.unit ≡ Cmd → length network.junctions.list ≡ 1
         → length network.reservoirs.list ≡ 0
         → IsPipe capacity
-        → map (λ tanks. map (high (law_of network tanks (record { from = 1; to = 2; kind = CheckPipe capacity; start = Open }) Open)) (pos 1000000000000000
-        ∷ neg_ℤ (pos 1000000000000000) ∷ [])) ((Full ∷ Full ∷ []) ∷ (Full ∷ Between ∷ []) ∷ (Full ∷ Empty ∷ []) ∷ (Between ∷ Full ∷ []) ∷ (Between
-        ∷ Between ∷ []) ∷ (Between ∷ Empty ∷ []) ∷ (Empty ∷ Full ∷ []) ∷ (Empty ∷ Between ∷ []) ∷ (Empty ∷ Empty ∷ []) ∷ [])
+        → map (λ tanks. map (high (law_of network tanks (between_tanks (CheckPipe capacity)) Open)) (pos 1000000000000000
+        ∷ neg_ℤ (pos 1000000000000000) ∷ [])) pairs
         ≡ (pos 0 ∷ pos 0 ∷ []) ∷ (pos 312321049456 ∷ pos 0 ∷ []) ∷ (pos 312321049456 ∷ pos 0 ∷ []) ∷ (pos 0 ∷ pos 0 ∷ []) ∷ (pos 312321049456 ∷ pos 0
         ∷ []) ∷ (pos 312321049456 ∷ pos 0 ∷ []) ∷ (pos 0 ∷ pos 0 ∷ []) ∷ (pos 0 ∷ pos 0 ∷ []) ∷ (pos 0 ∷ pos 0 ∷ []) ∷ [] }
 {}
@@ -198,17 +195,15 @@ pub fn pumps_at_tanks()
     ensures low { (network : Project) (capacity : Capacity) (shutoff : Span) (head : Decimal) (pattern : Option ℕ) → network.options.unit ≡ Cmd
         → length network.junctions.list ≡ 1 → length network.reservoirs.list ≡ 0
         → IsPump capacity → head.nano ≡ pos 40000000000
-        → map (λ tanks. map (low (law_of network tanks (record { from = 1; to = 2; kind = PumpLink capacity shutoff (FourThirds head) pattern; start = Open }) (Speed (pos 900000000)))) (pos 1000000000000000
-        ∷ neg_ℤ (pos 1000000000000000) ∷ [])) ((Full ∷ Full ∷ []) ∷ (Full ∷ Between ∷ []) ∷ (Full ∷ Empty ∷ []) ∷ (Between ∷ Full ∷ []) ∷ (Between
-        ∷ Between ∷ []) ∷ (Between ∷ Empty ∷ []) ∷ (Empty ∷ Full ∷ []) ∷ (Empty ∷ Between ∷ []) ∷ (Empty ∷ Empty ∷ []) ∷ [])
+        → map (λ tanks. map (low (law_of network tanks (between_tanks (PumpLink capacity shutoff (FourThirds head) pattern)) (Speed (pos 900000000)))) (pos 1000000000000000
+        ∷ neg_ℤ (pos 1000000000000000) ∷ [])) pairs
         ≡ (pos 0 ∷ pos 0 ∷ []) ∷ (pos 70787388707 ∷ pos 0 ∷ []) ∷ (pos 70787388707 ∷ pos 0 ∷ []) ∷ (pos 0 ∷ pos 0 ∷ []) ∷ (pos 70787388707 ∷ pos 0
         ∷ []) ∷ (pos 70787388707 ∷ pos 0 ∷ []) ∷ (pos 0 ∷ pos 0 ∷ []) ∷ (pos 0 ∷ pos 0 ∷ []) ∷ (pos 0 ∷ pos 0 ∷ []) ∷ [] }
     ensures high { (network : Project) (capacity : Capacity) (shutoff : Span) (head : Decimal) (pattern : Option ℕ) → network.options.unit ≡ Cmd
         → length network.junctions.list ≡ 1 → length network.reservoirs.list ≡ 0
         → IsPump capacity → head.nano ≡ pos 40000000000
-        → map (λ tanks. map (high (law_of network tanks (record { from = 1; to = 2; kind = PumpLink capacity shutoff (FourThirds head) pattern; start = Open }) (Speed (pos 900000000)))) (pos 1000000000000000
-        ∷ neg_ℤ (pos 1000000000000000) ∷ [])) ((Full ∷ Full ∷ []) ∷ (Full ∷ Between ∷ []) ∷ (Full ∷ Empty ∷ []) ∷ (Between ∷ Full ∷ []) ∷ (Between
-        ∷ Between ∷ []) ∷ (Between ∷ Empty ∷ []) ∷ (Empty ∷ Full ∷ []) ∷ (Empty ∷ Between ∷ []) ∷ (Empty ∷ Empty ∷ []) ∷ [])
+        → map (λ tanks. map (high (law_of network tanks (between_tanks (PumpLink capacity shutoff (FourThirds head) pattern)) (Speed (pos 900000000)))) (pos 1000000000000000
+        ∷ neg_ℤ (pos 1000000000000000) ∷ [])) pairs
         ≡ (pos 0 ∷ pos 0 ∷ []) ∷ (pos 70787388708 ∷ pos 0 ∷ []) ∷ (pos 70787388708 ∷ pos 0 ∷ []) ∷ (pos 0 ∷ pos 0 ∷ []) ∷ (pos 70787388708 ∷ pos 0
         ∷ []) ∷ (pos 70787388708 ∷ pos 0 ∷ []) ∷ (pos 0 ∷ pos 0 ∷ []) ∷ (pos 0 ∷ pos 0 ∷ []) ∷ (pos 0 ∷ pos 0 ∷ []) ∷ [] }
 {}
@@ -218,18 +213,16 @@ pub fn throttle_valves_at_tanks()
     ensures low { (network : Project) (capacity : Capacity) → network.options.unit ≡ Cmd → length network.junctions.list ≡ 1
         → length network.reservoirs.list ≡ 0
         → IsValve capacity
-        → map (λ tanks. map (low (law_of network tanks (record { from = 1; to = 2; kind = Tcv Linear; start = Open }) (Throttle (pos 100000000000) (Quadratic capacity)))) (pos 1000000000000000
-        ∷ neg_ℤ (pos 1000000000000000) ∷ [])) ((Full ∷ Full ∷ []) ∷ (Full ∷ Between ∷ []) ∷ (Full ∷ Empty ∷ []) ∷ (Between ∷ Full ∷ []) ∷ (Between
-        ∷ Between ∷ []) ∷ (Between ∷ Empty ∷ []) ∷ (Empty ∷ Full ∷ []) ∷ (Empty ∷ Between ∷ []) ∷ (Empty ∷ Empty ∷ []) ∷ [])
+        → map (λ tanks. map (low (law_of network tanks (between_tanks (Tcv Linear)) (Throttle (pos 100000000000) (Quadratic capacity)))) (pos 1000000000000000
+        ∷ neg_ℤ (pos 1000000000000000) ∷ [])) pairs
         ≡ (pos 0 ∷ pos 0 ∷ []) ∷ (pos 279324828875 ∷ pos 0 ∷ []) ∷ (pos 279324828875 ∷ pos 0 ∷ []) ∷ (pos 0 ∷ neg_ℤ (pos 279324828876) ∷ [])
         ∷ (pos 279324828875 ∷ neg_ℤ (pos 279324828876) ∷ []) ∷ (pos 279324828875 ∷ pos 0 ∷ []) ∷ (pos 0 ∷ neg_ℤ (pos 279324828876) ∷ []) ∷ (pos 0
         ∷ neg_ℤ (pos 279324828876) ∷ []) ∷ (pos 0 ∷ pos 0 ∷ []) ∷ [] }
     ensures high { (network : Project) (capacity : Capacity) → network.options.unit ≡ Cmd → length network.junctions.list ≡ 1
         → length network.reservoirs.list ≡ 0
         → IsValve capacity
-        → map (λ tanks. map (high (law_of network tanks (record { from = 1; to = 2; kind = Tcv Linear; start = Open }) (Throttle (pos 100000000000) (Quadratic capacity)))) (pos 1000000000000000
-        ∷ neg_ℤ (pos 1000000000000000) ∷ [])) ((Full ∷ Full ∷ []) ∷ (Full ∷ Between ∷ []) ∷ (Full ∷ Empty ∷ []) ∷ (Between ∷ Full ∷ []) ∷ (Between
-        ∷ Between ∷ []) ∷ (Between ∷ Empty ∷ []) ∷ (Empty ∷ Full ∷ []) ∷ (Empty ∷ Between ∷ []) ∷ (Empty ∷ Empty ∷ []) ∷ [])
+        → map (λ tanks. map (high (law_of network tanks (between_tanks (Tcv Linear)) (Throttle (pos 100000000000) (Quadratic capacity)))) (pos 1000000000000000
+        ∷ neg_ℤ (pos 1000000000000000) ∷ [])) pairs
         ≡ (pos 0 ∷ pos 0 ∷ []) ∷ (pos 279324828876 ∷ pos 0 ∷ []) ∷ (pos 279324828876 ∷ pos 0 ∷ []) ∷ (pos 0 ∷ neg_ℤ (pos 279324828875) ∷ [])
         ∷ (pos 279324828876 ∷ neg_ℤ (pos 279324828875) ∷ []) ∷ (pos 279324828876 ∷ pos 0 ∷ []) ∷ (pos 0 ∷ neg_ℤ (pos 279324828875) ∷ []) ∷ (pos 0
         ∷ neg_ℤ (pos 279324828875) ∷ []) ∷ (pos 0 ∷ pos 0 ∷ []) ∷ [] }
@@ -240,18 +233,16 @@ pub fn control_valves_at_tanks()
     ensures low { (network : Project) (capacity : Capacity) → network.options.unit ≡ Cmd → length network.junctions.list ≡ 1
         → length network.reservoirs.list ≡ 0
         → IsValve capacity
-        → map (λ tanks. map (low (law_of network tanks (record { from = 1; to = 2; kind = Fcv (Quadratic capacity); start = Open }) (Limit (pos 500000000000) (pos 5000000000)))) (pos 1000000000000000
-        ∷ neg_ℤ (pos 1000000000000000) ∷ [])) ((Full ∷ Full ∷ []) ∷ (Full ∷ Between ∷ []) ∷ (Full ∷ Empty ∷ []) ∷ (Between ∷ Full ∷ []) ∷ (Between
-        ∷ Between ∷ []) ∷ (Between ∷ Empty ∷ []) ∷ (Empty ∷ Full ∷ []) ∷ (Empty ∷ Between ∷ []) ∷ (Empty ∷ Empty ∷ []) ∷ [])
+        → map (λ tanks. map (low (law_of network tanks (between_tanks (Fcv (Quadratic capacity))) (Limit (pos 500000000000) (pos 5000000000)))) (pos 1000000000000000
+        ∷ neg_ℤ (pos 1000000000000000) ∷ [])) pairs
         ≡ (pos 0 ∷ pos 0 ∷ []) ∷ (pos 5000000000 ∷ pos 0 ∷ []) ∷ (pos 5000000000 ∷ pos 0 ∷ []) ∷ (pos 0 ∷ neg_ℤ (pos 279324828876) ∷ [])
         ∷ (pos 5000000000 ∷ neg_ℤ (pos 279324828876) ∷ []) ∷ (pos 5000000000 ∷ pos 0 ∷ []) ∷ (pos 0 ∷ neg_ℤ (pos 279324828876) ∷ []) ∷ (pos 0
         ∷ neg_ℤ (pos 279324828876) ∷ []) ∷ (pos 0 ∷ pos 0 ∷ []) ∷ [] }
     ensures high { (network : Project) (capacity : Capacity) → network.options.unit ≡ Cmd → length network.junctions.list ≡ 1
         → length network.reservoirs.list ≡ 0
         → IsValve capacity
-        → map (λ tanks. map (high (law_of network tanks (record { from = 1; to = 2; kind = Fcv (Quadratic capacity); start = Open }) (Limit (pos 500000000000) (pos 5000000000)))) (pos 1000000000000000
-        ∷ neg_ℤ (pos 1000000000000000) ∷ [])) ((Full ∷ Full ∷ []) ∷ (Full ∷ Between ∷ []) ∷ (Full ∷ Empty ∷ []) ∷ (Between ∷ Full ∷ []) ∷ (Between
-        ∷ Between ∷ []) ∷ (Between ∷ Empty ∷ []) ∷ (Empty ∷ Full ∷ []) ∷ (Empty ∷ Between ∷ []) ∷ (Empty ∷ Empty ∷ []) ∷ [])
+        → map (λ tanks. map (high (law_of network tanks (between_tanks (Fcv (Quadratic capacity))) (Limit (pos 500000000000) (pos 5000000000)))) (pos 1000000000000000
+        ∷ neg_ℤ (pos 1000000000000000) ∷ [])) pairs
         ≡ (pos 0 ∷ pos 0 ∷ []) ∷ (pos 5000000000 ∷ pos 0 ∷ []) ∷ (pos 5000000000 ∷ pos 0 ∷ []) ∷ (pos 0 ∷ neg_ℤ (pos 279324828875) ∷ [])
         ∷ (pos 5000000000 ∷ neg_ℤ (pos 279324828875) ∷ []) ∷ (pos 5000000000 ∷ pos 0 ∷ []) ∷ (pos 0 ∷ neg_ℤ (pos 279324828875) ∷ []) ∷ (pos 0
         ∷ neg_ℤ (pos 279324828875) ∷ []) ∷ (pos 0 ∷ pos 0 ∷ []) ∷ [] }

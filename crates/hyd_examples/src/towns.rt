@@ -3,15 +3,17 @@
 
 ghost use Rattle.std.specs.Prelude.{◌≡◌, ℕ, pos, neg_ℤ, [], ◌∷◌, map, length, Option};
 ghost use Rattle.hyd_num.specs.declared.decimals.Span.{Span};
-ghost use Rattle.hyd_spec.specs.Types.{Project, Decimal, Tank, PipeLink, CheckPipe, PumpLink, Tcv, Fcv, Quadratic, Linear, FourThirds, Open, Speed, Throttle, Limit, Cmd};
+ghost use Rattle.hyd_spec.specs.Types.{Project, Decimal, Tank, Origin, Cmd};
+ghost use Rattle.hyd_spec.specs.Types.{PipeLink, CheckPipe, PumpLink, Tcv, Fcv, Quadratic, Linear, FourThirds, Open, Speed, Throttle, Limit};
 ghost use Rattle.hyd_spec.specs.declared.TankState.TheVariants.{Empty, Between, Full};
 ghost use Rattle.hyd_spec.specs.declared.Problem.TheVariants.{Main, Pinned};
 ghost use Rattle.hyd_spec.specs.declared.Side.TheVariants.{Upper, Lower};
-ghost use Rattle.hyd_spec.specs.Law.{Quad, Lifted, ForwardOnly, ReverseOnly, Capped};
+ghost use Rattle.hyd_spec.specs.Law.{Quad, ForwardOnly, ReverseOnly, Capped};
 ghost use Rattle.hyd_spec.specs.Grid.{grid_links, tank_intervals, fixed_heads, all_heads};
 ghost use Rattle.hyd_spec.specs.Surplus.{net_low, net_high, margin};
 ghost use Rattle.hyd_spec.specs.Boxes.{flow_box, out_box, inflow_box};
-ghost use Rattle.hyd_examples.specs.Town.{TownParts, town, first, second, pipe, check_pipe, pump, throttle_valve, control_valve, upper, lower, pinned_upper, pinned_lower, apart, sunk};
+ghost use Rattle.hyd_examples.specs.Town.{TownParts, town, first, second, pipe, check_pipe, pump, throttle_valve, control_valve};
+ghost use Rattle.hyd_examples.specs.Town.{upper, lower, pinned_upper, pinned_lower, apart, sunk};
 
 /// The laws of all links, with the tank between, full and empty.
 pub fn laws()
@@ -32,9 +34,7 @@ pub fn laws()
         ∷ record { from = 0; to = 3; kind = Tcv Linear; start = Open }
         ∷ record { from = 1; to = 3; kind = Fcv (Quadratic parts.control); start = Open } ∷ []) (Open ∷ Open ∷ Speed (pos 900000000)
         ∷ Throttle (pos 100000000000) (Quadratic parts.valve) ∷ Limit (pos 500000000000) (pos 5000000000) ∷ [])
-        ≡ record { from = 2; to = 0; law = Quad parts.pipe } ∷ record { from = 0; to = 1; law = ForwardOnly (Quad parts.check) }
-        ∷ record { from = 2; to = 1; law = ForwardOnly (Lifted (record { num = pos 1296000000000000000000000000000000; den = 3000000000000000000 }) (Quad parts.pump)) }
-        ∷ record { from = 0; to = 3; law = ReverseOnly (Quad parts.valve) }
+        ≡ pipe parts ∷ check_pipe parts ∷ pump parts ∷ record { from = 0; to = 3; law = ReverseOnly (Quad parts.valve) }
         ∷ record { from = 1; to = 3; law = ReverseOnly (Capped (pos 5000000000) (Quad parts.control)) } ∷ [] }
     ensures empty { (network : Project) (parts : TownParts) (shutoff : Span) (head : Decimal) (pattern : Option ℕ)
         → network.options.unit ≡ Cmd → length network.junctions.list ≡ 2 → length network.reservoirs.list ≡ 1 → head.nano ≡ pos 40000000000
@@ -44,9 +44,7 @@ pub fn laws()
         ∷ record { from = 0; to = 3; kind = Tcv Linear; start = Open }
         ∷ record { from = 1; to = 3; kind = Fcv (Quadratic parts.control); start = Open } ∷ []) (Open ∷ Open ∷ Speed (pos 900000000)
         ∷ Throttle (pos 100000000000) (Quadratic parts.valve) ∷ Limit (pos 500000000000) (pos 5000000000) ∷ [])
-        ≡ record { from = 2; to = 0; law = Quad parts.pipe } ∷ record { from = 0; to = 1; law = ForwardOnly (Quad parts.check) }
-        ∷ record { from = 2; to = 1; law = ForwardOnly (Lifted (record { num = pos 1296000000000000000000000000000000; den = 3000000000000000000 }) (Quad parts.pump)) }
-        ∷ record { from = 0; to = 3; law = ForwardOnly (Quad parts.valve) }
+        ≡ pipe parts ∷ check_pipe parts ∷ pump parts ∷ record { from = 0; to = 3; law = ForwardOnly (Quad parts.valve) }
         ∷ record { from = 1; to = 3; law = ForwardOnly (Capped (pos 5000000000) (Quad parts.control)) } ∷ [] }
 {}
 
@@ -145,4 +143,9 @@ pub fn inflow_boxes()
     ensures main { (parts : TownParts) → inflow_box (town parts) 0 3 lower upper ≡ record { lo = pos 81475473485; hi = pos 82221179232 } }
     ensures pinned { (parts : TownParts) → inflow_box (town parts) 0 3 pinned_lower pinned_upper
         ≡ record { lo = pos 81714328172; hi = pos 81983897147 } }
+{}
+
+/// There are parts with these ends.
+pub fn exist()
+    ensures { (origin : Origin) → TownParts }
 {}

@@ -1,5 +1,5 @@
-use Rattle.hyd_examples.proofs.forms.other_lines.Goals as goal
 use Rattle.std.proofs.Common.{◌≡◌, [], length, get_or, ap, arith}
+use Rattle.hyd_examples.proofs.forms.other_lines.Goals as goal
 
 pub returns-clause-blank_line : goal.returns-clause-blank_line
 returns-clause-blank_line c = λ w form. let count : 10 ≡ 9 = ap length form.lines in omega (arith, count)

@@ -1,5 +1,5 @@
-use Rattle.hyd_examples.proofs.forms.other_numbers.Goals as goal
 use Rattle.std.proofs.Common.{◌≡◌, ◌≤◌, ◌≤ℤ◌, ℕ, pos, List, [], get_or, codes, ap, sym, subst, arith}
+use Rattle.hyd_examples.proofs.forms.other_numbers.Goals as goal
 use Rattle.std.proofs.lemmas.Int.{ints}
 use Rattle.std.specs.Prelude.{unsigned_abs, IsTrue}
 use Rattle.std.proofs.lemmas.Bool.{false≢true}

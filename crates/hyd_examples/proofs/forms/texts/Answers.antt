@@ -1,9 +1,9 @@
 use Rattle.std.proofs.Common.{refl, ◌≡◌, ◌≤◌, length, get_or, ap, arith}
 use Rattle.hyd_examples.proofs.forms.texts.Goals as goal
 use Rattle.std.proofs.lemmas.Int.{ints}
+use Rattle.std.specs.Prelude.{true, nat_le}
 use Rattle.std.proofs.lemmas.Bool.{leb-true}
 use Rattle.hyd_examples.proofs.Each.{all_by}
-use Rattle.std.specs.Prelude.{true, nat_le}
 use Rattle.hyd_spec.specs.FirstForm.{is_id_byte, text_lines}
 use Rattle.hyd_examples.specs.Forms.{example, example_words, widest, widest_words}
 use Rattle.hyd_num.specs.Numeral.{is_numeral, nano_of, magnitude_of}
@@ -73,3 +73,6 @@ returns-clause-widest c = record {
   short_lines = all_by _ (λ line. length line ≤ 1024) (λ line. nat_le (length line) 1024) (λ line. leb-true _ _) (text_lines widest) refl;
   lines = refl;
 }
+
+pub returns-clause-rows : goal.returns-clause-rows
+returns-clause-rows c = refl
