@@ -47,19 +47,21 @@ abbrev pub differences : List ℤ
 differences = pos 0 ∷ pos 1 ∷ neg_ℤ (pos 1) ∷ pos 1000003 ∷ neg_ℤ (pos 1000003) ∷ pos 10000000000000 ∷ neg_ℤ (pos 10000000000000)
     ∷ pos 123456789012345 ∷ neg_ℤ (pos 123456789012345) ∷ pos 1000000000000000 ∷ neg_ℤ (pos 1000000000000000) ∷ []
 
--- The law of that demand, and pressures around its two.
+-- The law of the demand in metres.
 abbrev pub driven : Capacity → DemandLaw
 driven capacity = Driven (pos 8000000000) capacity (record { num = pos 50000000000000; den = 1 }) (record { num = pos 200000000000000; den = 1 })
 
+-- Pressures around its minimum and its required one.
 abbrev pub around : List ℤ
 around = neg_ℤ (pos 10000000000000) ∷ pos 49999999999999 ∷ pos 50000000000000 ∷ pos 50000000000001 ∷ pos 100000000000000 ∷ pos 199999999999999
     ∷ pos 200000000000000 ∷ pos 200000000000001 ∷ pos 1000000000000000 ∷ []
 
--- The law of that demand in pounds, and pressures around its two.
+-- The law of the demand in pounds.
 abbrev pub driven_in_pounds : Capacity → DemandLaw
 driven_in_pounds capacity = Driven (pos 5451000000) capacity
     (record { num = pos 152400000000000000; den = 4333 }) (record { num = pos 609600000030480000; den = 4333 })
 
+-- Pressures around its minimum and its required one.
 abbrev pub around_in_pounds : List ℤ
 around_in_pounds = neg_ℤ (pos 10000000000000) ∷ pos 35171936302792 ∷ pos 35171936302793 ∷ pos 35171936302794 ∷ pos 100000000000000
     ∷ pos 140687745218203 ∷ pos 140687745218204 ∷ pos 140687745218205 ∷ pos 140687745218206 ∷ pos 1000000000000000 ∷ []

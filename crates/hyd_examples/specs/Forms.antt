@@ -6,6 +6,7 @@ use Rattle.hyd_spec.specs.FirstForm.{Words}
 abbrev pub example : List ℕ
 example = codes "[OPTIONS]\nUNITS CMD\nHEADLOSS C-M\n[JUNCTIONS]\nJ 0 1000\n[RESERVOIRS]\nR 100\n[VALVES]\nV R J 304.8 TCV 100 0\n"
 
+-- Its words.
 abbrev pub example_words : Words
 example_words = record {
   junction = codes "J";
@@ -23,6 +24,7 @@ abbrev pub widest : List ℕ
 widest = codes "[OPTIONS]\r\nUNITS CMD\r\nHEADLOSS\tC-M\r\n[JUNCTIONS] \r\n  NNNNNNNNNNNNNNNNNNNNNNNNNNNNNNN\t-10000 1e8\r\n"
     ++ codes "[RESERVOIRS]\r\n(R) +10000.\r\n[VALVES]\r\nv#1 (R) NNNNNNNNNNNNNNNNNNNNNNNNNNNNNNN 10 TCV 1.0E3 \t 0"
 
+-- Its words.
 abbrev pub widest_words : Words
 widest_words = record {
   junction = codes "NNNNNNNNNNNNNNNNNNNNNNNNNNNNNNN";

@@ -6,9 +6,11 @@ use Rattle.hyd_spec.specs.Law.{Quad}
 use Rattle.hyd_spec.specs.Enclosing.{Fixed}
 use Rattle.hyd_spec.specs.Grid.{Grid, GridJunction}
 
+-- The junction.
 abbrev pub end : GridJunction
 end = record { elevation = pos 0; demand = Fixed (pos 10000000000); emitter = None }
 
+-- Node 1 is the reservoir.
 abbrev pub one_valve : Capacity → Grid
 one_valve capacity = record {
   junctions = end ∷ [];

@@ -1,9 +1,10 @@
--- A link between two tanks, which are the nodes 1 and 2.
+-- Links between two tanks, which are the nodes 1 and 2.
 use Rattle.std.specs.Prelude.{List, [], ◌∷◌}
 use Rattle.hyd_spec.specs.Types.{Link, LinkKind, Open}
 use Rattle.hyd_spec.specs.declared.TankState.{TankState}
 use Rattle.hyd_spec.specs.declared.TankState.TheVariants.{Empty, Between, Full}
 
+-- A link of some kind from one tank to the other.
 abbrev pub between_tanks : LinkKind → Link
 between_tanks kind = record { from = 1; to = 2; kind = kind; start = Open }
 

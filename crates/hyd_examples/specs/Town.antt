@@ -26,7 +26,7 @@ pub record TownParts : Type 0 where
   pub driven : Capacity
   pub driven_is : HasEnds driven 7505999378950826666 (neg_ℤ (pos 44)) 7505999378950826667 (neg_ℤ (pos 44))
 
--- Node 2 is the reservoir, node 3 the tank.
+-- At 10 m, with a demand between 5 and 20 m of pressure.
 abbrev pub first : TownParts → GridJunction
 first parts = record {
   elevation = pos 100000000000000;
@@ -34,6 +34,7 @@ first parts = record {
   emitter = None;
 }
 
+-- At 25 m, with an emitter and an inflow of 120 cubic metres a day.
 abbrev pub second : TownParts → GridJunction
 second parts = record {
   elevation = pos 250000000000000;
@@ -41,12 +42,15 @@ second parts = record {
   emitter = Some parts.emitter;
 }
 
+-- From the reservoir, which is node 2, to the first junction.
 abbrev pub pipe : TownParts → GridLink
 pipe parts = record { from = 2; to = 0; law = Quad parts.pipe }
 
+-- From the first junction to the second.
 abbrev pub check_pipe : TownParts → GridLink
 check_pipe parts = record { from = 0; to = 1; law = ForwardOnly (Quad parts.check) }
 
+-- From the reservoir to the second junction, at nine tenths of its speed.
 abbrev pub pump : TownParts → GridLink
 pump parts = record {
   from = 2;
@@ -54,13 +58,15 @@ pump parts = record {
   law = ForwardOnly (Lifted (record { num = pos 1296000000000000000000000000000000; den = 3000000000000000000 }) (Quad parts.pump));
 }
 
+-- From the first junction to the tank, which is node 3.
 abbrev pub throttle_valve : TownParts → GridLink
 throttle_valve parts = record { from = 0; to = 3; law = Quad parts.valve }
 
+-- From the second junction to the tank, limited to 500 cubic metres a day.
 abbrev pub control_valve : TownParts → GridLink
 control_valve parts = record { from = 1; to = 3; law = Capped (pos 5000000000) (Quad parts.control) }
 
--- The tank stands between 45 and 45.1 m.
+-- The whole town, its tank between 45 and 45.1 m.
 abbrev pub town : TownParts → Grid
 town parts = record {
   junctions = first parts ∷ second parts ∷ [];
@@ -69,23 +75,26 @@ town parts = record {
   links = pipe parts ∷ check_pipe parts ∷ pump parts ∷ throttle_valve parts ∷ control_valve parts ∷ [];
 }
 
--- The tight vectors: of heads above all, and below all.
+-- The tight vector above all heads.
 abbrev pub upper : List ℤ
 upper = pos 526428225406959 ∷ pos 1015580607643695 ∷ []
 
+-- The one below all heads.
 abbrev pub lower : List ℤ
 lower = pos 525959255858584 ∷ pos 1015580607115147 ∷ []
 
--- Those with the tank pinned.
+-- The one above all heads with the tank pinned.
 abbrev pub pinned_upper : List ℤ
 pinned_upper = pos 525959255971881 ∷ pos 1015580607643695 ∷ []
 
+-- The one below all heads with the tank pinned.
 abbrev pub pinned_lower : List ℤ
 pinned_lower = pos 526428225292914 ∷ pos 1015580607115147 ∷ []
 
--- Heads far from them, forward through the pipe with the check valve and against it.
+-- Heads far from them, along the pipe with the check valve.
 abbrev pub apart : List ℤ
 apart = pos 700000000000000 ∷ pos 300000000000000 ∷ []
 
+-- Heads below the second junction's elevation, against the check valve.
 abbrev pub sunk : List ℤ
 sunk = pos 220000000000000 ∷ pos 230000000000000 ∷ []

@@ -5,10 +5,9 @@ ghost use Rattle.std.specs.Prelude.{◌≡◌, pos, [], ◌∷◌};
 ghost use Rattle.hyd_spec.specs.Types.{Capacity};
 ghost use Rattle.hyd_spec.specs.declared.Problem.TheVariants.{Main, Pinned};
 ghost use Rattle.hyd_spec.specs.declared.Side.TheVariants.{Upper, Lower};
-ghost use Rattle.hyd_spec.specs.Surplus.{net_low, net_high};
 ghost use Rattle.hyd_spec.specs.Certificate.{IsCertificate};
 ghost use Rattle.hyd_examples.specs.Capacities.{IsValve};
-ghost use Rattle.hyd_examples.specs.Single.{end, one_valve};
+ghost use Rattle.hyd_examples.specs.Single.{one_valve};
 ghost use Rattle.hyd_examples.specs.Town.{TownParts, town, upper, lower, pinned_upper, pinned_lower};
 
 /// The valve of 304.8 mm that takes 1000 cubic metres a day from a reservoir at 100 m.
@@ -19,7 +18,7 @@ pub fn one_valve()
     ensures lower_fails { (capacity : Capacity) → IsValve capacity → IsCertificate (one_valve capacity) Main Lower (pos 998718316123913 ∷ []) → ⊥ }
 {}
 
-/// The town.
+/// The town: its tight vectors, and each of them a tick nearer at one junction.
 pub fn town_main()
     ensures upper_passes { (parts : TownParts) → IsCertificate (town parts) Main Upper upper }
     ensures upper_fails_at_first { (parts : TownParts) → IsCertificate (town parts) Main Upper (pos 526428225406958 ∷ pos 1015580607643695 ∷ []) → ⊥ }
@@ -31,7 +30,7 @@ pub fn town_main()
         → ⊥ }
 {}
 
-/// The town with its tank pinned.
+/// The same with its tank pinned.
 pub fn town_pinned()
     ensures upper_passes { (parts : TownParts) → IsCertificate (town parts) (Pinned 0) Upper pinned_upper }
     ensures upper_fails_at_first { (parts : TownParts) → IsCertificate (town parts) (Pinned 0) Upper (pos 525959255971880 ∷ pos 1015580607643695 ∷ [])
