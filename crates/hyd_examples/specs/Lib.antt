@@ -1,7 +1,7 @@
 pub mod Sample
 pub mod Record
 pub mod Capacities
-pub mod Town
+pub mod City
 pub mod Single
 pub mod Forms
 pub mod Tanks

@@ -8,7 +8,7 @@ ghost use Rattle.hyd_spec.specs.declared.Side.TheVariants.{Upper, Lower};
 ghost use Rattle.hyd_spec.specs.Certificate.{IsCertificate};
 ghost use Rattle.hyd_examples.specs.Capacities.{IsValve};
 ghost use Rattle.hyd_examples.specs.Single.{one_valve};
-ghost use Rattle.hyd_examples.specs.Town.{TownParts, town, upper, lower, pinned_upper, pinned_lower};
+ghost use Rattle.hyd_examples.specs.City.{CityParts, city, upper, lower, pinned_upper, pinned_lower};
 
 /// The valve of 304.8 mm that takes 1000 cubic metres a day from a reservoir at 100 m.
 pub fn one_valve()
@@ -18,28 +18,28 @@ pub fn one_valve()
     ensures lower_fails { (capacity : Capacity) → IsValve capacity → IsCertificate (one_valve capacity) Main Lower (pos 998718316123913 ∷ []) → ⊥ }
 {}
 
-/// The town: its tight vectors, and each of them a tick nearer at one junction.
-pub fn town_main()
-    ensures upper_passes { (parts : TownParts) → IsCertificate (town parts) Main Upper upper }
-    ensures upper_fails_at_first { (parts : TownParts) → IsCertificate (town parts) Main Upper (pos 526428225406958 ∷ pos 1015580607643695 ∷ []) → ⊥ }
-    ensures upper_fails_at_second { (parts : TownParts) → IsCertificate (town parts) Main Upper (pos 526428225406959 ∷ pos 1015580607643694 ∷ [])
+/// The city: its tight vectors, and each of them a tick nearer at one junction.
+pub fn city_main()
+    ensures upper_passes { (parts : CityParts) → IsCertificate (city parts) Main Upper upper }
+    ensures upper_fails_at_first { (parts : CityParts) → IsCertificate (city parts) Main Upper (pos 526428225406958 ∷ pos 1015580607643695 ∷ []) → ⊥ }
+    ensures upper_fails_at_second { (parts : CityParts) → IsCertificate (city parts) Main Upper (pos 526428225406959 ∷ pos 1015580607643694 ∷ [])
         → ⊥ }
-    ensures lower_passes { (parts : TownParts) → IsCertificate (town parts) Main Lower lower }
-    ensures lower_fails_at_first { (parts : TownParts) → IsCertificate (town parts) Main Lower (pos 525959255858585 ∷ pos 1015580607115147 ∷ []) → ⊥ }
-    ensures lower_fails_at_second { (parts : TownParts) → IsCertificate (town parts) Main Lower (pos 525959255858584 ∷ pos 1015580607115148 ∷ [])
+    ensures lower_passes { (parts : CityParts) → IsCertificate (city parts) Main Lower lower }
+    ensures lower_fails_at_first { (parts : CityParts) → IsCertificate (city parts) Main Lower (pos 525959255858585 ∷ pos 1015580607115147 ∷ []) → ⊥ }
+    ensures lower_fails_at_second { (parts : CityParts) → IsCertificate (city parts) Main Lower (pos 525959255858584 ∷ pos 1015580607115148 ∷ [])
         → ⊥ }
 {}
 
 /// The same with its tank pinned.
-pub fn town_pinned()
-    ensures upper_passes { (parts : TownParts) → IsCertificate (town parts) (Pinned 0) Upper pinned_upper }
-    ensures upper_fails_at_first { (parts : TownParts) → IsCertificate (town parts) (Pinned 0) Upper (pos 525959255971880 ∷ pos 1015580607643695 ∷ [])
+pub fn city_pinned()
+    ensures upper_passes { (parts : CityParts) → IsCertificate (city parts) (Pinned 0) Upper pinned_upper }
+    ensures upper_fails_at_first { (parts : CityParts) → IsCertificate (city parts) (Pinned 0) Upper (pos 525959255971880 ∷ pos 1015580607643695 ∷ [])
         → ⊥ }
-    ensures upper_fails_at_second { (parts : TownParts) → IsCertificate (town parts) (Pinned 0) Upper (pos 525959255971881 ∷ pos 1015580607643694
+    ensures upper_fails_at_second { (parts : CityParts) → IsCertificate (city parts) (Pinned 0) Upper (pos 525959255971881 ∷ pos 1015580607643694
         ∷ []) → ⊥ }
-    ensures lower_passes { (parts : TownParts) → IsCertificate (town parts) (Pinned 0) Lower pinned_lower }
-    ensures lower_fails_at_first { (parts : TownParts) → IsCertificate (town parts) (Pinned 0) Lower (pos 526428225292915 ∷ pos 1015580607115147 ∷ [])
+    ensures lower_passes { (parts : CityParts) → IsCertificate (city parts) (Pinned 0) Lower pinned_lower }
+    ensures lower_fails_at_first { (parts : CityParts) → IsCertificate (city parts) (Pinned 0) Lower (pos 526428225292915 ∷ pos 1015580607115147 ∷ [])
         → ⊥ }
-    ensures lower_fails_at_second { (parts : TownParts) → IsCertificate (town parts) (Pinned 0) Lower (pos 526428225292914 ∷ pos 1015580607115148
+    ensures lower_fails_at_second { (parts : CityParts) → IsCertificate (city parts) (Pinned 0) Lower (pos 526428225292914 ∷ pos 1015580607115148
         ∷ []) → ⊥ }
 {}

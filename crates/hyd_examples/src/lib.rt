@@ -5,6 +5,7 @@
 
 pub mod capacities;
 pub mod certificates;
+pub mod cities;
 pub mod decisions;
 pub mod enclosing;
 pub mod forms;
@@ -19,4 +20,3 @@ pub mod rules;
 pub mod starts;
 pub mod surpluses;
 pub mod texts;
-pub mod towns;

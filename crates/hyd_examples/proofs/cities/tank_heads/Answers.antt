@@ -1,5 +1,5 @@
 use Rattle.std.proofs.Common.{refl}
-use Rattle.hyd_examples.proofs.towns.tank_heads.Goals as goal
+use Rattle.hyd_examples.proofs.cities.tank_heads.Goals as goal
 
 pub returns-clause-both : goal.returns-clause-both
 returns-clause-both c = λ tank other bottom other_bottom. rw (bottom, other_bottom) refl

@@ -1,5 +1,5 @@
 use Rattle.std.proofs.Common.{refl}
-use Rattle.hyd_examples.proofs.towns.deficits.Goals as goal
+use Rattle.hyd_examples.proofs.cities.surpluses.Goals as goal
 use Rattle.hyd_spec.specs.Enclosing.{root_up}
 use Rattle.hyd_laws.proofs.Roots.{root_down-quick, quick_root}
 

@@ -1,5 +1,5 @@
 use Rattle.std.proofs.Common.{refl}
-use Rattle.hyd_examples.proofs.towns.laws.Goals as goal
+use Rattle.hyd_examples.proofs.cities.laws.Goals as goal
 
 pub returns-clause-between : goal.returns-clause-between
 returns-clause-between c = λ network parts shutoff head pattern unit junctions reservoirs is. rw (junctions, reservoirs, unit, is) refl

@@ -1,5 +1,5 @@
 use Rattle.std.proofs.Common.{refl, pos, neg_ℤ}
-use Rattle.hyd_examples.proofs.towns.exist.Goals as goal
+use Rattle.hyd_examples.proofs.cities.exist.Goals as goal
 use Rattle.hyd_examples.proofs.Ends.{can_be, with_ends}
 
 pub returns : goal.returns

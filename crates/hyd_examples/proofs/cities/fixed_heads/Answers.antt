@@ -1,5 +1,5 @@
 use Rattle.std.proofs.Common.{refl}
-use Rattle.hyd_examples.proofs.towns.fixed_heads.Goals as goal
+use Rattle.hyd_examples.proofs.cities.fixed_heads.Goals as goal
 
 pub returns-clause-main_upper : goal.returns-clause-main_upper
 returns-clause-main_upper c = λ parts. refl

@@ -1,4 +1,4 @@
--- A town of two junctions, a reservoir and a tank, with one link of each kind, in cubic metres a day and metres. The second
+-- A city of two junctions, a reservoir and a tank, with one link of each kind, in cubic metres a day and metres. The second
 -- junction has an emitter; the demand of the first depends on its pressure.
 use Rattle.std.specs.Prelude.{pos, neg_ℤ, List, ℤ, [], ◌∷◌, Some, None}
 use Rattle.hyd_spec.specs.Types.{Capacity}
@@ -10,7 +10,7 @@ use Rattle.hyd_examples.specs.Capacities.{HasEnds}
 -- The capacities of the pipe (1000 m, 300 mm across), the pipe with a check valve (400 m, 200 mm across), the pump (40 m at
 -- 2160 cubic metres a day), the throttle control valve (304.8 mm, a setting of 100), the flow control valve (250 mm), the
 -- emitter, and the demand.
-pub record TownParts : Type 0 where
+pub record CityParts : Type 0 where
   pub pipe : Capacity
   pub pipe_is : HasEnds pipe 6703202733254145186 (neg_ℤ (pos 36)) 6703202733254145207 (neg_ℤ (pos 36))
   pub check : Capacity
@@ -27,7 +27,7 @@ pub record TownParts : Type 0 where
   pub driven_is : HasEnds driven 7505999378950826666 (neg_ℤ (pos 44)) 7505999378950826667 (neg_ℤ (pos 44))
 
 -- At 10 m, with a demand between 5 and 20 m of pressure.
-abbrev pub first : TownParts → GridJunction
+abbrev pub first : CityParts → GridJunction
 first parts = record {
   elevation = pos 100000000000000;
   demand = Driven (pos 8000000000) parts.driven (record { num = pos 50000000000000; den = 1 }) (record { num = pos 200000000000000; den = 1 });
@@ -35,7 +35,7 @@ first parts = record {
 }
 
 -- At 25 m, with an emitter and an inflow of 120 cubic metres a day.
-abbrev pub second : TownParts → GridJunction
+abbrev pub second : CityParts → GridJunction
 second parts = record {
   elevation = pos 250000000000000;
   demand = Fixed (neg_ℤ (pos 1200000000));
@@ -43,15 +43,15 @@ second parts = record {
 }
 
 -- From the reservoir, which is node 2, to the first junction.
-abbrev pub pipe : TownParts → GridLink
+abbrev pub pipe : CityParts → GridLink
 pipe parts = record { from = 2; to = 0; law = Quad parts.pipe }
 
 -- From the first junction to the second.
-abbrev pub check_pipe : TownParts → GridLink
+abbrev pub check_pipe : CityParts → GridLink
 check_pipe parts = record { from = 0; to = 1; law = ForwardOnly (Quad parts.check) }
 
 -- From the reservoir to the second junction, at nine tenths of its speed.
-abbrev pub pump : TownParts → GridLink
+abbrev pub pump : CityParts → GridLink
 pump parts = record {
   from = 2;
   to = 1;
@@ -59,16 +59,16 @@ pump parts = record {
 }
 
 -- From the first junction to the tank, which is node 3.
-abbrev pub throttle_valve : TownParts → GridLink
+abbrev pub throttle_valve : CityParts → GridLink
 throttle_valve parts = record { from = 0; to = 3; law = Quad parts.valve }
 
 -- From the second junction to the tank, limited to 500 cubic metres a day.
-abbrev pub control_valve : TownParts → GridLink
+abbrev pub control_valve : CityParts → GridLink
 control_valve parts = record { from = 1; to = 3; law = Capped (pos 5000000000) (Quad parts.control) }
 
--- The whole town, its tank between 45 and 45.1 m.
-abbrev pub town : TownParts → Grid
-town parts = record {
+-- The whole city, its tank between 45 and 45.1 m.
+abbrev pub city : CityParts → Grid
+city parts = record {
   junctions = first parts ∷ second parts ∷ [];
   reservoirs = pos 600000000000000 ∷ [];
   tanks = record { lo = pos 450000000000000; hi = pos 451000000000000 } ∷ [];
