@@ -9,7 +9,7 @@ use Rattle.hyd_num.specs.Scaled.{numerator, denominator}
 use Rattle.hyd_num.specs.Roots.{IsSquareRootDown, IsSquareRootUp}
 use Rattle.hyd_spec.specs.Types.{Capacity}
 use Rattle.hyd_spec.specs.Enclosing.{root_down, root_up, quad_low, quad_high}
-use Rattle.hyd_laws.proofs.Roots.{root_down-is, root_up-is}
+use Rattle.hyd_laws.proofs.Roots.{root_down-is, root_up-is, down_is, up_is}
 
 positive : (s : Scaled) → 0 < denominator s
 positive s = pow_pos (down s.exp)
@@ -26,20 +26,6 @@ pub upper_least : (c : Capacity) → denominator c.hi ≤ numerator c.hi * 2 ^ 6
 upper_least c = least_over (numerator c.lo) (denominator c.lo) (numerator c.hi) (denominator c.hi) (positive c.lo) c.ordered c.least
 
 -- ---- the roots are those of the laws
-
-down_is : (p q r : ℕ) → 0 < q → IsSquareRootDown p q r → r ≡ root_down p q
-down_is p q r above root =
-    let is = root_down-is p q above in
-    let l : r ≤ root_down p q = is.greatest r root.at_most in
-    let m : root_down p q ≤ r = root.greatest (root_down p q) is.at_most in
-    omega arith
-
-up_is : (p q r : ℕ) → 0 < q → IsSquareRootUp p q r → r ≡ root_up p q
-up_is p q r above root =
-    let is = root_up-is p q above in
-    let l : root_up p q ≤ r = is.least r root.at_least in
-    let m : r ≤ root_up p q = root.least (root_up p q) is.at_least in
-    omega arith
 
 down_at : (s : Scaled) (d m r : ℕ) → m ≡ d → IsSquareRootDown (numerator s * m) (denominator s) r → r ≡ root_down (numerator s * d) (denominator s)
 down_at s d m r e root = subst (λ (n : ℕ). r ≡ root_down (numerator s * n) (denominator s)) e (down_is _ _ r (positive s) root)

@@ -1,2 +1,4 @@
 pub mod TownIs
 pub mod HamletIs
+pub mod Each
+pub mod Ends

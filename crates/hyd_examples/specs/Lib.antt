@@ -7,3 +7,8 @@ pub mod Hamlet
 pub mod Clauses
 pub mod TownReport
 pub mod TownReadings
+pub mod Capacities
+pub mod City
+pub mod Single
+pub mod Forms
+pub mod Tanks

@@ -3,10 +3,15 @@
 //! table of computed values. No function here has a body.
 #![tactic(auto)]
 
+pub mod capacities;
+pub mod certificates;
+pub mod cities;
 pub mod clauses;
 pub mod decisions;
 pub mod enclosing;
+pub mod forms;
 pub mod levels;
+pub mod links;
 pub mod losses;
 pub mod numbers;
 pub mod outcomes;
