@@ -15,3 +15,4 @@ pub mod rules;
 pub mod starts;
 pub mod surpluses;
 pub mod texts;
+pub mod village;

@@ -1,0 +1,2 @@
+pub mod VillageGrids
+pub mod VillageCertificates

@@ -1,0 +1,94 @@
+-- A village with a tank, as its file says it: two junctions, a reservoir, a tank and three valves without loss
+-- coefficients, one of them with a limit; a pattern, a level control and a rule.
+use Rattle.std.specs.Prelude.{ℕ, ℤ, pos, true, false, List, [], ◌∷◌, None, Some, codes}
+use Rattle.std.specs.Int.Signed.{≤ℤ_refl}
+use Rattle.std.proofs.Common.{lit≤}
+use Rattle.hyd_net.specs.ListView.{ListView}
+use Rattle.hyd_spec.specs.Types.{Project, Junction, Tank, Link, Tcv, Fcv, Linear, Open, Closed, Throttle, Limit, Control, AtLevel, Rule, And, Level, Status, Less, Equal, Amount, ValueClosed, Cmd, LinkState}
+
+-- A list without room for more.
+abbrev pub listed : {T : Type 0} → List T → ListView T
+listed items = record { list = items; spare = 0 }
+
+-- The mill takes the whole of its demand for eight seconds, then half of it, in turn.
+abbrev pub mill : Junction
+mill = record {
+  elevation = pos 500000000000000;
+  demands = listed (record { base = pos 8000000000; pattern = Some 0 } ∷ []);
+  emitter = None;
+}
+
+abbrev pub farm : Junction
+farm = record {
+  elevation = pos 400000000000000;
+  demands = listed (record { base = pos 2000000000; pattern = None } ∷ []);
+  emitter = None;
+}
+
+abbrev pub tower : Tank
+tower = record {
+  bottom = pos 600000000000000;
+  initial = pos 20000000000000;
+  minimum = pos 5000000000000;
+  maximum = pos 50000000000000;
+  area = pos 12566370616;
+  diameter = record { nano = pos 4000000000; bounded = lit≤ tt };
+}
+
+-- Lake to mill, mill to tower, tower to farm.
+abbrev pub links : List Link
+links =
+    (record { from = 2; to = 0; kind = Tcv Linear; start = Throttle (pos 0) Linear })
+    ∷ (record { from = 0; to = 3; kind = Fcv Linear; start = Limit (pos 1000000000000) (pos 10000000000) })
+    ∷ (record { from = 3; to = 1; kind = Tcv Linear; start = Throttle (pos 0) Linear })
+    ∷ []
+
+-- The tower is no longer filled from 2.008 m on.
+abbrev pub control : Control
+control = record { link = 1; to = Closed; when = AtLevel 0 true (pos 20080000000000) }
+
+-- It is filled slowly again below 2.0077 m.
+abbrev pub refill : Rule
+refill = record {
+  id = listed (codes "Refill");
+  clauses = listed (
+      (record { joined = And; clause = record { what = Status 1; relation = Equal; value = ValueClosed } })
+      ∷ (record { joined = And; clause = record { what = Level 0; relation = Less; value =
+      Amount (record { lo = pos 20077000000000; hi = pos 20077000000000; ordered = ≤ℤ_refl (pos 20077000000000) })
+      (record { nano = pos 2007700000; bounded = lit≤ tt }) } })
+      ∷ []);
+  yes = listed (record { link = 1; to = Limit (pos 300000000000) (pos 3000000000) } ∷ []);
+  no = listed [];
+  priority = None;
+}
+
+abbrev pub village : Project
+village = record {
+  options = record {
+    unit = Cmd;
+    pda = false;
+    p0 = record { nano = pos 0; bounded = lit≤ tt };
+    pf = record { nano = pos 100000000; bounded = lit≤ tt };
+    multiplier = record { nano = pos 1000000000; bounded = lit≤ tt };
+    default_pattern = None;
+  };
+  times = record {
+    duration = 16;
+    hydraulic = 8;
+    pattern = 8;
+    pattern_start = 0;
+    report = 16;
+    report_start = 0;
+    start_clock = 0;
+    rule = 2;
+  };
+  node_ids = codes "Mill" ∷ codes "Farm" ∷ codes "Lake" ∷ codes "Tower" ∷ [];
+  link_ids = codes "Main" ∷ codes "Feed" ∷ codes "Drop" ∷ [];
+  junctions = listed (mill ∷ farm ∷ []);
+  reservoirs = listed (record { head = pos 1000000000000000; pattern = None } ∷ []);
+  tanks = listed (tower ∷ []);
+  links = listed links;
+  patterns = listed (record { multipliers = listed (pos 1000000000 ∷ pos 500000000 ∷ []) } ∷ []);
+  controls = listed (control ∷ []);
+  rules = listed (refill ∷ []);
+}

@@ -1,0 +1,28 @@
+//! A village of two junctions and a tank over five periods: the relations that are not computed hold of what an
+//! independent calculation gives for it.
+#![tactic(auto)]
+
+ghost use Rattle.std.specs.Prelude.{◌≡◌};
+ghost use Rattle.hyd_spec.specs.Record.{initial_standing};
+ghost use Rattle.hyd_spec.specs.Valid.{IsGridAt, AreCertificates};
+ghost use Rattle.hyd_examples.specs.Village.{village};
+ghost use Rattle.hyd_examples.specs.VillageRun.{standing_0, standing_1, standing_2, standing_3, standing_4, grid_0, grid_1, grid_2, grid_3, grid_4, row_0, row_1, row_2, row_3, row_4};
+
+/// The standing at the start of the run, and the grid of each period.
+pub fn grids()
+    ensures start { initial_standing village ≡ standing_0 }
+    ensures first { IsGridAt village standing_0 grid_0 }
+    ensures second { IsGridAt village standing_1 grid_1 }
+    ensures third { IsGridAt village standing_2 grid_2 }
+    ensures fourth { IsGridAt village standing_3 grid_3 }
+    ensures fifth { IsGridAt village standing_4 grid_4 }
+{}
+
+/// All vectors of each record are certificates.
+pub fn certificates()
+    ensures first { AreCertificates village grid_0 row_0 }
+    ensures second { AreCertificates village grid_1 row_1 }
+    ensures third { AreCertificates village grid_2 row_2 }
+    ensures fourth { AreCertificates village grid_3 row_3 }
+    ensures fifth { AreCertificates village grid_4 row_4 }
+{}
