@@ -1,2 +1,5 @@
 pub mod VillageGrids
 pub mod VillageCertificates
+pub mod VillageSeconds
+pub mod VillageEnds
+pub mod VillageRecords

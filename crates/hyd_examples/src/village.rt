@@ -2,11 +2,12 @@
 //! independent calculation gives for it.
 #![tactic(auto)]
 
-ghost use Rattle.std.specs.Prelude.{◌≡◌};
+ghost use Rattle.std.specs.Prelude.{◌≡◌, [], ◌∷◌};
 ghost use Rattle.hyd_spec.specs.Record.{initial_standing};
-ghost use Rattle.hyd_spec.specs.Valid.{IsGridAt, AreCertificates};
+ghost use Rattle.hyd_spec.specs.Decided.{EndsBy, ByClock, ByRules};
+ghost use Rattle.hyd_spec.specs.Valid.{IsGridAt, AreCertificates, IsValid, AreValid};
 ghost use Rattle.hyd_examples.specs.Village.{village};
-ghost use Rattle.hyd_examples.specs.VillageRun.{standing_0, standing_1, standing_2, standing_3, standing_4, grid_0, grid_1, grid_2, grid_3, grid_4, row_0, row_1, row_2, row_3, row_4};
+ghost use Rattle.hyd_examples.specs.VillageRun.{standing_0, standing_1, standing_2, standing_3, standing_4, left, grid_0, grid_1, grid_2, grid_3, grid_4, row_0, row_1, row_2, row_3, row_4};
 
 /// The standing at the start of the run, and the grid of each period.
 pub fn grids()
@@ -25,4 +26,22 @@ pub fn certificates()
     ensures third { AreCertificates village grid_2 row_2 }
     ensures fourth { AreCertificates village grid_3 row_3 }
     ensures fifth { AreCertificates village grid_4 row_4 }
+{}
+
+/// How each period ends: by the clock, by the control, by the rule, by the clock again.
+pub fn ends()
+    ensures first { EndsBy village grid_0 standing_0 row_0 (ByClock 8) }
+    ensures second { EndsBy village grid_1 standing_1 row_1 (ByClock 3) }
+    ensures third { EndsBy village grid_2 standing_2 row_2 (ByRules 3) }
+    ensures fourth { EndsBy village grid_3 standing_3 row_3 (ByClock 2) }
+{}
+
+/// Each record is valid and leads on to the next one, and so does the whole list.
+pub fn records()
+    ensures first { IsValid village standing_0 grid_0 row_0 standing_1 }
+    ensures second { IsValid village standing_1 grid_1 row_1 standing_2 }
+    ensures third { IsValid village standing_2 grid_2 row_2 standing_3 }
+    ensures fourth { IsValid village standing_3 grid_3 row_3 standing_4 }
+    ensures fifth { IsValid village standing_4 grid_4 row_4 left }
+    ensures all { AreValid village (row_0 ∷ row_1 ∷ row_2 ∷ row_3 ∷ row_4 ∷ []) left }
 {}

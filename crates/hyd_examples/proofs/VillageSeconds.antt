@@ -1,0 +1,148 @@
+-- The first second at which something holds, by trying each: by the clock, by levels, by rules.
+use Rattle.std.proofs.Common.{◌≡◌, ◌≢◌, ℕ, zero, suc, ◌+◌, ◌-◌, ◌%◌, ◌<◌, ◌≤◌, ℤ, pos, Bool, true, false, ◌&&◌, ◌||◌, not, ◌⊎◌, inl, inr, IsTrue, List, [], ◌∷◌, eqb, ltb, length, refl, subst, arith}
+use Rattle.std.specs.Prelude.{slice_get, slice_index_or, Some, Contains}
+use Rattle.std.specs.List.{list_any}
+use Rattle.std.proofs.lemmas.Bool.{cases_lt, eq-eqb, lt-ltb}
+use Rattle.hyd_spec.specs.Types.{Tank, Control, AtTime, AtClock}
+use Rattle.hyd_spec.specs.Interval.{Interval}
+use Rattle.hyd_spec.specs.Length.{IsLeast, EndsByClock, step, duration, pattern, report, control_time, control_clock}
+use Rattle.hyd_spec.specs.Grid.{Grid}
+use Rattle.hyd_spec.specs.Record.{Record, Standing}
+use Rattle.hyd_spec.specs.Levels.{may_reach, must_reach}
+use Rattle.hyd_spec.specs.Rules.{Change}
+use Rattle.hyd_spec.specs.Truth.{is_unknown}
+use Rattle.hyd_spec.specs.Decided.{Watch, watches, SomeMayReach, SomeMustReach, level_of_tank, inflow_of_tank, IsClockLength, IsEarliestEnd, IsLatestEnd, rule_truths, decided_changes, RulesMatter}
+use Rattle.hyd_examples.specs.Village.{village, tower, control}
+use Rattle.hyd_examples.proofs.VillageCertificates.{both-first, both-second}
+
+-- ---- tests
+
+-- whether a test fails at each number below n
+abbrev pub none_below : (ℕ → Bool) → ℕ → Bool
+none_below test zero = true
+none_below test (suc n) = not (test n) && none_below test n
+
+fails_below : (test : ℕ → Bool) (n : ℕ) → none_below test n ≡ true → (k : ℕ) → k < n → test k ≡ true → ⊥
+fails_below test zero none k le e = omega (arith, le)
+fails_below test (suc n) none k le e = elim (cases_lt k n) [
+  | inl l ↦ fails_below test n (both-second (not (test n)) (none_below test n) none) k l e
+  | inr g ↦ let same : k ≡ n = omega (arith, le, g) in
+    let fails = both-first (not (test n)) (none_below test n) none in
+    let holds = subst (λ (m : ℕ). test m ≡ true) same e in
+    let wrong = subst (λ (b : Bool). not b ≡ true) holds fails in cc
+]
+
+-- what passes a test that fails below n is at least n
+pub from : (test : ℕ → Bool) (n : ℕ) → none_below test n ≡ true → (k : ℕ) → test k ≡ true → n ≤ k
+from test n none k e = elim (cases_lt k n) [ inl l ↦ absurd (fails_below test n none k l e) | inr g ↦ g ]
+
+pub or-left : (a b : Bool) → a ≡ true → (a || b) ≡ true
+or-left true b e = refl
+or-left false b e = absurd (cc)
+
+pub or-right : (a b : Bool) → b ≡ true → (a || b) ≡ true
+or-right true b e = refl
+or-right false b e = e
+
+pub and-true : (a b : Bool) → a ≡ true → b ≡ true → (a && b) ≡ true
+and-true true b e g = g
+and-true false b e g = absurd (cc)
+
+any_at : (X : Type 0) (test : X → Bool) (xs : List X) (k : ℕ) (x : X) → k < length xs → slice_index_or xs k x ≡ x → test x ≡ true → list_any test xs ≡ true
+any_at X test [] k x le at e = absurd (omega (arith, le))
+any_at X test (y ∷ ys) zero x le at e = or-left (test y) (list_any test ys) (subst (λ (z : X). test z ≡ true) (let same : x ≡ y = cc in same) e)
+any_at X test (y ∷ ys) (suc k) x le at e = or-right (test y) (list_any test ys) (any_at X test ys k x (omega (arith, le)) at e)
+
+pub any_of : (X : Type 0) (test : X → Bool) (xs : List X) (x : X) → Contains xs x → test x ≡ true → list_any test xs ≡ true
+any_of X test xs x is e = any_at X test xs is.0 x is.1 is.2 e
+
+-- ---- by the clock
+
+-- the one control isn't one of a time
+pub only_control : (each : Control) → Contains (control ∷ []) each → control ≡ each
+only_control each is = only is.0 is.1 is.2
+  where
+    only : (k : ℕ) → k < 1 → slice_index_or (control ∷ []) k each ≡ each → control ≡ each
+    only zero le at = at
+    only (suc k) le at = absurd (omega (arith, le))
+
+pub not_before : (time end k : ℕ) → end ≤ time + 8 → end ≤ 16 → ((m : ℕ) → time < m → m % 8 ≡ 0 → end ≤ m)
+    → EndsByClock village time k → end ≤ k
+not_before time end k after last boundary (step e) = omega (arith, after, e)
+not_before time end k after last boundary (duration e) = omega (arith, last, e)
+not_before time end k after last boundary (pattern later e) = boundary k later (let m : k % 8 ≡ 0 = omega (arith, e) in m)
+not_before time end k after last boundary (report later begun e) = boundary k later (let m : k % 8 ≡ 0 = omega (arith, e) in m)
+not_before time end k after last boundary (control_time each is at later) = let same = only_control each is in absurd (cc)
+not_before time end k after last boundary (control_clock each at is when shown later) = let same = only_control each is in absurd (cc)
+
+pub clock_length : (time cap : ℕ) → EndsByClock village time (time + cap) → time + cap ≤ time + 8 → time + cap ≤ 16
+    → ((m : ℕ) → time < m → m % 8 ≡ 0 → time + cap ≤ m) → IsClockLength village time cap
+clock_length time cap ends after last boundary = record { holds = ends; least = λ k is. not_before time (time + cap) k after last boundary is }
+
+-- ---- by levels
+
+only_tank : (k : ℕ) (tank : Tank) → slice_get (tower ∷ []) k ≡ Some tank → tower ≡ tank
+only_tank zero tank e = cc
+only_tank (suc k) tank e = absurd (cc)
+
+module _ (grid : Grid) (standing : Standing) (row : Record) where
+  -- whether a watched level may, or must, have reached its target
+  abbrev pub may : ℕ → Bool
+  may s = list_any (λ (w : Watch). may_reach tower (level_of_tank standing w.tank) (inflow_of_tank village grid row w.tank) w.target w.rising s) (watches village standing)
+
+  abbrev pub must : ℕ → Bool
+  must s = list_any (λ (w : Watch). must_reach tower (level_of_tank standing w.tank) (inflow_of_tank village grid row w.tank) w.target w.rising s) (watches village standing)
+
+  may_test : (s : ℕ) → SomeMayReach village grid standing row s → may s ≡ true
+  may_test s is = any_of Watch (λ w. may_reach tower (level_of_tank standing w.tank) (inflow_of_tank village grid row w.tank) w.target w.rising s)
+      (watches village standing) is.watch is.is_watched
+      (subst (λ (t : Tank). may_reach t (level_of_tank standing is.watch.tank) (inflow_of_tank village grid row is.watch.tank) is.watch.target is.watch.rising s ≡ true)
+      (let same : is.tank ≡ tower = (let e = only_tank is.watch.tank is.tank is.is_tank in cc) in same) is.reached)
+
+  must_test : (s : ℕ) → SomeMustReach village grid standing row s → must s ≡ true
+  must_test s is = any_of Watch (λ w. must_reach tower (level_of_tank standing w.tank) (inflow_of_tank village grid row w.tank) w.target w.rising s)
+      (watches village standing) is.watch is.is_watched
+      (subst (λ (t : Tank). must_reach t (level_of_tank standing is.watch.tank) (inflow_of_tank village grid row is.watch.tank) is.watch.target is.watch.rising s ≡ true)
+      (let same : is.tank ≡ tower = (let e = only_tank is.watch.tank is.tank is.is_tank in cc) in same) is.reached)
+
+  -- the first second at which the clock or a level may, or must, end the period
+  pub earliest_end : (cap e : ℕ) → IsClockLength village standing.time cap → e ≤ cap → none_below may e ≡ true
+      → IsClockLength village standing.time e ⊎ ((1 ≤ e) × SomeMayReach village grid standing row e) → IsEarliestEnd village grid standing row e
+  earliest_end cap e clock within none ends = record { holds = ends; least = least }
+    where
+      least : (k : ℕ) → IsClockLength village standing.time k ⊎ ((1 ≤ k) × SomeMayReach village grid standing row k) → e ≤ k
+      least k (inl c) = let l = clock.least (standing.time + k) c.holds in omega (arith, l, within)
+      least k (inr m) = from may e none k (may_test k m.1)
+
+  pub latest_end : (cap e : ℕ) → IsClockLength village standing.time cap → e ≤ cap → none_below must e ≡ true
+      → IsClockLength village standing.time e ⊎ ((1 ≤ e) × SomeMustReach village grid standing row e) → IsLatestEnd village grid standing row e
+  latest_end cap e clock within none ends = record { holds = ends; least = least }
+    where
+      least : (k : ℕ) → IsClockLength village standing.time k ⊎ ((1 ≤ k) × SomeMustReach village grid standing row k) → e ≤ k
+      least k (inl c) = let l = clock.least (standing.time + k) c.holds in omega (arith, l, within)
+      least k (inr m) = from must e none k (must_test k m.1)
+
+-- ---- by rules
+
+abbrev pub is_empty_list : List Change → Bool
+is_empty_list [] = true
+is_empty_list (c ∷ cs) = false
+
+pub some_change : (cs : List Change) → cs ≢ [] → not (is_empty_list cs) ≡ true
+some_change [] some = absurd (some refl)
+some_change (c ∷ cs) some = refl
+
+module _ (grid : Grid) (standing : Standing) (row : Record) where
+  -- whether the rules are tried and matter
+  abbrev pub matter : ℕ → Bool
+  matter s = ltb 0 s && (eqb ((standing.time + s) % 2) 0
+      && (list_any is_unknown (rule_truths village grid standing row s) || not (is_empty_list (decided_changes village grid standing row s))))
+
+  pub matter_test : (s : ℕ) → RulesMatter village grid standing row s → matter s ≡ true
+  matter_test s is =
+      let unknown = list_any is_unknown (rule_truths village grid standing row s) in
+      let changes = not (is_empty_list (decided_changes village grid standing row s)) in
+      let tried = eqb ((standing.time + s) % 2) 0 in
+      and-true (ltb 0 s) (tried && (unknown || changes)) (lt-ltb 0 s is.tried.later)
+      (and-true tried (unknown || changes) (eq-eqb ((standing.time + s) % 2) 0 is.tried.is_multiple)
+      (elim is.matters [ inl u ↦ or-left unknown changes u | inr c ↦ or-right unknown changes (some_change (decided_changes village grid standing row s) c) ]))
