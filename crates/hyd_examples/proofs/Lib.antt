@@ -3,3 +3,4 @@ pub mod VillageCertificates
 pub mod VillageSeconds
 pub mod VillageEnds
 pub mod VillageRecords
+pub mod VillageTight
