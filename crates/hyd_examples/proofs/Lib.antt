@@ -4,3 +4,5 @@ pub mod VillageSeconds
 pub mod VillageEnds
 pub mod VillageRecords
 pub mod VillageTight
+pub mod VillageFlows
+pub mod VillageLengths

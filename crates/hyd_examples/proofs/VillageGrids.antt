@@ -14,7 +14,7 @@ use Rattle.hyd_spec.specs.Valid.{IsGridAt}
 use Rattle.hyd_examples.specs.Village.{village, mill, farm, tower, links}
 use Rattle.hyd_examples.specs.VillageRun.{village_grid}
 
-same_either_way : (b : Bool) → (if b then false else false) ≡ false
+pub same_either_way : (b : Bool) → (if b then false else false) ≡ false
 same_either_way true = refl
 same_either_way false = refl
 

@@ -108,7 +108,7 @@ two_heads (x ∷ []) e = absurd (omega (arith, e))
 two_heads (x ∷ y ∷ []) e = record { first = x; second = y; is = refl }
 two_heads (x ∷ y ∷ z ∷ v) e = absurd (omega (arith, e))
 
-each_two : (X : Type 0) (P : ℕ → X → Type 0) (x y : X) → P 0 x → P 1 y → Each (x ∷ y ∷ []) P
+pub each_two : (X : Type 0) (P : ℕ → X → Type 0) (x y : X) → P 0 x → P 1 y → Each (x ∷ y ∷ []) P
 each_two X P x y p q zero z e = let same : x ≡ z = cc in subst (P 0) same p
 each_two X P x y p q (suc zero) z e = let same : y ≡ z = cc in subst (P 1) same q
 each_two X P x y p q (suc (suc k)) z e = absurd (cc)

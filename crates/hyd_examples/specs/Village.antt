@@ -35,11 +35,15 @@ tower = record {
   diameter = record { nano = pos 4000000000; bounded = lit≤ tt };
 }
 
+-- The valve from the mill to the tower, which passes at most its setting.
+abbrev pub feed_link : Link
+feed_link = record { from = 0; to = 3; kind = Fcv Linear; start = Limit (pos 1000000000000) (pos 10000000000) }
+
 -- Lake to mill, mill to tower, tower to farm.
 abbrev pub links : List Link
 links =
     (record { from = 2; to = 0; kind = Tcv Linear; start = Throttle (pos 0) Linear })
-    ∷ (record { from = 0; to = 3; kind = Fcv Linear; start = Limit (pos 1000000000000) (pos 10000000000) })
+    ∷ feed_link
     ∷ (record { from = 3; to = 1; kind = Tcv Linear; start = Throttle (pos 0) Linear })
     ∷ []
 

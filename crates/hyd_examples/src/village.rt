@@ -5,9 +5,11 @@
 ghost use Rattle.std.specs.Prelude.{◌≡◌, [], ◌∷◌};
 ghost use Rattle.hyd_spec.specs.Record.{initial_standing};
 ghost use Rattle.hyd_spec.specs.Decided.{EndsBy, ByClock, ByRules};
+ghost use Rattle.hyd_spec.specs.History.{IsHistory};
 ghost use Rattle.hyd_spec.specs.Headline.{IsTightThroughout};
 ghost use Rattle.hyd_spec.specs.Valid.{IsGridAt, AreCertificates, IsValid, AreValid};
 ghost use Rattle.hyd_examples.specs.Village.{village};
+ghost use Rattle.hyd_examples.specs.VillageHistory.{periods};
 ghost use Rattle.hyd_examples.specs.VillageRun.{standing_0, standing_1, standing_2, standing_3, standing_4, left, grid_0, grid_1, grid_2, grid_3, grid_4, row_0, row_1, row_2, row_3, row_4, found_0, found_1, found_2, found_3, found_4};
 
 /// The standing at the start of the run, and the grid of each period.
@@ -54,4 +56,9 @@ pub fn tight()
     ensures third { IsTightThroughout village found_2 }
     ensures fourth { IsTightThroughout village found_3 }
     ensures fifth { IsTightThroughout village found_4 }
+{}
+
+/// Heads and flows that may occur, over all five periods.
+pub fn history()
+    ensures { IsHistory village 1000 periods }
 {}
