@@ -6,3 +6,4 @@ pub mod VillageRecords
 pub mod VillageTight
 pub mod VillageFlows
 pub mod VillageLengths
+pub mod VillageReports

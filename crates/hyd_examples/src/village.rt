@@ -6,11 +6,12 @@ ghost use Rattle.std.specs.Prelude.{◌≡◌, [], ◌∷◌};
 ghost use Rattle.hyd_spec.specs.Record.{initial_standing};
 ghost use Rattle.hyd_spec.specs.Decided.{EndsBy, ByClock, ByRules};
 ghost use Rattle.hyd_spec.specs.History.{IsHistory};
+ghost use Rattle.hyd_spec.specs.Report.{IsReport};
 ghost use Rattle.hyd_spec.specs.Headline.{IsTightThroughout};
 ghost use Rattle.hyd_spec.specs.Valid.{IsGridAt, AreCertificates, IsValid, AreValid};
 ghost use Rattle.hyd_examples.specs.Village.{village};
 ghost use Rattle.hyd_examples.specs.VillageHistory.{periods};
-ghost use Rattle.hyd_examples.specs.VillageRun.{standing_0, standing_1, standing_2, standing_3, standing_4, left, grid_0, grid_1, grid_2, grid_3, grid_4, row_0, row_1, row_2, row_3, row_4, found_0, found_1, found_2, found_3, found_4};
+ghost use Rattle.hyd_examples.specs.VillageRun.{standing_0, standing_1, standing_2, standing_3, standing_4, left, grid_0, grid_1, grid_2, grid_3, grid_4, row_0, row_1, row_2, row_3, row_4, lines_0, lines_1, lines_2, lines_3, lines_4, found_0, found_1, found_2, found_3, found_4};
 
 /// The standing at the start of the run, and the grid of each period.
 pub fn grids()
@@ -61,4 +62,13 @@ pub fn tight()
 /// Heads and flows that may occur, over all five periods.
 pub fn history()
     ensures { IsHistory village 1000 periods }
+{}
+
+/// The lines of each period are its report.
+pub fn reports()
+    ensures first { IsReport village grid_0 standing_0 row_0 lines_0 }
+    ensures second { IsReport village grid_1 standing_1 row_1 lines_1 }
+    ensures third { IsReport village grid_2 standing_2 row_2 lines_2 }
+    ensures fourth { IsReport village grid_3 standing_3 row_3 lines_3 }
+    ensures fifth { IsReport village grid_4 standing_4 row_4 lines_4 }
 {}
