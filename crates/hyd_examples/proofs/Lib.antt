@@ -7,3 +7,5 @@ pub mod VillageTight
 pub mod VillageFlows
 pub mod VillageLengths
 pub mod VillageReports
+pub mod VillageTexts
+pub mod VillageAgreement

@@ -49,10 +49,10 @@ each_passes X test k (y ∷ ys) e (suc j) x at =
 
 -- ---- heads and junctions
 
-abbrev inside : ℤ → Bool
+abbrev pub inside : ℤ → Bool
 inside h = int_le (neg_ℤ (pos (10 ^ 18))) h && int_le h (pos (10 ^ 18))
 
-abbrev all_inside : List ℤ → Bool
+abbrev pub all_inside : List ℤ → Bool
 all_inside [] = true
 all_inside (h ∷ hs) = inside h && all_inside hs
 
@@ -62,7 +62,7 @@ in_box h e =
     let high = int_le h (pos (10 ^ 18)) in
     record { above_floor = le-yes (neg_ℤ (pos (10 ^ 18))) h (both-first low high e); below_ceiling = le-yes h (pos (10 ^ 18)) (both-second low high e) }
 
-all_in_box : (hs : List ℤ) → all_inside hs ≡ true → All IsInBox hs
+pub all_in_box : (hs : List ℤ) → all_inside hs ≡ true → All IsInBox hs
 all_in_box [] e = All-nil IsInBox
 all_in_box (h ∷ hs) e = All-cons IsInBox h hs (in_box h (both-first (inside h) (all_inside hs) e)) (all_in_box hs (both-second (inside h) (all_inside hs) e))
 

@@ -35,17 +35,18 @@ tower = record {
   diameter = record { nano = pos 4000000000; bounded = lit≤ tt };
 }
 
--- The valve from the mill to the tower, which passes at most its setting.
+-- Lake to mill, mill to tower, tower to farm. The second passes at most its setting.
+abbrev pub main_link : Link
+main_link = record { from = 2; to = 0; kind = Tcv Linear; start = Throttle (pos 0) Linear }
+
 abbrev pub feed_link : Link
 feed_link = record { from = 0; to = 3; kind = Fcv Linear; start = Limit (pos 1000000000000) (pos 10000000000) }
 
--- Lake to mill, mill to tower, tower to farm.
+abbrev pub drop_link : Link
+drop_link = record { from = 3; to = 1; kind = Tcv Linear; start = Throttle (pos 0) Linear }
+
 abbrev pub links : List Link
-links =
-    (record { from = 2; to = 0; kind = Tcv Linear; start = Throttle (pos 0) Linear })
-    ∷ feed_link
-    ∷ (record { from = 3; to = 1; kind = Tcv Linear; start = Throttle (pos 0) Linear })
-    ∷ []
+links = main_link ∷ feed_link ∷ drop_link ∷ []
 
 -- The tower is no longer filled from 2.008 m on.
 abbrev pub control : Control

@@ -2,16 +2,19 @@
 //! independent calculation gives for it.
 #![tactic(auto)]
 
-ghost use Rattle.std.specs.Prelude.{◌≡◌, [], ◌∷◌};
+ghost use Rattle.std.specs.Prelude.{◌≡◌, true, [], ◌∷◌};
 ghost use Rattle.hyd_spec.specs.Record.{initial_standing};
 ghost use Rattle.hyd_spec.specs.Decided.{EndsBy, ByClock, ByRules};
-ghost use Rattle.hyd_spec.specs.History.{IsHistory};
+ghost use Rattle.hyd_spec.specs.History.{IsHistory, initial_links};
 ghost use Rattle.hyd_spec.specs.Report.{IsReport};
-ghost use Rattle.hyd_spec.specs.Headline.{IsTightThroughout};
+ghost use Rattle.hyd_spec.specs.ReportLine.{report_text, done_line};
+ghost use Rattle.hyd_spec.specs.CertificateText.{IsCertificateText};
+ghost use Rattle.hyd_spec.specs.Headline.{IsTightThroughout, IsRun, AllAgree, rows_of, lines_of};
 ghost use Rattle.hyd_spec.specs.Valid.{IsGridAt, AreCertificates, IsValid, AreValid};
 ghost use Rattle.hyd_examples.specs.Village.{village};
 ghost use Rattle.hyd_examples.specs.VillageHistory.{periods};
-ghost use Rattle.hyd_examples.specs.VillageRun.{standing_0, standing_1, standing_2, standing_3, standing_4, left, grid_0, grid_1, grid_2, grid_3, grid_4, row_0, row_1, row_2, row_3, row_4, lines_0, lines_1, lines_2, lines_3, lines_4, found_0, found_1, found_2, found_3, found_4};
+ghost use Rattle.hyd_examples.specs.VillageRun.{standing_0, standing_1, standing_2, standing_3, standing_4, left, grid_0, grid_1, grid_2, grid_3, grid_4, row_0, row_1, row_2, row_3, row_4, lines_0, lines_1, lines_2, lines_3, lines_4, found_0, found_1, found_2, found_3, found_4, founds};
+ghost use Rattle.hyd_examples.specs.VillageTexts.{written, printed};
 
 /// The standing at the start of the run, and the grid of each period.
 pub fn grids()
@@ -71,4 +74,20 @@ pub fn reports()
     ensures third { IsReport village grid_2 standing_2 row_2 lines_2 }
     ensures fourth { IsReport village grid_3 standing_3 row_3 lines_3 }
     ensures fifth { IsReport village grid_4 standing_4 row_4 lines_4 }
+{}
+
+/// The five periods together are a run to the end.
+pub fn run()
+    ensures { IsRun village founds left }
+{}
+
+/// What was written is the certificate of the records, what was printed the report of the lines.
+pub fn texts()
+    ensures certificate { IsCertificateText written 2 1 (rows_of founds) 5 true }
+    ensures report { printed ≡ report_text village (lines_of founds) (done_line 5) }
+{}
+
+/// The history agrees with the run: its heads lie strictly between the vectors, and each line holds of it.
+pub fn agreement()
+    ensures { AllAgree village 1000 (initial_links village) periods founds }
 {}
