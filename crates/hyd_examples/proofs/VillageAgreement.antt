@@ -6,7 +6,7 @@ use Rattle.hyd_spec.specs.Scale.{at_scale}
 use Rattle.hyd_spec.specs.Assignment.{head_at}
 use Rattle.hyd_spec.specs.History.{initial_links, commanded_after}
 use Rattle.hyd_spec.specs.Headline.{Agrees}
-use Rattle.hyd_examples.specs.Village.{village, mill, farm, tower, control, main_link, feed_link, drop_link}
+use Rattle.hyd_examples.specs.Village.{village, mill, farm, tower, level_control, main_link, feed_link, drop_link}
 use Rattle.hyd_examples.specs.VillageRun.{found_0, found_1, found_2, found_3, found_4}
 use Rattle.hyd_examples.specs.VillageHistory.{period_0, period_1, period_2, period_3, period_4}
 use Rattle.hyd_examples.proofs.VillageTight.{each_two}
@@ -33,7 +33,7 @@ first_agrees = record {
               record { link = main_link; is_link = refl; state = Throttle (pos 0) Linear; is_state = refl; flow_lies = record { at_least = refl; at_most = refl }; status_holds = tt },
               (
                 record { link = feed_link; is_link = refl; state = Limit (pos 1000000000000) (pos 10000000000); is_state = refl; flow_lies = record { at_least = refl; at_most = refl }; status_holds = omega (arith, ints) },
-                (record { link = drop_link; is_link = refl; state = Throttle (pos 0) Linear; is_state = refl; flow_lies = record { at_least = refl; at_most = refl }; status_holds = tt }, tt),
+                (record { link = drop_link (Throttle (pos 0) Linear); is_link = refl; state = Throttle (pos 0) Linear; is_state = refl; flow_lies = record { at_least = refl; at_most = refl }; status_holds = tt }, tt),
               ),
             ),
           ),
@@ -53,7 +53,7 @@ second_agrees = record {
   below_upper = each_two ℤ (λ j h. h <ℤ at_scale 1000 (head_at found_1.row.main.upper j)) _ _ (omega (arith, ints)) (omega (arith, ints));
   lines_hold = (
     record {
-      control = control;
+      control = level_control (pos 20080000000000);
       is_control = refl;
       above = true;
       ticks = pos 20080000000000;
@@ -112,7 +112,7 @@ fifth_agrees = record {
               record { link = main_link; is_link = refl; state = Throttle (pos 0) Linear; is_state = refl; flow_lies = record { at_least = refl; at_most = refl }; status_holds = tt },
               (
                 record { link = feed_link; is_link = refl; state = Limit (pos 300000000000) (pos 3000000000); is_state = refl; flow_lies = record { at_least = refl; at_most = refl }; status_holds = omega (arith, ints) },
-                (record { link = drop_link; is_link = refl; state = Throttle (pos 0) Linear; is_state = refl; flow_lies = record { at_least = refl; at_most = refl }; status_holds = tt }, tt),
+                (record { link = drop_link (Throttle (pos 0) Linear); is_link = refl; state = Throttle (pos 0) Linear; is_state = refl; flow_lies = record { at_least = refl; at_most = refl }; status_holds = tt }, tt),
               ),
             ),
           ),

@@ -4,37 +4,28 @@ use Rattle.hyd_spec.specs.Length.{pattern, duration, step}
 use Rattle.hyd_spec.specs.Grid.{Grid}
 use Rattle.hyd_spec.specs.Record.{Record, Standing}
 use Rattle.hyd_spec.specs.Decided.{Watch, SomeMayReach, SomeMustReach, IsClockLength, IsEarliestEnd, IsLatestEnd, NoRuleMatters, RulesMatter, IsFirstMatter, EndsBy, ByRules, ByClock, by_rules, by_clock}
-use Rattle.hyd_examples.specs.Village.{village, tower}
+use Rattle.hyd_examples.specs.Village.{village, usual, tower}
 use Rattle.hyd_examples.specs.VillageRun.{standing_0, standing_1, standing_2, standing_3, grid_0, grid_1, grid_2, grid_3, row_0, row_1, row_2, row_3}
-use Rattle.hyd_examples.proofs.VillageSeconds.{none_below, from, clock_length, may, must, matter, matter_test, earliest_end, latest_end}
+use Rattle.hyd_examples.proofs.VillageSeconds.{from, clock_length, matter, matter_test, no_rule, earliest_end, latest_end}
 
 -- the clock allows eight seconds from 0 and from 8 on, five from 11, two from 14
 clock_0 : IsClockLength village 0 8
-clock_0 = clock_length 0 8 (step refl) (omega arith) (omega arith) (λ m later e. omega arith)
+clock_0 = clock_length usual 0 8 (step refl) (omega arith) (omega arith) (λ m later e. omega arith)
 
 clock_1 : IsClockLength village 8 8
-clock_1 = clock_length 8 8 (step refl) (omega arith) (omega arith) (λ m later e. omega arith)
+clock_1 = clock_length usual 8 8 (step refl) (omega arith) (omega arith) (λ m later e. omega arith)
 
 clock_2 : IsClockLength village 11 5
-clock_2 = clock_length 11 5 (duration refl) (omega arith) (omega arith) (λ m later e. omega arith)
+clock_2 = clock_length usual 11 5 (duration refl) (omega arith) (omega arith) (λ m later e. omega arith)
 
 clock_3 : IsClockLength village 14 2
-clock_3 = clock_length 14 2 (duration refl) (omega arith) (omega arith) (λ m later e. omega arith)
-
--- the rules matter at no second up to e
-no_rule : (grid : Grid) (standing : Standing) (row : Record) (e : ℕ) → standing.time < 16 → IsEarliestEnd village grid standing row e
-    → none_below (matter grid standing row) (e + 1) ≡ true → NoRuleMatters village grid standing row e
-no_rule grid standing row e before earliest none = record {
-  not_last = λ is. omega (arith, is, before);
-  is_earliest = earliest;
-  none = λ s is. let l = from (matter grid standing row) (e + 1) none s (matter_test grid standing row s is) in omega (arith, l);
-}
+clock_3 = clock_length usual 14 2 (duration refl) (omega arith) (omega arith) (λ m later e. omega arith)
 
 -- by the clock
 pub first_ends : EndsBy village grid_0 standing_0 row_0 (ByClock 8)
 first_ends = by_clock
-    (no_rule grid_0 standing_0 row_0 8 (omega arith) (earliest_end grid_0 standing_0 row_0 8 8 clock_0 (omega arith) refl (inl clock_0)) refl)
-    (latest_end grid_0 standing_0 row_0 8 8 clock_0 (omega arith) refl (inl clock_0))
+    (no_rule usual grid_0 standing_0 row_0 8 (omega arith) (earliest_end usual grid_0 standing_0 row_0 8 8 clock_0 (omega arith) refl (inl clock_0)) refl)
+    (latest_end usual grid_0 standing_0 row_0 8 8 clock_0 (omega arith) refl (inl clock_0))
 
 -- by the control, which is the third that is watched
 abbrev filled : Watch
@@ -48,8 +39,8 @@ must_be_filled = record { watch = filled; is_watched = (2, lit< tt, refl); tank 
 
 pub second_ends : EndsBy village grid_1 standing_1 row_1 (ByClock 3)
 second_ends = by_clock
-    (no_rule grid_1 standing_1 row_1 3 (omega arith) (earliest_end grid_1 standing_1 row_1 8 3 clock_1 (omega arith) refl (inr (omega arith, may_be_filled))) refl)
-    (latest_end grid_1 standing_1 row_1 8 3 clock_1 (omega arith) refl (inr (omega arith, must_be_filled)))
+    (no_rule usual grid_1 standing_1 row_1 3 (omega arith) (earliest_end usual grid_1 standing_1 row_1 8 3 clock_1 (omega arith) refl (inr (omega arith, may_be_filled))) refl)
+    (latest_end usual grid_1 standing_1 row_1 8 3 clock_1 (omega arith) refl (inr (omega arith, must_be_filled)))
 
 -- by the rule, before the clock ends the period
 rule_matters : RulesMatter village grid_2 standing_2 row_2 3
@@ -62,9 +53,9 @@ rule_is_first : IsFirstMatter village grid_2 standing_2 row_2 3
 rule_is_first = record {
   not_last = λ is. omega (arith, is);
   earliest = 5;
-  is_earliest = earliest_end grid_2 standing_2 row_2 5 5 clock_2 (omega arith) refl (inl clock_2);
+  is_earliest = earliest_end usual grid_2 standing_2 row_2 5 5 clock_2 (omega arith) refl (inl clock_2);
   in_time = omega arith;
-  first = record { holds = rule_matters; least = λ s is. from (matter grid_2 standing_2 row_2) 3 refl s (matter_test grid_2 standing_2 row_2 s is) };
+  first = record { holds = rule_matters; least = λ s is. from (matter usual grid_2 standing_2 row_2) 3 refl s (matter_test usual grid_2 standing_2 row_2 s is) };
 }
 
 pub third_ends : EndsBy village grid_2 standing_2 row_2 (ByRules 3)
@@ -73,5 +64,5 @@ third_ends = by_rules rule_is_first refl
 -- by the clock, at the end of the run
 pub fourth_ends : EndsBy village grid_3 standing_3 row_3 (ByClock 2)
 fourth_ends = by_clock
-    (no_rule grid_3 standing_3 row_3 2 (omega arith) (earliest_end grid_3 standing_3 row_3 2 2 clock_3 (omega arith) refl (inl clock_3)) refl)
-    (latest_end grid_3 standing_3 row_3 2 2 clock_3 (omega arith) refl (inl clock_3))
+    (no_rule usual grid_3 standing_3 row_3 2 (omega arith) (earliest_end usual grid_3 standing_3 row_3 2 2 clock_3 (omega arith) refl (inl clock_3)) refl)
+    (latest_end usual grid_3 standing_3 row_3 2 2 clock_3 (omega arith) refl (inl clock_3))

@@ -10,7 +10,7 @@ use Rattle.hyd_spec.specs.Tank.{reaches, is_at_maximum, is_at_minimum, IsNextLev
 use Rattle.hyd_spec.specs.Rules.{rule_changes}
 use Rattle.hyd_spec.specs.Length.{Period, EndsByLevel, full, empty, control as at_control, EndsByRules, MayEnd, by_clock, by_level, by_rules, step, pattern, duration, HasItsLength, at_end, before_end, IsLeast, level_at_start, exact_after, values_at}
 use Rattle.hyd_spec.specs.History.{AreNextLevels, ComesAfter}
-use Rattle.hyd_examples.specs.Village.{village, tower, control}
+use Rattle.hyd_examples.specs.Village.{village, usual, tower, level_control}
 use Rattle.hyd_examples.specs.VillageHistory.{period_0, period_1, period_2, period_3, period_4}
 use Rattle.hyd_examples.proofs.VillageSeconds.{none_below, from, or-left, or-right, and-true, only_control, not_before, is_empty_list, some_change}
 
@@ -54,7 +54,7 @@ module _ (period : Period) where
       (subst (λ (t : Tank). is_at_minimum 1000 t (exact_after village period 0 t s) ≡ true) same reached))
   level_test s (empty (suc k) tank is other reached) = absurd (cc)
   level_test s (at_control each zero above ticks tank contained is_level is before reached) =
-      let same = only_control each contained in
+      let same = only_control usual each contained in
       let own : tank ≡ tower = cc in
       or-right (at_maximum s) (at_minimum s || is_filled s) (or-right (at_minimum s) (is_filled s)
       (filled_by s above ticks (cc) (cc) before (subst (λ (t : Tank). reaches 1000 above ticks (exact_after village period 0 t s) ≡ true) own reached)))
@@ -82,7 +82,7 @@ module _ (period : Period) where
   has_length early ends after last boundary levels rules = before_end (λ is. omega (arith, is, early)) (record { holds = ends; least = least })
     where
       least : (k : ℕ) → MayEnd village 1000 period k → period.time + period.length ≤ k
-      least k (by_clock c) = not_before period.time (period.time + period.length) k after last boundary c
+      least k (by_clock c) = not_before usual period.time (period.time + period.length) k after last boundary c
       least k (by_level s some is level) = let l = from level_ends period.length levels s (level_test s level) in omega (arith, l, is)
       least k (by_rules r) = from rules_end (period.time + period.length) rules k (rules_test k r)
 
@@ -92,7 +92,7 @@ pub first_lasts : HasItsLength village 1000 period_0
 first_lasts = has_length period_0 (omega arith) (by_clock (step refl)) (omega arith) (omega arith) (λ m later e. omega arith) refl refl
 
 pub second_lasts : HasItsLength village 1000 period_1
-second_lasts = has_length period_1 (omega arith) (by_level 3 (omega arith) refl (at_control control 0 true (pos 20080000000000) tower (0, lit< tt, refl) refl refl refl refl))
+second_lasts = has_length period_1 (omega arith) (by_level 3 (omega arith) refl (at_control (level_control (pos 20080000000000)) 0 true (pos 20080000000000) tower (0, lit< tt, refl) refl refl refl refl))
     (omega arith) (omega arith) (λ m later e. omega arith) refl refl
 
 pub third_lasts : HasItsLength village 1000 period_2

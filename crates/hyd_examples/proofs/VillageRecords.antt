@@ -8,7 +8,7 @@ use Rattle.hyd_spec.specs.Quantity.{demand_of}
 use Rattle.hyd_spec.specs.Truth.{is_unknown}
 use Rattle.hyd_spec.specs.Decided.{nowhere, control_truth}
 use Rattle.hyd_spec.specs.Valid.{DemandsAreInRange, demand_limit, ControlsAreDecided, LeavesLinks, by_rules, by_clock, Continues, continues, finishes, IsValid}
-use Rattle.hyd_examples.specs.Village.{village, mill, farm, control}
+use Rattle.hyd_examples.specs.Village.{village, usual, mill, farm}
 use Rattle.hyd_examples.specs.VillageRun.{standing_0, standing_1, standing_2, standing_3, standing_4, left, grid_0, grid_1, grid_2, grid_3, grid_4, row_0, row_1, row_2, row_3, row_4}
 use Rattle.hyd_examples.proofs.VillageGrids.{grid_at}
 use Rattle.hyd_examples.proofs.VillageCertificates.{certificates}
@@ -24,7 +24,7 @@ in_range time at_mill at_farm =
 -- the one control is decided where it is at the level's interval
 controls_decided : (level : Interval) → is_unknown (control_truth level true (pos 20080000000000)) ≡ false → ControlsAreDecided village (level ∷ [])
 controls_decided level decided each tank above ticks is at =
-    let same = only_control each is in
+    let same = only_control usual each is in
     let tank_is : 0 ≡ tank = cc in
     let above_is : true ≡ above = cc in
     let ticks_are : pos 20080000000000 ≡ ticks = cc in
@@ -38,7 +38,7 @@ first_valid = record {
   number = refl;
   time = refl;
   demands = in_range 0 (lit≤ tt) (lit≤ tt);
-  is_grid = grid_at standing_0 _ _ _ refl refl refl refl;
+  is_grid = grid_at usual standing_0 _ _ _ refl refl refl refl;
   certificates = certificates grid_0 row_0 _ refl refl refl refl refl;
   leads_on = continues (record {
     not_last = λ is. omega (arith, is);
@@ -58,7 +58,7 @@ second_valid = record {
   number = refl;
   time = refl;
   demands = in_range 8 (lit≤ tt) (lit≤ tt);
-  is_grid = grid_at standing_1 _ _ _ refl refl refl refl;
+  is_grid = grid_at usual standing_1 _ _ _ refl refl refl refl;
   certificates = certificates grid_1 row_1 _ refl refl refl refl refl;
   leads_on = continues (record {
     not_last = λ is. omega (arith, is);
@@ -78,7 +78,7 @@ third_valid = record {
   number = refl;
   time = refl;
   demands = in_range 11 (lit≤ tt) (lit≤ tt);
-  is_grid = grid_at standing_2 _ _ _ refl refl refl refl;
+  is_grid = grid_at usual standing_2 _ _ _ refl refl refl refl;
   certificates = certificates grid_2 row_2 _ refl refl refl refl refl;
   leads_on = continues (record {
     not_last = λ is. omega (arith, is);
@@ -98,7 +98,7 @@ fourth_valid = record {
   number = refl;
   time = refl;
   demands = in_range 14 (lit≤ tt) (lit≤ tt);
-  is_grid = grid_at standing_3 _ _ _ refl refl refl refl;
+  is_grid = grid_at usual standing_3 _ _ _ refl refl refl refl;
   certificates = certificates grid_3 row_3 _ refl refl refl refl refl;
   leads_on = continues (record {
     not_last = λ is. omega (arith, is);
@@ -118,7 +118,7 @@ fifth_valid = record {
   number = refl;
   time = refl;
   demands = in_range 16 (lit≤ tt) (lit≤ tt);
-  is_grid = grid_at standing_4 _ _ _ refl refl refl refl;
+  is_grid = grid_at usual standing_4 _ _ _ refl refl refl refl;
   certificates = certificates grid_4 row_4 _ refl refl refl refl refl;
   leads_on = finishes (record { is_last = refl; no_length = refl; next_is = refl });
 }

@@ -4,7 +4,7 @@ use Rattle.std.specs.Prelude.{ℕ, ℤ, pos, true, false, List, [], ◌∷◌, N
 use Rattle.std.specs.Int.Signed.{≤ℤ_refl}
 use Rattle.std.proofs.Common.{lit≤}
 use Rattle.hyd_net.specs.ListView.{ListView}
-use Rattle.hyd_spec.specs.Types.{Project, Junction, Tank, Link, Tcv, Fcv, Linear, Open, Closed, Throttle, Limit, Control, AtLevel, Rule, And, Level, Status, Less, Equal, Amount, ValueClosed, Cmd, LinkState}
+use Rattle.hyd_spec.specs.Types.{Project, Junction, Tank, Link, Tcv, Fcv, Linear, Open, Closed, Throttle, Limit, Control, AtLevel, Rule, RuleClause, And, Level, Status, Less, Equal, Amount, ValueClosed, Cmd, LinkState}
 
 -- A list without room for more.
 abbrev pub listed : {T : Type 0} → List T → ListView T
@@ -42,33 +42,33 @@ main_link = record { from = 2; to = 0; kind = Tcv Linear; start = Throttle (pos 
 abbrev pub feed_link : Link
 feed_link = record { from = 0; to = 3; kind = Fcv Linear; start = Limit (pos 1000000000000) (pos 10000000000) }
 
-abbrev pub drop_link : Link
-drop_link = record { from = 3; to = 1; kind = Tcv Linear; start = Throttle (pos 0) Linear }
+abbrev pub drop_link : LinkState → Link
+drop_link start = record { from = 3; to = 1; kind = Tcv Linear; start = start }
 
-abbrev pub links : List Link
-links = main_link ∷ feed_link ∷ drop_link ∷ []
+-- The tower is no longer filled from a level on.
+abbrev pub level_control : ℤ → Control
+level_control ticks = record { link = 1; to = Closed; when = AtLevel 0 true ticks }
 
--- The tower is no longer filled from 2.008 m on.
-abbrev pub control : Control
-control = record { link = 1; to = Closed; when = AtLevel 0 true (pos 20080000000000) }
-
--- It is filled slowly again below 2.0077 m.
-abbrev pub refill : Rule
-refill = record {
+-- It is filled slowly where these hold.
+abbrev pub refill_rule : List RuleClause → Rule
+refill_rule clauses = record {
   id = listed (codes "Refill");
-  clauses = listed (
-      (record { joined = And; clause = record { what = Status 1; relation = Equal; value = ValueClosed } })
-      ∷ (record { joined = And; clause = record { what = Level 0; relation = Less; value =
-      Amount (record { lo = pos 20077000000000; hi = pos 20077000000000; ordered = ≤ℤ_refl (pos 20077000000000) })
-      (record { nano = pos 2007700000; bounded = lit≤ tt }) } })
-      ∷ []);
+  clauses = listed clauses;
   yes = listed (record { link = 1; to = Limit (pos 300000000000) (pos 3000000000) } ∷ []);
   no = listed [];
   priority = None;
 }
 
-abbrev pub village : Project
-village = record {
+-- What villages differ in: the tank, how the valve to the farm begins, the level of the control, the clauses of the
+-- rule.
+pub record Choice : Type 0 where
+  pub tank : Tank
+  pub drop : LinkState
+  pub ticks : ℤ
+  pub clauses : List RuleClause
+
+abbrev pub village_with : Choice → Project
+village_with choice = record {
   options = record {
     unit = Cmd;
     pda = false;
@@ -91,9 +91,27 @@ village = record {
   link_ids = codes "Main" ∷ codes "Feed" ∷ codes "Drop" ∷ [];
   junctions = listed (mill ∷ farm ∷ []);
   reservoirs = listed (record { head = pos 1000000000000000; pattern = None } ∷ []);
-  tanks = listed (tower ∷ []);
-  links = listed links;
+  tanks = listed (choice.tank ∷ []);
+  links = listed (main_link ∷ feed_link ∷ drop_link choice.drop ∷ []);
   patterns = listed (record { multipliers = listed (pos 1000000000 ∷ pos 500000000 ∷ []) } ∷ []);
-  controls = listed (control ∷ []);
-  rules = listed (refill ∷ []);
+  controls = listed (level_control choice.ticks ∷ []);
+  rules = listed (refill_rule choice.clauses ∷ []);
 }
+
+-- The village: the tower is no longer filled from 2.008 m on, and slowly where that valve is closed and the level below
+-- 2.0077 m.
+abbrev pub usual : Choice
+usual = record {
+  tank = tower;
+  drop = Throttle (pos 0) Linear;
+  ticks = pos 20080000000000;
+  clauses =
+      (record { joined = And; clause = record { what = Status 1; relation = Equal; value = ValueClosed } })
+      ∷ (record { joined = And; clause = record { what = Level 0; relation = Less; value =
+      Amount (record { lo = pos 20077000000000; hi = pos 20077000000000; ordered = ≤ℤ_refl (pos 20077000000000) })
+      (record { nano = pos 2007700000; bounded = lit≤ tt }) } })
+      ∷ [];
+}
+
+abbrev pub village : Project
+village = village_with usual
