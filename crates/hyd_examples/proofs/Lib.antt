@@ -9,3 +9,4 @@ pub mod VillageLengths
 pub mod VillageReports
 pub mod VillageTexts
 pub mod VillageAgreement
+pub mod VillageStops

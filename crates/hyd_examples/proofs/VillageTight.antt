@@ -97,12 +97,13 @@ next_beyond : (side : Side) (x y : ℤ) → IsBeyond side x y ⊎ IsBeyond side 
 next_beyond Upper x y = by_lt_z y x (λ lt. inr (omega (arith, ints, lt))) (λ ge. inl ge)
 next_beyond Lower x y = by_lt_z x y (λ lt. inr (omega (arith, ints, lt))) (λ ge. inl ge)
 
-record IsTwo (v : List ℤ) : Type 0 where
-  first : ℤ
-  second : ℤ
-  is : v ≡ first ∷ second ∷ []
+-- A list of two heads.
+pub record IsTwo (v : List ℤ) : Type 0 where
+  pub first : ℤ
+  pub second : ℤ
+  pub is : v ≡ first ∷ second ∷ []
 
-two_heads : (v : List ℤ) → length v ≡ 2 → IsTwo v
+pub two_heads : (v : List ℤ) → length v ≡ 2 → IsTwo v
 two_heads [] e = absurd (omega (arith, e))
 two_heads (x ∷ []) e = absurd (omega (arith, e))
 two_heads (x ∷ y ∷ []) e = record { first = x; second = y; is = refl }

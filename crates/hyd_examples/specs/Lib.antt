@@ -4,3 +4,4 @@ pub mod Village
 pub mod VillageRun
 pub mod VillageHistory
 pub mod VillageTexts
+pub mod VillageStops

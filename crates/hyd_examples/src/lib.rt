@@ -16,3 +16,4 @@ pub mod starts;
 pub mod surpluses;
 pub mod texts;
 pub mod village;
+pub mod village_stops;
