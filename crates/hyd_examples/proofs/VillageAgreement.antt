@@ -1,7 +1,7 @@
 -- The history of the village agrees with its run.
-use Rattle.std.proofs.Common.{◌≡◌, ℕ, ℤ, pos, ◌<ℤ◌, true, List, [], ◌∷◌, None, refl, arith, lit<}
+use Rattle.std.proofs.Common.{ℤ, pos, ◌<ℤ◌, true, None, refl, arith, lit<}
 use Rattle.std.proofs.lemmas.Int.{ints}
-use Rattle.hyd_spec.specs.Types.{LinkState, Linear, Throttle, Limit}
+use Rattle.hyd_spec.specs.Types.{Linear, Throttle, Limit}
 use Rattle.hyd_spec.specs.Scale.{at_scale}
 use Rattle.hyd_spec.specs.Assignment.{head_at}
 use Rattle.hyd_spec.specs.History.{initial_links, commanded_after}

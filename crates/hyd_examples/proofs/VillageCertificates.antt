@@ -1,5 +1,5 @@
 -- Certificates are recognised by computing: each head is tried, and each junction.
-use Rattle.std.proofs.Common.{◌≡◌, ℕ, zero, suc, ◌+◌, ◌<◌, ℤ, pos, neg_ℤ, ◌+ℤ◌, ◌≤ℤ◌, Bool, true, false, ◌&&◌, List, [], ◌∷◌, eqb, length, int_le, refl, subst, arith}
+use Rattle.std.proofs.Common.{◌≡◌, ℕ, zero, suc, ◌+◌, ℤ, pos, neg_ℤ, ◌+ℤ◌, ◌≤ℤ◌, Bool, true, false, ◌&&◌, List, [], ◌∷◌, eqb, length, int_le, refl, subst, arith}
 use Rattle.std.specs.Prelude.{◌^◌, slice_get, Some, All}
 use Rattle.std.proofs.lemmas.Int.{ints}
 use Rattle.std.proofs.lemmas.Bool.{eqb-true}
@@ -8,7 +8,6 @@ use Rattle.hyd_spec.specs.declared.Problem.{Problem}
 use Rattle.hyd_spec.specs.declared.Problem.TheVariants.{Main, Pinned}
 use Rattle.hyd_spec.specs.declared.Side.{Side}
 use Rattle.hyd_spec.specs.declared.Side.TheVariants.{Upper, Lower}
-use Rattle.hyd_spec.specs.Lists.{Each}
 use Rattle.hyd_spec.specs.Grid.{Grid, GridJunction}
 use Rattle.hyd_spec.specs.Surplus.{net_low, net_high, margin}
 use Rattle.hyd_spec.specs.Certificate.{IsInBox, Passes, IsCertificate}

@@ -1,9 +1,7 @@
 -- How the periods of the village end.
-use Rattle.std.proofs.Common.{◌≡◌, ℕ, ◌+◌, ◌<◌, ◌≤◌, pos, true, [], inl, inr, refl, arith, lit≤, lit<}
-use Rattle.hyd_spec.specs.Length.{pattern, duration, step}
-use Rattle.hyd_spec.specs.Grid.{Grid}
-use Rattle.hyd_spec.specs.Record.{Record, Standing}
-use Rattle.hyd_spec.specs.Decided.{Watch, SomeMayReach, SomeMustReach, IsClockLength, IsEarliestEnd, IsLatestEnd, NoRuleMatters, RulesMatter, IsFirstMatter, EndsBy, ByRules, ByClock, by_rules, by_clock}
+use Rattle.std.proofs.Common.{pos, true, inl, inr, refl, arith, lit<}
+use Rattle.hyd_spec.specs.Length.{duration, step}
+use Rattle.hyd_spec.specs.Decided.{Watch, SomeMayReach, SomeMustReach, IsClockLength, RulesMatter, IsFirstMatter, EndsBy, ByRules, ByClock, by_rules, by_clock}
 use Rattle.hyd_examples.specs.Village.{village, usual, tower}
 use Rattle.hyd_examples.specs.VillageRun.{standing_0, standing_1, standing_2, standing_3, grid_0, grid_1, grid_2, grid_3, row_0, row_1, row_2, row_3}
 use Rattle.hyd_examples.proofs.VillageSeconds.{from, clock_length, matter, matter_test, no_rule, earliest_end, latest_end}

@@ -1,6 +1,5 @@
 -- Throughout a period of the history the heads and flows obey the laws of the village.
-use Rattle.std.proofs.Common.{◌≡◌, ℕ, zero, suc, ℤ, pos, ◌+ℤ◌, ◌-ℤ◌, ◌*ℤ◌, ◌≤ℤ◌, Bool, true, false, MatchBool, List, [], ◌∷◌, int_le, refl, sym, subst, inl, inr, arith}
-use Rattle.std.specs.Prelude.{◌^◌}
+use Rattle.std.proofs.Common.{◌≡◌, ℕ, ℤ, pos, ◌+ℤ◌, ◌-ℤ◌, ◌*ℤ◌, Bool, true, MatchBool, [], ◌∷◌, int_le, refl, sym, subst, inl, arith}
 use Rattle.std.proofs.lemmas.Int.{ints}
 use Rattle.hyd_spec.specs.Types.{Junction, LinkState}
 use Rattle.hyd_spec.specs.declared.TankState.TheVariants.{Between}
@@ -8,7 +7,7 @@ use Rattle.hyd_spec.specs.Scale.{at_scale}
 use Rattle.hyd_spec.specs.Quantity.{demand_of}
 use Rattle.hyd_spec.specs.Law.{Shut, Straight, Capped, Follows}
 use Rattle.hyd_spec.specs.LinkLaw.{law_of}
-use Rattle.hyd_spec.specs.Outflow.{is_pressure_driven, IsWithinTolerance, FollowsDemand, FollowsPressure}
+use Rattle.hyd_spec.specs.Outflow.{IsWithinTolerance, FollowsDemand, FollowsPressure}
 use Rattle.hyd_spec.specs.Assignment.{IsAssignment, JunctionObeys, none, more}
 use Rattle.hyd_spec.specs.Length.{Period}
 use Rattle.hyd_examples.specs.Village.{village, mill, farm, feed_link}

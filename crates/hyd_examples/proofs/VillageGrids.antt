@@ -1,5 +1,5 @@
 -- The grids of the village.
-use Rattle.std.proofs.Common.{◌≡◌, ℤ, Bool, true, false, MatchBool, List, [], ◌∷◌, refl, sym, subst, if◌then◌else◌, int_le, None}
+use Rattle.std.proofs.Common.{◌≡◌, ℤ, Bool, true, false, MatchBool, [], ◌∷◌, refl, sym, subst, if◌then◌else◌, int_le, None}
 use Rattle.std.specs.Prelude.{ℕ, pos}
 use Rattle.hyd_spec.specs.Types.{Junction}
 use Rattle.hyd_spec.specs.Interval.{Interval}

@@ -1,6 +1,6 @@
 -- The periods of the history have their lengths, and come one after another.
-use Rattle.std.proofs.Common.{◌≡◌, ℕ, zero, suc, ◌+◌, ◌-◌, ◌%◌, ◌<◌, ◌≤◌, ℤ, pos, Bool, true, false, ◌&&◌, ◌||◌, not, List, [], ◌∷◌, eqb, ltb, lit<, refl, sym, ap, subst, arith}
-use Rattle.std.specs.Prelude.{slice_get, slice_index_or, Some}
+use Rattle.std.proofs.Common.{◌≡◌, ℕ, zero, suc, ◌+◌, ◌%◌, ◌<◌, ◌≤◌, ℤ, pos, Bool, true, false, ◌&&◌, ◌||◌, not, [], ◌∷◌, eqb, ltb, lit<, refl, sym, ap, subst, arith}
+use Rattle.std.specs.Prelude.{slice_index_or}
 use Rattle.std.proofs.lemmas.Int.{ints}
 use Rattle.std.proofs.lemmas.Bool.{eq-eqb, lt-ltb}
 use Rattle.hyd_num.specs.Rational.{whole}
@@ -8,7 +8,7 @@ use Rattle.hyd_spec.specs.Types.{Tank}
 use Rattle.hyd_spec.specs.Lists.{Each}
 use Rattle.hyd_spec.specs.Tank.{reaches, is_at_maximum, is_at_minimum, IsNextLevel, tank_inflow}
 use Rattle.hyd_spec.specs.Rules.{rule_changes}
-use Rattle.hyd_spec.specs.Length.{Period, EndsByLevel, full, empty, control as at_control, EndsByRules, MayEnd, by_clock, by_level, by_rules, step, pattern, duration, HasItsLength, at_end, before_end, IsLeast, level_at_start, exact_after, values_at}
+use Rattle.hyd_spec.specs.Length.{Period, EndsByLevel, full, empty, control as at_control, EndsByRules, MayEnd, by_clock, by_level, by_rules, step, duration, HasItsLength, at_end, before_end, level_at_start, exact_after, values_at}
 use Rattle.hyd_spec.specs.History.{AreNextLevels, ComesAfter}
 use Rattle.hyd_examples.specs.Village.{village, usual, tower, level_control}
 use Rattle.hyd_examples.specs.VillageHistory.{period_0, period_1, period_2, period_3, period_4}

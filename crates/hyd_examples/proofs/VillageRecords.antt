@@ -1,13 +1,13 @@
 -- The records of the village are valid, one after another.
-use Rattle.std.proofs.Common.{◌≡◌, ℕ, zero, suc, ◌^◌, ◌≤◌, ◌<◌, ℤ, Bool, false, List, [], ◌∷◌, All, IsFalse, unsigned_abs, refl, sym, subst, ap, arith, lit≤, length}
-use Rattle.std.specs.Prelude.{pos, true, Contains, slice_index_or}
+use Rattle.std.proofs.Common.{◌≡◌, ℕ, ◌≤◌, ℤ, Bool, false, [], ◌∷◌, IsFalse, unsigned_abs, refl, subst, arith, lit≤}
+use Rattle.std.specs.Prelude.{pos, true, slice_index_or}
 use Rattle.std.proofs.lemmas.List.Elements.{All-nil, All-cons}
-use Rattle.hyd_spec.specs.Types.{Junction, Control, When, AtLevel}
+use Rattle.hyd_spec.specs.Types.{Junction}
 use Rattle.hyd_spec.specs.Interval.{Interval}
 use Rattle.hyd_spec.specs.Quantity.{demand_of}
 use Rattle.hyd_spec.specs.Truth.{is_unknown}
 use Rattle.hyd_spec.specs.Decided.{nowhere, control_truth}
-use Rattle.hyd_spec.specs.Valid.{DemandsAreInRange, demand_limit, ControlsAreDecided, LeavesLinks, by_rules, by_clock, Continues, continues, finishes, IsValid}
+use Rattle.hyd_spec.specs.Valid.{DemandsAreInRange, demand_limit, ControlsAreDecided, by_rules, by_clock, continues, finishes, IsValid}
 use Rattle.hyd_examples.specs.Village.{village, usual, mill, farm}
 use Rattle.hyd_examples.specs.VillageRun.{standing_0, standing_1, standing_2, standing_3, standing_4, left, grid_0, grid_1, grid_2, grid_3, grid_4, row_0, row_1, row_2, row_3, row_4}
 use Rattle.hyd_examples.proofs.VillageGrids.{grid_at}

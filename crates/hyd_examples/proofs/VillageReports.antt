@@ -1,5 +1,5 @@
 -- The lines of the report are those of each period of the village.
-use Rattle.std.proofs.Common.{◌≡◌, ℕ, ℤ, pos, ◌+ℤ◌, ◌-ℤ◌, ◌*ℤ◌, ◌≤ℤ◌, Bool, true, false, ◌&&◌, List, [], ◌∷◌, int_le, take, drop, refl, sym, ap, arith}
+use Rattle.std.proofs.Common.{◌≡◌, ℕ, ℤ, pos, ◌+ℤ◌, ◌-ℤ◌, ◌*ℤ◌, ◌≤ℤ◌, Bool, true, false, ◌&&◌, [], int_le, take, drop, refl, sym, ap, arith}
 use Rattle.std.specs.Prelude.{◌^◌, slice_get, Some}
 use Rattle.std.proofs.lemmas.Int.{ints}
 use Rattle.hyd_num.specs.Decimals.{head_quantity, flow_quantity}
@@ -13,7 +13,7 @@ use Rattle.hyd_spec.specs.Grid.{Grid, GridLink, GridJunction}
 use Rattle.hyd_spec.specs.Boxes.{difference, out_box}
 use Rattle.hyd_spec.specs.Record.{Record, Standing}
 use Rattle.hyd_spec.specs.Decided.{heads_below, heads_above, flow_boxes, level_of_tank, inflow_of_tank, links_at}
-use Rattle.hyd_spec.specs.ReportLine.{ReportLine, JunctionLine, ReservoirLine, TankLine, LinkLine}
+use Rattle.hyd_spec.specs.ReportLine.{JunctionLine, ReservoirLine, TankLine, LinkLine}
 use Rattle.hyd_spec.specs.Report.{Prints, IsJunctionLine, IsReservoirLine, IsTankLine, IsLinkLine, status_of, AreStateLines, at_end, by_rules, by_clock, IsReport}
 use Rattle.hyd_examples.specs.Village.{village, tower}
 use Rattle.hyd_examples.specs.VillageRun.{standing_0, standing_1, standing_2, standing_3, standing_4, grid_0, grid_1, grid_2, grid_3, grid_4, row_0, row_1, row_2, row_3, row_4, lines_0, lines_1, lines_2, lines_3, lines_4}

@@ -1,11 +1,10 @@
 -- The first second at which something holds, by trying each: by the clock, by levels, by rules.
-use Rattle.std.proofs.Common.{◌≡◌, ◌≢◌, ℕ, zero, suc, ◌+◌, ◌-◌, ◌%◌, ◌<◌, ◌≤◌, ℤ, pos, Bool, true, false, ◌&&◌, ◌||◌, not, ◌⊎◌, inl, inr, IsTrue, List, [], ◌∷◌, eqb, ltb, length, refl, subst, arith}
+use Rattle.std.proofs.Common.{◌≡◌, ◌≢◌, ℕ, zero, suc, ◌+◌, ◌%◌, ◌<◌, ◌≤◌, Bool, true, false, ◌&&◌, ◌||◌, not, ◌⊎◌, inl, inr, List, [], ◌∷◌, eqb, ltb, length, refl, subst, arith}
 use Rattle.std.specs.Prelude.{slice_get, slice_index_or, Some, Contains}
 use Rattle.std.specs.List.{list_any}
 use Rattle.std.proofs.lemmas.Bool.{cases_lt, eq-eqb, lt-ltb}
-use Rattle.hyd_spec.specs.Types.{Tank, Control, AtTime, AtClock}
-use Rattle.hyd_spec.specs.Interval.{Interval}
-use Rattle.hyd_spec.specs.Length.{IsLeast, EndsByClock, step, duration, pattern, report, control_time, control_clock}
+use Rattle.hyd_spec.specs.Types.{Tank, Control}
+use Rattle.hyd_spec.specs.Length.{EndsByClock, step, duration, pattern, report, control_time, control_clock}
 use Rattle.hyd_spec.specs.Grid.{Grid}
 use Rattle.hyd_spec.specs.Record.{Record, Standing}
 use Rattle.hyd_spec.specs.Levels.{may_reach, must_reach}
@@ -27,9 +26,9 @@ fails_below test zero none k le e = omega (arith, le)
 fails_below test (suc n) none k le e = elim (cases_lt k n) [
   | inl l ↦ fails_below test n (both-second (not (test n)) (none_below test n) none) k l e
   | inr g ↦ let same : k ≡ n = omega (arith, le, g) in
-    let fails = both-first (not (test n)) (none_below test n) none in
-    let holds = subst (λ (m : ℕ). test m ≡ true) same e in
-    let wrong = subst (λ (b : Bool). not b ≡ true) holds fails in cc
+      let fails = both-first (not (test n)) (none_below test n) none in
+      let holds = subst (λ (m : ℕ). test m ≡ true) same e in
+      let wrong = subst (λ (b : Bool). not b ≡ true) holds fails in cc
 ]
 
 -- what passes a test that fails below n is at least n

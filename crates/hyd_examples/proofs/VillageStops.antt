@@ -1,8 +1,7 @@
 -- Villages whose run stops at its start.
-use Rattle.std.proofs.Common.{◌≡◌, ◌≢◌, ℕ, zero, suc, ◌+◌, ◌%◌, ◌<◌, ◌≤◌, ℤ, pos, true, false, Bool, List, [], ◌∷◌, All, unsigned_abs, inl, inr, refl, subst, arith, lit≤, lit<, length, None}
-use Rattle.std.specs.Prelude.{slice_get, Some}
+use Rattle.std.proofs.Common.{◌≡◌, ◌≤◌, pos, true, [], ◌∷◌, unsigned_abs, inl, inr, refl, subst, arith, lit≤, lit<}
 use Rattle.std.proofs.lemmas.List.Elements.{All-nil, All-cons}
-use Rattle.hyd_spec.specs.Types.{Junction, Throttle, Linear}
+use Rattle.hyd_spec.specs.Types.{Junction}
 use Rattle.hyd_spec.specs.declared.Problem.TheVariants.{Main}
 use Rattle.hyd_spec.specs.declared.Side.TheVariants.{Upper, Lower}
 use Rattle.hyd_spec.specs.Quantity.{demand_of}
@@ -10,12 +9,12 @@ use Rattle.hyd_spec.specs.Law.{Straight, Shut, Capped}
 use Rattle.hyd_spec.specs.Length.{step}
 use Rattle.hyd_spec.specs.Grid.{Grid}
 use Rattle.hyd_spec.specs.Certificate.{IsCertificate, none}
-use Rattle.hyd_spec.specs.Record.{Standing, initial_standing}
-use Rattle.hyd_spec.specs.Decided.{Watch, IsClockLength, RulesMatter, IsFirstMatter, IsOpenRule, EndsBy, RuleIsOpen, EventIsOpen, ByClock, rule_is_open, by_clock, event_is_open}
+use Rattle.hyd_spec.specs.Record.{initial_standing}
+use Rattle.hyd_spec.specs.Decided.{Watch, IsClockLength, RulesMatter, IsFirstMatter, IsOpenRule, EndsBy, ByClock, rule_is_open, by_clock, event_is_open}
 use Rattle.hyd_spec.specs.Valid.{IsGridAt, DemandsAreInRange, demand_limit, levels_next, by_clock as left_by_clock}
 use Rattle.hyd_spec.specs.Stops.{IsFirstDemand, HasNoCertificate, SpendsRounds, IsTightRow, LeavesRuleOpen, LeavesEventOpen, LeavesTankOpen, LeavesControlOpen, EndsAtLevels}
 use Rattle.hyd_examples.specs.Village.{Choice, usual, village, village_with, mill, farm, tower}
-use Rattle.hyd_examples.specs.VillageRun.{village_grid, grid_mill, grid_farm, standing_0, grid_0, row_0}
+use Rattle.hyd_examples.specs.VillageRun.{grid_mill, grid_farm, standing_0, grid_0, row_0}
 use Rattle.hyd_examples.specs.VillageStops.{thirsty, dry, unsure_rule, open_rule, unsure_event, unsure_control, unsure_tank, last_level}
 use Rattle.hyd_examples.proofs.VillageGrids.{junction_at, grid_at}
 use Rattle.hyd_examples.proofs.VillageCertificates.{no_certificate}

@@ -1,5 +1,5 @@
 -- The records of the village can stand in a certificate.
-use Rattle.std.proofs.Common.{◌≡◌, ℕ, ◌<◌, ◌^◌, ℤ, true, List, [], ◌∷◌, All, length, refl, arith}
+use Rattle.std.proofs.Common.{◌≡◌, ◌<◌, ◌^◌, ℤ, true, List, [], ◌∷◌, All, length, refl, arith}
 use Rattle.std.proofs.lemmas.List.Elements.{All-nil, All-cons}
 use Rattle.hyd_spec.specs.Record.{Record, Vectors}
 use Rattle.hyd_spec.specs.CertificateText.{IsVector, IsRow}

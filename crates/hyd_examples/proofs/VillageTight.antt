@@ -1,5 +1,5 @@
 -- The vectors of the village are tight: one tick nearer a junction fails, and so it does at every head nearer still.
-use Rattle.std.proofs.Common.{◌≡◌, ℕ, zero, suc, ◌*◌, ◌/◌, ◌<◌, ℤ, pos, negsuc, ◌+ℤ◌, ◌-ℤ◌, ◌*ℤ◌, neg_ℤ, ◌⊎◌, inl, inr, ◌≤ℤ◌, ◌<ℤ◌, Bool, true, false, List, [], ◌∷◌, length, refl, sym, subst, arith}
+use Rattle.std.proofs.Common.{◌≡◌, ℕ, zero, suc, ℤ, pos, negsuc, ◌+ℤ◌, ◌-ℤ◌, ◌*ℤ◌, neg_ℤ, ◌⊎◌, inl, inr, ◌≤ℤ◌, ◌<ℤ◌, true, false, List, [], ◌∷◌, length, refl, sym, subst, arith}
 use Rattle.std.specs.Int.{int_div_euclid}
 use Rattle.std.proofs.lemmas.Int.{ints, clamps, by_lt_z}
 use Rattle.hyd_spec.specs.declared.Problem.{Problem}
@@ -9,10 +9,9 @@ use Rattle.hyd_spec.specs.declared.Side.TheVariants.{Upper, Lower}
 use Rattle.hyd_spec.specs.Lists.{Each}
 use Rattle.hyd_spec.specs.Interval.{Interval}
 use Rattle.hyd_spec.specs.Law.{Law, Shut, Straight, Capped}
-use Rattle.hyd_spec.specs.Enclosing.{low, high, straight_flow}
+use Rattle.hyd_spec.specs.Enclosing.{low, high}
 use Rattle.hyd_spec.specs.Grid.{Grid, GridJunction, end_on, tank_side}
 use Rattle.hyd_spec.specs.Assignment.{head_at}
-use Rattle.hyd_spec.specs.Surplus.{net_low, net_high, margin}
 use Rattle.hyd_spec.specs.Certificate.{IsBeyond, Passes, IsCertificate, IsTight}
 use Rattle.hyd_spec.specs.Record.{Record, Vectors, vector_of}
 use Rattle.hyd_spec.specs.Valid.{IsProblem}
@@ -123,8 +122,8 @@ module _ (demand : ℤ) (feed : Law) (head : Interval) (rising : IsRising feed) 
   mill_beyond fails x y passes = elim (next_beyond side a x) [
     | inl l ↦ l
     | inr n ↦ let t = passes_test grid problem side (nearer side a ∷ y ∷ []) 0 (grid_mill demand)
-      (mill_further demand feed head problem rising side x (nearer side a) y n passes) in
-      let f = fails y in absurd (cc)
+        (mill_further demand feed head problem rising side x (nearer side a) y n passes) in
+        let f = fails y in absurd (cc)
   ]
 
   farm_beyond : ((other : ℤ) → passing grid problem side (other ∷ nearer side b ∷ []) 1 grid_farm ≡ false)
@@ -132,8 +131,8 @@ module _ (demand : ℤ) (feed : Law) (head : Interval) (rising : IsRising feed) 
   farm_beyond fails x y passes = elim (next_beyond side b y) [
     | inl l ↦ l
     | inr n ↦ let t = passes_test grid problem side (x ∷ nearer side b ∷ []) 1 grid_farm
-      (farm_further demand feed head problem rising side x y (nearer side b) n passes) in
-      let f = fails x in absurd (cc)
+        (farm_further demand feed head problem rising side x y (nearer side b) n passes) in
+        let f = fails x in absurd (cc)
   ]
 
   -- a vector is tight where each junction fails one tick nearer, whatever the other's head

@@ -1,10 +1,10 @@
 -- A village with a tank, as its file says it: two junctions, a reservoir, a tank and three valves without loss
 -- coefficients, one of them with a limit; a pattern, a level control and a rule.
-use Rattle.std.specs.Prelude.{ℕ, ℤ, pos, true, false, List, [], ◌∷◌, None, Some, codes}
+use Rattle.std.specs.Prelude.{ℤ, pos, true, false, List, [], ◌∷◌, None, Some, codes}
 use Rattle.std.specs.Int.Signed.{≤ℤ_refl}
 use Rattle.std.proofs.Common.{lit≤}
 use Rattle.hyd_net.specs.ListView.{ListView}
-use Rattle.hyd_spec.specs.Types.{Project, Junction, Tank, Link, Tcv, Fcv, Linear, Open, Closed, Throttle, Limit, Control, AtLevel, Rule, RuleClause, And, Level, Status, Less, Equal, Amount, ValueClosed, Cmd, LinkState}
+use Rattle.hyd_spec.specs.Types.{Project, Junction, Tank, Link, Tcv, Fcv, Linear, Closed, Throttle, Limit, Control, AtLevel, Rule, RuleClause, And, Level, Status, Less, Equal, Amount, ValueClosed, Cmd, LinkState}
 
 -- A list without room for more.
 abbrev pub listed : {T : Type 0} → List T → ListView T
@@ -107,9 +107,16 @@ usual = record {
   ticks = pos 20080000000000;
   clauses =
       (record { joined = And; clause = record { what = Status 1; relation = Equal; value = ValueClosed } })
-      ∷ (record { joined = And; clause = record { what = Level 0; relation = Less; value =
-      Amount (record { lo = pos 20077000000000; hi = pos 20077000000000; ordered = ≤ℤ_refl (pos 20077000000000) })
-      (record { nano = pos 2007700000; bounded = lit≤ tt }) } })
+      ∷ (record {
+        joined = And;
+        clause = record {
+          what = Level 0;
+          relation = Less;
+          value =
+              Amount (record { lo = pos 20077000000000; hi = pos 20077000000000; ordered = ≤ℤ_refl (pos 20077000000000) })
+              (record { nano = pos 2007700000; bounded = lit≤ tt });
+        };
+      })
       ∷ [];
 }
 

@@ -1,5 +1,5 @@
 -- The run of the village: what an independent calculation gives for each of its five periods.
-use Rattle.std.specs.Prelude.{ℕ, ℤ, pos, Bool, true, false, List, [], ◌∷◌, None}
+use Rattle.std.specs.Prelude.{ℕ, ℤ, pos, true, false, List, [], ◌∷◌, None}
 use Rattle.hyd_spec.specs.Types.{LinkState, Linear, Closed, Throttle, Limit}
 use Rattle.hyd_spec.specs.declared.TankState.TheVariants.{Between}
 use Rattle.hyd_spec.specs.declared.StatusWord.TheVariants.{Active as WordActive}
@@ -109,7 +109,7 @@ row_4 = village_row 4 16 0
 
 -- The lines of each period.
 abbrev pub lines_0 : List ReportLine
-lines_0 = 
+lines_0 =
     (TimeLine 0)
     ∷ (JunctionLine 0 (record { lo = pos 999999; hi = pos 1000000 }) (record { lo = pos 499999; hi = pos 500000 }) (record { lo = pos 7999999; hi = pos 8000001 }))
     ∷ (JunctionLine 1 (record { lo = pos 619999; hi = pos 620000 }) (record { lo = pos 219999; hi = pos 220000 }) (record { lo = pos 1999999; hi = pos 2000001 }))
@@ -121,12 +121,12 @@ lines_0 =
     ∷ []
 
 abbrev pub lines_1 : List ReportLine
-lines_1 = 
+lines_1 =
     (ReachedLine 11 0 0)
     ∷ []
 
 abbrev pub lines_2 : List ReportLine
-lines_2 = 
+lines_2 =
     (ControlLine 11 0 1 Closed)
     ∷ (RuleLine 14 0 1 (Limit (pos 300000000000) (pos 3000000000)))
     ∷ []
@@ -135,7 +135,7 @@ abbrev pub lines_3 : List ReportLine
 lines_3 = []
 
 abbrev pub lines_4 : List ReportLine
-lines_4 = 
+lines_4 =
     (TimeLine 16)
     ∷ (JunctionLine 0 (record { lo = pos 999999; hi = pos 1000000 }) (record { lo = pos 499999; hi = pos 500000 }) (record { lo = pos 7999999; hi = pos 8000001 }))
     ∷ (JunctionLine 1 (record { lo = pos 620077; hi = pos 620078 }) (record { lo = pos 220077; hi = pos 220078 }) (record { lo = pos 1999999; hi = pos 2000001 }))

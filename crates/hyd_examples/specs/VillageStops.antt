@@ -1,5 +1,5 @@
 -- Villages whose run stops at its start, each by another cause.
-use Rattle.std.specs.Prelude.{pos, [], ◌∷◌, None, Some}
+use Rattle.std.specs.Prelude.{pos, [], ◌∷◌, Some}
 use Rattle.std.specs.Int.Signed.{≤ℤ_refl}
 use Rattle.std.proofs.Common.{lit≤}
 use Rattle.hyd_num.specs.Rational.{whole}
@@ -24,9 +24,16 @@ abbrev pub unsure_rule : Choice
 unsure_rule = record usual {
   clauses =
       (record { joined = And; clause = record { what = Status 1; relation = Equal; value = ValueActive } })
-      ∷ (record { joined = And; clause = record { what = Level 0; relation = Less; value =
-      Amount (record { lo = pos 20014736570000; hi = pos 20014736570000; ordered = ≤ℤ_refl (pos 20014736570000) })
-      (record { nano = pos 2001473657; bounded = lit≤ tt }) } })
+      ∷ (record {
+        joined = And;
+        clause = record {
+          what = Level 0;
+          relation = Less;
+          value =
+              Amount (record { lo = pos 20014736570000; hi = pos 20014736570000; ordered = ≤ℤ_refl (pos 20014736570000) })
+              (record { nano = pos 2001473657; bounded = lit≤ tt });
+        };
+      })
       ∷ [];
 }
 
