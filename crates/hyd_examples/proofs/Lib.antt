@@ -10,3 +10,6 @@ pub mod VillageReports
 pub mod VillageTexts
 pub mod VillageAgreement
 pub mod VillageStops
+pub mod OneAnswer
+pub mod OneStanding
+pub mod OneReport

@@ -4,6 +4,7 @@
 #![tactic(auto)]
 
 pub mod decisions;
+pub mod determined;
 pub mod enclosing;
 pub mod levels;
 pub mod losses;
