@@ -13,3 +13,4 @@ pub mod VillageStops
 pub mod OneAnswer
 pub mod OneStanding
 pub mod OneReport
+pub mod OneLength

@@ -2,7 +2,7 @@
 //! leads on to, and the lines of its report. So what the relations accept of an independent run is all that they accept.
 #![tactic(auto)]
 
-ghost use Rattle.std.specs.Prelude.{◌≡◌, ℤ, List};
+ghost use Rattle.std.specs.Prelude.{◌≡◌, ℕ, ℤ, List};
 ghost use Rattle.hyd_spec.specs.Types.{Project};
 ghost use Rattle.hyd_spec.specs.declared.Problem.{Problem};
 ghost use Rattle.hyd_spec.specs.declared.Side.{Side};
@@ -36,4 +36,10 @@ pub fn vectors()
 pub fn reports()
     ensures { (network : Project) (grid : Grid) (standing : Standing) (row : Record) (a b : List ReportLine)
         → IsReport network grid standing row a → IsReport network grid standing row b → a ≡ b }
+{}
+
+/// A record that leads on has one length.
+pub fn lengths()
+    ensures { (network : Project) (grid : Grid) (standing : Standing) (row : Record) (other : ℕ) (a b : Standing)
+        → LeadsOn network grid standing row a → LeadsOn network grid standing (record row { length = other }) b → row.length ≡ other }
 {}
