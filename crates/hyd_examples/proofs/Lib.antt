@@ -14,3 +14,5 @@ pub mod OneAnswer
 pub mod OneStanding
 pub mod OneReport
 pub mod OneLength
+pub mod OneRun
+pub mod VillageWhole

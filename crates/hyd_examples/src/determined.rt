@@ -2,7 +2,8 @@
 //! leads on to, and the lines of its report. So what the relations accept of an independent run is all that they accept.
 #![tactic(auto)]
 
-ghost use Rattle.std.specs.Prelude.{◌≡◌, ℕ, ℤ, List};
+ghost use Rattle.std.specs.Prelude.{◌≡◌, ℕ, ℤ, false, List, length};
+ghost use Rattle.std.specs.List.{AllByRecursion};
 ghost use Rattle.hyd_spec.specs.Types.{Project};
 ghost use Rattle.hyd_spec.specs.declared.Problem.{Problem};
 ghost use Rattle.hyd_spec.specs.declared.Side.{Side};
@@ -13,6 +14,7 @@ ghost use Rattle.hyd_spec.specs.Decided.{End, EndsBy};
 ghost use Rattle.hyd_spec.specs.Valid.{LeadsOn};
 ghost use Rattle.hyd_spec.specs.ReportLine.{ReportLine};
 ghost use Rattle.hyd_spec.specs.Report.{IsReport};
+ghost use Rattle.hyd_spec.specs.Headline.{Found, IsRun, IsTightThroughout};
 
 /// A period ends in one way.
 pub fn ends()
@@ -42,4 +44,11 @@ pub fn reports()
 pub fn lengths()
     ensures { (network : Project) (grid : Grid) (standing : Standing) (row : Record) (other : ℕ) (a b : Standing)
         → LeadsOn network grid standing row a → LeadsOn network grid standing (record row { length = other }) b → row.length ≡ other }
+{}
+
+/// Where no demand depends on the pressure, two tight runs of as many periods are the same.
+pub fn runs()
+    ensures { (network : Project) → network.options.pda ≡ false → (a b : List Found) (last other : Standing)
+        → IsRun network a last → IsRun network b other → AllByRecursion (IsTightThroughout network) a
+        → AllByRecursion (IsTightThroughout network) b → length a ≡ length b → a ≡ b }
 {}

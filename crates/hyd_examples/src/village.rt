@@ -2,14 +2,15 @@
 //! independent calculation gives for it.
 #![tactic(auto)]
 
-ghost use Rattle.std.specs.Prelude.{◌≡◌, true, [], ◌∷◌};
-ghost use Rattle.hyd_spec.specs.Record.{initial_standing};
+ghost use Rattle.std.specs.Prelude.{◌≡◌, true, List, [], ◌∷◌, length};
+ghost use Rattle.std.specs.List.{AllByRecursion};
+ghost use Rattle.hyd_spec.specs.Record.{Standing, initial_standing};
 ghost use Rattle.hyd_spec.specs.Decided.{EndsBy, ByClock, ByRules};
 ghost use Rattle.hyd_spec.specs.History.{IsHistory, initial_links};
 ghost use Rattle.hyd_spec.specs.Report.{IsReport};
 ghost use Rattle.hyd_spec.specs.ReportLine.{report_text, done_line};
 ghost use Rattle.hyd_spec.specs.CertificateText.{IsCertificateText};
-ghost use Rattle.hyd_spec.specs.Headline.{IsTightThroughout, IsRun, AllAgree, rows_of, lines_of};
+ghost use Rattle.hyd_spec.specs.Headline.{Found, IsTightThroughout, IsRun, AllAgree, rows_of, lines_of};
 ghost use Rattle.hyd_spec.specs.Valid.{IsGridAt, AreCertificates, IsValid, AreValid};
 ghost use Rattle.hyd_examples.specs.Village.{village};
 ghost use Rattle.hyd_examples.specs.VillageHistory.{periods};
@@ -79,6 +80,12 @@ pub fn reports()
 /// The five periods together are a run to the end.
 pub fn run()
     ensures { IsRun village founds left }
+{}
+
+/// No other tight run of the village has five periods.
+pub fn only_run()
+    ensures { (others : List Found) (last : Standing) → IsRun village others last → AllByRecursion (IsTightThroughout village) others
+        → length others ≡ 5 → others ≡ founds }
 {}
 
 /// What was written is the certificate of the records, what was printed the report of the lines.

@@ -1,13 +1,5 @@
-use Rattle.hyd_spec.specs.Headline.{none, more}
-use Rattle.hyd_examples.proofs.VillageRecords.{first_valid, second_valid, third_valid, fourth_valid, fifth_valid}
-use Rattle.hyd_examples.proofs.VillageReports.{first_report, second_report, third_report, fourth_report, fifth_report}
-use Rattle.hyd_examples.specs.VillageRun.{found_0, found_1, found_2, found_3, found_4}
+use Rattle.hyd_examples.proofs.VillageWhole.{is_run}
 use Rattle.hyd_examples.proofs.village.run.Goals as goal
 
 pub returns : goal.returns
-returns c =
-    more {found = found_0} (record { valid = first_valid; report = first_report })
-    (more {found = found_1} (record { valid = second_valid; report = second_report })
-    (more {found = found_2} (record { valid = third_valid; report = third_report })
-    (more {found = found_3} (record { valid = fourth_valid; report = fourth_report })
-    (more {found = found_4} (record { valid = fifth_valid; report = fifth_report }) none))))
+returns c = is_run
