@@ -13,7 +13,7 @@ use Rattle.hyd_spec.specs.Surplus.{net_low, net_high, margin}
 use Rattle.hyd_spec.specs.Certificate.{IsInBox, Passes, IsCertificate}
 use Rattle.hyd_spec.specs.Record.{Record, Vectors, vector_of}
 use Rattle.hyd_spec.specs.Valid.{IsProblem, AreCertificates}
-use Rattle.hyd_examples.specs.Village.{village}
+use Rattle.hyd_examples.specs.Village.{Choice, village_with}
 
 -- ---- tests
 
@@ -109,13 +109,13 @@ no_certificate grid problem side u j junction at e is = let t = passes_test grid
 -- ---- records
 
 -- a record with the four vectors of a network with one tank
-pub certificates : (grid : Grid) (row : Record) (vectors : Vectors) → row.pinned ≡ vectors ∷ []
+pub certificates : (choice : Choice) (grid : Grid) (row : Record) (vectors : Vectors) → row.pinned ≡ vectors ∷ []
     → is_certificate grid Main Upper row.main.upper ≡ true → is_certificate grid Main Lower row.main.lower ≡ true
     → is_certificate grid (Pinned 0) Upper vectors.upper ≡ true → is_certificate grid (Pinned 0) Lower vectors.lower ≡ true
-    → AreCertificates village grid row
-certificates grid row vectors pinned a b c d = record { pinned_each = rw pinned refl; each = each }
+    → AreCertificates (village_with choice) grid row
+certificates choice grid row vectors pinned a b c d = record { pinned_each = rw pinned refl; each = each }
   where
-    each : (problem : Problem) (side : Side) → IsProblem village problem → IsCertificate grid problem side (vector_of row problem side)
+    each : (problem : Problem) (side : Side) → IsProblem (village_with choice) problem → IsCertificate grid problem side (vector_of row problem side)
     each Main Upper is = certificate grid Main Upper row.main.upper a
     each Main Lower is = certificate grid Main Lower row.main.lower b
     each (Pinned zero) Upper is = rw pinned (certificate grid (Pinned 0) Upper vectors.upper c)

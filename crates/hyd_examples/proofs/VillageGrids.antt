@@ -12,7 +12,7 @@ use Rattle.hyd_spec.specs.Record.{Standing}
 use Rattle.hyd_spec.specs.Decided.{links_at}
 use Rattle.hyd_spec.specs.Valid.{IsGridAt}
 use Rattle.hyd_examples.specs.Village.{Choice, village_with, mill, farm}
-use Rattle.hyd_examples.specs.VillageRun.{village_grid}
+use Rattle.hyd_examples.specs.VillageParts.{village_grid}
 
 pub same_either_way : (b : Bool) → (if b then false else false) ≡ false
 same_either_way true = refl
@@ -30,12 +30,12 @@ module _ (choice : Choice) where
   }
 
   -- a grid of a village, where the mill's demand, the tower's head and the links' laws are those of the standing
-  pub grid_at : (standing : Standing) (demand : ℤ) (feed : Law) (head : Interval)
+  pub grid_at : (standing : Standing) (demand : ℤ) (feed drop : Law) (head : Interval)
       → demand_of (village_with choice) standing.time mill ≡ demand → demand_of (village_with choice) standing.time farm ≡ pos 2000000000
       → head ∷ [] ≡ tank_intervals (choice.tank ∷ []) standing.levels
-      → (village_grid demand feed head).links ≡ grid_links (village_with choice) standing.tanks (village_with choice).links.list (links_at (village_with choice) standing)
-      → IsGridAt (village_with choice) standing (village_grid demand feed head)
-  grid_at standing demand feed head mill_takes farm_takes at_head laws = record {
+      → (village_grid demand feed drop head).links ≡ grid_links (village_with choice) standing.tanks (village_with choice).links.list (links_at (village_with choice) standing)
+      → IsGridAt (village_with choice) standing (village_grid demand feed drop head)
+  grid_at standing demand feed drop head mill_takes farm_takes at_head laws = record {
     junctions = (junction_at standing.time mill demand mill_takes refl, (junction_at standing.time farm (pos 2000000000) farm_takes refl, tt));
     reservoirs = refl;
     tank_heads = at_head;

@@ -8,44 +8,45 @@ use Rattle.hyd_spec.specs.Quantity.{demand_of}
 use Rattle.hyd_spec.specs.Truth.{is_unknown}
 use Rattle.hyd_spec.specs.Decided.{nowhere, control_truth}
 use Rattle.hyd_spec.specs.Valid.{DemandsAreInRange, demand_limit, ControlsAreDecided, by_rules, by_clock, continues, finishes, IsValid}
-use Rattle.hyd_examples.specs.Village.{village, usual, mill, farm}
+use Rattle.hyd_examples.specs.Village.{Choice, village_with, village, usual, mill, farm}
 use Rattle.hyd_examples.specs.VillageRun.{standing_0, standing_1, standing_2, standing_3, standing_4, left, grid_0, grid_1, grid_2, grid_3, grid_4, row_0, row_1, row_2, row_3, row_4}
 use Rattle.hyd_examples.proofs.VillageGrids.{grid_at}
 use Rattle.hyd_examples.proofs.VillageCertificates.{certificates}
 use Rattle.hyd_examples.proofs.VillageSeconds.{only_control}
 use Rattle.hyd_examples.proofs.VillageEnds.{first_ends, second_ends, third_ends, fourth_ends}
 
-in_range : (time : ℕ) → unsigned_abs (demand_of village time mill) ≤ demand_limit → unsigned_abs (demand_of village time farm) ≤ demand_limit
-    → DemandsAreInRange village time
-in_range time at_mill at_farm =
-    let P : Junction → Type 0 = λ junction. unsigned_abs (demand_of village time junction) ≤ demand_limit in
-    All-cons P mill (farm ∷ []) at_mill (All-cons P farm [] at_farm (All-nil P))
+module _ (choice : Choice) where
+  pub in_range : (time : ℕ) → unsigned_abs (demand_of (village_with choice) time mill) ≤ demand_limit → unsigned_abs (demand_of (village_with choice) time farm) ≤ demand_limit
+      → DemandsAreInRange (village_with choice) time
+  in_range time at_mill at_farm =
+      let P : Junction → Type 0 = λ junction. unsigned_abs (demand_of (village_with choice) time junction) ≤ demand_limit in
+      All-cons P mill (farm ∷ []) at_mill (All-cons P farm [] at_farm (All-nil P))
 
--- the one control is decided where it is at the level's interval
-controls_decided : (level : Interval) → is_unknown (control_truth level true (pos 20080000000000)) ≡ false → ControlsAreDecided village (level ∷ [])
-controls_decided level decided each tank above ticks is at =
-    let same = only_control usual each is in
-    let tank_is : 0 ≡ tank = cc in
-    let above_is : true ≡ above = cc in
-    let ticks_are : pos 20080000000000 ≡ ticks = cc in
-    subst (λ (k : ℕ). IsFalse (is_unknown (control_truth (slice_index_or (level ∷ []) k nowhere) above ticks))) tank_is
-    (subst (λ (b : Bool). IsFalse (is_unknown (control_truth level b ticks))) above_is
-    (subst (λ (z : ℤ). IsFalse (is_unknown (control_truth level true z))) ticks_are decided))
+  -- the one control is decided where it is at the level's interval
+  pub controls_decided : (level : Interval) → is_unknown (control_truth level true choice.ticks) ≡ false → ControlsAreDecided (village_with choice) (level ∷ [])
+  controls_decided level decided each tank above ticks is at =
+      let same = only_control choice each is in
+      let tank_is : 0 ≡ tank = cc in
+      let above_is : true ≡ above = cc in
+      let ticks_are : choice.ticks ≡ ticks = cc in
+      subst (λ (k : ℕ). IsFalse (is_unknown (control_truth (slice_index_or (level ∷ []) k nowhere) above ticks))) tank_is
+      (subst (λ (b : Bool). IsFalse (is_unknown (control_truth level b ticks))) above_is
+      (subst (λ (z : ℤ). IsFalse (is_unknown (control_truth level true z))) ticks_are decided))
 
 pub first_valid : IsValid village standing_0 grid_0 row_0 standing_1
 first_valid = record {
   unfinished = refl;
   number = refl;
   time = refl;
-  demands = in_range 0 (lit≤ tt) (lit≤ tt);
-  is_grid = grid_at usual standing_0 _ _ _ refl refl refl refl;
-  certificates = certificates grid_0 row_0 _ refl refl refl refl refl;
+  demands = in_range usual 0 (lit≤ tt) (lit≤ tt);
+  is_grid = grid_at usual standing_0 _ _ _ _ refl refl refl refl;
+  certificates = certificates usual grid_0 row_0 _ refl refl refl refl refl;
   leads_on = continues (record {
     not_last = λ is. omega (arith, is);
     leaves_links = by_clock first_ends;
     levels = refl;
     tanks = refl;
-    controls = controls_decided _ refl;
+    controls = controls_decided usual _ refl;
     number = refl;
     time = refl;
     unfinished = refl;
@@ -57,15 +58,15 @@ second_valid = record {
   unfinished = refl;
   number = refl;
   time = refl;
-  demands = in_range 8 (lit≤ tt) (lit≤ tt);
-  is_grid = grid_at usual standing_1 _ _ _ refl refl refl refl;
-  certificates = certificates grid_1 row_1 _ refl refl refl refl refl;
+  demands = in_range usual 8 (lit≤ tt) (lit≤ tt);
+  is_grid = grid_at usual standing_1 _ _ _ _ refl refl refl refl;
+  certificates = certificates usual grid_1 row_1 _ refl refl refl refl refl;
   leads_on = continues (record {
     not_last = λ is. omega (arith, is);
     leaves_links = by_clock second_ends;
     levels = refl;
     tanks = refl;
-    controls = controls_decided _ refl;
+    controls = controls_decided usual _ refl;
     number = refl;
     time = refl;
     unfinished = refl;
@@ -77,15 +78,15 @@ third_valid = record {
   unfinished = refl;
   number = refl;
   time = refl;
-  demands = in_range 11 (lit≤ tt) (lit≤ tt);
-  is_grid = grid_at usual standing_2 _ _ _ refl refl refl refl;
-  certificates = certificates grid_2 row_2 _ refl refl refl refl refl;
+  demands = in_range usual 11 (lit≤ tt) (lit≤ tt);
+  is_grid = grid_at usual standing_2 _ _ _ _ refl refl refl refl;
+  certificates = certificates usual grid_2 row_2 _ refl refl refl refl refl;
   leads_on = continues (record {
     not_last = λ is. omega (arith, is);
     leaves_links = by_rules third_ends;
     levels = refl;
     tanks = refl;
-    controls = controls_decided _ refl;
+    controls = controls_decided usual _ refl;
     number = refl;
     time = refl;
     unfinished = refl;
@@ -97,15 +98,15 @@ fourth_valid = record {
   unfinished = refl;
   number = refl;
   time = refl;
-  demands = in_range 14 (lit≤ tt) (lit≤ tt);
-  is_grid = grid_at usual standing_3 _ _ _ refl refl refl refl;
-  certificates = certificates grid_3 row_3 _ refl refl refl refl refl;
+  demands = in_range usual 14 (lit≤ tt) (lit≤ tt);
+  is_grid = grid_at usual standing_3 _ _ _ _ refl refl refl refl;
+  certificates = certificates usual grid_3 row_3 _ refl refl refl refl refl;
   leads_on = continues (record {
     not_last = λ is. omega (arith, is);
     leaves_links = by_clock fourth_ends;
     levels = refl;
     tanks = refl;
-    controls = controls_decided _ refl;
+    controls = controls_decided usual _ refl;
     number = refl;
     time = refl;
     unfinished = refl;
@@ -117,8 +118,8 @@ fifth_valid = record {
   unfinished = refl;
   number = refl;
   time = refl;
-  demands = in_range 16 (lit≤ tt) (lit≤ tt);
-  is_grid = grid_at usual standing_4 _ _ _ refl refl refl refl;
-  certificates = certificates grid_4 row_4 _ refl refl refl refl refl;
+  demands = in_range usual 16 (lit≤ tt) (lit≤ tt);
+  is_grid = grid_at usual standing_4 _ _ _ _ refl refl refl refl;
+  certificates = certificates usual grid_4 row_4 _ refl refl refl refl refl;
   leads_on = finishes (record { is_last = refl; no_length = refl; next_is = refl });
 }

@@ -15,7 +15,7 @@ use Rattle.hyd_spec.specs.Record.{Record, Standing}
 use Rattle.hyd_spec.specs.Decided.{heads_below, heads_above, flow_boxes, level_of_tank, inflow_of_tank, links_at}
 use Rattle.hyd_spec.specs.ReportLine.{JunctionLine, ReservoirLine, TankLine, LinkLine}
 use Rattle.hyd_spec.specs.Report.{Prints, IsJunctionLine, IsReservoirLine, IsTankLine, IsLinkLine, status_of, AreStateLines, at_end, by_rules, by_clock, IsReport}
-use Rattle.hyd_examples.specs.Village.{village, tower}
+use Rattle.hyd_examples.specs.Village.{Choice, village_with, village, usual}
 use Rattle.hyd_examples.specs.VillageRun.{standing_0, standing_1, standing_2, standing_3, standing_4, grid_0, grid_1, grid_2, grid_3, grid_4, row_0, row_1, row_2, row_3, row_4, lines_0, lines_1, lines_2, lines_3, lines_4}
 use Rattle.hyd_examples.proofs.VillageCertificates.{le-yes, both-first, both-second}
 use Rattle.hyd_examples.proofs.VillageEnds.{first_ends, second_ends, third_ends, fourth_ends}
@@ -68,11 +68,11 @@ prints_flows ticks ends e =
 
 -- ---- lines
 
-reservoir_line : (r : ℕ) (height : ℤ) (head : Interval) → rounds (pos (10 ^ 9)) (exactly height) head ≡ true
-    → IsReservoirLine village r height (ReservoirLine r head)
-reservoir_line r height head e = record { head = head; is_line = refl; head_is = prints_heads (exactly height) head e }
+pub reservoir_line : (choice : Choice) (r : ℕ) (height : ℤ) (head : Interval) → rounds (pos (10 ^ 9)) (exactly height) head ≡ true
+    → IsReservoirLine (village_with choice) r height (ReservoirLine r head)
+reservoir_line choice r height head e = record { head = head; is_line = refl; head_is = prints_heads (exactly height) head e }
 
-module _ (grid : Grid) (standing : Standing) (row : Record) where
+module _ (choice : Choice) (grid : Grid) (standing : Standing) (row : Record) where
   abbrev heads_of : ℕ → Interval
   heads_of j = record { lo = head_at row.main.lower j; hi = head_at row.main.upper j }
 
@@ -82,9 +82,9 @@ module _ (grid : Grid) (standing : Standing) (row : Record) where
   abbrev outflow_of : ℕ → GridJunction → Interval
   outflow_of j junction = out_box junction (head_at row.main.lower j) (head_at row.main.upper j)
 
-  junction_line : (j : ℕ) (junction : GridJunction) (head pressure outflow : Interval) → rounds (pos (10 ^ 9)) (heads_of j) head ≡ true
+  pub junction_line : (j : ℕ) (junction : GridJunction) (head pressure outflow : Interval) → rounds (pos (10 ^ 9)) (heads_of j) head ≡ true
       → rounds (pos (10 ^ 9)) (pressures_of j junction) pressure ≡ true → rounds (pos 1000) (outflow_of j junction) outflow ≡ true
-      → IsJunctionLine village grid row j junction (JunctionLine j head pressure outflow)
+      → IsJunctionLine (village_with choice) grid row j junction (JunctionLine j head pressure outflow)
   junction_line j junction head pressure outflow a b c = record {
     heads = heads_of j;
     heads_are = refl;
@@ -97,25 +97,25 @@ module _ (grid : Grid) (standing : Standing) (row : Record) where
     outflow_is = prints_flows (outflow_of j junction) outflow c;
   }
 
-  tank_line : (head level inflow : Interval) (state : TankState) → rounds (pos (10 ^ 9)) (shifted tower.bottom (level_of_tank standing 0)) head ≡ true
-      → rounds (pos (10 ^ 9)) (level_of_tank standing 0) level ≡ true → rounds (pos 1000) (inflow_of_tank village grid row 0) inflow ≡ true
-      → slice_get standing.tanks 0 ≡ Some state → IsTankLine village grid standing row 0 tower (TankLine 0 head level inflow state)
+  pub tank_line : (head level inflow : Interval) (state : TankState) → rounds (pos (10 ^ 9)) (shifted choice.tank.bottom (level_of_tank standing 0)) head ≡ true
+      → rounds (pos (10 ^ 9)) (level_of_tank standing 0) level ≡ true → rounds (pos 1000) (inflow_of_tank (village_with choice) grid row 0) inflow ≡ true
+      → slice_get standing.tanks 0 ≡ Some state → IsTankLine (village_with choice) grid standing row 0 choice.tank (TankLine 0 head level inflow state)
   tank_line head level inflow state a b c at = record {
     head = head;
     level = level;
     inflow = inflow;
     state = state;
     is_line = refl;
-    head_is = prints_heads (shifted tower.bottom (level_of_tank standing 0)) head a;
+    head_is = prints_heads (shifted choice.tank.bottom (level_of_tank standing 0)) head a;
     level_is = prints_heads (level_of_tank standing 0) level b;
-    inflow_is = prints_flows (inflow_of_tank village grid row 0) inflow c;
+    inflow_is = prints_flows (inflow_of_tank (village_with choice) grid row 0) inflow c;
     state_is = at;
   }
 
-  link_line : (l : ℕ) (link : Link) (place : GridLink) (box flow : Interval) (word : StatusWord) → slice_get grid.links l ≡ Some place
+  pub link_line : (l : ℕ) (link : Link) (place : GridLink) (box flow : Interval) (word : StatusWord) → slice_get grid.links l ≡ Some place
       → slice_get (flow_boxes grid row) l ≡ Some box → rounds (pos 1000) box flow ≡ true
-      → status_of false link.kind (state_of_link (links_at village standing) l) (difference place (heads_below grid row) (heads_above grid row)) ≡ word
-      → IsLinkLine village grid standing row l link (LinkLine l flow word)
+      → status_of false link.kind (state_of_link (links_at (village_with choice) standing) l) (difference place (heads_below grid row) (heads_above grid row)) ≡ word
+      → IsLinkLine (village_with choice) grid standing row l link (LinkLine l flow word)
   link_line l link place box flow word at boxed e is = record {
     place = place;
     place_is = at;
@@ -134,12 +134,12 @@ first_state = record {
   reservoirs = take 1 (drop 3 lines_0);
   tanks = take 1 (drop 4 lines_0);
   links = drop 5 lines_0;
-  junctions_are = (junction_line grid_0 standing_0 row_0 0 _ _ _ _ refl refl refl, (junction_line grid_0 standing_0 row_0 1 _ _ _ _ refl refl refl, tt));
-  reservoirs_are = (reservoir_line 0 _ _ refl, tt);
-  tanks_are = (tank_line grid_0 standing_0 row_0 _ _ _ _ refl refl refl refl, tt);
+  junctions_are = (junction_line usual grid_0 standing_0 row_0 0 _ _ _ _ refl refl refl, (junction_line usual grid_0 standing_0 row_0 1 _ _ _ _ refl refl refl, tt));
+  reservoirs_are = (reservoir_line usual 0 _ _ refl, tt);
+  tanks_are = (tank_line usual grid_0 standing_0 row_0 _ _ _ _ refl refl refl refl, tt);
   links_are = (
-    link_line grid_0 standing_0 row_0 0 _ _ _ _ _ refl refl refl refl,
-    (link_line grid_0 standing_0 row_0 1 _ _ _ _ _ refl refl refl refl, (link_line grid_0 standing_0 row_0 2 _ _ _ _ _ refl refl refl refl, tt)),
+    link_line usual grid_0 standing_0 row_0 0 _ _ _ _ _ refl refl refl refl,
+    (link_line usual grid_0 standing_0 row_0 1 _ _ _ _ _ refl refl refl refl, (link_line usual grid_0 standing_0 row_0 2 _ _ _ _ _ refl refl refl refl, tt)),
   );
   lines_are = refl;
 }
@@ -150,12 +150,12 @@ fifth_state = record {
   reservoirs = take 1 (drop 3 lines_4);
   tanks = take 1 (drop 4 lines_4);
   links = drop 5 lines_4;
-  junctions_are = (junction_line grid_4 standing_4 row_4 0 _ _ _ _ refl refl refl, (junction_line grid_4 standing_4 row_4 1 _ _ _ _ refl refl refl, tt));
-  reservoirs_are = (reservoir_line 0 _ _ refl, tt);
-  tanks_are = (tank_line grid_4 standing_4 row_4 _ _ _ _ refl refl refl refl, tt);
+  junctions_are = (junction_line usual grid_4 standing_4 row_4 0 _ _ _ _ refl refl refl, (junction_line usual grid_4 standing_4 row_4 1 _ _ _ _ refl refl refl, tt));
+  reservoirs_are = (reservoir_line usual 0 _ _ refl, tt);
+  tanks_are = (tank_line usual grid_4 standing_4 row_4 _ _ _ _ refl refl refl refl, tt);
   links_are = (
-    link_line grid_4 standing_4 row_4 0 _ _ _ _ _ refl refl refl refl,
-    (link_line grid_4 standing_4 row_4 1 _ _ _ _ _ refl refl refl refl, (link_line grid_4 standing_4 row_4 2 _ _ _ _ _ refl refl refl refl, tt)),
+    link_line usual grid_4 standing_4 row_4 0 _ _ _ _ _ refl refl refl refl,
+    (link_line usual grid_4 standing_4 row_4 1 _ _ _ _ _ refl refl refl refl, (link_line usual grid_4 standing_4 row_4 2 _ _ _ _ _ refl refl refl refl, tt)),
   );
   lines_are = refl;
 }

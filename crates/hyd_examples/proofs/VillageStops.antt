@@ -14,10 +14,12 @@ use Rattle.hyd_spec.specs.Decided.{Watch, IsClockLength, RulesMatter, IsFirstMat
 use Rattle.hyd_spec.specs.Valid.{IsGridAt, DemandsAreInRange, demand_limit, levels_next, by_clock as left_by_clock}
 use Rattle.hyd_spec.specs.Stops.{IsFirstDemand, HasNoCertificate, SpendsRounds, IsTightRow, LeavesRuleOpen, LeavesEventOpen, LeavesTankOpen, LeavesControlOpen, EndsAtLevels}
 use Rattle.hyd_examples.specs.Village.{Choice, usual, village, village_with, mill, farm, tower}
-use Rattle.hyd_examples.specs.VillageRun.{grid_mill, grid_farm, standing_0, grid_0, row_0}
+use Rattle.hyd_examples.specs.VillageRun.{standing_0, grid_0, row_0}
+use Rattle.hyd_examples.specs.VillageParts.{grid_mill, grid_farm}
 use Rattle.hyd_examples.specs.VillageStops.{thirsty, dry, unsure_rule, open_rule, unsure_event, unsure_control, unsure_tank, last_level}
 use Rattle.hyd_examples.proofs.VillageGrids.{junction_at, grid_at}
 use Rattle.hyd_examples.proofs.VillageCertificates.{no_certificate}
+use Rattle.hyd_examples.proofs.VillageRecords.{in_range}
 use Rattle.hyd_examples.proofs.VillageSeconds.{from, clock_length, matter, matter_test, no_rule, earliest_end, latest_end}
 use Rattle.hyd_examples.proofs.VillageTight.{first_tight, two_heads}
 
@@ -32,18 +34,12 @@ demand_stops = record {
   first = λ earlier before below at. absurd (omega (arith, below));
 }
 
-module _ (choice : Choice) where
-  in_range : DemandsAreInRange (village_with choice) 0
-  in_range =
-      let P : Junction → Type 0 = λ junction. unsigned_abs (demand_of (village_with choice) 0 junction) ≤ demand_limit in
-      All-cons P mill (farm ∷ []) (lit≤ tt) (All-cons P farm [] (lit≤ tt) (All-nil P))
-
 pub rounds_stop : SpendsRounds village standing_0 Main Upper 0
 rounds_stop = record {
-  in_range = in_range usual;
+  in_range = in_range usual 0 (lit≤ tt) (lit≤ tt);
   is_problem = tt;
   grid = grid_0;
-  is_grid = grid_at usual standing_0 _ _ _ refl refl refl refl;
+  is_grid = grid_at usual standing_0 _ _ _ _ refl refl refl refl;
   reached = _;
   by_rounds = none;
   not_one = no_certificate grid_0 Main Upper _ 0 (grid_mill (pos 8000000000)) refl refl;
@@ -69,7 +65,7 @@ dry_is_grid = record {
 
 pub source_stops : HasNoCertificate (village_with dry) (initial_standing (village_with dry)) Main Lower
 source_stops = record {
-  in_range = in_range dry;
+  in_range = in_range dry 0 (lit≤ tt) (lit≤ tt);
   is_problem = tt;
   grid = dry_grid;
   is_grid = dry_is_grid;
@@ -83,7 +79,7 @@ source_stops = record {
 -- The vectors don't depend on the control, the rule or the tank's maximum.
 tight_row : (choice : Choice) → IsGridAt (village_with choice) (initial_standing (village_with choice)) grid_0
     → IsTightRow (village_with choice) (initial_standing (village_with choice)) grid_0 row_0
-tight_row choice is = record { in_range = in_range choice; is_grid = is; one_each = refl; each = first_tight }
+tight_row choice is = record { in_range = in_range choice 0 (lit≤ tt) (lit≤ tt); is_grid = is; one_each = refl; each = first_tight }
 
 -- eight seconds by the clock
 clock : (choice : Choice) → IsClockLength (village_with choice) 0 8
@@ -112,7 +108,7 @@ pub rule_stops : LeavesRuleOpen (village_with unsure_rule) standing_0 open_rule
 rule_stops = record {
   grid = grid_0;
   row = row_0;
-  tight = tight_row unsure_rule (grid_at unsure_rule standing_0 _ _ _ refl refl refl refl);
+  tight = tight_row unsure_rule (grid_at unsure_rule standing_0 _ _ _ _ refl refl refl refl);
   is_open = rule_is_open unsure_rule_first rule_is;
 }
 
@@ -124,7 +120,7 @@ pub event_stops : LeavesEventOpen (village_with unsure_event) standing_0 5 6
 event_stops = record {
   grid = grid_0;
   row = row_0;
-  tight = tight_row unsure_event (grid_at unsure_event standing_0 _ _ _ refl refl refl refl);
+  tight = tight_row unsure_event (grid_at unsure_event standing_0 _ _ _ _ refl refl refl refl);
   is_open = event_is_open
       (no_rule unsure_event grid_0 standing_0 row_0 5 (omega arith) (earliest_end unsure_event grid_0 standing_0 row_0 8 5 (clock unsure_event) (omega arith) refl
       (inr (omega arith, record { watch = filled; is_watched = (2, lit< tt, refl); tank = tower; is_tank = refl; reached = refl }))) refl)
@@ -156,7 +152,7 @@ control_ends = by_clock
 pub control_stops : LeavesControlOpen (village_with unsure_control) standing_0 0 last_level
 control_stops = record {
   levels = last_level ∷ [];
-  at_levels = ends_at unsure_control (grid_at unsure_control standing_0 _ _ _ refl refl refl refl) control_ends refl;
+  at_levels = ends_at unsure_control (grid_at unsure_control standing_0 _ _ _ _ refl refl refl refl) control_ends refl;
   tanks_decided = refl;
   first = refl;
   tank = 0;
@@ -176,7 +172,7 @@ tank_ends = by_clock
 pub tank_stops : LeavesTankOpen (village_with unsure_tank) standing_0 0 last_level
 tank_stops = record {
   levels = last_level ∷ [];
-  at_levels = ends_at unsure_tank (grid_at unsure_tank standing_0 _ _ _ refl refl refl refl) tank_ends refl;
+  at_levels = ends_at unsure_tank (grid_at unsure_tank standing_0 _ _ _ _ refl refl refl refl) tank_ends refl;
   first = refl;
   level_is = refl;
 }

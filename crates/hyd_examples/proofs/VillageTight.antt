@@ -16,7 +16,8 @@ use Rattle.hyd_spec.specs.Certificate.{IsBeyond, Passes, IsCertificate, IsTight}
 use Rattle.hyd_spec.specs.Record.{Record, Vectors, vector_of}
 use Rattle.hyd_spec.specs.Valid.{IsProblem}
 use Rattle.hyd_examples.specs.Village.{village}
-use Rattle.hyd_examples.specs.VillageRun.{village_grid, grid_mill, grid_farm, grid_0, grid_1, grid_2, grid_3, grid_4, row_0, row_1, row_2, row_3, row_4}
+use Rattle.hyd_examples.specs.VillageRun.{grid_0, grid_1, grid_2, grid_3, grid_4, row_0, row_1, row_2, row_3, row_4}
+use Rattle.hyd_examples.specs.VillageParts.{village_grid, grid_mill, grid_farm}
 use Rattle.hyd_examples.proofs.VillageCertificates.{passing, passes_test, is_certificate, certificate}
 
 -- ---- laws
@@ -58,13 +59,13 @@ capped_rises cap = record {
 abbrev lake : ℤ
 lake = pos 1000000000000000
 
-module _ (demand : ℤ) (feed : Law) (head : Interval) (problem : Problem) (rising : IsRising feed) where
+module _ (demand : ℤ) (feed drop : Law) (head : Interval) (problem : Problem) (rising : IsRising feed) (dropping : IsRising drop) where
   abbrev tower_head : Side → ℤ
   tower_head side = end_on (tank_side problem side 0) head
 
   mill_further : (side : Side) (x further y : ℤ) → IsBeyond side x further
-      → Passes (village_grid demand feed head) problem side (x ∷ y ∷ []) 0 (grid_mill demand)
-      → Passes (village_grid demand feed head) problem side (further ∷ y ∷ []) 0 (grid_mill demand)
+      → Passes (village_grid demand feed drop head) problem side (x ∷ y ∷ []) 0 (grid_mill demand)
+      → Passes (village_grid demand feed drop head) problem side (further ∷ y ∷ []) 0 (grid_mill demand)
   mill_further Upper x further y le passes =
       let into = straight_rises.high_rises (lake -ℤ further) (lake -ℤ x) (omega (arith, ints, le)) in
       let out = rising.low_rises (x -ℤ tower_head Upper) (further -ℤ tower_head Upper) (omega (arith, ints, le)) in
@@ -75,13 +76,13 @@ module _ (demand : ℤ) (feed : Law) (head : Interval) (problem : Problem) (risi
       omega (arith, ints, into, out, passes)
 
   farm_further : (side : Side) (x y further : ℤ) → IsBeyond side y further
-      → Passes (village_grid demand feed head) problem side (x ∷ y ∷ []) 1 grid_farm
-      → Passes (village_grid demand feed head) problem side (x ∷ further ∷ []) 1 grid_farm
+      → Passes (village_grid demand feed drop head) problem side (x ∷ y ∷ []) 1 grid_farm
+      → Passes (village_grid demand feed drop head) problem side (x ∷ further ∷ []) 1 grid_farm
   farm_further Upper x y further le passes =
-      let into = straight_rises.high_rises (tower_head Upper -ℤ further) (tower_head Upper -ℤ y) (omega (arith, ints, le)) in
+      let into = dropping.high_rises (tower_head Upper -ℤ further) (tower_head Upper -ℤ y) (omega (arith, ints, le)) in
       omega (arith, ints, into, passes)
   farm_further Lower x y further le passes =
-      let into = straight_rises.low_rises (tower_head Lower -ℤ y) (tower_head Lower -ℤ further) (omega (arith, ints, le)) in
+      let into = dropping.low_rises (tower_head Lower -ℤ y) (tower_head Lower -ℤ further) (omega (arith, ints, le)) in
       omega (arith, ints, into, passes)
 
 -- ---- tight vectors
@@ -113,16 +114,16 @@ each_two X P x y p q zero z e = let same : x ≡ z = cc in subst (P 0) same p
 each_two X P x y p q (suc zero) z e = let same : y ≡ z = cc in subst (P 1) same q
 each_two X P x y p q (suc (suc k)) z e = absurd (cc)
 
-module _ (demand : ℤ) (feed : Law) (head : Interval) (rising : IsRising feed) (problem : Problem) (side : Side) (a b : ℤ) where
+module _ (demand : ℤ) (feed drop : Law) (head : Interval) (rising : IsRising feed) (dropping : IsRising drop) (problem : Problem) (side : Side) (a b : ℤ) where
   abbrev grid : Grid
-  grid = village_grid demand feed head
+  grid = village_grid demand feed drop head
 
   mill_beyond : ((other : ℤ) → passing grid problem side (nearer side a ∷ other ∷ []) 0 (grid_mill demand) ≡ false)
       → (x y : ℤ) → Passes grid problem side (x ∷ y ∷ []) 0 (grid_mill demand) → IsBeyond side a x
   mill_beyond fails x y passes = elim (next_beyond side a x) [
     | inl l ↦ l
     | inr n ↦ let t = passes_test grid problem side (nearer side a ∷ y ∷ []) 0 (grid_mill demand)
-        (mill_further demand feed head problem rising side x (nearer side a) y n passes) in
+        (mill_further demand feed drop head problem rising dropping side x (nearer side a) y n passes) in
         let f = fails y in absurd (cc)
   ]
 
@@ -131,7 +132,7 @@ module _ (demand : ℤ) (feed : Law) (head : Interval) (rising : IsRising feed) 
   farm_beyond fails x y passes = elim (next_beyond side b y) [
     | inl l ↦ l
     | inr n ↦ let t = passes_test grid problem side (x ∷ nearer side b ∷ []) 1 grid_farm
-        (farm_further demand feed head problem rising side x y (nearer side b) n passes) in
+        (farm_further demand feed drop head problem rising dropping side x y (nearer side b) n passes) in
         let f = fails x in absurd (cc)
   ]
 
@@ -166,35 +167,35 @@ throughout grid row vectors pinned a b c d (Pinned (suc k)) side is = absurd (om
 
 pub first_tight : (problem : Problem) (side : Side) → IsProblem village problem → IsTight grid_0 problem side (vector_of row_0 problem side)
 first_tight = throughout grid_0 row_0 _ refl
-    (tight _ _ _ (capped_rises (pos 10000000000)) Main Upper _ _ refl (λ other. refl) (λ other. refl))
-    (tight _ _ _ (capped_rises (pos 10000000000)) Main Lower _ _ refl (λ other. refl) (λ other. refl))
-    (tight _ _ _ (capped_rises (pos 10000000000)) (Pinned 0) Upper _ _ refl (λ other. refl) (λ other. refl))
-    (tight _ _ _ (capped_rises (pos 10000000000)) (Pinned 0) Lower _ _ refl (λ other. refl) (λ other. refl))
+    (tight _ _ _ _ (capped_rises (pos 10000000000)) straight_rises Main Upper _ _ refl (λ other. refl) (λ other. refl))
+    (tight _ _ _ _ (capped_rises (pos 10000000000)) straight_rises Main Lower _ _ refl (λ other. refl) (λ other. refl))
+    (tight _ _ _ _ (capped_rises (pos 10000000000)) straight_rises (Pinned 0) Upper _ _ refl (λ other. refl) (λ other. refl))
+    (tight _ _ _ _ (capped_rises (pos 10000000000)) straight_rises (Pinned 0) Lower _ _ refl (λ other. refl) (λ other. refl))
 
 pub second_tight : (problem : Problem) (side : Side) → IsProblem village problem → IsTight grid_1 problem side (vector_of row_1 problem side)
 second_tight = throughout grid_1 row_1 _ refl
-    (tight _ _ _ (capped_rises (pos 10000000000)) Main Upper _ _ refl (λ other. refl) (λ other. refl))
-    (tight _ _ _ (capped_rises (pos 10000000000)) Main Lower _ _ refl (λ other. refl) (λ other. refl))
-    (tight _ _ _ (capped_rises (pos 10000000000)) (Pinned 0) Upper _ _ refl (λ other. refl) (λ other. refl))
-    (tight _ _ _ (capped_rises (pos 10000000000)) (Pinned 0) Lower _ _ refl (λ other. refl) (λ other. refl))
+    (tight _ _ _ _ (capped_rises (pos 10000000000)) straight_rises Main Upper _ _ refl (λ other. refl) (λ other. refl))
+    (tight _ _ _ _ (capped_rises (pos 10000000000)) straight_rises Main Lower _ _ refl (λ other. refl) (λ other. refl))
+    (tight _ _ _ _ (capped_rises (pos 10000000000)) straight_rises (Pinned 0) Upper _ _ refl (λ other. refl) (λ other. refl))
+    (tight _ _ _ _ (capped_rises (pos 10000000000)) straight_rises (Pinned 0) Lower _ _ refl (λ other. refl) (λ other. refl))
 
 pub third_tight : (problem : Problem) (side : Side) → IsProblem village problem → IsTight grid_2 problem side (vector_of row_2 problem side)
 third_tight = throughout grid_2 row_2 _ refl
-    (tight _ _ _ shut_rises Main Upper _ _ refl (λ other. refl) (λ other. refl))
-    (tight _ _ _ shut_rises Main Lower _ _ refl (λ other. refl) (λ other. refl))
-    (tight _ _ _ shut_rises (Pinned 0) Upper _ _ refl (λ other. refl) (λ other. refl))
-    (tight _ _ _ shut_rises (Pinned 0) Lower _ _ refl (λ other. refl) (λ other. refl))
+    (tight _ _ _ _ shut_rises straight_rises Main Upper _ _ refl (λ other. refl) (λ other. refl))
+    (tight _ _ _ _ shut_rises straight_rises Main Lower _ _ refl (λ other. refl) (λ other. refl))
+    (tight _ _ _ _ shut_rises straight_rises (Pinned 0) Upper _ _ refl (λ other. refl) (λ other. refl))
+    (tight _ _ _ _ shut_rises straight_rises (Pinned 0) Lower _ _ refl (λ other. refl) (λ other. refl))
 
 pub fourth_tight : (problem : Problem) (side : Side) → IsProblem village problem → IsTight grid_3 problem side (vector_of row_3 problem side)
 fourth_tight = throughout grid_3 row_3 _ refl
-    (tight _ _ _ (capped_rises (pos 3000000000)) Main Upper _ _ refl (λ other. refl) (λ other. refl))
-    (tight _ _ _ (capped_rises (pos 3000000000)) Main Lower _ _ refl (λ other. refl) (λ other. refl))
-    (tight _ _ _ (capped_rises (pos 3000000000)) (Pinned 0) Upper _ _ refl (λ other. refl) (λ other. refl))
-    (tight _ _ _ (capped_rises (pos 3000000000)) (Pinned 0) Lower _ _ refl (λ other. refl) (λ other. refl))
+    (tight _ _ _ _ (capped_rises (pos 3000000000)) straight_rises Main Upper _ _ refl (λ other. refl) (λ other. refl))
+    (tight _ _ _ _ (capped_rises (pos 3000000000)) straight_rises Main Lower _ _ refl (λ other. refl) (λ other. refl))
+    (tight _ _ _ _ (capped_rises (pos 3000000000)) straight_rises (Pinned 0) Upper _ _ refl (λ other. refl) (λ other. refl))
+    (tight _ _ _ _ (capped_rises (pos 3000000000)) straight_rises (Pinned 0) Lower _ _ refl (λ other. refl) (λ other. refl))
 
 pub fifth_tight : (problem : Problem) (side : Side) → IsProblem village problem → IsTight grid_4 problem side (vector_of row_4 problem side)
 fifth_tight = throughout grid_4 row_4 _ refl
-    (tight _ _ _ (capped_rises (pos 3000000000)) Main Upper _ _ refl (λ other. refl) (λ other. refl))
-    (tight _ _ _ (capped_rises (pos 3000000000)) Main Lower _ _ refl (λ other. refl) (λ other. refl))
-    (tight _ _ _ (capped_rises (pos 3000000000)) (Pinned 0) Upper _ _ refl (λ other. refl) (λ other. refl))
-    (tight _ _ _ (capped_rises (pos 3000000000)) (Pinned 0) Lower _ _ refl (λ other. refl) (λ other. refl))
+    (tight _ _ _ _ (capped_rises (pos 3000000000)) straight_rises Main Upper _ _ refl (λ other. refl) (λ other. refl))
+    (tight _ _ _ _ (capped_rises (pos 3000000000)) straight_rises Main Lower _ _ refl (λ other. refl) (λ other. refl))
+    (tight _ _ _ _ (capped_rises (pos 3000000000)) straight_rises (Pinned 0) Upper _ _ refl (λ other. refl) (λ other. refl))
+    (tight _ _ _ _ (capped_rises (pos 3000000000)) straight_rises (Pinned 0) Lower _ _ refl (λ other. refl) (λ other. refl))

@@ -1,7 +1,9 @@
 pub mod Sample
 pub mod Record
 pub mod Village
+pub mod VillageParts
 pub mod VillageRun
 pub mod VillageHistory
 pub mod VillageTexts
 pub mod VillageStops
+pub mod Shallow

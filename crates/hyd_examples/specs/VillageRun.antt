@@ -1,65 +1,31 @@
 -- The run of the village: what an independent calculation gives for each of its five periods.
-use Rattle.std.specs.Prelude.{ℕ, ℤ, pos, true, false, List, [], ◌∷◌, None}
-use Rattle.hyd_spec.specs.Types.{LinkState, Linear, Closed, Throttle, Limit}
+use Rattle.std.specs.Prelude.{ℕ, ℤ, pos, true, List, [], ◌∷◌}
+use Rattle.hyd_spec.specs.Types.{Closed, Limit}
 use Rattle.hyd_spec.specs.declared.TankState.TheVariants.{Between}
 use Rattle.hyd_spec.specs.declared.StatusWord.TheVariants.{Active as WordActive}
 use Rattle.hyd_spec.specs.Interval.{Interval}
-use Rattle.hyd_spec.specs.Law.{Law, Shut, Straight, Capped}
-use Rattle.hyd_spec.specs.Enclosing.{Fixed}
-use Rattle.hyd_spec.specs.Grid.{Grid, GridJunction}
-use Rattle.hyd_spec.specs.Record.{Record, Vectors, Standing}
+use Rattle.hyd_spec.specs.Law.{Shut, Straight, Capped}
+use Rattle.hyd_spec.specs.Grid.{Grid}
+use Rattle.hyd_spec.specs.Record.{Record, Standing}
 use Rattle.hyd_spec.specs.ReportLine.{ReportLine, TimeLine, JunctionLine, ReservoirLine, TankLine, LinkLine, ReachedLine, ControlLine, RuleLine}
 use Rattle.hyd_spec.specs.Headline.{Found}
-
--- A standing with the tower's level and the last command to the valve that fills it.
-abbrev pub village_standing : ℕ → ℕ → Interval → LinkState → Standing
-village_standing number time level feed = record {
-  number = number;
-  time = time;
-  levels = level ∷ [];
-  tanks = Between ∷ [];
-  commanded = Throttle (pos 0) Linear ∷ feed ∷ Throttle (pos 0) Linear ∷ [];
-  finished = false;
-}
-
-abbrev pub grid_mill : ℤ → GridJunction
-grid_mill demand = record { elevation = pos 500000000000000; demand = Fixed demand; emitter = None }
-
-abbrev pub grid_farm : GridJunction
-grid_farm = record { elevation = pos 400000000000000; demand = Fixed (pos 2000000000); emitter = None }
-
--- A grid with the mill's demand, the law of the valve that fills the tower, and the tower's head.
-abbrev pub village_grid : ℤ → Law → Interval → Grid
-village_grid demand feed head = record {
-  junctions = grid_mill demand ∷ grid_farm ∷ [];
-  reservoirs = pos 1000000000000000 ∷ [];
-  tanks = head ∷ [];
-  links =
-      (record { from = 2; to = 0; law = Straight })
-      ∷ (record { from = 0; to = 3; law = feed })
-      ∷ (record { from = 3; to = 1; law = Straight })
-      ∷ [];
-}
-
-abbrev pub village_row : ℕ → ℕ → ℕ → Vectors → Vectors → Record
-village_row number time length main pinned =
-    record { number = number; time = time; length = length; main = main; pinned = pinned ∷ [] }
+use Rattle.hyd_examples.specs.VillageParts.{village_standing, village_grid, village_row}
 
 -- What is known when each period begins.
 abbrev pub standing_0 : Standing
-standing_0 = village_standing 0 0 (record { lo = pos 20000000000000; hi = pos 20000000000000 }) (Limit (pos 1000000000000) (pos 10000000000))
+standing_0 = village_standing 0 0 (record { lo = pos 20000000000000; hi = pos 20000000000000 }) Between (Limit (pos 1000000000000) (pos 10000000000))
 
 abbrev pub standing_1 : Standing
-standing_1 = village_standing 1 8 (record { lo = pos 20058946250974; hi = pos 20058946310442 }) (Limit (pos 1000000000000) (pos 10000000000))
+standing_1 = village_standing 1 8 (record { lo = pos 20058946250974; hi = pos 20058946310442 }) Between (Limit (pos 1000000000000) (pos 10000000000))
 
 abbrev pub standing_2 : Standing
-standing_2 = village_standing 2 11 (record { lo = pos 20081051095083; hi = pos 20081051176864 }) (Limit (pos 1000000000000) (pos 10000000000))
+standing_2 = village_standing 2 11 (record { lo = pos 20081051095083; hi = pos 20081051176864 }) Between (Limit (pos 1000000000000) (pos 10000000000))
 
 abbrev pub standing_3 : Standing
-standing_3 = village_standing 3 14 (record { lo = pos 20075524872686; hi = pos 20075524976781 }) (Limit (pos 300000000000) (pos 3000000000))
+standing_3 = village_standing 3 14 (record { lo = pos 20075524872686; hi = pos 20075524976781 }) Between (Limit (pos 300000000000) (pos 3000000000))
 
 abbrev pub standing_4 : Standing
-standing_4 = village_standing 4 16 (record { lo = pos 20077366937719; hi = pos 20077367056697 }) (Limit (pos 300000000000) (pos 3000000000))
+standing_4 = village_standing 4 16 (record { lo = pos 20077366937719; hi = pos 20077367056697 }) Between (Limit (pos 300000000000) (pos 3000000000))
 
 -- What is left after the last one.
 abbrev pub left : Standing
@@ -67,19 +33,19 @@ left = record standing_4 { number = 5; finished = true }
 
 -- The grid of each period.
 abbrev pub grid_0 : Grid
-grid_0 = village_grid (pos 8000000000) (Capped (pos 10000000000) Straight) (record { lo = pos 620000000000000; hi = pos 620000000000000 })
+grid_0 = village_grid (pos 8000000000) (Capped (pos 10000000000) Straight) Straight (record { lo = pos 620000000000000; hi = pos 620000000000000 })
 
 abbrev pub grid_1 : Grid
-grid_1 = village_grid (pos 4000000000) (Capped (pos 10000000000) Straight) (record { lo = pos 620058946250974; hi = pos 620058946310442 })
+grid_1 = village_grid (pos 4000000000) (Capped (pos 10000000000) Straight) Straight (record { lo = pos 620058946250974; hi = pos 620058946310442 })
 
 abbrev pub grid_2 : Grid
-grid_2 = village_grid (pos 4000000000) (Shut) (record { lo = pos 620081051095083; hi = pos 620081051176864 })
+grid_2 = village_grid (pos 4000000000) Shut Straight (record { lo = pos 620081051095083; hi = pos 620081051176864 })
 
 abbrev pub grid_3 : Grid
-grid_3 = village_grid (pos 4000000000) (Capped (pos 3000000000) Straight) (record { lo = pos 620075524872686; hi = pos 620075524976781 })
+grid_3 = village_grid (pos 4000000000) (Capped (pos 3000000000) Straight) Straight (record { lo = pos 620075524872686; hi = pos 620075524976781 })
 
 abbrev pub grid_4 : Grid
-grid_4 = village_grid (pos 8000000000) (Capped (pos 3000000000) Straight) (record { lo = pos 620077366937719; hi = pos 620077367056697 })
+grid_4 = village_grid (pos 8000000000) (Capped (pos 3000000000) Straight) Straight (record { lo = pos 620077366937719; hi = pos 620077367056697 })
 
 -- The record of each period.
 abbrev pub row_0 : Record
@@ -109,7 +75,7 @@ row_4 = village_row 4 16 0
 
 -- The lines of each period.
 abbrev pub lines_0 : List ReportLine
-lines_0 =
+lines_0 = 
     (TimeLine 0)
     ∷ (JunctionLine 0 (record { lo = pos 999999; hi = pos 1000000 }) (record { lo = pos 499999; hi = pos 500000 }) (record { lo = pos 7999999; hi = pos 8000001 }))
     ∷ (JunctionLine 1 (record { lo = pos 619999; hi = pos 620000 }) (record { lo = pos 219999; hi = pos 220000 }) (record { lo = pos 1999999; hi = pos 2000001 }))
@@ -121,12 +87,12 @@ lines_0 =
     ∷ []
 
 abbrev pub lines_1 : List ReportLine
-lines_1 =
+lines_1 = 
     (ReachedLine 11 0 0)
     ∷ []
 
 abbrev pub lines_2 : List ReportLine
-lines_2 =
+lines_2 = 
     (ControlLine 11 0 1 Closed)
     ∷ (RuleLine 14 0 1 (Limit (pos 300000000000) (pos 3000000000)))
     ∷ []
@@ -135,7 +101,7 @@ abbrev pub lines_3 : List ReportLine
 lines_3 = []
 
 abbrev pub lines_4 : List ReportLine
-lines_4 =
+lines_4 = 
     (TimeLine 16)
     ∷ (JunctionLine 0 (record { lo = pos 999999; hi = pos 1000000 }) (record { lo = pos 499999; hi = pos 500000 }) (record { lo = pos 7999999; hi = pos 8000001 }))
     ∷ (JunctionLine 1 (record { lo = pos 620077; hi = pos 620078 }) (record { lo = pos 220077; hi = pos 220078 }) (record { lo = pos 1999999; hi = pos 2000001 }))

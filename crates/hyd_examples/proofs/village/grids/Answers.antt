@@ -8,16 +8,16 @@ pub returns-clause-start : goal.returns-clause-start
 returns-clause-start c = refl
 
 pub returns-clause-first : goal.returns-clause-first
-returns-clause-first c = grid_at usual standing_0 _ _ _ refl refl refl refl
+returns-clause-first c = grid_at usual standing_0 _ _ _ _ refl refl refl refl
 
 pub returns-clause-second : goal.returns-clause-second
-returns-clause-second c = grid_at usual standing_1 _ _ _ refl refl refl refl
+returns-clause-second c = grid_at usual standing_1 _ _ _ _ refl refl refl refl
 
 pub returns-clause-third : goal.returns-clause-third
-returns-clause-third c = grid_at usual standing_2 _ _ _ refl refl refl refl
+returns-clause-third c = grid_at usual standing_2 _ _ _ _ refl refl refl refl
 
 pub returns-clause-fourth : goal.returns-clause-fourth
-returns-clause-fourth c = grid_at usual standing_3 _ _ _ refl refl refl refl
+returns-clause-fourth c = grid_at usual standing_3 _ _ _ _ refl refl refl refl
 
 pub returns-clause-fifth : goal.returns-clause-fifth
-returns-clause-fifth c = grid_at usual standing_4 _ _ _ refl refl refl refl
+returns-clause-fifth c = grid_at usual standing_4 _ _ _ _ refl refl refl refl
