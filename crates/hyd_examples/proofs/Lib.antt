@@ -16,3 +16,5 @@ pub mod OneReport
 pub mod OneLength
 pub mod OneRun
 pub mod VillageWhole
+pub mod ShallowRun
+pub mod ShallowHistory

@@ -1,10 +1,15 @@
 -- The periods of the history have their lengths, and come one after another.
-use Rattle.std.proofs.Common.{◌≡◌, ℕ, zero, suc, ◌+◌, ◌%◌, ◌<◌, ◌≤◌, ℤ, pos, Bool, true, false, ◌&&◌, ◌||◌, not, [], ◌∷◌, eqb, ltb, lit<, refl, sym, ap, subst, arith}
+use Rattle.std.proofs.Common.{◌≡◌, ◌≢◌, ℕ, zero, suc, ◌+◌, ◌%◌, ◌<◌, ◌≤◌, ℤ, pos, Bool, true, false, ◌&&◌, ◌||◌, not, [], ◌∷◌, eqb, ltb, lit<, refl, sym, ap, subst, arith}
 use Rattle.std.specs.Prelude.{slice_index_or}
+use Rattle.std.specs.Prelude.{slice_get, Option, Some, None}
+use Rattle.std.specs.Option.{option_map_or}
 use Rattle.std.proofs.lemmas.Int.{ints}
 use Rattle.std.proofs.lemmas.Bool.{eq-eqb, lt-ltb}
 use Rattle.hyd_num.specs.Rational.{whole}
 use Rattle.hyd_spec.specs.Types.{Tank}
+use Rattle.hyd_spec.specs.declared.TankState.{TankState}
+use Rattle.hyd_spec.specs.declared.TankState.TheVariants.{Empty, Between, Full}
+use Rattle.hyd_spec.specs.LinkLaw.{is_full, is_empty}
 use Rattle.hyd_spec.specs.Lists.{Each}
 use Rattle.hyd_spec.specs.Tank.{reaches, is_at_maximum, is_at_minimum, IsNextLevel, tank_inflow}
 use Rattle.hyd_spec.specs.Rules.{rule_changes}
@@ -16,12 +21,36 @@ use Rattle.hyd_examples.proofs.VillageSeconds.{none_below, from, or-left, or-rig
 
 -- ---- by levels
 
+not_full : (o : Option TankState) → o ≢ Some Full → not (option_map_or is_full o false) ≡ true
+not_full None other = refl
+not_full (Some Full) other = absurd (other refl)
+not_full (Some Between) other = refl
+not_full (Some Empty) other = refl
+
+not_empty : (o : Option TankState) → o ≢ Some Empty → not (option_map_or is_empty o false) ≡ true
+not_empty None other = refl
+not_empty (Some Full) other = refl
+not_empty (Some Between) other = refl
+not_empty (Some Empty) other = absurd (other refl)
+
 module _ (choice : Choice) (period : Period) where
+  abbrev wasnt_full : Bool
+  wasnt_full = not (option_map_or is_full (slice_get period.tanks 0) false)
+
+  abbrev wasnt_empty : Bool
+  wasnt_empty = not (option_map_or is_empty (slice_get period.tanks 0) false)
+
+  abbrev comes_to_maximum : ℕ → Bool
+  comes_to_maximum s = is_at_maximum 1000 choice.tank (exact_after (village_with choice) period 0 choice.tank s)
+
+  abbrev comes_to_minimum : ℕ → Bool
+  comes_to_minimum s = is_at_minimum 1000 choice.tank (exact_after (village_with choice) period 0 choice.tank s)
+
   abbrev at_maximum : ℕ → Bool
-  at_maximum s = is_at_maximum 1000 choice.tank (exact_after (village_with choice) period 0 choice.tank s)
+  at_maximum s = wasnt_full && comes_to_maximum s
 
   abbrev at_minimum : ℕ → Bool
-  at_minimum s = is_at_minimum 1000 choice.tank (exact_after (village_with choice) period 0 choice.tank s)
+  at_minimum s = wasnt_empty && comes_to_minimum s
 
   abbrev is_filled : ℕ → Bool
   is_filled s = not (reaches 1000 true choice.ticks (whole (level_at_start period 0)))
@@ -46,12 +75,14 @@ module _ (choice : Choice) (period : Period) where
   level_test : (s : ℕ) → EndsByLevel (village_with choice) 1000 period s → level_ends s ≡ true
   level_test s (full zero tank is other reached) =
       let same : tank ≡ choice.tank = cc in
-      or-left (at_maximum s) (at_minimum s || is_filled s) (subst (λ (t : Tank). is_at_maximum 1000 t (exact_after (village_with choice) period 0 t s) ≡ true) same reached)
+      or-left (at_maximum s) (at_minimum s || is_filled s) (and-true wasnt_full (comes_to_maximum s) (not_full (slice_get period.tanks 0) other)
+      (subst (λ (t : Tank). is_at_maximum 1000 t (exact_after (village_with choice) period 0 t s) ≡ true) same reached))
   level_test s (full (suc k) tank is other reached) = absurd (cc)
   level_test s (empty zero tank is other reached) =
       let same : tank ≡ choice.tank = cc in
       or-right (at_maximum s) (at_minimum s || is_filled s) (or-left (at_minimum s) (is_filled s)
-      (subst (λ (t : Tank). is_at_minimum 1000 t (exact_after (village_with choice) period 0 t s) ≡ true) same reached))
+      (and-true wasnt_empty (comes_to_minimum s) (not_empty (slice_get period.tanks 0) other)
+      (subst (λ (t : Tank). is_at_minimum 1000 t (exact_after (village_with choice) period 0 t s) ≡ true) same reached)))
   level_test s (empty (suc k) tank is other reached) = absurd (cc)
   level_test s (at_control each zero above ticks tank contained is_level is before reached) =
       let same = only_control choice each contained in

@@ -6,10 +6,10 @@ use Rattle.hyd_spec.specs.CertificateText.{IsVector, IsRow}
 use Rattle.hyd_examples.specs.VillageRun.{row_0, row_1, row_2, row_3, row_4}
 use Rattle.hyd_examples.proofs.VillageCertificates.{all_inside, all_in_box}
 
-vector : (u : List ℤ) → length u ≡ 2 → all_inside u ≡ true → IsVector 2 u
+pub vector : (u : List ℤ) → length u ≡ 2 → all_inside u ≡ true → IsVector 2 u
 vector u two inside = record { one_each = two; in_box = all_in_box u inside }
 
-row_fits : (row : Record) (vectors : Vectors) → row.pinned ≡ vectors ∷ [] → row.number < 2 ^ 32 → row.time < 2 ^ 32 → row.length < 2 ^ 32
+pub row_fits : (row : Record) (vectors : Vectors) → row.pinned ≡ vectors ∷ [] → row.number < 2 ^ 32 → row.time < 2 ^ 32 → row.length < 2 ^ 32
     → IsVector 2 row.main.upper → IsVector 2 row.main.lower → IsVector 2 vectors.upper → IsVector 2 vectors.lower → IsRow 2 1 row
 row_fits row vectors pinned number time length a b c d = record {
   number_fits = number;

@@ -13,6 +13,7 @@ pub mod outcomes;
 pub mod parts;
 pub mod quantities;
 pub mod rules;
+pub mod shallow;
 pub mod starts;
 pub mod surpluses;
 pub mod texts;
