@@ -8,7 +8,7 @@ use Rattle.hyd_spec.specs.Length.{pattern, step}
 use Rattle.hyd_spec.specs.Grid.{Grid}
 use Rattle.hyd_spec.specs.Certificate.{IsCertificate, Passes}
 use Rattle.hyd_spec.specs.Decided.{Watch, SomeMayReach, SomeMustReach, IsClockLength, EndsBy, ByClock, by_clock}
-use Rattle.hyd_spec.specs.Valid.{by_clock as left_by_clock, continues, IsValid}
+use Rattle.hyd_spec.specs.Valid.{by_clock as left_by_clock, IsValid}
 use Rattle.hyd_spec.specs.Stops.{HasNoCertificate}
 use Rattle.hyd_spec.specs.Report.{AreStateLines, by_clock as ended_by_clock, IsReport}
 use Rattle.hyd_spec.specs.Headline.{IsRun, none, more}
@@ -18,7 +18,7 @@ use Rattle.hyd_examples.specs.Shallow.{shallow, standing_0, standing_1, left, gr
 use Rattle.hyd_examples.proofs.VillageGrids.{grid_at}
 use Rattle.hyd_examples.proofs.VillageCertificates.{certificates}
 use Rattle.hyd_examples.proofs.VillageSeconds.{clock_length, no_rule, earliest_end, latest_end}
-use Rattle.hyd_examples.proofs.VillageRecords.{in_range, controls_decided}
+use Rattle.hyd_examples.proofs.VillageRecords.{in_range, controls_decided, valid_at}
 use Rattle.hyd_examples.proofs.VillageReports.{junction_line, reservoir_line, tank_line, link_line}
 use Rattle.hyd_examples.proofs.VillageTight.{two_heads}
 
@@ -43,24 +43,9 @@ first_ends = by_clock
     (latest_end shallow grid_0 standing_0 row_0 8 1 clock_0 (omega arith) refl (inr (omega arith, must_fill)))
 
 first_valid : IsValid (village_with shallow) standing_0 grid_0 row_0 standing_1
-first_valid = record {
-  unfinished = refl;
-  number = refl;
-  time = refl;
-  demands = in_range shallow 0 (lit≤ tt) (lit≤ tt);
-  is_grid = grid_at shallow standing_0 _ _ _ _ refl refl refl refl;
-  certificates = certificates shallow grid_0 row_0 _ refl refl refl refl refl;
-  leads_on = continues (record {
-    not_last = λ is. omega (arith, is);
-    leaves_links = left_by_clock first_ends;
-    levels = refl;
-    tanks = refl;
-    controls = controls_decided shallow _ refl;
-    number = refl;
-    time = refl;
-    unfinished = refl;
-  });
-}
+first_valid = valid_at shallow standing_0 grid_0 row_0 standing_1 refl (omega arith) refl refl (in_range shallow 0 (lit≤ tt) (lit≤ tt))
+    (grid_at shallow standing_0 _ _ _ _ refl refl refl refl) (certificates shallow grid_0 row_0 _ refl refl refl refl refl) (left_by_clock first_ends)
+    refl refl (controls_decided shallow _ refl) refl refl refl
 
 first_state : AreStateLines (village_with shallow) grid_0 standing_0 row_0 (take 8 lines_0)
 first_state = record {
@@ -102,24 +87,9 @@ second_ends = by_clock
     (latest_end shallow grid_1 standing_1 row_1 7 5 clock_1 (omega arith) refl (inr (omega arith, must_empty)))
 
 second_valid : IsValid (village_with shallow) standing_1 grid_1 row_1 left
-second_valid = record {
-  unfinished = refl;
-  number = refl;
-  time = refl;
-  demands = in_range shallow 1 (lit≤ tt) (lit≤ tt);
-  is_grid = grid_at shallow standing_1 _ _ _ _ refl refl refl refl;
-  certificates = certificates shallow grid_1 row_1 _ refl refl refl refl refl;
-  leads_on = continues (record {
-    not_last = λ is. omega (arith, is);
-    leaves_links = left_by_clock second_ends;
-    levels = refl;
-    tanks = refl;
-    controls = controls_decided shallow _ refl;
-    number = refl;
-    time = refl;
-    unfinished = refl;
-  });
-}
+second_valid = valid_at shallow standing_1 grid_1 row_1 left refl (omega arith) refl refl (in_range shallow 1 (lit≤ tt) (lit≤ tt))
+    (grid_at shallow standing_1 _ _ _ _ refl refl refl refl) (certificates shallow grid_1 row_1 _ refl refl refl refl refl) (left_by_clock second_ends)
+    refl refl (controls_decided shallow _ refl) refl refl refl
 
 second_report : IsReport (village_with shallow) grid_1 standing_1 row_1 lines_1
 second_report = record { state = []; state_are = refl; at_end = lines_1; at_end_are = ended_by_clock second_ends; lines_are = refl }

@@ -1,5 +1,5 @@
 -- The records of the village are valid, one after another.
-use Rattle.std.proofs.Common.{◌≡◌, ℕ, ◌≤◌, ℤ, Bool, false, [], ◌∷◌, IsFalse, unsigned_abs, refl, subst, arith, lit≤}
+use Rattle.std.proofs.Common.{suc, ◌+◌, ◌<◌, ◌≡◌, ℕ, ◌≤◌, ℤ, Bool, false, [], ◌∷◌, IsFalse, unsigned_abs, refl, subst, arith, lit≤}
 use Rattle.std.specs.Prelude.{pos, true, slice_index_or}
 use Rattle.std.proofs.lemmas.List.Elements.{All-nil, All-cons}
 use Rattle.hyd_spec.specs.Types.{Junction}
@@ -7,7 +7,9 @@ use Rattle.hyd_spec.specs.Interval.{Interval}
 use Rattle.hyd_spec.specs.Quantity.{demand_of}
 use Rattle.hyd_spec.specs.Truth.{is_unknown}
 use Rattle.hyd_spec.specs.Decided.{nowhere, control_truth}
-use Rattle.hyd_spec.specs.Valid.{DemandsAreInRange, demand_limit, ControlsAreDecided, by_rules, by_clock, continues, finishes, IsValid}
+use Rattle.hyd_spec.specs.Valid.{DemandsAreInRange, demand_limit, ControlsAreDecided, by_rules, by_clock, continues, finishes, IsValid, IsGridAt, AreCertificates, LeavesLinks, levels_next, AreStates}
+use Rattle.hyd_spec.specs.Grid.{Grid}
+use Rattle.hyd_spec.specs.Record.{Record, Standing}
 use Rattle.hyd_examples.specs.Village.{Choice, village_with, village, usual, mill, farm}
 use Rattle.hyd_examples.specs.VillageRun.{standing_0, standing_1, standing_2, standing_3, standing_4, left, grid_0, grid_1, grid_2, grid_3, grid_4, row_0, row_1, row_2, row_3, row_4}
 use Rattle.hyd_examples.proofs.VillageGrids.{grid_at}
@@ -33,85 +35,52 @@ module _ (choice : Choice) where
       (subst (λ (b : Bool). IsFalse (is_unknown (control_truth level b ticks))) above_is
       (subst (λ (z : ℤ). IsFalse (is_unknown (control_truth level true z))) ticks_are decided))
 
+  -- a record that isn't the last one is valid where all of this holds
+  pub valid_at : (standing : Standing) (grid : Grid) (row : Record) (next : Standing) → standing.finished ≡ false → standing.time < 16
+      → row.number ≡ standing.number → row.time ≡ standing.time → DemandsAreInRange (village_with choice) standing.time
+      → IsGridAt (village_with choice) standing grid → AreCertificates (village_with choice) grid row
+      → LeavesLinks (village_with choice) grid standing row row.length next.commanded
+      → next.levels ≡ levels_next (village_with choice) grid standing row row.length → AreStates (village_with choice) next.levels next.tanks
+      → ControlsAreDecided (village_with choice) next.levels → next.number ≡ suc standing.number → next.time ≡ standing.time + row.length
+      → next.finished ≡ false → IsValid (village_with choice) standing grid row next
+  valid_at standing grid row next begun early number time demands is_grid passed leaves levels tanks controls following later unfinished = record {
+    unfinished = begun;
+    number = number;
+    time = time;
+    demands = demands;
+    is_grid = is_grid;
+    certificates = passed;
+    leads_on = continues (record {
+      not_last = λ is. omega (arith, is, early);
+      leaves_links = leaves;
+      levels = levels;
+      tanks = tanks;
+      controls = controls;
+      number = following;
+      time = later;
+      unfinished = unfinished;
+    });
+  }
+
 pub first_valid : IsValid village standing_0 grid_0 row_0 standing_1
-first_valid = record {
-  unfinished = refl;
-  number = refl;
-  time = refl;
-  demands = in_range usual 0 (lit≤ tt) (lit≤ tt);
-  is_grid = grid_at usual standing_0 _ _ _ _ refl refl refl refl;
-  certificates = certificates usual grid_0 row_0 _ refl refl refl refl refl;
-  leads_on = continues (record {
-    not_last = λ is. omega (arith, is);
-    leaves_links = by_clock first_ends;
-    levels = refl;
-    tanks = refl;
-    controls = controls_decided usual _ refl;
-    number = refl;
-    time = refl;
-    unfinished = refl;
-  });
-}
+first_valid = valid_at usual standing_0 grid_0 row_0 standing_1 refl (omega arith) refl refl (in_range usual 0 (lit≤ tt) (lit≤ tt))
+    (grid_at usual standing_0 _ _ _ _ refl refl refl refl) (certificates usual grid_0 row_0 _ refl refl refl refl refl) (by_clock first_ends)
+    refl refl (controls_decided usual _ refl) refl refl refl
 
 pub second_valid : IsValid village standing_1 grid_1 row_1 standing_2
-second_valid = record {
-  unfinished = refl;
-  number = refl;
-  time = refl;
-  demands = in_range usual 8 (lit≤ tt) (lit≤ tt);
-  is_grid = grid_at usual standing_1 _ _ _ _ refl refl refl refl;
-  certificates = certificates usual grid_1 row_1 _ refl refl refl refl refl;
-  leads_on = continues (record {
-    not_last = λ is. omega (arith, is);
-    leaves_links = by_clock second_ends;
-    levels = refl;
-    tanks = refl;
-    controls = controls_decided usual _ refl;
-    number = refl;
-    time = refl;
-    unfinished = refl;
-  });
-}
+second_valid = valid_at usual standing_1 grid_1 row_1 standing_2 refl (omega arith) refl refl (in_range usual 8 (lit≤ tt) (lit≤ tt))
+    (grid_at usual standing_1 _ _ _ _ refl refl refl refl) (certificates usual grid_1 row_1 _ refl refl refl refl refl) (by_clock second_ends)
+    refl refl (controls_decided usual _ refl) refl refl refl
 
 pub third_valid : IsValid village standing_2 grid_2 row_2 standing_3
-third_valid = record {
-  unfinished = refl;
-  number = refl;
-  time = refl;
-  demands = in_range usual 11 (lit≤ tt) (lit≤ tt);
-  is_grid = grid_at usual standing_2 _ _ _ _ refl refl refl refl;
-  certificates = certificates usual grid_2 row_2 _ refl refl refl refl refl;
-  leads_on = continues (record {
-    not_last = λ is. omega (arith, is);
-    leaves_links = by_rules third_ends;
-    levels = refl;
-    tanks = refl;
-    controls = controls_decided usual _ refl;
-    number = refl;
-    time = refl;
-    unfinished = refl;
-  });
-}
+third_valid = valid_at usual standing_2 grid_2 row_2 standing_3 refl (omega arith) refl refl (in_range usual 11 (lit≤ tt) (lit≤ tt))
+    (grid_at usual standing_2 _ _ _ _ refl refl refl refl) (certificates usual grid_2 row_2 _ refl refl refl refl refl) (by_rules third_ends)
+    refl refl (controls_decided usual _ refl) refl refl refl
 
 pub fourth_valid : IsValid village standing_3 grid_3 row_3 standing_4
-fourth_valid = record {
-  unfinished = refl;
-  number = refl;
-  time = refl;
-  demands = in_range usual 14 (lit≤ tt) (lit≤ tt);
-  is_grid = grid_at usual standing_3 _ _ _ _ refl refl refl refl;
-  certificates = certificates usual grid_3 row_3 _ refl refl refl refl refl;
-  leads_on = continues (record {
-    not_last = λ is. omega (arith, is);
-    leaves_links = by_clock fourth_ends;
-    levels = refl;
-    tanks = refl;
-    controls = controls_decided usual _ refl;
-    number = refl;
-    time = refl;
-    unfinished = refl;
-  });
-}
+fourth_valid = valid_at usual standing_3 grid_3 row_3 standing_4 refl (omega arith) refl refl (in_range usual 14 (lit≤ tt) (lit≤ tt))
+    (grid_at usual standing_3 _ _ _ _ refl refl refl refl) (certificates usual grid_3 row_3 _ refl refl refl refl refl) (by_clock fourth_ends)
+    refl refl (controls_decided usual _ refl) refl refl refl
 
 pub fifth_valid : IsValid village standing_4 grid_4 row_4 left
 fifth_valid = record {
