@@ -18,3 +18,4 @@ pub mod OneRun
 pub mod VillageWhole
 pub mod ShallowRun
 pub mod ShallowHistory
+pub mod VillageSound

@@ -4,6 +4,7 @@
 
 ghost use Rattle.std.specs.Prelude.{◌≡◌, true, List, [], ◌∷◌, length};
 ghost use Rattle.std.specs.List.{AllByRecursion};
+ghost use Rattle.hyd_net.specs.Sound.{Sound};
 ghost use Rattle.hyd_spec.specs.Record.{Standing, initial_standing};
 ghost use Rattle.hyd_spec.specs.Decided.{EndsBy, ByClock, ByRules};
 ghost use Rattle.hyd_spec.specs.History.{IsHistory, initial_links};
@@ -16,6 +17,11 @@ ghost use Rattle.hyd_examples.specs.Village.{village};
 ghost use Rattle.hyd_examples.specs.VillageHistory.{periods};
 ghost use Rattle.hyd_examples.specs.VillageRun.{standing_0, standing_1, standing_2, standing_3, standing_4, left, grid_0, grid_1, grid_2, grid_3, grid_4, row_0, row_1, row_2, row_3, row_4, lines_0, lines_1, lines_2, lines_3, lines_4, found_0, found_1, found_2, found_3, found_4, founds};
 ghost use Rattle.hyd_examples.specs.VillageTexts.{written, printed};
+
+/// The village is a network that a file can stand for.
+pub fn network()
+    ensures { Sound village }
+{}
 
 /// The standing at the start of the run, and the grid of each period.
 pub fn grids()
