@@ -1,3 +1,4 @@
+pub mod Trials
 pub mod VillageGrids
 pub mod VillageCertificates
 pub mod VillageSeconds

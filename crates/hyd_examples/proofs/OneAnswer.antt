@@ -1,17 +1,16 @@
 -- A record decides its end, the standing after it, and its lines.
-use Rattle.std.proofs.Common.{◌≡◌, ◌≢◌, ℕ, zero, suc, ◌+◌, ◌<◌, ◌≤◌, Bool, true, false, IsFalse, List, [], ◌∷◌, length, nat_lt, refl, sym, ap, subst, ◌∙◌, arith}
-use Rattle.std.specs.Prelude.{Some, None, Option, position, slice_get, slice_index_or}
+use Rattle.std.proofs.Common.{◌≡◌, ℕ, zero, suc, ◌<◌, Bool, true, false, IsFalse, List, [], ◌∷◌, length, sym, ap, subst, ◌∙◌, arith}
+use Rattle.std.specs.Prelude.{Some, position, slice_index_or}
 use Rattle.std.specs.List.{list_any}
 use Rattle.std.proofs.lemmas.List.Quantifiers.{position-Some}
-use Rattle.hyd_num.specs.Rational.{Rational}
-use Rattle.hyd_spec.specs.Types.{Project, Rule, RuleClause}
+use Rattle.hyd_spec.specs.Types.{Project, RuleClause}
 use Rattle.hyd_spec.specs.Length.{IsLeast}
 use Rattle.hyd_spec.specs.Grid.{Grid}
 use Rattle.hyd_spec.specs.Rules.{measured}
 use Rattle.hyd_spec.specs.Record.{Record, Standing}
 use Rattle.hyd_spec.specs.Truth.{Unknown, is_unknown}
-use Rattle.hyd_spec.specs.Decided.{RulesMatter, OpenRule, IsOpenRule, IsFirstMatter, NoRuleMatters, rule_truths, clause_truth, readings_below, readings_above, End, ByRules, ByClock, RuleIsOpen, EventIsOpen, EndsBy, by_rules, rule_is_open, by_clock, event_is_open}
-use Rattle.hyd_examples.proofs.VillageSeconds.{or-left, or-right}
+use Rattle.hyd_spec.specs.Decided.{OpenRule, IsOpenRule, IsFirstMatter, NoRuleMatters, rule_truths, readings_below, readings_above, End, ByRules, ByClock, RuleIsOpen, EventIsOpen, EndsBy, by_rules, rule_is_open, by_clock, event_is_open}
+use Rattle.hyd_examples.proofs.Trials.{or-left, or-right}
 
 least_is_one : (P : ℕ → Type 0) (a b : ℕ) → IsLeast P a → IsLeast P b → a ≡ b
 least_is_one P a b x y = let l = x.least b y.holds in let m = y.least a x.holds in omega (arith, l, m)

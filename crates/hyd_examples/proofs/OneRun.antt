@@ -1,5 +1,5 @@
 -- Where no demand depends on the pressure, a network has one tight run of each number of periods.
-use Rattle.std.proofs.Common.{◌≡◌, ℕ, zero, suc, ◌<◌, ℤ, pos, Bool, true, false, MatchBool, if◌then◌else◌, List, [], ◌∷◌, length, int_le, refl, sym, ap, subst, ◌∙◌, arith}
+use Rattle.std.proofs.Common.{◌≡◌, ℕ, suc, ◌<◌, ℤ, pos, Bool, false, MatchBool, List, [], ◌∷◌, length, int_le, refl, sym, ap, subst, ◌∙◌, arith}
 use Rattle.std.specs.Prelude.{slice_index_or}
 use Rattle.std.specs.List.{AllZip, AllByRecursion}
 use Rattle.hyd_spec.specs.Types.{Project, Junction}
@@ -7,7 +7,6 @@ use Rattle.hyd_spec.specs.declared.Problem.{Problem}
 use Rattle.hyd_spec.specs.declared.Problem.TheVariants.{Main, Pinned}
 use Rattle.hyd_spec.specs.declared.Side.{Side}
 use Rattle.hyd_spec.specs.declared.Side.TheVariants.{Upper, Lower}
-use Rattle.hyd_spec.specs.Network.{tank_count}
 use Rattle.hyd_spec.specs.Quantity.{demand_of}
 use Rattle.hyd_spec.specs.Outflow.{is_pressure_driven}
 use Rattle.hyd_spec.specs.Enclosing.{DemandLaw, Fixed}
@@ -18,10 +17,10 @@ use Rattle.hyd_spec.specs.Valid.{IsProblem, IsGridAt, LeadsOn, IsValid}
 use Rattle.hyd_spec.specs.ReportLine.{ReportLine}
 use Rattle.hyd_spec.specs.Report.{IsReport}
 use Rattle.hyd_spec.specs.Headline.{Found, IsFound, IsRunFrom, more, IsTightThroughout}
-use Rattle.hyd_examples.proofs.VillageGrids.{same_either_way}
 use Rattle.hyd_examples.proofs.OneLength.{one_length}
 use Rattle.hyd_examples.proofs.OneStanding.{one_standing, one_vector}
 use Rattle.hyd_examples.proofs.OneReport.{one_report}
+use Rattle.hyd_examples.proofs.Trials.{same_either_way}
 
 module _ (network : Project) (fixed : network.options.pda ≡ false) where
   -- ---- grids

@@ -1,5 +1,5 @@
 -- A record leads on to one standing, and a grid has one tight vector of a problem and side.
-use Rattle.std.proofs.Common.{◌≡◌, ◌≢◌, ℕ, zero, suc, ◌<◌, ℤ, ◌≤ℤ◌, List, [], ◌∷◌, length, map, refl, sym, ap, subst, ◌∙◌, arith}
+use Rattle.std.proofs.Common.{◌≡◌, ℕ, zero, suc, ◌<◌, ℤ, List, [], ◌∷◌, length, map, refl, sym, subst, ◌∙◌, arith}
 use Rattle.std.specs.Prelude.{Some, Option, slice_get}
 use Rattle.std.proofs.lemmas.Int.{ints}
 use Rattle.hyd_spec.specs.Types.{Project, LinkState}
@@ -76,5 +76,5 @@ one_vector grid problem side u v a b =
     let own = a.is_certificate.one_each in
     let other = b.is_certificate.one_each in
     same_heads u v (own ∙ sym other) (λ j le.
-        let t = there GridJunction grid.junctions j (omega (arith, own, le)) in
-        both_beyond side (head_at u j) (head_at v j) (a.nearest v b.is_certificate j t.item t.is_item) (b.nearest u a.is_certificate j t.item t.is_item))
+    let t = there GridJunction grid.junctions j (omega (arith, own, le)) in
+    both_beyond side (head_at u j) (head_at v j) (a.nearest v b.is_certificate j t.item t.is_item) (b.nearest u a.is_certificate j t.item t.is_item))

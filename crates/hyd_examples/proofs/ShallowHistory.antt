@@ -1,5 +1,5 @@
 -- The history of the shallow village, and that it agrees with the run.
-use Rattle.std.proofs.Common.{◌≡◌, ℕ, ℤ, pos, ◌<ℤ◌, ◌≤ℤ◌, List, [], ◌∷◌, None, inl, inr, refl, arith}
+use Rattle.std.proofs.Common.{ℤ, pos, ◌<ℤ◌, ◌≤ℤ◌, None, inl, inr, refl, arith}
 use Rattle.std.proofs.lemmas.Int.{ints}
 use Rattle.hyd_spec.specs.Types.{Linear, Throttle, Limit}
 use Rattle.hyd_spec.specs.Scale.{at_scale}

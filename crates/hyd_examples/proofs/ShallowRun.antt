@@ -1,5 +1,5 @@
 -- The run of the shallow village.
-use Rattle.std.proofs.Common.{◌≡◌, ℕ, ◌<◌, ℤ, pos, true, false, List, [], ◌∷◌, inl, inr, take, drop, refl, subst, arith, lit≤, lit<}
+use Rattle.std.proofs.Common.{ℤ, pos, true, false, [], ◌∷◌, inr, take, drop, refl, subst, arith, lit≤, lit<}
 use Rattle.std.proofs.lemmas.Int.{ints, clamps}
 use Rattle.hyd_spec.specs.declared.Problem.TheVariants.{Main}
 use Rattle.hyd_spec.specs.declared.Side.TheVariants.{Lower}

@@ -1,7 +1,6 @@
 -- Certificates are recognised by computing: each head is tried, and each junction.
-use Rattle.std.proofs.Common.{◌≡◌, ℕ, zero, suc, ◌+◌, ℤ, pos, neg_ℤ, ◌+ℤ◌, ◌≤ℤ◌, Bool, true, false, ◌&&◌, List, [], ◌∷◌, eqb, length, int_le, refl, subst, arith}
+use Rattle.std.proofs.Common.{◌≡◌, ℕ, zero, suc, ◌+◌, ℤ, pos, neg_ℤ, ◌+ℤ◌, Bool, true, false, ◌&&◌, List, [], ◌∷◌, eqb, length, int_le, refl, subst, arith}
 use Rattle.std.specs.Prelude.{◌^◌, slice_get, Some, All}
-use Rattle.std.proofs.lemmas.Int.{ints}
 use Rattle.std.proofs.lemmas.Bool.{eqb-true}
 use Rattle.std.proofs.lemmas.List.Elements.{All-nil, All-cons}
 use Rattle.hyd_spec.specs.declared.Problem.{Problem}
@@ -14,37 +13,7 @@ use Rattle.hyd_spec.specs.Certificate.{IsInBox, Passes, IsCertificate}
 use Rattle.hyd_spec.specs.Record.{Record, Vectors, vector_of}
 use Rattle.hyd_spec.specs.Valid.{IsProblem, AreCertificates}
 use Rattle.hyd_examples.specs.Village.{Choice, village_with}
-
--- ---- tests
-
-pub le-yes : (a b : ℤ) → int_le a b ≡ true → a ≤ℤ b
-le-yes a b e = grind (arith, ints)
-
-pub le-from : (a b : ℤ) → a ≤ℤ b → int_le a b ≡ true
-le-from a b le = grind (arith, ints)
-
-pub both-first : (a b : Bool) → (a && b) ≡ true → a ≡ true
-both-first true b e = refl
-both-first false b e = e
-
-pub both-second : (a b : Bool) → (a && b) ≡ true → b ≡ true
-both-second true b e = e
-both-second false b e = absurd (cc)
-
--- whether each item of a list passes a test, with its number from k on
-abbrev pub all_pass : {X : Type 0} → (ℕ → X → Bool) → ℕ → List X → Bool
-all_pass test k [] = true
-all_pass test k (x ∷ xs) = test k x && all_pass test (suc k) xs
-
-pub each_passes : (X : Type 0) (test : ℕ → X → Bool) (k : ℕ) (xs : List X) → all_pass test k xs ≡ true
-    → (j : ℕ) (x : X) → slice_get xs j ≡ Some x → test (k + j) x ≡ true
-each_passes X test k [] e j x at = absurd (cc)
-each_passes X test k (y ∷ ys) e zero x at =
-    let same : y ≡ x = cc in let number : k ≡ k + 0 = omega arith in
-    subst (λ (n : ℕ). test n x ≡ true) number (subst (λ (z : X). test k z ≡ true) same (both-first (test k y) (all_pass test (suc k) ys) e))
-each_passes X test k (y ∷ ys) e (suc j) x at =
-    let number : suc k + j ≡ k + suc j = omega arith in
-    subst (λ (n : ℕ). test n x ≡ true) number (each_passes X test (suc k) ys (both-second (test k y) (all_pass test (suc k) ys) e) j x at)
+use Rattle.hyd_examples.proofs.Trials.{le-yes, le-from, both-first, both-second, all_pass, each_passes}
 
 -- ---- heads and junctions
 

@@ -4,7 +4,8 @@ use Rattle.hyd_spec.specs.Length.{duration, step}
 use Rattle.hyd_spec.specs.Decided.{Watch, SomeMayReach, SomeMustReach, IsClockLength, RulesMatter, IsFirstMatter, EndsBy, ByRules, ByClock, by_rules, by_clock}
 use Rattle.hyd_examples.specs.Village.{village, usual, tower}
 use Rattle.hyd_examples.specs.VillageRun.{standing_0, standing_1, standing_2, standing_3, grid_0, grid_1, grid_2, grid_3, row_0, row_1, row_2, row_3}
-use Rattle.hyd_examples.proofs.VillageSeconds.{from, clock_length, matter, matter_test, no_rule, earliest_end, latest_end}
+use Rattle.hyd_examples.proofs.VillageSeconds.{clock_length, matter, matter_test, no_rule, earliest_end, latest_end}
+use Rattle.hyd_examples.proofs.Trials.{from}
 
 -- the clock allows eight seconds from 0 and from 8 on, five from 11, two from 14
 clock_0 : IsClockLength village 0 8

@@ -1,5 +1,5 @@
 -- The grids of the village.
-use Rattle.std.proofs.Common.{◌≡◌, ℤ, Bool, true, false, MatchBool, [], ◌∷◌, refl, sym, subst, if◌then◌else◌, int_le, None}
+use Rattle.std.proofs.Common.{◌≡◌, ℤ, Bool, MatchBool, [], ◌∷◌, refl, sym, subst, int_le, None}
 use Rattle.std.specs.Prelude.{ℕ, pos}
 use Rattle.hyd_spec.specs.Types.{Junction}
 use Rattle.hyd_spec.specs.Interval.{Interval}
@@ -13,10 +13,7 @@ use Rattle.hyd_spec.specs.Decided.{links_at}
 use Rattle.hyd_spec.specs.Valid.{IsGridAt}
 use Rattle.hyd_examples.specs.Village.{Choice, village_with, mill, farm}
 use Rattle.hyd_examples.specs.VillageParts.{village_grid}
-
-pub same_either_way : (b : Bool) → (if b then false else false) ≡ false
-same_either_way true = refl
-same_either_way false = refl
+use Rattle.hyd_examples.proofs.Trials.{same_either_way}
 
 module _ (choice : Choice) where
   -- no demand depends on the pressure

@@ -17,7 +17,8 @@ use Rattle.hyd_spec.specs.Length.{Period, EndsByLevel, full, empty, control as a
 use Rattle.hyd_spec.specs.History.{AreNextLevels, ComesAfter}
 use Rattle.hyd_examples.specs.Village.{Choice, village_with, village, usual, tower, level_control}
 use Rattle.hyd_examples.specs.VillageHistory.{period_0, period_1, period_2, period_3, period_4}
-use Rattle.hyd_examples.proofs.VillageSeconds.{none_below, from, or-left, or-right, and-true, only_control, not_before, is_empty_list, some_change}
+use Rattle.hyd_examples.proofs.VillageSeconds.{only_control, not_before, is_empty_list, some_change}
+use Rattle.hyd_examples.proofs.Trials.{none_below, from, or-left, or-right, and-true}
 
 -- ---- by levels
 

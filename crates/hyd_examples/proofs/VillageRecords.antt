@@ -1,6 +1,6 @@
 -- The records of the village are valid, one after another.
 use Rattle.std.proofs.Common.{suc, ◌+◌, ◌<◌, ◌≡◌, ℕ, ◌≤◌, ℤ, Bool, false, [], ◌∷◌, IsFalse, unsigned_abs, refl, subst, arith, lit≤}
-use Rattle.std.specs.Prelude.{pos, true, slice_index_or}
+use Rattle.std.specs.Prelude.{true, slice_index_or}
 use Rattle.std.proofs.lemmas.List.Elements.{All-nil, All-cons}
 use Rattle.hyd_spec.specs.Types.{Junction}
 use Rattle.hyd_spec.specs.Interval.{Interval}

@@ -17,8 +17,8 @@ use Rattle.hyd_spec.specs.ReportLine.{JunctionLine, ReservoirLine, TankLine, Lin
 use Rattle.hyd_spec.specs.Report.{Prints, IsJunctionLine, IsReservoirLine, IsTankLine, IsLinkLine, status_of, AreStateLines, at_end, by_rules, by_clock, IsReport}
 use Rattle.hyd_examples.specs.Village.{Choice, village_with, village, usual}
 use Rattle.hyd_examples.specs.VillageRun.{standing_0, standing_1, standing_2, standing_3, standing_4, grid_0, grid_1, grid_2, grid_3, grid_4, row_0, row_1, row_2, row_3, row_4, lines_0, lines_1, lines_2, lines_3, lines_4}
-use Rattle.hyd_examples.proofs.VillageCertificates.{le-yes, both-first, both-second}
 use Rattle.hyd_examples.proofs.VillageEnds.{first_ends, second_ends, third_ends, fourth_ends}
+use Rattle.hyd_examples.proofs.Trials.{le-yes, both-first, both-second}
 
 -- ---- printed numbers
 

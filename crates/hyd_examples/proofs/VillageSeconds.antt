@@ -1,8 +1,8 @@
 -- The first second at which something holds, by trying each: by the clock, by levels, by rules.
-use Rattle.std.proofs.Common.{◌≡◌, ◌≢◌, ℕ, zero, suc, ◌+◌, ◌%◌, ◌<◌, ◌≤◌, Bool, true, false, ◌&&◌, ◌||◌, not, ◌⊎◌, inl, inr, List, [], ◌∷◌, eqb, ltb, length, refl, subst, arith}
+use Rattle.std.proofs.Common.{◌≡◌, ◌≢◌, ℕ, zero, suc, ◌+◌, ◌%◌, ◌<◌, ◌≤◌, Bool, true, false, ◌&&◌, ◌||◌, not, ◌⊎◌, inl, inr, List, [], ◌∷◌, eqb, ltb, refl, subst, arith}
 use Rattle.std.specs.Prelude.{slice_get, slice_index_or, Some, Contains}
 use Rattle.std.specs.List.{list_any}
-use Rattle.std.proofs.lemmas.Bool.{cases_lt, eq-eqb, lt-ltb}
+use Rattle.std.proofs.lemmas.Bool.{eq-eqb, lt-ltb}
 use Rattle.hyd_spec.specs.Types.{Tank, Control}
 use Rattle.hyd_spec.specs.Length.{EndsByClock, step, duration, pattern, report, control_time, control_clock}
 use Rattle.hyd_spec.specs.Grid.{Grid}
@@ -12,48 +12,7 @@ use Rattle.hyd_spec.specs.Rules.{Change}
 use Rattle.hyd_spec.specs.Truth.{is_unknown}
 use Rattle.hyd_spec.specs.Decided.{Watch, watches, SomeMayReach, SomeMustReach, level_of_tank, inflow_of_tank, IsClockLength, IsEarliestEnd, IsLatestEnd, rule_truths, decided_changes, RulesMatter, NoRuleMatters}
 use Rattle.hyd_examples.specs.Village.{Choice, village_with, level_control}
-use Rattle.hyd_examples.proofs.VillageCertificates.{both-first, both-second}
-
--- ---- tests
-
--- whether a test fails at each number below n
-abbrev pub none_below : (ℕ → Bool) → ℕ → Bool
-none_below test zero = true
-none_below test (suc n) = not (test n) && none_below test n
-
-fails_below : (test : ℕ → Bool) (n : ℕ) → none_below test n ≡ true → (k : ℕ) → k < n → test k ≡ true → ⊥
-fails_below test zero none k le e = omega (arith, le)
-fails_below test (suc n) none k le e = elim (cases_lt k n) [
-  | inl l ↦ fails_below test n (both-second (not (test n)) (none_below test n) none) k l e
-  | inr g ↦ let same : k ≡ n = omega (arith, le, g) in
-      let fails = both-first (not (test n)) (none_below test n) none in
-      let holds = subst (λ (m : ℕ). test m ≡ true) same e in
-      let wrong = subst (λ (b : Bool). not b ≡ true) holds fails in cc
-]
-
--- what passes a test that fails below n is at least n
-pub from : (test : ℕ → Bool) (n : ℕ) → none_below test n ≡ true → (k : ℕ) → test k ≡ true → n ≤ k
-from test n none k e = elim (cases_lt k n) [ inl l ↦ absurd (fails_below test n none k l e) | inr g ↦ g ]
-
-pub or-left : (a b : Bool) → a ≡ true → (a || b) ≡ true
-or-left true b e = refl
-or-left false b e = absurd (cc)
-
-pub or-right : (a b : Bool) → b ≡ true → (a || b) ≡ true
-or-right true b e = refl
-or-right false b e = e
-
-pub and-true : (a b : Bool) → a ≡ true → b ≡ true → (a && b) ≡ true
-and-true true b e g = g
-and-true false b e g = absurd (cc)
-
-any_at : (X : Type 0) (test : X → Bool) (xs : List X) (k : ℕ) (x : X) → k < length xs → slice_index_or xs k x ≡ x → test x ≡ true → list_any test xs ≡ true
-any_at X test [] k x le at e = absurd (omega (arith, le))
-any_at X test (y ∷ ys) zero x le at e = or-left (test y) (list_any test ys) (subst (λ (z : X). test z ≡ true) (let same : x ≡ y = cc in same) e)
-any_at X test (y ∷ ys) (suc k) x le at e = or-right (test y) (list_any test ys) (any_at X test ys k x (omega (arith, le)) at e)
-
-pub any_of : (X : Type 0) (test : X → Bool) (xs : List X) (x : X) → Contains xs x → test x ≡ true → list_any test xs ≡ true
-any_of X test xs x is e = any_at X test xs is.0 x is.1 is.2 e
+use Rattle.hyd_examples.proofs.Trials.{none_below, from, or-left, or-right, and-true, any_of}
 
 -- ---- by the clock
 

@@ -1,7 +1,7 @@
 -- The village is a network that a file can stand for.
-use Rattle.std.proofs.Common.{◌≡◌, ◌≢◌, ℕ, zero, suc, ◌<◌, ◌≤◌, ◌*◌, ◌^◌, ℤ, pos, List, [], ◌∷◌, length, refl, ap, arith, inl, inr}
+use Rattle.std.proofs.Common.{◌≡◌, ◌≢◌, ℕ, zero, suc, ◌<◌, ◌*◌, ◌^◌, pos, List, [], ◌∷◌, refl, ap, arith}
 use Rattle.std.specs.Prelude.{slice_index_or, codes}
-use Rattle.std.specs.List.{All, AllPairs, HoldsAt}
+use Rattle.std.specs.List.{All, HoldsAt}
 use Rattle.std.proofs.lemmas.Int.{ints}
 use Rattle.std.proofs.lemmas.List.Elements.{All-from_recursion}
 use Rattle.std.proofs.lemmas.List.Kept.{AllPairs-cons}

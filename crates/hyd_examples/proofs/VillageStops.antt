@@ -1,17 +1,14 @@
 -- Villages whose run stops at its start.
-use Rattle.std.proofs.Common.{◌≡◌, ◌≤◌, pos, true, [], ◌∷◌, unsigned_abs, inl, inr, refl, subst, arith, lit≤, lit<}
-use Rattle.std.proofs.lemmas.List.Elements.{All-nil, All-cons}
-use Rattle.hyd_spec.specs.Types.{Junction}
+use Rattle.std.proofs.Common.{◌≡◌, pos, true, [], ◌∷◌, inl, inr, refl, subst, arith, lit≤, lit<}
 use Rattle.hyd_spec.specs.declared.Problem.TheVariants.{Main}
 use Rattle.hyd_spec.specs.declared.Side.TheVariants.{Upper, Lower}
-use Rattle.hyd_spec.specs.Quantity.{demand_of}
 use Rattle.hyd_spec.specs.Law.{Straight, Shut, Capped}
 use Rattle.hyd_spec.specs.Length.{step}
 use Rattle.hyd_spec.specs.Grid.{Grid}
 use Rattle.hyd_spec.specs.Certificate.{IsCertificate, none}
 use Rattle.hyd_spec.specs.Record.{initial_standing}
 use Rattle.hyd_spec.specs.Decided.{Watch, IsClockLength, RulesMatter, IsFirstMatter, IsOpenRule, EndsBy, ByClock, rule_is_open, by_clock, event_is_open}
-use Rattle.hyd_spec.specs.Valid.{IsGridAt, DemandsAreInRange, demand_limit, levels_next, by_clock as left_by_clock}
+use Rattle.hyd_spec.specs.Valid.{IsGridAt, levels_next, by_clock as left_by_clock}
 use Rattle.hyd_spec.specs.Stops.{IsFirstDemand, HasNoCertificate, SpendsRounds, IsTightRow, LeavesRuleOpen, LeavesEventOpen, LeavesTankOpen, LeavesControlOpen, EndsAtLevels}
 use Rattle.hyd_examples.specs.Village.{Choice, usual, village, village_with, mill, farm, tower}
 use Rattle.hyd_examples.specs.VillageRun.{standing_0, grid_0, row_0}
@@ -20,8 +17,9 @@ use Rattle.hyd_examples.specs.VillageStops.{thirsty, dry, unsure_rule, open_rule
 use Rattle.hyd_examples.proofs.VillageGrids.{junction_at, grid_at}
 use Rattle.hyd_examples.proofs.VillageCertificates.{no_certificate}
 use Rattle.hyd_examples.proofs.VillageRecords.{in_range}
-use Rattle.hyd_examples.proofs.VillageSeconds.{from, clock_length, matter, matter_test, no_rule, earliest_end, latest_end}
+use Rattle.hyd_examples.proofs.VillageSeconds.{clock_length, matter, matter_test, no_rule, earliest_end, latest_end}
 use Rattle.hyd_examples.proofs.VillageTight.{first_tight, two_heads}
+use Rattle.hyd_examples.proofs.Trials.{from}
 
 -- ---- demands and vectors
 

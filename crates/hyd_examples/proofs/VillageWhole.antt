@@ -1,5 +1,4 @@
 -- The five periods of the village are a run.
-use Rattle.std.proofs.Common.{refl}
 use Rattle.hyd_spec.specs.Headline.{IsRun, none, more}
 use Rattle.hyd_examples.specs.Village.{village}
 use Rattle.hyd_examples.specs.VillageRun.{found_0, found_1, found_2, found_3, found_4, founds, left}

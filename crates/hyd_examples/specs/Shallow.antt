@@ -6,7 +6,6 @@ use Rattle.hyd_spec.specs.Types.{Limit}
 use Rattle.hyd_spec.specs.declared.TankState.TheVariants.{Empty, Between, Full}
 use Rattle.hyd_spec.specs.declared.StatusWord.TheVariants.{Active as WordActive}
 use Rattle.hyd_spec.specs.Lists.{joined}
-use Rattle.hyd_spec.specs.Interval.{Interval}
 use Rattle.hyd_spec.specs.Law.{Straight, ForwardOnly, ReverseOnly, Capped}
 use Rattle.hyd_spec.specs.Length.{Period}
 use Rattle.hyd_spec.specs.Grid.{Grid}
@@ -30,10 +29,11 @@ shallow = record usual {
   ticks = pos 40000000000000;
 }
 
--- What is known when each period begins.
+-- What is known when period 0 begins.
 abbrev pub standing_0 : Standing
 standing_0 = village_standing 0 0 (record { lo = pos 20120000000000; hi = pos 20120000000000 }) Between (Limit (pos 1000000000000) (pos 10000000000))
 
+-- What is known when period 1 begins.
 abbrev pub standing_1 : Standing
 standing_1 = village_standing 1 1 (record { lo = pos 20225000000000; hi = pos 20225000000000 }) Full (Limit (pos 1000000000000) (pos 10000000000))
 
@@ -41,27 +41,29 @@ standing_1 = village_standing 1 1 (record { lo = pos 20225000000000; hi = pos 20
 abbrev pub left : Standing
 left = village_standing 2 6 (record { lo = pos 20105000000000; hi = pos 20105000000000 }) Empty (Limit (pos 1000000000000) (pos 10000000000))
 
--- The grid of each period.
+-- The grid of period 0.
 abbrev pub grid_0 : Grid
 grid_0 = village_grid (pos 8000000000) (Capped (pos 10000000000) Straight) Straight (record { lo = pos 620120000000000; hi = pos 620120000000000 })
 
+-- The grid of period 1.
 abbrev pub grid_1 : Grid
 grid_1 = village_grid (pos 8000000000) (ReverseOnly (Capped (pos 10000000000) Straight)) (ForwardOnly Straight) (record { lo = pos 620225000000000; hi = pos 620225000000000 })
 
--- The record of each period.
+-- The record of period 0.
 abbrev pub row_0 : Record
 row_0 = village_row 0 0 1
     (record { upper = pos 999999997757519 ∷ pos 620119999750836 ∷ []; lower = pos 999999997757518 ∷ pos 620119999750835 ∷ [] })
     (record { upper = pos 999999997757519 ∷ pos 620119999750836 ∷ []; lower = pos 999999997757518 ∷ pos 620119999750835 ∷ [] })
 
+-- The record of period 1.
 abbrev pub row_1 : Record
 row_1 = village_row 1 1 5
     (record { upper = pos 999999999003342 ∷ pos 620224999750836 ∷ []; lower = pos 999999999003341 ∷ pos 620224999750835 ∷ [] })
     (record { upper = pos 999999999003342 ∷ pos 620224999750836 ∷ []; lower = pos 999999999003341 ∷ pos 620224999750835 ∷ [] })
 
--- The lines of each period.
+-- The lines of period 0.
 abbrev pub lines_0 : List ReportLine
-lines_0 = 
+lines_0 =
     (TimeLine 0)
     ∷ (JunctionLine 0 (record { lo = pos 999999; hi = pos 1000000 }) (record { lo = pos 499999; hi = pos 500000 }) (record { lo = pos 7999999; hi = pos 8000001 }))
     ∷ (JunctionLine 1 (record { lo = pos 620119; hi = pos 620120 }) (record { lo = pos 220119; hi = pos 220120 }) (record { lo = pos 1999999; hi = pos 2000001 }))
@@ -73,30 +75,33 @@ lines_0 =
     ∷ (FilledLine 1 0)
     ∷ []
 
+-- The lines of period 1.
 abbrev pub lines_1 : List ReportLine
-lines_1 = 
+lines_1 =
     (EmptiedLine 6 0)
     ∷ []
 
--- What is known of each period.
+-- What is known of period 0.
 abbrev pub found_0 : Found
 found_0 = record { standing = standing_0; grid = grid_0; row = row_0; lines = lines_0; next = standing_1 }
 
+-- What is known of period 1.
 abbrev pub found_1 : Found
 found_1 = record { standing = standing_1; grid = grid_1; row = row_1; lines = lines_1; next = left }
 
--- The periods in order.
+-- All of them, in order.
 abbrev pub founds : List Found
 founds = found_0 ∷ found_1 ∷ []
 
--- The periods: time, length, level; the heads of mill and farm; the flow to the mill, to the tower and to the farm, and what the mill takes.
+-- Period 0 of the history.
 abbrev pub period_0 : Period
 period_0 = village_period 0 1 (pos 20120000000000000) Between (Limit (pos 1000000000000) (pos 10000000000)) (pos 999999997757518663) (pos 620119999750835407) (pos 18000000000000) (pos 10000000000000) (pos 2000000000000) (pos 8000000000000)
 
+-- Period 1 of the history.
 abbrev pub period_1 : Period
 period_1 = village_period 1 5 (pos 20225000000000000) Full (Limit (pos 1000000000000) (pos 10000000000)) (pos 999999999003341628) (pos 620224999750835407) (pos 8000000000000) (pos 0) (pos 2000000000000) (pos 8000000000000)
 
--- The periods in order.
+-- All of them, in order.
 abbrev pub periods : List Period
 periods = period_0 ∷ period_1 ∷ []
 

@@ -18,6 +18,7 @@ mill = record {
   emitter = None;
 }
 
+-- The farm takes the same at all times.
 abbrev pub farm : Junction
 farm = record {
   elevation = pos 400000000000000;
@@ -25,6 +26,7 @@ farm = record {
   emitter = None;
 }
 
+-- The tower's tank is 4 m across; its levels are 0.5 m to 5 m, at the start 2 m.
 abbrev pub tower : Tank
 tower = record {
   bottom = pos 600000000000000;
@@ -35,13 +37,15 @@ tower = record {
   diameter = record { nano = pos 4000000000; bounded = lit≤ tt };
 }
 
--- Lake to mill, mill to tower, tower to farm. The second passes at most its setting.
+-- The valve from the lake to the mill.
 abbrev pub main_link : Link
 main_link = record { from = 2; to = 0; kind = Tcv Linear; start = Throttle (pos 0) Linear }
 
+-- The valve from the mill to the tower, which passes at most its setting.
 abbrev pub feed_link : Link
 feed_link = record { from = 0; to = 3; kind = Fcv Linear; start = Limit (pos 1000000000000) (pos 10000000000) }
 
+-- The valve from the tower to the farm.
 abbrev pub drop_link : LinkState → Link
 drop_link start = record { from = 3; to = 1; kind = Tcv Linear; start = start }
 
@@ -67,6 +71,7 @@ pub record Choice : Type 0 where
   pub ticks : ℤ
   pub clauses : List RuleClause
 
+-- The village of a choice.
 abbrev pub village_with : Choice → Project
 village_with choice = record {
   options = record {
@@ -98,8 +103,8 @@ village_with choice = record {
   rules = listed (refill_rule choice.clauses ∷ []);
 }
 
--- The village: the tower is no longer filled from 2.008 m on, and slowly where that valve is closed and the level below
--- 2.0077 m.
+-- The usual choice: the tower is no longer filled from 2.008 m on, and slowly where that valve is closed and the level
+-- below 2.0077 m.
 abbrev pub usual : Choice
 usual = record {
   tank = tower;
@@ -120,5 +125,6 @@ usual = record {
       ∷ [];
 }
 
+-- The usual village.
 abbrev pub village : Project
 village = village_with usual

@@ -1,5 +1,5 @@
 -- What the periods of a village have in common.
-use Rattle.std.specs.Prelude.{ℕ, ℤ, pos, false, List, [], ◌∷◌, None}
+use Rattle.std.specs.Prelude.{ℕ, ℤ, pos, false, [], ◌∷◌, None}
 use Rattle.hyd_spec.specs.Types.{LinkState, Linear, Throttle}
 use Rattle.hyd_spec.specs.declared.TankState.{TankState}
 use Rattle.hyd_spec.specs.Interval.{Interval}
@@ -20,9 +20,11 @@ village_standing number time level state feed = record {
   finished = false;
 }
 
+-- The mill with a demand.
 abbrev pub grid_mill : ℤ → GridJunction
 grid_mill demand = record { elevation = pos 500000000000000; demand = Fixed demand; emitter = None }
 
+-- The farm.
 abbrev pub grid_farm : GridJunction
 grid_farm = record { elevation = pos 400000000000000; demand = Fixed (pos 2000000000); emitter = None }
 
@@ -39,6 +41,7 @@ village_grid demand feed drop head = record {
       ∷ [];
 }
 
+-- A record with two vectors for all tanks alike, and two with the tower pinned.
 abbrev pub village_row : ℕ → ℕ → ℕ → Vectors → Vectors → Record
 village_row number time length main pinned =
     record { number = number; time = time; length = length; main = main; pinned = pinned ∷ [] }
