@@ -12,3 +12,10 @@ pub mod City
 pub mod Single
 pub mod Forms
 pub mod Tanks
+pub mod Village
+pub mod VillageParts
+pub mod VillageRun
+pub mod VillageHistory
+pub mod VillageTexts
+pub mod VillageStops
+pub mod Shallow
