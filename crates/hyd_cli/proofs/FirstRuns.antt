@@ -16,7 +16,7 @@ use Rattle.hyd_spec.specs.Certificate.{IsCertificate, IsTight}
 use Rattle.hyd_spec.specs.CertificateText.{IsVector, IsRow, certificate_text}
 use Rattle.hyd_spec.specs.Record.{Record, Vectors, initial_standing, vector_of}
 use Rattle.hyd_spec.specs.Valid.{IsProblem, IsGridAt, DemandsAreInRange, demand_limit, finishes}
-use Rattle.hyd_spec.specs.Stops.{HasNoCertificate, EarlierHaveCertificates, NoCertificate}
+use Rattle.hyd_spec.specs.Stops.{HasNoCertificate, NoCertificate}
 use Rattle.hyd_spec.specs.ReportLine.{ReportLine, report_text, done_line, stop_line}
 use Rattle.hyd_spec.specs.Report.{IsReport}
 use Rattle.hyd_spec.specs.FirstForm.{IsFirstNetwork}
@@ -169,18 +169,17 @@ writes_finished network first upper lower above below lines reports written prin
 
 pub writes_stopped : (network : Project) → IsFirstNetwork network → (side : Side)
     → HasNoCertificate network (initial_standing network) Main side
-    → EarlierHaveCertificates network (initial_standing network) Main side
     → (written printed : List ℕ) → written ≡ certificate_text 1 0 [] 0 false
     → printed ≡ report_text network [] (stop_line network 0 0 (NoCertificate Main side 0))
     → RunWrites network 200 (record { width = pos (10 ^ 11); tight = true }) (Stopped (NoCertificate Main side 0)) written printed
-writes_stopped network first side lacks earlier written printed written_is printed_is =
+writes_stopped network first side lacks written printed written_is printed_is =
     let one = one_junction network first in
     record {
       founds = [];
       left = initial_standing network;
       is_run = none;
       sharp = tt;
-      ends_so = (refl, (omega (arith, one), (earlier, lacks)));
+      ends_so = (refl, (omega (arith, one), lacks));
       certificate = record {
         junctions_fit = few_junctions network first;
         tanks_fit = few_tanks network first;

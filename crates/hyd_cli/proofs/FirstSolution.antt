@@ -32,11 +32,11 @@ upper_certificate network valve first is h nearest grid at =
     (h ∷ [], (tight_head network valve first is Upper h nearest grid at).is_certificate)
 
 -- nothing comes before UPPER, and before LOWER UPPER alone
-pub before_upper : (network : Project) → EarlierHaveCertificates network (initial_standing network) Main Upper
+pub before_upper : (network : Project) (grid : Grid) → IsGridAt network (initial_standing network) grid → EarlierHaveCertificates network grid Main Upper
 before_upper network grid at earlier other is lt = absurd (omega (arith, lt))
 
 pub before_lower : (network : Project) (valve : SingleValve) → IsFirstNetwork network → IsValveOf network valve
-    → (h : ℤ) → IsNearest valve Upper h → EarlierHaveCertificates network (initial_standing network) Main Lower
+    → (h : ℤ) → IsNearest valve Upper h → (grid : Grid) → IsGridAt network (initial_standing network) grid → EarlierHaveCertificates network grid Main Lower
 before_lower network valve first is h nearest grid at Main Upper problem lt = upper_certificate network valve first is h nearest grid at
 before_lower network valve first is h nearest grid at Main Lower problem lt = absurd (omega (arith, lt))
 before_lower network valve first is h nearest grid at (Pinned tank) Upper problem lt = absurd (omega (arith, lt))
@@ -50,8 +50,10 @@ demands_in_range network valve first is =
     subst (All P) (sym parts.junctions) (All-cons P parts.junction [] fits (All-nil P))
 
 pub lacks_certificate : (network : Project) (valve : SingleValve) → IsFirstNetwork network → IsValveOf network valve
-    → (side : Side) → NonePasses valve side → HasNoCertificate network (initial_standing network) Main side
-lacks_certificate network valve first is side none =
+    → (side : Side) → NonePasses valve side
+    → ((grid : Grid) → IsGridAt network (initial_standing network) grid → EarlierHaveCertificates network grid Main side)
+    → HasNoCertificate network (initial_standing network) Main side
+lacks_certificate network valve first is side none before =
     let one = has_grid network first in
     let found = grid_is network valve first is one.0 one.1 in
     record {
@@ -59,6 +61,7 @@ lacks_certificate network valve first is side none =
       is_problem = tt;
       grid = one.0;
       is_grid = one.1;
+      earlier = before one.0 one.1;
       none = λ u certificate.
           no_certificate found.0 valve side none u (subst (λ (g : Grid). IsCertificate g Main side u) found.1 certificate);
     }

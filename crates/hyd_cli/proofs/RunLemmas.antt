@@ -6,7 +6,7 @@ use Rattle.hyd_spec.specs.declared.Side.{Side}
 use Rattle.hyd_spec.specs.declared.Side.TheVariants.{Upper, Lower}
 use Rattle.hyd_spec.specs.Certificate.{IsInBox}
 use Rattle.hyd_spec.specs.Record.{initial_standing}
-use Rattle.hyd_spec.specs.Stops.{HasNoCertificate, EarlierHaveCertificates, NoCertificate}
+use Rattle.hyd_spec.specs.Stops.{HasNoCertificate, NoCertificate}
 use Rattle.hyd_spec.specs.Headline.{Finished, Stopped}
 use Rattle.hyd_spec.specs.FirstForm.{IsFirstNetwork}
 use Rattle.hyd_cli.specs.declared.status.Status.TheVariants.{Done, Undecided}
@@ -32,10 +32,10 @@ finished_run network first upper lower above below written printed is_written re
 }
 
 pub stopped_run : (network : Project) → IsFirstNetwork network → (side : Side) → HasNoCertificate network (initial_standing network) Main side
-    → EarlierHaveCertificates network (initial_standing network) Main side → (written printed : List ℕ) → written ≡ stopped_certificate → printed ≡ stopped_report network side
+    → (written printed : List ℕ) → written ≡ stopped_certificate → printed ≡ stopped_report network side
     → IsRunOf network Undecided written printed
-stopped_run network first side none earlier written printed is_written is_printed = record {
+stopped_run network first side none written printed is_written is_printed = record {
   outcome = Stopped (NoCertificate Main side 0);
   has_outcome = refl;
-  run = writes_stopped network first side none earlier written printed is_written is_printed;
+  run = writes_stopped network first side none written printed is_written is_printed;
 }

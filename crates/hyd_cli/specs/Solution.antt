@@ -8,7 +8,7 @@ use Rattle.hyd_spec.specs.Grid.{Grid}
 use Rattle.hyd_spec.specs.Certificate.{IsTight}
 use Rattle.hyd_spec.specs.Record.{initial_standing}
 use Rattle.hyd_spec.specs.Valid.{IsGridAt}
-use Rattle.hyd_spec.specs.Stops.{HasNoCertificate, EarlierHaveCertificates}
+use Rattle.hyd_spec.specs.Stops.{HasNoCertificate}
 use Rattle.hyd_cli.specs.declared.solve.Solution.{Solution}
 use Rattle.hyd_cli.specs.declared.solve.Solution.TheVariants.{Heads, NoCertificate}
 
@@ -22,12 +22,7 @@ abbrev pub AreTightHeads : Project → Solution → Type 0
 AreTightHeads network (Heads upper lower) = IsTightHead network Upper upper × IsTightHead network Lower lower
 AreTightHeads network (NoCertificate side) = ⊤
 
--- Where no certificate is named, the side has none.
+-- Where no certificate is named, the side has none, and is the first such.
 abbrev pub LacksOnSide : Project → Solution → Type 0
 LacksOnSide network (Heads upper lower) = ⊤
 LacksOnSide network (NoCertificate side) = HasNoCertificate network (initial_standing network) Main side
-
--- Where no certificate is named, every problem and side before has one.
-abbrev pub EarlierHave : Project → Solution → Type 0
-EarlierHave network (Heads upper lower) = ⊤
-EarlierHave network (NoCertificate side) = EarlierHaveCertificates network (initial_standing network) Main side

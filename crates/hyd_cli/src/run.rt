@@ -5,7 +5,7 @@ ghost use Rattle.hyd_spec.specs.FirstForm.{IsFirstNetwork};
 ghost use Rattle.hyd_spec.specs.declared.Problem.TheVariants.{Main};
 ghost use Rattle.hyd_spec.specs.declared.Side.TheVariants.{Upper, Lower};
 ghost use Rattle.hyd_spec.specs.Record.{initial_standing};
-ghost use Rattle.hyd_spec.specs.Stops.{HasNoCertificate, EarlierHaveCertificates};
+ghost use Rattle.hyd_spec.specs.Stops.{HasNoCertificate};
 ghost use Rattle.hyd_cli.specs.Solution.{IsTightHead};
 ghost use Rattle.hyd_cli.specs.Run.{IsRunOf};
 
@@ -58,7 +58,6 @@ fn finished(alloc: Global, project: &Project, upper: i64, lower: i64) -> Result<
 fn stopped(alloc: Global, project: &Project, side: Side) -> Result<Texts, OutOfMemory>
     requires first { IsFirstNetwork project.now }
     requires none { HasNoCertificate project.now (initial_standing project.now) Main side }
-    requires earlier { EarlierHaveCertificates project.now (initial_standing project.now) Main side }
     ensures { IfOk result (λ texts.
         IsRunOf project.now texts.status texts.certificate.items texts.report.items) }
 {

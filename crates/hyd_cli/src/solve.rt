@@ -5,7 +5,7 @@ ghost use Rattle.std.specs.Prelude.{◌≡◌, ℕ, ℤ, ◌+◌, ◌*◌, ◌^�
 ghost use Rattle.hyd_spec.specs.Certificate.{IsInBox};
 ghost use Rattle.hyd_spec.specs.FirstForm.{IsFirstNetwork};
 ghost use Rattle.hyd_cli.specs.SingleValve.{IsValveOf, surplus_low, surplus_high, HeadPasses, head_after, IsNearest, NonePasses};
-ghost use Rattle.hyd_cli.specs.Solution.{AreTightHeads, LacksOnSide, EarlierHave};
+ghost use Rattle.hyd_cli.specs.Solution.{AreTightHeads, LacksOnSide};
 
 use crate::law::{quad_high, quad_low};
 use crate::valve::SingleValve;
@@ -27,7 +27,6 @@ pub fn solve(project: &Project) -> Solution
     requires { IsFirstNetwork project.now }
     ensures tight { AreTightHeads project.now result }
     ensures none { LacksOnSide project.now result }
-    ensures order { EarlierHave project.now result }
 {
     let valve = single_valve(project);
     let Some(upper) = nearest(&valve, Side::Upper) else {

@@ -15,7 +15,7 @@ ghost use Rattle.hyd_spec.specs.Certificate.{IsCertificate, IsTight};
 ghost use Rattle.hyd_spec.specs.CertificateText.{certificate_text};
 ghost use Rattle.hyd_spec.specs.Record.{initial_standing};
 ghost use Rattle.hyd_spec.specs.Valid.{IsGridAt};
-ghost use Rattle.hyd_spec.specs.Stops.{HasNoCertificate, EarlierHaveCertificates, NoCertificate};
+ghost use Rattle.hyd_spec.specs.Stops.{HasNoCertificate, NoCertificate};
 ghost use Rattle.hyd_spec.specs.ReportLine.{ReportLine, report_text, done_line, stop_line};
 ghost use Rattle.hyd_spec.specs.Report.{Prints, IsReport};
 ghost use Rattle.hyd_spec.specs.Claims.{LiesBetween, at_part};
@@ -63,7 +63,6 @@ fn first_runs()
         → RunWrites network 200 (record { width = pos (10 ^ 11); tight = true }) Finished written printed }
     ensures stopped { (network : Project) → IsFirstNetwork network → (side : Side)
         → HasNoCertificate network (initial_standing network) Main side
-        → EarlierHaveCertificates network (initial_standing network) Main side
         → (written printed : List ℕ) → written ≡ certificate_text 1 0 [] 0 false
         → printed ≡ report_text network [] (stop_line network 0 0 (NoCertificate Main side 0))
         → RunWrites network 200 (record { width = pos (10 ^ 11); tight = true }) (Stopped (NoCertificate Main side 0)) written printed }

@@ -17,3 +17,9 @@ pub mod Rising
 pub mod RunRecords
 pub mod Pieces
 pub mod CertificateLines
+pub mod Trials
+pub mod OneAnswer
+pub mod OneStanding
+pub mod OneReport
+pub mod OneLength
+pub mod OneRun

@@ -4,6 +4,7 @@
 
 pub mod certificates;
 pub mod decisions;
+pub mod determined;
 pub mod examples;
 pub mod laws;
 pub mod runs;

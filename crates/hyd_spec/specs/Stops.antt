@@ -43,31 +43,6 @@ pub record IsFirstDemand (network : Project) (time j : ℕ) (demand : ℤ) : Typ
   pub first : (earlier : ℕ) (before : Junction) → earlier < j → slice_get network.junctions.list earlier ≡ Some before
       → unsigned_abs (demand_of network time before) ≤ demand_limit
 
--- ---- vectors
-
--- The vector from which rounds begin: each head at the floor of the box for UPPER, at its ceiling for LOWER.
-abbrev pub beginning : Side → ℕ → List ℤ
-beginning Upper count = replicate count (neg_ℤ (pos box_limit))
-beginning Lower count = replicate count (pos box_limit)
-
--- At a standing with demands in range no vector is a certificate of the problem and side.
-pub record HasNoCertificate (network : Project) (standing : Standing) (problem : Problem) (side : Side) : Type 0 where
-  pub in_range : DemandsAreInRange network standing.time
-  pub is_problem : IsProblem network problem
-  pub grid : Grid
-  pub is_grid : IsGridAt network standing grid
-  pub none : (u : List ℤ) → IsCertificate grid problem side u → ⊥
-
--- So many plain rounds from the beginning exist, and their result is no certificate.
-pub record SpendsRounds (network : Project) (standing : Standing) (problem : Problem) (side : Side) (rounds : ℕ) : Type 0 where
-  pub in_range : DemandsAreInRange network standing.time
-  pub is_problem : IsProblem network problem
-  pub grid : Grid
-  pub is_grid : IsGridAt network standing grid
-  pub reached : List ℤ
-  pub by_rounds : AreRounds grid problem side rounds (beginning side (length grid.junctions)) reached
-  pub not_one : IsCertificate grid problem side reached → ⊥
-
 -- ---- the order of problems and sides
 
 -- The turn of a problem and side in a period: MAIN UPPER, MAIN LOWER, then both sides of each tank pinned, in order.
@@ -77,11 +52,38 @@ turn Main Lower = 1
 turn (Pinned tank) Upper = 2 * tank + 2
 turn (Pinned tank) Lower = 2 * tank + 3
 
--- Every problem and side whose turn comes before has a certificate at the standing.
-abbrev pub EarlierHaveCertificates : Project → Standing → Problem → Side → Type 0
-EarlierHaveCertificates network standing problem side =
-    (grid : Grid) → IsGridAt network standing grid → (earlier : Problem) (other : Side) → IsProblem network earlier
-    → turn earlier other < turn problem side → (u : List ℤ) × IsCertificate grid earlier other u
+-- Every problem and side whose turn comes before has a certificate on the grid.
+abbrev pub EarlierHaveCertificates : Project → Grid → Problem → Side → Type 0
+EarlierHaveCertificates network grid problem side =
+    (earlier : Problem) (other : Side) → IsProblem network earlier → turn earlier other < turn problem side
+    → (u : List ℤ) × IsCertificate grid earlier other u
+
+-- ---- vectors
+
+-- The vector from which rounds begin: each head at the floor of the box for UPPER, at its ceiling for LOWER.
+abbrev pub beginning : Side → ℕ → List ℤ
+beginning Upper count = replicate count (neg_ℤ (pos box_limit))
+beginning Lower count = replicate count (pos box_limit)
+
+-- At a standing with demands in range no vector is a certificate of the problem and side, the first such.
+pub record HasNoCertificate (network : Project) (standing : Standing) (problem : Problem) (side : Side) : Type 0 where
+  pub in_range : DemandsAreInRange network standing.time
+  pub is_problem : IsProblem network problem
+  pub grid : Grid
+  pub is_grid : IsGridAt network standing grid
+  pub earlier : EarlierHaveCertificates network grid problem side
+  pub none : (u : List ℤ) → IsCertificate grid problem side u → ⊥
+
+-- So many plain rounds from the beginning exist, and their result is no certificate; every problem and side before has one.
+pub record SpendsRounds (network : Project) (standing : Standing) (problem : Problem) (side : Side) (rounds : ℕ) : Type 0 where
+  pub in_range : DemandsAreInRange network standing.time
+  pub is_problem : IsProblem network problem
+  pub grid : Grid
+  pub is_grid : IsGridAt network standing grid
+  pub earlier : EarlierHaveCertificates network grid problem side
+  pub reached : List ℤ
+  pub by_rounds : AreRounds grid problem side rounds (beginning side (length grid.junctions)) reached
+  pub not_one : IsCertificate grid problem side reached → ⊥
 
 -- ---- matters under the tight vectors
 
@@ -158,11 +160,8 @@ pub record LeavesControlOpen (network : Project) (standing : Standing) (number :
 abbrev pub Stops : Project → Standing → ℕ → StopCause → Type 0
 Stops network standing rounds (DemandOutOfRange junction demand) = IsFirstDemand network standing.time junction demand
 Stops network standing rounds (NoCertificate problem side junction) =
-    (junction < junction_count network)
-    × (EarlierHaveCertificates network standing problem side × HasNoCertificate network standing problem side)
-Stops network standing rounds (RoundsSpent problem side spent) =
-    (spent ≡ rounds)
-    × (EarlierHaveCertificates network standing problem side × SpendsRounds network standing problem side rounds)
+    (junction < junction_count network) × HasNoCertificate network standing problem side
+Stops network standing rounds (RoundsSpent problem side spent) = (spent ≡ rounds) × SpendsRounds network standing problem side rounds
 Stops network standing rounds (RuleOpen open_rule) = LeavesRuleOpen network standing open_rule
 Stops network standing rounds (EventOpen earliest latest) = LeavesEventOpen network standing earliest latest
 Stops network standing rounds (TankOpen tank level) = LeavesTankOpen network standing tank level

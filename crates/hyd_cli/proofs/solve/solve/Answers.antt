@@ -8,18 +8,16 @@ use Rattle.hyd_cli.proofs.solve.solve.Goals as goal
 
 pub returns-in_default-clause-none : goal.returns-in_default-clause-none
 returns-in_default-clause-none c =
-    lacks_certificate c.args.project.now c.single_valve-valve.result c.requires c.single_valve-valve.ensures Upper c.in_default.ensures
+    let network = c.args.project.now in
+    lacks_certificate network c.single_valve-valve.result c.requires c.single_valve-valve.ensures Upper c.in_default.ensures (before_upper network)
 
 pub returns-in_default-nearest-clause-none : goal.returns-in_default-nearest-clause-none
 returns-in_default-nearest-clause-none c =
-    lacks_certificate c.args.project.now c.single_valve-valve.result c.requires c.single_valve-valve.ensures Lower c.in_default-nearest.ensures
-
-pub returns-in_default-clause-order : goal.returns-in_default-clause-order
-returns-in_default-clause-order c = before_upper c.args.project.now
-
-pub returns-in_default-nearest-clause-order : goal.returns-in_default-nearest-clause-order
-returns-in_default-nearest-clause-order c =
-    before_lower c.args.project.now c.single_valve-valve.result c.requires c.single_valve-valve.ensures c.in-Some.upper c.in-Some.ensures
+    let network = c.args.project.now in
+    let valve = c.single_valve-valve.result in
+    let is = c.single_valve-valve.ensures in
+    lacks_certificate network valve c.requires is Lower c.in_default-nearest.ensures
+    (before_lower network valve c.requires is c.in-Some.upper c.in-Some.ensures)
 
 pub returns-clause-tight : goal.returns-clause-tight
 returns-clause-tight c =

@@ -1,0 +1,14 @@
+pub mod Town
+pub mod TownPeriods
+pub mod TownHistory
+pub mod TownReport
+pub mod TownReadings
+pub mod Hamlet
+pub mod Clauses
+pub mod Village
+pub mod VillageParts
+pub mod VillageRun
+pub mod VillageHistory
+pub mod VillageTexts
+pub mod VillageStops
+pub mod Shallow

@@ -1,0 +1,13 @@
+//! Small networks over whole runs: what an independent program writes of them is what the
+//! definitions ask for, and they have histories. No function here has a body.
+#![tactic(auto)]
+
+pub mod clauses;
+pub mod shallow;
+pub mod town_ends;
+pub mod town_history;
+pub mod town_report;
+pub mod town_rules;
+pub mod town_starts;
+pub mod village;
+pub mod village_stops;
