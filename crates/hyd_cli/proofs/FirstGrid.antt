@@ -3,7 +3,7 @@ use Rattle.std.proofs.Common.{◌≡◌, ℕ, zero, suc, ◌*◌, ◌/◌, ◌^�
 use Rattle.std.specs.List.{AllZip}
 use Rattle.std.proofs.lemmas.Int.{ints}
 use Rattle.hyd_spec.specs.Types.{Project, Junction, Capacity}
-use Rattle.hyd_spec.specs.Law.{Quad}
+use Rattle.hyd_spec.specs.Law.{QuadraticLaw}
 use Rattle.hyd_spec.specs.Scale.{cut}
 use Rattle.hyd_spec.specs.Quantity.{demand_of, reservoir_head}
 use Rattle.hyd_spec.specs.Enclosing.{DemandLaw, Fixed}
@@ -26,7 +26,7 @@ valve_grid elevation valve = record {
   junctions = valve_junction elevation valve ∷ [];
   reservoirs = valve.head ∷ [];
   tanks = [];
-  links = record { from = 1; to = 0; law = Quad valve.capacity } ∷ [];
+  links = record { from = 1; to = 0; law = QuadraticLaw valve.capacity } ∷ [];
 }
 
 -- ---- the demand
@@ -103,12 +103,12 @@ junctions_are network valve first is xs h =
     (found.only.elevation, found.is_only ∙ (λ i. record { elevation = found.only.elevation; demand = fixed i; emitter = emitter i } ∷ []))
 
 links_are : (network : Project) (valve : SingleValve) → IsFirstNetwork network → IsValveOf network valve
-    → (grid : Grid) → IsGridAt network (initial_standing network) grid → grid.links ≡ record { from = 1; to = 0; law = Quad valve.capacity } ∷ []
+    → (grid : Grid) → IsGridAt network (initial_standing network) grid → grid.links ≡ record { from = 1; to = 0; law = QuadraticLaw valve.capacity } ∷ []
 links_are network valve first is grid at =
     let parts = first.has_parts in
-    let links : grid.links ≡ record { from = 1; to = 0; law = Quad parts.link_is.capacity } ∷ [] =
+    let links : grid.links ≡ record { from = 1; to = 0; law = QuadraticLaw parts.link_is.capacity } ∷ [] =
     rw (parts.links, parts.plain.no_controls, parts.junctions, parts.reservoirs, parts.link_is.kind, parts.link_is.start, parts.link_is.from_reservoir, parts.link_is.to_junction) at at.links_are in
-    links ∙ ap (λ (c : Capacity). record { from = 1; to = 0; law = Quad c } ∷ []) (capacity_read network valve first is)
+    links ∙ ap (λ (c : Capacity). record { from = 1; to = 0; law = QuadraticLaw c } ∷ []) (capacity_read network valve first is)
 
 reservoirs_are : (network : Project) (valve : SingleValve) → IsFirstNetwork network → IsValveOf network valve
     → (grid : Grid) → IsGridAt network (initial_standing network) grid → grid.reservoirs ≡ valve.head ∷ []

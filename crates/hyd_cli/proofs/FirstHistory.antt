@@ -11,7 +11,7 @@ use Rattle.hyd_spec.specs.declared.Side.TheVariants.{Upper, Lower}
 use Rattle.hyd_spec.specs.declared.StatusWord.TheVariants.{Active}
 use Rattle.hyd_spec.specs.Interval.{Interval}
 use Rattle.hyd_spec.specs.Quantity.{is_us}
-use Rattle.hyd_spec.specs.Law.{Quad}
+use Rattle.hyd_spec.specs.Law.{QuadraticLaw}
 use Rattle.hyd_spec.specs.Start.{patterned, controlled, started}
 use Rattle.hyd_spec.specs.Rules.{state_of_link}
 use Rattle.hyd_spec.specs.Length.{Period, HasItsLength, at_end, before_end}
@@ -53,7 +53,7 @@ first_states network first setting law e =
     let parts = first.has_parts in rw (parts.links, parts.plain.no_controls, parts.link_is.kind, e) refl
 
 -- the grid's laws are sound
-sound_link : (grid : Grid) (capacity : Capacity) → grid.links ≡ record { from = 1; to = 0; law = Quad capacity } ∷ [] → IsSoundCapacity capacity
+sound_link : (grid : Grid) (capacity : Capacity) → grid.links ≡ record { from = 1; to = 0; law = QuadraticLaw capacity } ∷ [] → IsSoundCapacity capacity
     → AllByRecursion (λ (link : GridLink). IsSoundLaw link.law) grid.links
 sound_link grid capacity e sound = subst (λ (ls : List GridLink). AllByRecursion (λ (link : GridLink). IsSoundLaw link.law) ls) (sym e) (sound, tt)
 
@@ -66,7 +66,7 @@ no_emitter time network junction (j ∷ k ∷ js) e h = absurd h.1
 sound_grid : (network : Project) → IsFirstNetwork network → (grid : Grid) → IsGridAt network (initial_standing network) grid → IsSoundGrid grid
 sound_grid network first grid at =
     let parts = first.has_parts in
-    let links : grid.links ≡ record { from = 1; to = 0; law = Quad parts.link_is.capacity } ∷ [] =
+    let links : grid.links ≡ record { from = 1; to = 0; law = QuadraticLaw parts.link_is.capacity } ∷ [] =
     rw (parts.links, parts.plain.no_controls, parts.junctions, parts.reservoirs, parts.link_is.kind, parts.link_is.start, parts.link_is.from_reservoir, parts.link_is.to_junction) at at.links_are in
     record {
       links = sound_link grid parts.link_is.capacity links (IsSoundCapacity-made parts.link_is.capacity parts.link_is.made);
@@ -228,8 +228,8 @@ first_agrees network first S some period grid upper lower lines begins is at abo
       length_is = no_length network S period first.has_parts.plain.times.duration so.time is.lasts;
       tanks = so.tanks;
       links = so.links;
-      above_lower = above_main network S period.time start.levels period.levels period.tanks period.links period.given grid (lower ∷ []) over.compared below;
-      below_upper = below_main network S period.time start.levels period.levels period.tanks period.links period.given grid (upper ∷ []) over.compared above;
+      above_lower = above_main network S period.time start.levels period.levels period.tanks period.links period.assignment grid (lower ∷ []) over.compared below;
+      below_upper = below_main network S period.time start.levels period.levels period.tanks period.links period.assignment grid (upper ∷ []) over.compared above;
       lines_hold = lines_hold network first S (initial_links network) period grid (first_row upper lower) lines over so report;
     }
 

@@ -5,10 +5,10 @@ use Rattle.hyd_num.specs.Rational.{Rational}
 use Rattle.hyd_num.specs.Decimals.{head_quantity, pressure_quantity, flow_quantity}
 use Rattle.hyd_spec.specs.Types.{Project, Cmd}
 use Rattle.hyd_spec.specs.declared.StatusWord.TheVariants.{Active}
-use Rattle.hyd_spec.specs.Law.{Quad}
+use Rattle.hyd_spec.specs.Law.{QuadraticLaw}
 use Rattle.hyd_spec.specs.Interval.{Interval}
 use Rattle.hyd_spec.specs.Quantity.{is_us}
-use Rattle.hyd_spec.specs.Enclosing.{quad_low, quad_high}
+use Rattle.hyd_spec.specs.Enclosing.{quadratic_low, quadratic_high}
 use Rattle.hyd_spec.specs.Record.{initial_standing}
 use Rattle.hyd_spec.specs.Rules.{state_of_link}
 use Rattle.hyd_spec.specs.Decided.{links_at}
@@ -30,7 +30,7 @@ pub record Printed (elevation : ℤ) (valve : SingleValve) (upper lower : ℤ) :
   pub pressure_is : Prints (pressure_quantity false) (record { lo = lower -ℤ elevation; hi = upper -ℤ elevation }) pressure
   pub outflow_is : Prints (flow_quantity Cmd) (record { lo = valve.demand -ℤ pos 10; hi = valve.demand +ℤ pos 10 }) outflow
   pub height_is : Prints (head_quantity false) (record { lo = valve.head; hi = valve.head }) height
-  pub flow_is : Prints (flow_quantity Cmd) (record { lo = quad_low valve.capacity (valve.head -ℤ upper) -ℤ pos 10; hi = quad_high valve.capacity (valve.head -ℤ lower) +ℤ pos 10 }) flow
+  pub flow_is : Prints (flow_quantity Cmd) (record { lo = quadratic_low valve.capacity (valve.head -ℤ upper) -ℤ pos 10; hi = quadratic_high valve.capacity (valve.head -ℤ lower) +ℤ pos 10 }) flow
 
 -- The lines.
 abbrev pub first_lines : {elevation : ℤ} {valve : SingleValve} {upper lower : ℤ} → Printed elevation valve upper lower → List ReportLine
@@ -92,12 +92,12 @@ reservoir_line network plain elevation valve upper lower p = record {
 link_line : (network : Project) (first : IsFirstNetwork network) (elevation : ℤ) (valve : SingleValve) (upper lower : ℤ) (p : Printed elevation valve upper lower)
     → IsLinkLine network (valve_grid elevation valve) (initial_standing network) (first_row upper lower) 0 first.has_parts.link (LinkLine 0 p.flow Active)
 link_line network first elevation valve upper lower p = record {
-  place = record { from = 1; to = 0; law = Quad valve.capacity };
+  place = record { from = 1; to = 0; law = QuadraticLaw valve.capacity };
   place_is = refl;
-  box = record { lo = quad_low valve.capacity (valve.head -ℤ upper) -ℤ pos 10; hi = quad_high valve.capacity (valve.head -ℤ lower) +ℤ pos 10 };
+  box = record { lo = quadratic_low valve.capacity (valve.head -ℤ upper) -ℤ pos 10; hi = quadratic_high valve.capacity (valve.head -ℤ lower) +ℤ pos 10 };
   box_is = refl;
   flow = p.flow;
-  flow_is = subst (λ unit. Prints (flow_quantity unit) (record { lo = quad_low valve.capacity (valve.head -ℤ upper) -ℤ pos 10; hi = quad_high valve.capacity (valve.head -ℤ lower) +ℤ pos 10 }) p.flow) (sym first.has_parts.plain.options.unit) p.flow_is;
+  flow_is = subst (λ unit. Prints (flow_quantity unit) (record { lo = quadratic_low valve.capacity (valve.head -ℤ upper) -ℤ pos 10; hi = quadratic_high valve.capacity (valve.head -ℤ lower) +ℤ pos 10 }) p.flow) (sym first.has_parts.plain.options.unit) p.flow_is;
   is_line = ap (λ word. LinkLine 0 p.flow word) (sym (throttled network first _));
 }
 

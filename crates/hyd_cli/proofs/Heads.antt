@@ -7,15 +7,15 @@ use Rattle.hyd_spec.specs.declared.Side.TheVariants.{Upper, Lower}
 use Rattle.hyd_spec.specs.Certificate.{box_limit, IsInBox, IsBeyond}
 use Rattle.hyd_cli.specs.declared.valve.SingleValve.{SingleValve}
 use Rattle.hyd_cli.specs.SingleValve.{HeadPasses, head_after, IsNearest, NonePasses}
-use Rattle.hyd_cli.proofs.Quadratic.{quad_low_rises, quad_high_rises}
+use Rattle.hyd_cli.proofs.Quadratic.{quadratic_low_rises, quadratic_high_rises}
 
 -- what passes at a head passes beyond it
 pub passes_beyond : (valve : SingleValve) (side : Side) (x y : ℤ) → IsBeyond side x y → HeadPasses valve side x → HeadPasses valve side y
 passes_beyond valve Upper x y beyond passes =
-    let l = quad_high_rises valve.capacity (valve.head -ℤ y) (valve.head -ℤ x) (omega (arith, ints, beyond)) in
+    let l = quadratic_high_rises valve.capacity (valve.head -ℤ y) (valve.head -ℤ x) (omega (arith, ints, beyond)) in
     omega (arith, ints, l, passes)
 passes_beyond valve Lower x y beyond passes =
-    let l = quad_low_rises valve.capacity (valve.head -ℤ x) (valve.head -ℤ y) (omega (arith, ints, beyond)) in
+    let l = quadratic_low_rises valve.capacity (valve.head -ℤ x) (valve.head -ℤ y) (omega (arith, ints, beyond)) in
     omega (arith, ints, l, passes)
 
 pub later_is_beyond : (side : Side) (m k : ℕ) → m ≤ k → IsBeyond side (head_after side m) (head_after side k)

@@ -83,7 +83,7 @@ exactly_lies S t = record { low = omega (arith, ints); high = omega (arith, ints
 
 -- A period on a grid, with levels in the standing's intervals, and a record whose vectors with all tanks alike are certificates.
 pub record IsCovered (network : Project) (S : ℕ) (period : Period) (grid : Grid) (standing : Standing) (row : Record) : Type 0 where
-  pub compared : IsCompared network S period.time standing.levels period.levels period.tanks period.links period.given grid
+  pub compared : IsCompared network S period.time standing.levels period.levels period.tanks period.links period.assignment grid
   pub lower : IsCertificate grid Main Lower row.main.lower
   pub upper : IsCertificate grid Main Upper row.main.upper
 
@@ -97,19 +97,19 @@ module _ (network : Project) (S : ℕ) (commanded : List LinkState) (period : Pe
       let same : place.here ≡ here = same_item GridJunction place.here here (sym place.is_here ∙ at) in
       let is : IsJunctionOf network period.time place.junction here = subst (IsJunctionOf network period.time place.junction) same place.holds in
       let within = slice_get_within network.junctions.list j place.junction place.is_junction in
-      let inside : j < length period.given.heads = (let e = c.assigned.head_each in omega (arith, within, e)) in
-      let found = slice_get-get_or period.given.heads j (pos 0) inside in
-      let h = head_at period.given.heads j in
+      let inside : j < length period.assignment.heads = (let e = c.assigned.head_each in omega (arith, within, e)) in
+      let found = slice_get-get_or period.assignment.heads j (pos 0) inside in
+      let h = head_at period.assignment.heads j in
       let below : at_scale S (head_at row.main.lower j) <ℤ h =
-      above_main network S period.time standing.levels period.levels period.tanks period.links period.given grid row.main.lower c covered.lower j h found in
+      above_main network S period.time standing.levels period.levels period.tanks period.links period.assignment grid row.main.lower c covered.lower j h found in
       let above : h <ℤ at_scale S (head_at row.main.upper j) =
-      below_main network S period.time standing.levels period.levels period.tanks period.links period.given grid row.main.upper c covered.upper j h found in
+      below_main network S period.time standing.levels period.levels period.tanks period.links period.assignment grid row.main.upper c covered.upper j h found in
       let head : LiesIn S line.heads h =
       subst (λ (x : Interval). LiesIn S x h) (sym line.heads_are) (record { low = omega (arith, ints, below); high = omega (arith, ints, above) }) in
-      let q = flow_at period.given.demands j +ℤ flow_at period.given.emitters j in
+      let q = flow_at period.assignment.demands j +ℤ flow_at period.assignment.emitters j in
       let outflow : LiesIn S (out_box here line.heads.lo line.heads.hi) q =
       subst (λ (x : Interval). LiesIn S (out_box here x.lo x.hi) q) (sym line.heads_are)
-      (outflow_lies network S period.time standing.levels period.levels period.tanks period.links period.given grid row.main.lower row.main.upper c covered.lower covered.upper j here at) in
+      (outflow_lies network S period.time standing.levels period.levels period.tanks period.links period.assignment grid row.main.lower row.main.upper c covered.lower covered.upper j here at) in
       subst (LineHolds network S commanded period) (sym line.is_line) (record {
         junction = place.junction;
         is_junction = place.is_junction;
@@ -135,14 +135,14 @@ module _ (network : Project) (S : ℕ) (commanded : List LinkState) (period : Pe
 
   -- the flow of a link's line
   pub flow_holds : (l : ℕ) (box flow : Interval) → slice_get (flow_boxes grid row) l ≡ Some box
-      → Prints (flow_quantity network.options.unit) box flow → FlowLies network S flow (flow_at period.given.flows l)
+      → Prints (flow_quantity network.options.unit) box flow → FlowLies network S flow (flow_at period.assignment.flows l)
   flow_holds l box flow at prints =
       let c = covered.compared in
       let found = mapped_at GridLink Interval (λ (link : GridLink). flow_box link (heads_below grid row) (heads_above grid row)) grid.links l box at in
-      let between = heads_between network S period.time standing.levels period.levels period.tanks period.links period.given grid row.main.lower row.main.upper c covered.lower covered.upper in
-      let lies = flow_lies network S period.time standing.levels period.levels period.tanks period.links period.given grid (heads_below grid row) (heads_above grid row) c between l found.item found.is_item in
-      prints_hold S (flow_quantity network.options.unit) (flow_proportional network.options.unit) box flow (flow_at period.given.flows l) prints
-      (subst (λ (x : Interval). LiesIn S x (flow_at period.given.flows l)) found.same lies)
+      let between = heads_between network S period.time standing.levels period.levels period.tanks period.links period.assignment grid row.main.lower row.main.upper c covered.lower covered.upper in
+      let lies = flow_lies network S period.time standing.levels period.levels period.tanks period.links period.assignment grid (heads_below grid row) (heads_above grid row) c between l found.item found.is_item in
+      prints_hold S (flow_quantity network.options.unit) (flow_proportional network.options.unit) box flow (flow_at period.assignment.flows l) prints
+      (subst (λ (x : Interval). LiesIn S x (flow_at period.assignment.flows l)) found.same lies)
 
   -- all lines of a report time hold where those of tanks and of links do
   pub state_lines_hold : (lines : List ReportLine) → AreStateLines network grid standing row lines → period.time ≡ standing.time

@@ -8,7 +8,7 @@ use Rattle.hyd_num.specs.declared.binary.Scaled.{Scaled}
 use Rattle.hyd_num.specs.Scaled.{numerator, denominator}
 use Rattle.hyd_num.specs.Roots.{IsSquareRootDown, IsSquareRootUp}
 use Rattle.hyd_spec.specs.Types.{Capacity}
-use Rattle.hyd_spec.specs.Enclosing.{root_down, root_up, quad_low, quad_high}
+use Rattle.hyd_spec.specs.Enclosing.{root_down, root_up, quadratic_low, quadratic_high}
 use Rattle.hyd_laws.proofs.Roots.{root_down-is, root_up-is, down_is, up_is}
 
 positive : (s : Scaled) → 0 < denominator s
@@ -33,19 +33,19 @@ down_at s d m r e root = subst (λ (n : ℕ). r ≡ root_down (numerator s * n) 
 up_at : (s : Scaled) (d m r : ℕ) → m ≡ d → IsSquareRootUp (numerator s * m) (denominator s) r → r ≡ root_up (numerator s * d) (denominator s)
 up_at s d m r e root = subst (λ (n : ℕ). r ≡ root_up (numerator s * n) (denominator s)) e (up_is _ _ r (positive s) root)
 
-pub low_forward : (c : Capacity) (d : ℤ) (m r : ℕ) → pos 0 ≤ℤ d → m ≡ unsigned_abs d → IsSquareRootDown (numerator c.lo * m) (denominator c.lo) r → pos r ≡ quad_low c d
+pub low_forward : (c : Capacity) (d : ℤ) (m r : ℕ) → pos 0 ≤ℤ d → m ≡ unsigned_abs d → IsSquareRootDown (numerator c.lo * m) (denominator c.lo) r → pos r ≡ quadratic_low c d
 low_forward c (pos d) m r le e root = ap pos (down_at c.lo d m r e root)
 low_forward c (negsuc d) m r le e root = absurd (omega (arith, ints, le))
 
-pub low_reverse : (c : Capacity) (d : ℤ) (m r : ℕ) → d <ℤ pos 0 → m ≡ unsigned_abs d → IsSquareRootUp (numerator c.hi * m) (denominator c.hi) r → neg_ℤ (pos r) ≡ quad_low c d
+pub low_reverse : (c : Capacity) (d : ℤ) (m r : ℕ) → d <ℤ pos 0 → m ≡ unsigned_abs d → IsSquareRootUp (numerator c.hi * m) (denominator c.hi) r → neg_ℤ (pos r) ≡ quadratic_low c d
 low_reverse c (pos d) m r lt e root = absurd (omega (arith, ints, lt))
 low_reverse c (negsuc d) m r lt e root = ap (λ (n : ℕ). neg_ℤ (pos n)) (up_at c.hi (suc d) m r e root)
 
-pub high_forward : (c : Capacity) (d : ℤ) (m r : ℕ) → pos 0 ≤ℤ d → m ≡ unsigned_abs d → IsSquareRootUp (numerator c.hi * m) (denominator c.hi) r → pos r ≡ quad_high c d
+pub high_forward : (c : Capacity) (d : ℤ) (m r : ℕ) → pos 0 ≤ℤ d → m ≡ unsigned_abs d → IsSquareRootUp (numerator c.hi * m) (denominator c.hi) r → pos r ≡ quadratic_high c d
 high_forward c (pos d) m r le e root = ap pos (up_at c.hi d m r e root)
 high_forward c (negsuc d) m r le e root = absurd (omega (arith, ints, le))
 
-pub high_reverse : (c : Capacity) (d : ℤ) (m r : ℕ) → d <ℤ pos 0 → m ≡ unsigned_abs d → IsSquareRootDown (numerator c.lo * m) (denominator c.lo) r → neg_ℤ (pos r) ≡ quad_high c d
+pub high_reverse : (c : Capacity) (d : ℤ) (m r : ℕ) → d <ℤ pos 0 → m ≡ unsigned_abs d → IsSquareRootDown (numerator c.lo * m) (denominator c.lo) r → neg_ℤ (pos r) ≡ quadratic_high c d
 high_reverse c (pos d) m r lt e root = absurd (omega (arith, ints, lt))
 high_reverse c (negsuc d) m r lt e root = ap (λ (n : ℕ). neg_ℤ (pos n)) (down_at c.lo (suc d) m r e root)
 
@@ -67,14 +67,14 @@ down_rises s a b le = root_down_rises _ _ _ (positive s) (mul-le-mul_left (numer
 up_rises : (s : Scaled) (a b : ℕ) → a ≤ b → root_up (numerator s * a) (denominator s) ≤ root_up (numerator s * b) (denominator s)
 up_rises s a b le = root_up_rises _ _ _ (positive s) (mul-le-mul_left (numerator s) le)
 
-pub quad_low_rises : (c : Capacity) (a b : ℤ) → a ≤ℤ b → quad_low c a ≤ℤ quad_low c b
-quad_low_rises c (pos a) (pos b) le = let l = down_rises c.lo a b (omega (arith, ints, le)) in omega (arith, ints, l)
-quad_low_rises c (pos a) (negsuc b) le = absurd (omega (arith, ints, le))
-quad_low_rises c (negsuc a) (pos b) le = omega (arith, ints)
-quad_low_rises c (negsuc a) (negsuc b) le = let l = up_rises c.hi (suc b) (suc a) (omega (arith, ints, le)) in omega (arith, ints, l)
+pub quadratic_low_rises : (c : Capacity) (a b : ℤ) → a ≤ℤ b → quadratic_low c a ≤ℤ quadratic_low c b
+quadratic_low_rises c (pos a) (pos b) le = let l = down_rises c.lo a b (omega (arith, ints, le)) in omega (arith, ints, l)
+quadratic_low_rises c (pos a) (negsuc b) le = absurd (omega (arith, ints, le))
+quadratic_low_rises c (negsuc a) (pos b) le = omega (arith, ints)
+quadratic_low_rises c (negsuc a) (negsuc b) le = let l = up_rises c.hi (suc b) (suc a) (omega (arith, ints, le)) in omega (arith, ints, l)
 
-pub quad_high_rises : (c : Capacity) (a b : ℤ) → a ≤ℤ b → quad_high c a ≤ℤ quad_high c b
-quad_high_rises c (pos a) (pos b) le = let l = up_rises c.hi a b (omega (arith, ints, le)) in omega (arith, ints, l)
-quad_high_rises c (pos a) (negsuc b) le = absurd (omega (arith, ints, le))
-quad_high_rises c (negsuc a) (pos b) le = omega (arith, ints)
-quad_high_rises c (negsuc a) (negsuc b) le = let l = down_rises c.lo (suc b) (suc a) (omega (arith, ints, le)) in omega (arith, ints, l)
+pub quadratic_high_rises : (c : Capacity) (a b : ℤ) → a ≤ℤ b → quadratic_high c a ≤ℤ quadratic_high c b
+quadratic_high_rises c (pos a) (pos b) le = let l = up_rises c.hi a b (omega (arith, ints, le)) in omega (arith, ints, l)
+quadratic_high_rises c (pos a) (negsuc b) le = absurd (omega (arith, ints, le))
+quadratic_high_rises c (negsuc a) (pos b) le = omega (arith, ints)
+quadratic_high_rises c (negsuc a) (negsuc b) le = let l = down_rises c.lo (suc b) (suc a) (omega (arith, ints, le)) in omega (arith, ints, l)

@@ -206,8 +206,8 @@ start_made network first =
     let coefficient : valve.coefficient.nano ≡ nano_of first.chosen.setting = valve.coefficient_is in (
       rw (valve.origin, coefficient) refl,
       valve_numbers valve.capacity.origin valve.across valve.coefficient valve.origin
-      (omega (arith, ints, across, w.diameter.at_least)) (omega (arith, ints, across, w.diameter.at_most))
-      (omega (arith, ints, coefficient, w.setting.at_least)) (omega (arith, ints, coefficient, w.setting.at_most)),
+          (omega (arith, ints, across, w.diameter.at_least)) (omega (arith, ints, across, w.diameter.at_most))
+          (omega (arith, ints, coefficient, w.setting.at_least)) (omega (arith, ints, coefficient, w.setting.at_most)),
       valve.made,
     )
 

@@ -4,7 +4,7 @@ use Rattle.std.specs.Fmt.{decimal, signed_decimal, digits}
 use Rattle.std.proofs.Common.{true, pos, ◌-ℤ◌, ◌+ℤ◌, Some, map, subst}
 use Rattle.std.specs.Prelude.{slice_get}
 use Rattle.std.specs.List.{AllZip}
-use Rattle.hyd_spec.specs.Enclosing.{quad_low, quad_high}
+use Rattle.hyd_spec.specs.Enclosing.{quadratic_low, quadratic_high}
 use Rattle.hyd_spec.specs.Grid.{Grid, IsJunctionOf}
 use Rattle.hyd_spec.specs.Record.{initial_standing}
 use Rattle.hyd_spec.specs.Valid.{IsGridAt}
@@ -136,7 +136,7 @@ finished_report network first valve is elevation upper lower p text read e = rec
 -- the appended lines are printed intervals
 abbrev pub printed_of : (elevation : ℤ) (valve : SingleValve) (upper lower least greatest : ℤ) (a b c d j r l : List ℕ)
     → (J : AppendsJunction a b j lower upper elevation valve.demand) → (R : AppendsReservoir b c r valve.head) → (V : AppendsValve c d l least greatest)
-    → least ≡ quad_low valve.capacity (valve.head -ℤ upper) -ℤ pos 10 → greatest ≡ quad_high valve.capacity (valve.head -ℤ lower) +ℤ pos 10
+    → least ≡ quadratic_low valve.capacity (valve.head -ℤ upper) -ℤ pos 10 → greatest ≡ quadratic_high valve.capacity (valve.head -ℤ lower) +ℤ pos 10
     → Printed elevation valve upper lower
 printed_of elevation valve upper lower least greatest a b c d j r l J R V is_least is_greatest = record {
   head = J.head;
@@ -156,7 +156,7 @@ pub first_report : (network : Project) (first : IsFirstNetwork network) (valve :
     → (elevation upper lower least greatest : ℤ) (start begin last a b c d out j r l : List ℕ)
     → map (λ j. j.elevation) network.junctions.list ≡ elevation ∷ []
     → AppendsJunction a b j lower upper elevation valve.demand → AppendsReservoir b c r valve.head → AppendsValve c d l least greatest
-    → least ≡ quad_low valve.capacity (valve.head -ℤ upper) -ℤ pos 10 → greatest ≡ quad_high valve.capacity (valve.head -ℤ lower) +ℤ pos 10
+    → least ≡ quadratic_low valve.capacity (valve.head -ℤ upper) -ℤ pos 10 → greatest ≡ quadratic_high valve.capacity (valve.head -ℤ lower) +ℤ pos 10
     → start ≡ [] → begin ≡ codes "HYD 1\nTIME 0:00:00\n" → last ≡ codes "DONE 1\n"
     → slice_get network.node_ids 0 ≡ Some j → slice_get network.node_ids 1 ≡ Some r → slice_get network.link_ids 0 ≡ Some l
     → a ≡ start ++ joined (begin ∷ []) → out ≡ d ++ joined (last ∷ [])

@@ -4,7 +4,7 @@ use Rattle.std.specs.Prelude.{◌≡◌, ℕ, ◌+◌, ◌*◌, ℤ, pos, neg_�
 use Rattle.hyd_spec.specs.Types.{Project, Throttle, Quadratic}
 use Rattle.hyd_spec.specs.declared.Side.{Side}
 use Rattle.hyd_spec.specs.declared.Side.TheVariants.{Upper, Lower}
-use Rattle.hyd_spec.specs.Enclosing.{quad_low, quad_high}
+use Rattle.hyd_spec.specs.Enclosing.{quadratic_low, quadratic_high}
 use Rattle.hyd_spec.specs.Certificate.{box_limit, IsInBox, IsBeyond}
 use Rattle.hyd_cli.specs.declared.valve.SingleValve.{SingleValve}
 
@@ -17,11 +17,11 @@ pub record IsValveOf (network : Project) (valve : SingleValve) : Type 0 where
 
 -- At most the surplus of the junction at a head (flow ticks): its demand, less what the valve brings to it.
 abbrev pub surplus_low : SingleValve → ℤ → ℤ
-surplus_low valve h = valve.demand -ℤ quad_high valve.capacity (valve.head -ℤ h)
+surplus_low valve h = valve.demand -ℤ quadratic_high valve.capacity (valve.head -ℤ h)
 
 -- At least it.
 abbrev pub surplus_high : SingleValve → ℤ → ℤ
-surplus_high valve h = valve.demand -ℤ quad_low valve.capacity (valve.head -ℤ h)
+surplus_high valve h = valve.demand -ℤ quadratic_low valve.capacity (valve.head -ℤ h)
 
 -- What a surplus, or a deficit, has to exceed: what one link, the demand, the emitter and the balance may miss.
 abbrev pub margin : ℕ

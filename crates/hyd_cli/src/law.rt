@@ -2,14 +2,14 @@
 #![tactic(auto)]
 
 ghost use Rattle.std.specs.Prelude.{◌≡◌, ◌*◌, ◌^◌, ◌≤◌, unsigned_abs};
-ghost use Rattle.hyd_spec.specs.Enclosing.{quad_low, quad_high};
+ghost use Rattle.hyd_spec.specs.Enclosing.{quadratic_low, quadratic_high};
 
 use hyd_num::{Capacity, sqrt_down, sqrt_up};
 
 /// At most the flow, in flow ticks, that the head difference `d`, in head ticks, drives.
-pub fn quad_low(capacity: &Capacity, d: i64) -> i128
+pub fn quadratic_low(capacity: &Capacity, d: i64) -> i128
     requires { unsigned_abs d ≤ 3 * 10 ^ 18 }
-    ensures value { result ≡ quad_low capacity.now d }
+    ensures value { result ≡ quadratic_low capacity.now d }
     ensures small { unsigned_abs result ≤ 2 ^ 64 }
 {
     let magnitude = d.unsigned_abs();
@@ -20,9 +20,9 @@ pub fn quad_low(capacity: &Capacity, d: i64) -> i128
 }
 
 /// At least that flow.
-pub fn quad_high(capacity: &Capacity, d: i64) -> i128
+pub fn quadratic_high(capacity: &Capacity, d: i64) -> i128
     requires { unsigned_abs d ≤ 3 * 10 ^ 18 }
-    ensures value { result ≡ quad_high capacity.now d }
+    ensures value { result ≡ quadratic_high capacity.now d }
     ensures small { unsigned_abs result ≤ 2 ^ 64 }
 {
     let magnitude = d.unsigned_abs();

@@ -7,7 +7,7 @@ ghost use Rattle.hyd_spec.specs.FirstForm.{IsFirstNetwork};
 ghost use Rattle.hyd_cli.specs.SingleValve.{IsValveOf, surplus_low, surplus_high, HeadPasses, head_after, IsNearest, NonePasses};
 ghost use Rattle.hyd_cli.specs.Solution.{AreTightHeads, LacksOnSide};
 
-use crate::law::{quad_high, quad_low};
+use crate::law::{quadratic_high, quadratic_low};
 use crate::valve::SingleValve;
 use hyd_net::{LinkState, OpenValve, Project};
 use hyd_num::Capacity;
@@ -148,7 +148,7 @@ fn surplus_low(valve: &SingleValve, head: i64) -> i128
     requires { IsInBox head }
     ensures { result ≡ surplus_low valve.now head }
 {
-    i128::from(valve.demand) - quad_high(&valve.capacity, valve.head - head)
+    i128::from(valve.demand) - quadratic_high(&valve.capacity, valve.head - head)
 }
 
 // The greatest surplus of the junction at a head.
@@ -156,5 +156,5 @@ fn surplus_high(valve: &SingleValve, head: i64) -> i128
     requires { IsInBox head }
     ensures { result ≡ surplus_high valve.now head }
 {
-    i128::from(valve.demand) - quad_low(&valve.capacity, valve.head - head)
+    i128::from(valve.demand) - quadratic_low(&valve.capacity, valve.head - head)
 }

@@ -3,13 +3,13 @@
 
 ghost use Rattle.std.specs.Prelude.{◌≡◌, ◌≤◌, ◌^◌, ◌-ℤ◌, ◌+ℤ◌, [], ◌∷◌, map, pos, unsigned_abs, string_bytes, IfOk};
 ghost use Rattle.hyd_spec.specs.ReportLine.{side_word};
-ghost use Rattle.hyd_spec.specs.Enclosing.{quad_low, quad_high};
+ghost use Rattle.hyd_spec.specs.Enclosing.{quadratic_low, quadratic_high};
 ghost use Rattle.hyd_spec.specs.FirstForm.{IsFirstNetwork};
 ghost use Rattle.hyd_spec.specs.Certificate.{IsInBox};
 ghost use Rattle.hyd_cli.specs.SingleValve.{IsValveOf};
 ghost use Rattle.hyd_cli.specs.Texts.{finished_certificate, stopped_certificate, IsFinishedReport, stopped_report};
 
-use crate::law::{quad_high, quad_low};
+use crate::law::{quadratic_high, quadratic_low};
 use crate::lines::{TOLERANCE, push_junction, push_reservoir, push_valve};
 use crate::printed::push_all;
 use crate::valve::SingleValve;
@@ -78,19 +78,19 @@ fn junction_elevation(project: &Project) -> i64
 /// The least flow of the valve, in flow ticks, with the junction's head at most this.
 fn least_flow(valve: &SingleValve, upper: i64) -> i128
     requires { IsInBox upper }
-    ensures value { result ≡ quad_low valve.now.capacity (valve.now.head -ℤ upper) -ℤ pos 10 }
+    ensures value { result ≡ quadratic_low valve.now.capacity (valve.now.head -ℤ upper) -ℤ pos 10 }
     ensures in_range { unsigned_abs result ≤ 10 ^ 27 }
 {
-    quad_low(&valve.capacity, valve.head - upper) - i128::from(TOLERANCE)
+    quadratic_low(&valve.capacity, valve.head - upper) - i128::from(TOLERANCE)
 }
 
 /// Its greatest flow, with the head at least this.
 fn greatest_flow(valve: &SingleValve, lower: i64) -> i128
     requires { IsInBox lower }
-    ensures value { result ≡ quad_high valve.now.capacity (valve.now.head -ℤ lower) +ℤ pos 10 }
+    ensures value { result ≡ quadratic_high valve.now.capacity (valve.now.head -ℤ lower) +ℤ pos 10 }
     ensures in_range { unsigned_abs result ≤ 10 ^ 27 }
 {
-    quad_high(&valve.capacity, valve.head - lower) + i128::from(TOLERANCE)
+    quadratic_high(&valve.capacity, valve.head - lower) + i128::from(TOLERANCE)
 }
 
 /// The report of a run that stopped because a side has no certificate.

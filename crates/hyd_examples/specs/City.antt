@@ -2,7 +2,7 @@
 -- junction has an emitter; the demand of the first depends on its pressure.
 use Rattle.std.specs.Prelude.{pos, neg_ℤ, List, ℤ, [], ◌∷◌, Some, None}
 use Rattle.hyd_spec.specs.Types.{Capacity}
-use Rattle.hyd_spec.specs.Law.{Quad, Lifted, ForwardOnly, Capped}
+use Rattle.hyd_spec.specs.Law.{QuadraticLaw, Lifted, ForwardOnly, Capped}
 use Rattle.hyd_spec.specs.Enclosing.{Fixed, Driven}
 use Rattle.hyd_spec.specs.Grid.{Grid, GridLink, GridJunction}
 use Rattle.hyd_examples.specs.Capacities.{HasEnds}
@@ -44,27 +44,27 @@ second parts = record {
 
 -- From the reservoir, which is node 2, to the first junction.
 abbrev pub pipe : CityParts → GridLink
-pipe parts = record { from = 2; to = 0; law = Quad parts.pipe }
+pipe parts = record { from = 2; to = 0; law = QuadraticLaw parts.pipe }
 
 -- From the first junction to the second.
 abbrev pub check_pipe : CityParts → GridLink
-check_pipe parts = record { from = 0; to = 1; law = ForwardOnly (Quad parts.check) }
+check_pipe parts = record { from = 0; to = 1; law = ForwardOnly (QuadraticLaw parts.check) }
 
 -- From the reservoir to the second junction, at nine tenths of its speed.
 abbrev pub pump : CityParts → GridLink
 pump parts = record {
   from = 2;
   to = 1;
-  law = ForwardOnly (Lifted (record { num = pos 1296000000000000000000000000000000; den = 3000000000000000000 }) (Quad parts.pump));
+  law = ForwardOnly (Lifted (record { num = pos 1296000000000000000000000000000000; den = 3000000000000000000 }) (QuadraticLaw parts.pump));
 }
 
 -- From the first junction to the tank, which is node 3.
 abbrev pub throttle_valve : CityParts → GridLink
-throttle_valve parts = record { from = 0; to = 3; law = Quad parts.valve }
+throttle_valve parts = record { from = 0; to = 3; law = QuadraticLaw parts.valve }
 
 -- From the second junction to the tank, limited to 500 cubic metres a day.
 abbrev pub control_valve : CityParts → GridLink
-control_valve parts = record { from = 1; to = 3; law = Capped (pos 5000000000) (Quad parts.control) }
+control_valve parts = record { from = 1; to = 3; law = Capped (pos 5000000000) (QuadraticLaw parts.control) }
 
 -- The whole city, its tank between 45 and 45.1 m.
 abbrev pub city : CityParts → Grid

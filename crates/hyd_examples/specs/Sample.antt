@@ -1,6 +1,6 @@
 -- A small network of one period: two junctions, a reservoir, a tank and five links, all laws without capacities.
 use Rattle.std.specs.Prelude.{pos, neg_ℤ, [], ◌∷◌, None}
-use Rattle.hyd_spec.specs.Law.{Shut, Straight, Lifted, ForwardOnly, ReverseOnly, Capped}
+use Rattle.hyd_spec.specs.Law.{Shut, LinearLaw, Lifted, ForwardOnly, ReverseOnly, Capped}
 use Rattle.hyd_spec.specs.Enclosing.{Fixed}
 use Rattle.hyd_spec.specs.Grid.{Grid, GridLink, GridJunction}
 
@@ -12,16 +12,16 @@ abbrev pub second : GridJunction
 second = record { elevation = neg_ℤ (pos 5); demand = Fixed (neg_ℤ (pos 70)); emitter = None }
 
 abbrev pub from_reservoir : GridLink
-from_reservoir = record { from = 2; to = 0; law = Straight }
+from_reservoir = record { from = 2; to = 0; law = LinearLaw }
 
 abbrev pub between : GridLink
-between = record { from = 0; to = 1; law = Capped (pos 20000) Straight }
+between = record { from = 0; to = 1; law = Capped (pos 20000) LinearLaw }
 
 abbrev pub into_tank : GridLink
-into_tank = record { from = 1; to = 3; law = ForwardOnly Straight }
+into_tank = record { from = 1; to = 3; law = ForwardOnly LinearLaw }
 
 abbrev pub against_tank : GridLink
-against_tank = record { from = 3; to = 0; law = ReverseOnly (Lifted (record { num = pos 7; den = 2 }) Straight) }
+against_tank = record { from = 3; to = 0; law = ReverseOnly (Lifted (record { num = pos 7; den = 2 }) LinearLaw) }
 
 abbrev pub closed : GridLink
 closed = record { from = 1; to = 0; law = Shut }

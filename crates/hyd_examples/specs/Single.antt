@@ -2,7 +2,7 @@
 -- at elevation 0 with a demand of 1000 cubic metres a day.
 use Rattle.std.specs.Prelude.{pos, [], ◌∷◌, None}
 use Rattle.hyd_spec.specs.Types.{Capacity}
-use Rattle.hyd_spec.specs.Law.{Quad}
+use Rattle.hyd_spec.specs.Law.{QuadraticLaw}
 use Rattle.hyd_spec.specs.Enclosing.{Fixed}
 use Rattle.hyd_spec.specs.Grid.{Grid, GridJunction}
 
@@ -16,5 +16,5 @@ one_valve capacity = record {
   junctions = end ∷ [];
   reservoirs = pos 1000000000000000 ∷ [];
   tanks = [];
-  links = record { from = 1; to = 0; law = Quad capacity } ∷ [];
+  links = record { from = 1; to = 0; law = QuadraticLaw capacity } ∷ [];
 }

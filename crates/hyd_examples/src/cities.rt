@@ -8,7 +8,7 @@ ghost use Rattle.hyd_spec.specs.Types.{PipeLink, CheckPipe, PumpLink, Tcv, Fcv, 
 ghost use Rattle.hyd_spec.specs.declared.TankState.TheVariants.{Empty, Between, Full};
 ghost use Rattle.hyd_spec.specs.declared.Problem.TheVariants.{Main, Pinned};
 ghost use Rattle.hyd_spec.specs.declared.Side.TheVariants.{Upper, Lower};
-ghost use Rattle.hyd_spec.specs.Law.{Quad, ForwardOnly, ReverseOnly, Capped};
+ghost use Rattle.hyd_spec.specs.Law.{QuadraticLaw, ForwardOnly, ReverseOnly, Capped};
 ghost use Rattle.hyd_spec.specs.Grid.{grid_links, tank_intervals, fixed_heads, all_heads};
 ghost use Rattle.hyd_spec.specs.Surplus.{net_low, net_high, margin};
 ghost use Rattle.hyd_spec.specs.Boxes.{flow_box, out_box, inflow_box};
@@ -34,8 +34,8 @@ pub fn laws()
         ∷ record { from = 0; to = 3; kind = Tcv Linear; start = Open }
         ∷ record { from = 1; to = 3; kind = Fcv (Quadratic parts.control); start = Open } ∷ []) (Open ∷ Open ∷ Speed (pos 900000000)
         ∷ Throttle (pos 100000000000) (Quadratic parts.valve) ∷ Limit (pos 500000000000) (pos 5000000000) ∷ [])
-        ≡ pipe parts ∷ check_pipe parts ∷ pump parts ∷ record { from = 0; to = 3; law = ReverseOnly (Quad parts.valve) }
-        ∷ record { from = 1; to = 3; law = ReverseOnly (Capped (pos 5000000000) (Quad parts.control)) } ∷ [] }
+        ≡ pipe parts ∷ check_pipe parts ∷ pump parts ∷ record { from = 0; to = 3; law = ReverseOnly (QuadraticLaw parts.valve) }
+        ∷ record { from = 1; to = 3; law = ReverseOnly (Capped (pos 5000000000) (QuadraticLaw parts.control)) } ∷ [] }
     ensures empty { (network : Project) (parts : CityParts) (shutoff : Span) (head : Decimal) (pattern : Option ℕ)
         → network.options.unit ≡ Cmd → length network.junctions.list ≡ 2 → length network.reservoirs.list ≡ 1 → head.nano ≡ pos 40000000000
         → grid_links network (Empty ∷ []) (record { from = 2; to = 0; kind = PipeLink parts.pipe; start = Open }
@@ -44,8 +44,8 @@ pub fn laws()
         ∷ record { from = 0; to = 3; kind = Tcv Linear; start = Open }
         ∷ record { from = 1; to = 3; kind = Fcv (Quadratic parts.control); start = Open } ∷ []) (Open ∷ Open ∷ Speed (pos 900000000)
         ∷ Throttle (pos 100000000000) (Quadratic parts.valve) ∷ Limit (pos 500000000000) (pos 5000000000) ∷ [])
-        ≡ pipe parts ∷ check_pipe parts ∷ pump parts ∷ record { from = 0; to = 3; law = ForwardOnly (Quad parts.valve) }
-        ∷ record { from = 1; to = 3; law = ForwardOnly (Capped (pos 5000000000) (Quad parts.control)) } ∷ [] }
+        ≡ pipe parts ∷ check_pipe parts ∷ pump parts ∷ record { from = 0; to = 3; law = ForwardOnly (QuadraticLaw parts.valve) }
+        ∷ record { from = 1; to = 3; law = ForwardOnly (Capped (pos 5000000000) (QuadraticLaw parts.control)) } ∷ [] }
 {}
 
 /// The intervals of heads of two tanks, and where there is no level.

@@ -13,7 +13,7 @@ use Rattle.hyd_spec.specs.declared.Problem.TheVariants.{Main}
 use Rattle.hyd_spec.specs.Interval.{Interval}
 use Rattle.hyd_spec.specs.Quantity.{demand_of}
 use Rattle.hyd_spec.specs.LinkLaw.{law_of}
-use Rattle.hyd_spec.specs.Law.{Quad, Follows}
+use Rattle.hyd_spec.specs.Law.{QuadraticLaw, Follows}
 use Rattle.hyd_spec.specs.Enclosing.{demand_low, demand_high}
 use Rattle.hyd_spec.specs.Outflow.{FollowsEmitter}
 use Rattle.hyd_spec.specs.Assignment.{Assignment, JunctionObeys, LinksFollow, more, head_at, flow_at, node_heads}
@@ -28,19 +28,19 @@ use Rattle.hyd_laws.proofs.Comparison.{below_main, above_main, one_each, fixed_b
 
 -- ---- heads
 
-pub heads_between : (network : Project) (S time : ℕ) (intervals : List Interval) (levels : List ℤ) (tanks : List TankState) (links : List LinkState) (given : Assignment) (grid : Grid) (below above : List ℤ)
-    → IsCompared network S time intervals levels tanks links given grid → IsCertificate grid Main Lower below → IsCertificate grid Main Upper above
-    → LieBetween S (all_heads grid Main Lower below) (all_heads grid Main Upper above) (node_heads network S time levels given.heads)
-heads_between network S time intervals levels tanks links given grid below above c under over m = record {
-  low = let l : lack S (node_heads network S time levels given.heads) (all_heads grid Main Lower below) m ≤ℤ pos 0 =
-      lack_after S given.heads below _ _ (pos 0) (one_each network S time intervals levels tanks links given grid Main Lower below c under)
+pub heads_between : (network : Project) (S time : ℕ) (intervals : List Interval) (levels : List ℤ) (tanks : List TankState) (links : List LinkState) (assignment : Assignment) (grid : Grid) (below above : List ℤ)
+    → IsCompared network S time intervals levels tanks links assignment grid → IsCertificate grid Main Lower below → IsCertificate grid Main Upper above
+    → LieBetween S (all_heads grid Main Lower below) (all_heads grid Main Upper above) (node_heads network S time levels assignment.heads)
+heads_between network S time intervals levels tanks links assignment grid below above c under over m = record {
+  low = let l : lack S (node_heads network S time levels assignment.heads) (all_heads grid Main Lower below) m ≤ℤ pos 0 =
+      lack_after S assignment.heads below _ _ (pos 0) (one_each network S time intervals levels tanks links assignment grid Main Lower below c under)
       (fixed_above network S time intervals levels tanks links grid (pos 0) c.is_grid c.lie (omega (arith, ints))) m
-      (λ lt. let h = above_main network S time intervals levels tanks links given grid below c under m _ (slice_get-get_or given.heads m (pos 0) lt) in omega (arith, ints, h)) in
+      (λ lt. let h = above_main network S time intervals levels tanks links assignment grid below c under m _ (slice_get-get_or assignment.heads m (pos 0) lt) in omega (arith, ints, h)) in
       omega (arith, ints, l);
-  high = let l : excess S (node_heads network S time levels given.heads) (all_heads grid Main Upper above) m ≤ℤ pos 0 =
-      excess_after S given.heads above _ _ (pos 0) (one_each network S time intervals levels tanks links given grid Main Upper above c over)
+  high = let l : excess S (node_heads network S time levels assignment.heads) (all_heads grid Main Upper above) m ≤ℤ pos 0 =
+      excess_after S assignment.heads above _ _ (pos 0) (one_each network S time intervals levels tanks links assignment grid Main Upper above c over)
       (fixed_below network S time intervals levels tanks links grid (pos 0) c.is_grid c.lie (omega (arith, ints))) m
-      (λ lt. let h = below_main network S time intervals levels tanks links given grid above c over m _ (slice_get-get_or given.heads m (pos 0) lt) in omega (arith, ints, h)) in
+      (λ lt. let h = below_main network S time intervals levels tanks links assignment grid above c over m _ (slice_get-get_or assignment.heads m (pos 0) lt) in omega (arith, ints, h)) in
       omega (arith, ints, l);
 }
 
@@ -76,13 +76,13 @@ boxed S below above heads link q some between f = record {
       rw times_plus (omega (arith, ints, a));
 }
 
-pub flow_lies : (network : Project) (S time : ℕ) (intervals : List Interval) (levels : List ℤ) (tanks : List TankState) (links : List LinkState) (given : Assignment) (grid : Grid) (below above : List ℤ)
-    → IsCompared network S time intervals levels tanks links given grid
-    → LieBetween S below above (node_heads network S time levels given.heads)
-    → (l : ℕ) (link : GridLink) → slice_get grid.links l ≡ Some link → LiesIn S (flow_box link below above) (flow_at given.flows l)
-flow_lies network S time intervals levels tanks links given grid below above c between l link is =
-    boxed S below above (node_heads network S time levels given.heads) link (flow_at given.flows l) c.some between
-    (followed_at network tanks S (node_heads network S time levels given.heads) network.links.list links given.flows c.assigned.links_follow
+pub flow_lies : (network : Project) (S time : ℕ) (intervals : List Interval) (levels : List ℤ) (tanks : List TankState) (links : List LinkState) (assignment : Assignment) (grid : Grid) (below above : List ℤ)
+    → IsCompared network S time intervals levels tanks links assignment grid
+    → LieBetween S below above (node_heads network S time levels assignment.heads)
+    → (l : ℕ) (link : GridLink) → slice_get grid.links l ≡ Some link → LiesIn S (flow_box link below above) (flow_at assignment.flows l)
+flow_lies network S time intervals levels tanks links assignment grid below above c between l link is =
+    boxed S below above (node_heads network S time levels assignment.heads) link (flow_at assignment.flows l) c.some between
+    (followed_at network tanks S (node_heads network S time levels assignment.heads) network.links.list links assignment.flows c.assigned.links_follow
     (subst (λ (ls : List GridLink). AllByRecursion (λ (link : GridLink). IsSoundLaw link.law) ls) c.is_grid.links_are c.sound.links)
     l link (subst (λ (ls : List GridLink). slice_get ls l ≡ Some link) c.is_grid.links_are is))
 
@@ -91,31 +91,31 @@ flow_lies network S time intervals levels tanks links given grid below above c b
 emitter_lies : (junction : Junction) (emitter : Option Capacity) (S : ℕ) (p : Interval) (x q : ℤ) → emitter ≡ junction.emitter → IfSome emitter IsSoundCapacity → 0 < S
     → (pos S *ℤ p.lo) ≤ℤ x → x ≤ℤ (pos S *ℤ p.hi) → FollowsEmitter junction S x q → LiesIn S (emitter_box emitter p) q
 emitter_lies junction emitter S p x q same sound some under over follows =
-    by_case emitter sound (subst (λ (o : Option Capacity). MatchOption o (q ≡ pos 0) (λ capacity. Follows (Quad capacity) S x q)) (sym same) follows)
+    by_case emitter sound (subst (λ (o : Option Capacity). MatchOption o (q ≡ pos 0) (λ capacity. Follows (QuadraticLaw capacity) S x q)) (sym same) follows)
   where
-    by_case : (e : Option Capacity) → IfSome e IsSoundCapacity → MatchOption e (q ≡ pos 0) (λ capacity. Follows (Quad capacity) S x q) → LiesIn S (emitter_box e p) q
+    by_case : (e : Option Capacity) → IfSome e IsSoundCapacity → MatchOption e (q ≡ pos 0) (λ capacity. Follows (QuadraticLaw capacity) S x q) → LiesIn S (emitter_box e p) q
     by_case None sound h = record { low = omega (arith, ints, h); high = omega (arith, ints, h) }
     by_case (Some c) sound h = record {
-      low = let a = flow-below (Quad c) S p.lo x q sound some under h in rw times_minus (omega (arith, ints, a));
-      high = let a = flow-above (Quad c) S p.hi x q sound some over h in rw times_plus (omega (arith, ints, a));
+      low = let a = flow-below (QuadraticLaw c) S p.lo x q sound some under h in rw times_minus (omega (arith, ints, a));
+      high = let a = flow-above (QuadraticLaw c) S p.hi x q sound some over h in rw times_plus (omega (arith, ints, a));
     }
 
-out_of : (network : Project) (time S : ℕ) (given : Assignment) (j : ℕ) (junction : Junction) (here : GridJunction) (below above : ℤ) → 0 < S
-    → IsJunctionOf network time junction here → IfSome here.emitter IsSoundCapacity → (pos S *ℤ below) ≤ℤ head_at given.heads j → head_at given.heads j ≤ℤ (pos S *ℤ above)
-    → JunctionObeys network time S given j junction
-    → LiesIn S (out_box here below above) (flow_at given.demands j +ℤ flow_at given.emitters j)
-out_of network time S given j junction here below above some is sound under over obeys =
-    let l : (pos S *ℤ (below -ℤ here.elevation)) ≤ℤ (head_at given.heads j -ℤ (pos S *ℤ junction.elevation)) =
+out_of : (network : Project) (time S : ℕ) (assignment : Assignment) (j : ℕ) (junction : Junction) (here : GridJunction) (below above : ℤ) → 0 < S
+    → IsJunctionOf network time junction here → IfSome here.emitter IsSoundCapacity → (pos S *ℤ below) ≤ℤ head_at assignment.heads j → head_at assignment.heads j ≤ℤ (pos S *ℤ above)
+    → JunctionObeys network time S assignment j junction
+    → LiesIn S (out_box here below above) (flow_at assignment.demands j +ℤ flow_at assignment.emitters j)
+out_of network time S assignment j junction here below above some is sound under over obeys =
+    let l : (pos S *ℤ (below -ℤ here.elevation)) ≤ℤ (head_at assignment.heads j -ℤ (pos S *ℤ junction.elevation)) =
     rw times_minus (rw is.elevation (omega (arith, ints, under))) in
-    let h : (head_at given.heads j -ℤ (pos S *ℤ junction.elevation)) ≤ℤ (pos S *ℤ (above -ℤ here.elevation)) =
+    let h : (head_at assignment.heads j -ℤ (pos S *ℤ junction.elevation)) ≤ℤ (pos S *ℤ (above -ℤ here.elevation)) =
     rw times_minus (rw is.elevation (omega (arith, ints, over))) in
-    let a = demand-below network (demand_of network time junction) here.demand S (below -ℤ here.elevation) (head_at given.heads j -ℤ (pos S *ℤ junction.elevation)) (flow_at given.demands j)
+    let a = demand-below network (demand_of network time junction) here.demand S (below -ℤ here.elevation) (head_at assignment.heads j -ℤ (pos S *ℤ junction.elevation)) (flow_at assignment.demands j)
     is.demand some l obeys.demand in
-    let b = demand-above network (demand_of network time junction) here.demand S (above -ℤ here.elevation) (head_at given.heads j -ℤ (pos S *ℤ junction.elevation)) (flow_at given.demands j)
+    let b = demand-above network (demand_of network time junction) here.demand S (above -ℤ here.elevation) (head_at assignment.heads j -ℤ (pos S *ℤ junction.elevation)) (flow_at assignment.demands j)
     is.demand some h obeys.demand in
-    let e = emitter_lies junction here.emitter S (record { lo = below -ℤ here.elevation; hi = above -ℤ here.elevation }) (head_at given.heads j -ℤ (pos S *ℤ junction.elevation)) (flow_at given.emitters j)
+    let e = emitter_lies junction here.emitter S (record { lo = below -ℤ here.elevation; hi = above -ℤ here.elevation }) (head_at assignment.heads j -ℤ (pos S *ℤ junction.elevation)) (flow_at assignment.emitters j)
     is.emitter sound some l h obeys.emitter in
-    summed S (demand_low here.demand (below -ℤ here.elevation)) (demand_high here.demand (above -ℤ here.elevation)) _ (flow_at given.demands j) (flow_at given.emitters j) a b e
+    summed S (demand_low here.demand (below -ℤ here.elevation)) (demand_high here.demand (above -ℤ here.elevation)) _ (flow_at assignment.demands j) (flow_at assignment.emitters j) a b e
   where
     summed : (S : ℕ) (lo hi : ℤ) (box : Interval) (d e : ℤ) → (pos S *ℤ lo) ≤ℤ (d +ℤ pos (S * 10)) → (d -ℤ pos (S * 10)) ≤ℤ (pos S *ℤ hi) → LiesIn S box e
         → LiesIn S (record { lo = (lo -ℤ pos 10) +ℤ box.lo; hi = (hi +ℤ pos 10) +ℤ box.hi }) (d +ℤ e)
@@ -124,17 +124,17 @@ out_of network time S given j junction here below above some is sound under over
       high = let h = lies.high in omega (arith, ints, b, h, times_plus S (hi +ℤ pos 10) box.hi, times_plus S hi (pos 10));
     }
 
-pub outflow_lies : (network : Project) (S time : ℕ) (intervals : List Interval) (levels : List ℤ) (tanks : List TankState) (links : List LinkState) (given : Assignment) (grid : Grid) (below above : List ℤ)
-    → IsCompared network S time intervals levels tanks links given grid → IsCertificate grid Main Lower below → IsCertificate grid Main Upper above
+pub outflow_lies : (network : Project) (S time : ℕ) (intervals : List Interval) (levels : List ℤ) (tanks : List TankState) (links : List LinkState) (assignment : Assignment) (grid : Grid) (below above : List ℤ)
+    → IsCompared network S time intervals levels tanks links assignment grid → IsCertificate grid Main Lower below → IsCertificate grid Main Upper above
     → (j : ℕ) (here : GridJunction) → slice_get grid.junctions j ≡ Some here
-    → LiesIn S (out_box here (head_at below j) (head_at above j)) (flow_at given.demands j +ℤ flow_at given.emitters j)
-outflow_lies network S time intervals levels tanks links given grid below above c under over j here is =
+    → LiesIn S (out_box here (head_at below j) (head_at above j)) (flow_at assignment.demands j +ℤ flow_at assignment.emitters j)
+outflow_lies network S time intervals levels tanks links assignment grid below above c under over j here is =
     let inside = slice_get_within grid.junctions j here is in
-    let long : j < length given.heads = (let a = one_each network S time intervals levels tanks links given grid Main Upper above c over in let b = over.one_each in omega (arith, inside, a, b)) in
+    let long : j < length assignment.heads = (let a = one_each network S time intervals levels tanks links assignment grid Main Upper above c over in let b = over.one_each in omega (arith, inside, a, b)) in
     let p = place_at (IsJunctionOf network time) network.junctions.list grid.junctions c.is_grid.junctions j inside in
-    let l = above_main network S time intervals levels tanks links given grid below c under j _ (slice_get-get_or given.heads j (pos 0) long) in
-    let h = below_main network S time intervals levels tanks links given grid above c over j _ (slice_get-get_or given.heads j (pos 0) long) in
-    subst (λ (g : GridJunction). LiesIn S (out_box g (head_at below j) (head_at above j)) (flow_at given.demands j +ℤ flow_at given.emitters j))
+    let l = above_main network S time intervals levels tanks links assignment grid below c under j _ (slice_get-get_or assignment.heads j (pos 0) long) in
+    let h = below_main network S time intervals levels tanks links assignment grid above c over j _ (slice_get-get_or assignment.heads j (pos 0) long) in
+    subst (λ (g : GridJunction). LiesIn S (out_box g (head_at below j) (head_at above j)) (flow_at assignment.demands j +ℤ flow_at assignment.emitters j))
     (let e : p.here ≡ here = (let a = p.is_here in cc) in e)
-    (out_of network time S given j p.junction p.here (head_at below j) (head_at above j) c.some p.holds (emitter_at grid.junctions j p.here c.sound.emitters p.is_here)
+    (out_of network time S assignment j p.junction p.here (head_at below j) (head_at above j) c.some p.holds (emitter_at grid.junctions j p.here c.sound.emitters p.is_here)
     (omega (arith, ints, l)) (omega (arith, ints, h)) (c.assigned.junctions_obey j p.junction p.is_junction))

@@ -28,27 +28,27 @@ use Rattle.hyd_laws.proofs.Outflows.{emitter-below, emitter-above, demand-below,
 
 -- ---- one junction
 
-pub outflow-below : (network : Project) (time S : ℕ) (given : Assignment) (j : ℕ) (junction : Junction) (here : GridJunction) (h : ℤ) → 0 < S
-    → IsJunctionOf network time junction here → IfSome here.emitter IsSoundCapacity → (pos S *ℤ h) ≤ℤ head_at given.heads j → JunctionObeys network time S given j junction
-    → (pos S *ℤ outflow_low here h) ≤ℤ ((flow_at given.demands j +ℤ flow_at given.emitters j) +ℤ pos (S * 20))
-outflow-below network time S given j junction here h some is sound le obeys =
-    let p : (pos S *ℤ (h -ℤ here.elevation)) ≤ℤ (head_at given.heads j -ℤ (pos S *ℤ junction.elevation)) =
+pub outflow-below : (network : Project) (time S : ℕ) (assignment : Assignment) (j : ℕ) (junction : Junction) (here : GridJunction) (h : ℤ) → 0 < S
+    → IsJunctionOf network time junction here → IfSome here.emitter IsSoundCapacity → (pos S *ℤ h) ≤ℤ head_at assignment.heads j → JunctionObeys network time S assignment j junction
+    → (pos S *ℤ outflow_low here h) ≤ℤ ((flow_at assignment.demands j +ℤ flow_at assignment.emitters j) +ℤ pos (S * 20))
+outflow-below network time S assignment j junction here h some is sound le obeys =
+    let p : (pos S *ℤ (h -ℤ here.elevation)) ≤ℤ (head_at assignment.heads j -ℤ (pos S *ℤ junction.elevation)) =
     rw times_minus (rw is.elevation (omega (arith, ints, le))) in
-    let a = demand-below network (demand_of network time junction) here.demand S (h -ℤ here.elevation) (head_at given.heads j -ℤ (pos S *ℤ junction.elevation)) (flow_at given.demands j)
+    let a = demand-below network (demand_of network time junction) here.demand S (h -ℤ here.elevation) (head_at assignment.heads j -ℤ (pos S *ℤ junction.elevation)) (flow_at assignment.demands j)
     is.demand some p obeys.demand in
-    let b = emitter-below junction here.emitter S (h -ℤ here.elevation) (head_at given.heads j -ℤ (pos S *ℤ junction.elevation)) (flow_at given.emitters j)
+    let b = emitter-below junction here.emitter S (h -ℤ here.elevation) (head_at assignment.heads j -ℤ (pos S *ℤ junction.elevation)) (flow_at assignment.emitters j)
     is.emitter sound some p obeys.emitter in
     rw times_plus (omega (arith, ints, a, b))
 
-pub outflow-above : (network : Project) (time S : ℕ) (given : Assignment) (j : ℕ) (junction : Junction) (here : GridJunction) (h : ℤ) → 0 < S
-    → IsJunctionOf network time junction here → IfSome here.emitter IsSoundCapacity → head_at given.heads j ≤ℤ (pos S *ℤ h) → JunctionObeys network time S given j junction
-    → (flow_at given.demands j +ℤ flow_at given.emitters j) ≤ℤ ((pos S *ℤ outflow_high here h) +ℤ pos (S * 20))
-outflow-above network time S given j junction here h some is sound le obeys =
-    let p : (head_at given.heads j -ℤ (pos S *ℤ junction.elevation)) ≤ℤ (pos S *ℤ (h -ℤ here.elevation)) =
+pub outflow-above : (network : Project) (time S : ℕ) (assignment : Assignment) (j : ℕ) (junction : Junction) (here : GridJunction) (h : ℤ) → 0 < S
+    → IsJunctionOf network time junction here → IfSome here.emitter IsSoundCapacity → head_at assignment.heads j ≤ℤ (pos S *ℤ h) → JunctionObeys network time S assignment j junction
+    → (flow_at assignment.demands j +ℤ flow_at assignment.emitters j) ≤ℤ ((pos S *ℤ outflow_high here h) +ℤ pos (S * 20))
+outflow-above network time S assignment j junction here h some is sound le obeys =
+    let p : (head_at assignment.heads j -ℤ (pos S *ℤ junction.elevation)) ≤ℤ (pos S *ℤ (h -ℤ here.elevation)) =
     rw times_minus (rw is.elevation (omega (arith, ints, le))) in
-    let a = demand-above network (demand_of network time junction) here.demand S (h -ℤ here.elevation) (head_at given.heads j -ℤ (pos S *ℤ junction.elevation)) (flow_at given.demands j)
+    let a = demand-above network (demand_of network time junction) here.demand S (h -ℤ here.elevation) (head_at assignment.heads j -ℤ (pos S *ℤ junction.elevation)) (flow_at assignment.demands j)
     is.demand some p obeys.demand in
-    let b = emitter-above junction here.emitter S (h -ℤ here.elevation) (head_at given.heads j -ℤ (pos S *ℤ junction.elevation)) (flow_at given.emitters j)
+    let b = emitter-above junction here.emitter S (h -ℤ here.elevation) (head_at assignment.heads j -ℤ (pos S *ℤ junction.elevation)) (flow_at assignment.emitters j)
     is.emitter sound some p obeys.emitter in
     rw times_plus (omega (arith, ints, a, b))
 
@@ -98,34 +98,34 @@ emitter_at (j ∷ js) (suc i) here all e = emitter_at js i here all.1 e
 -- ---- what a certificate can't have
 
 -- no junction of a certificate has an excess that is at least 0 and nowhere greater
-pub no_excess : (network : Project) (S time : ℕ) (intervals : List Interval) (levels : List ℤ) (tanks : List TankState) (links : List LinkState) (given : Assignment) (grid : Grid)
-    (problem : Problem) (u : List ℤ) (i : ℕ) → IsCompared network S time intervals levels tanks links given grid → IsCertificate grid problem Upper u → i < length u
-    → IsPeak S (node_heads network S time levels given.heads) (all_heads grid problem Upper u) i → (pos S *ℤ head_at u i) ≤ℤ head_at given.heads i → ⊥
-no_excess network S time intervals levels tanks links given grid problem u i c certificate lt peak above =
+pub no_excess : (network : Project) (S time : ℕ) (intervals : List Interval) (levels : List ℤ) (tanks : List TankState) (links : List LinkState) (assignment : Assignment) (grid : Grid)
+    (problem : Problem) (u : List ℤ) (i : ℕ) → IsCompared network S time intervals levels tanks links assignment grid → IsCertificate grid problem Upper u → i < length u
+    → IsPeak S (node_heads network S time levels assignment.heads) (all_heads grid problem Upper u) i → (pos S *ℤ head_at u i) ≤ℤ head_at assignment.heads i → ⊥
+no_excess network S time intervals levels tanks links assignment grid problem u i c certificate lt peak above =
     let p = place_at (IsJunctionOf network time) network.junctions.list grid.junctions c.is_grid.junctions i (let e = certificate.one_each in omega (arith, lt)) in
     let obeys = c.assigned.junctions_obey i p.junction p.is_junction in
-    let sums = sum-upper network tanks S (node_heads network S time levels given.heads) (all_heads grid problem Upper u) i c.some peak network.links.list links given.flows c.assigned.links_follow
+    let sums = sum-upper network tanks S (node_heads network S time levels assignment.heads) (all_heads grid problem Upper u) i c.some peak network.links.list links assignment.flows c.assigned.links_follow
     (subst (λ (ls : List GridLink). AllByRecursion (λ (link : GridLink). IsSoundLaw link.law) ls) c.is_grid.links_are c.sound.links) in
-    let turned = subst (λ (ls : List GridLink). (pos S *ℤ net low high (all_heads grid problem Upper u) i ls) ≤ℤ (net_outflow i network.links.list given.flows +ℤ pos (link_ends i ls * (S * 10))))
+    let turned = subst (λ (ls : List GridLink). (pos S *ℤ net low high (all_heads grid problem Upper u) i ls) ≤ℤ (net_outflow i network.links.list assignment.flows +ℤ pos (link_ends i ls * (S * 10))))
     (sym c.is_grid.links_are) sums in
-    let leaves = outflow-below network time S given i p.junction p.here (head_at u i) c.some p.holds (emitter_at grid.junctions i p.here c.sound.emitters p.is_here) above obeys in
+    let leaves = outflow-below network time S assignment i p.junction p.here (head_at u i) c.some p.holds (emitter_at grid.junctions i p.here c.sound.emitters p.is_here) above obeys in
     too_much S (link_ends i grid.links) (net low high (all_heads grid problem Upper u) i grid.links) (outflow_low p.here (head_at u i))
-    (net_outflow i network.links.list given.flows) (flow_at given.demands i +ℤ flow_at given.emitters i) c.some turned leaves
+    (net_outflow i network.links.list assignment.flows) (flow_at assignment.demands i +ℤ flow_at assignment.emitters i) c.some turned leaves
     (let b = obeys.balance.low in omega (arith, ints, b)) (certificate.passes i p.here p.is_here)
 
-pub no_lack : (network : Project) (S time : ℕ) (intervals : List Interval) (levels : List ℤ) (tanks : List TankState) (links : List LinkState) (given : Assignment) (grid : Grid)
-    (problem : Problem) (u : List ℤ) (i : ℕ) → IsCompared network S time intervals levels tanks links given grid → IsCertificate grid problem Lower u → i < length u
-    → IsDip S (node_heads network S time levels given.heads) (all_heads grid problem Lower u) i → head_at given.heads i ≤ℤ (pos S *ℤ head_at u i) → ⊥
-no_lack network S time intervals levels tanks links given grid problem u i c certificate lt dip below =
+pub no_lack : (network : Project) (S time : ℕ) (intervals : List Interval) (levels : List ℤ) (tanks : List TankState) (links : List LinkState) (assignment : Assignment) (grid : Grid)
+    (problem : Problem) (u : List ℤ) (i : ℕ) → IsCompared network S time intervals levels tanks links assignment grid → IsCertificate grid problem Lower u → i < length u
+    → IsDip S (node_heads network S time levels assignment.heads) (all_heads grid problem Lower u) i → head_at assignment.heads i ≤ℤ (pos S *ℤ head_at u i) → ⊥
+no_lack network S time intervals levels tanks links assignment grid problem u i c certificate lt dip below =
     let p = place_at (IsJunctionOf network time) network.junctions.list grid.junctions c.is_grid.junctions i (let e = certificate.one_each in omega (arith, lt)) in
     let obeys = c.assigned.junctions_obey i p.junction p.is_junction in
-    let sums = sum-lower network tanks S (node_heads network S time levels given.heads) (all_heads grid problem Lower u) i c.some dip network.links.list links given.flows c.assigned.links_follow
+    let sums = sum-lower network tanks S (node_heads network S time levels assignment.heads) (all_heads grid problem Lower u) i c.some dip network.links.list links assignment.flows c.assigned.links_follow
     (subst (λ (ls : List GridLink). AllByRecursion (λ (link : GridLink). IsSoundLaw link.law) ls) c.is_grid.links_are c.sound.links) in
-    let turned = subst (λ (ls : List GridLink). net_outflow i network.links.list given.flows ≤ℤ ((pos S *ℤ net high low (all_heads grid problem Lower u) i ls) +ℤ pos (link_ends i ls * (S * 10))))
+    let turned = subst (λ (ls : List GridLink). net_outflow i network.links.list assignment.flows ≤ℤ ((pos S *ℤ net high low (all_heads grid problem Lower u) i ls) +ℤ pos (link_ends i ls * (S * 10))))
     (sym c.is_grid.links_are) sums in
-    let leaves = outflow-above network time S given i p.junction p.here (head_at u i) c.some p.holds (emitter_at grid.junctions i p.here c.sound.emitters p.is_here) below obeys in
+    let leaves = outflow-above network time S assignment i p.junction p.here (head_at u i) c.some p.holds (emitter_at grid.junctions i p.here c.sound.emitters p.is_here) below obeys in
     too_little S (link_ends i grid.links) (net high low (all_heads grid problem Lower u) i grid.links) (outflow_high p.here (head_at u i))
-    (net_outflow i network.links.list given.flows) (flow_at given.demands i +ℤ flow_at given.emitters i) c.some turned leaves
+    (net_outflow i network.links.list assignment.flows) (flow_at assignment.demands i +ℤ flow_at assignment.emitters i) c.some turned leaves
     (let b = obeys.balance.high in omega (arith, ints, b)) (certificate.passes i p.here p.is_here)
 
 -- ---- all tanks alike
@@ -144,56 +144,56 @@ fixed_above network S time intervals levels tanks links grid t is lie above m =
     rw (is.reservoirs, is.tank_heads) (reservoirs_above S (reservoir_head network time) network.reservoirs.list _ _ t above
     (λ k. let l = tanks_above S 0 network.tanks.list intervals levels lie k in omega (arith, ints, l)) m)
 
-pub one_each : (network : Project) (S time : ℕ) (intervals : List Interval) (levels : List ℤ) (tanks : List TankState) (links : List LinkState) (given : Assignment) (grid : Grid)
-    (problem : Problem) (side : Side) (u : List ℤ) → IsCompared network S time intervals levels tanks links given grid → IsCertificate grid problem side u → length given.heads ≡ length u
-one_each network S time intervals levels tanks links given grid problem side u c certificate =
+pub one_each : (network : Project) (S time : ℕ) (intervals : List Interval) (levels : List ℤ) (tanks : List TankState) (links : List LinkState) (assignment : Assignment) (grid : Grid)
+    (problem : Problem) (side : Side) (u : List ℤ) → IsCompared network S time intervals levels tanks links assignment grid → IsCertificate grid problem side u → length assignment.heads ≡ length u
+one_each network S time intervals levels tanks links assignment grid problem side u c certificate =
     let a = certificate.one_each in let b = place_long (IsJunctionOf network time) network.junctions.list grid.junctions c.is_grid.junctions in
     let d = c.assigned.head_each in omega (arith, a, b, d)
 
 -- no junction lies above an upper certificate
-none_above : (network : Project) (S time : ℕ) (intervals : List Interval) (levels : List ℤ) (tanks : List TankState) (links : List LinkState) (given : Assignment) (grid : Grid) (u : List ℤ) (j i : ℕ)
-    → IsCompared network S time intervals levels tanks links given grid → IsCertificate grid Main Upper u → j < length given.heads
-    → (pos S *ℤ head_at u j) ≤ℤ head_at given.heads j → IsGreatestBelow (excess S given.heads u) (length given.heads) i → ⊥
-none_above network S time intervals levels tanks links given grid u j i c certificate lt ge best =
-    let same = one_each network S time intervals levels tanks links given grid Main Upper u c certificate in
-    let top : excess S given.heads u j ≤ℤ excess S given.heads u i = best.each j lt in
-    let t : pos 0 ≤ℤ excess S given.heads u i = omega (arith, ints, top, ge) in
+none_above : (network : Project) (S time : ℕ) (intervals : List Interval) (levels : List ℤ) (tanks : List TankState) (links : List LinkState) (assignment : Assignment) (grid : Grid) (u : List ℤ) (j i : ℕ)
+    → IsCompared network S time intervals levels tanks links assignment grid → IsCertificate grid Main Upper u → j < length assignment.heads
+    → (pos S *ℤ head_at u j) ≤ℤ head_at assignment.heads j → IsGreatestBelow (excess S assignment.heads u) (length assignment.heads) i → ⊥
+none_above network S time intervals levels tanks links assignment grid u j i c certificate lt ge best =
+    let same = one_each network S time intervals levels tanks links assignment grid Main Upper u c certificate in
+    let top : excess S assignment.heads u j ≤ℤ excess S assignment.heads u i = best.each j lt in
+    let t : pos 0 ≤ℤ excess S assignment.heads u i = omega (arith, ints, top, ge) in
     let front : i < length u = (let l = best.below in omega (arith, l, same)) in
-    no_excess network S time intervals levels tanks links given grid Main u i c certificate front
-    (λ m. rw (head_front given.heads _ i best.below, head_front u _ i front)
-    (excess_after S given.heads u _ _ (excess S given.heads u i) same
-    (fixed_below network S time intervals levels tanks links grid (excess S given.heads u i) c.is_grid c.lie t) m (λ lt. best.each m lt)))
+    no_excess network S time intervals levels tanks links assignment grid Main u i c certificate front
+    (λ m. rw (head_front assignment.heads _ i best.below, head_front u _ i front)
+    (excess_after S assignment.heads u _ _ (excess S assignment.heads u i) same
+    (fixed_below network S time intervals levels tanks links grid (excess S assignment.heads u i) c.is_grid c.lie t) m (λ lt. best.each m lt)))
     (omega (arith, ints, t))
 
-pub below_main : (network : Project) (S time : ℕ) (intervals : List Interval) (levels : List ℤ) (tanks : List TankState) (links : List LinkState) (given : Assignment) (grid : Grid) (u : List ℤ)
-    → IsCompared network S time intervals levels tanks links given grid → IsCertificate grid Main Upper u → Each given.heads (λ j h. h <ℤ at_scale S (head_at u j))
-below_main network S time intervals levels tanks links given grid u c certificate j h is = by_lt_z h (pos S *ℤ head_at u j) (λ lt. lt)
+pub below_main : (network : Project) (S time : ℕ) (intervals : List Interval) (levels : List ℤ) (tanks : List TankState) (links : List LinkState) (assignment : Assignment) (grid : Grid) (u : List ℤ)
+    → IsCompared network S time intervals levels tanks links assignment grid → IsCertificate grid Main Upper u → Each assignment.heads (λ j h. h <ℤ at_scale S (head_at u j))
+below_main network S time intervals levels tanks links assignment grid u c certificate j h is = by_lt_z h (pos S *ℤ head_at u j) (λ lt. lt)
     (λ ge.
-    let inside = slice_get_within given.heads j h is in
-    let (i, best) = greatest_below (excess S given.heads u) (length given.heads) (omega (arith, inside)) in
-    absurd (none_above network S time intervals levels tanks links given grid u j i c certificate inside
-    (let e : head_at given.heads j ≡ h = get_or_from_slice_get given.heads j h (pos 0) is in omega (arith, ints, e, ge)) best))
+    let inside = slice_get_within assignment.heads j h is in
+    let (i, best) = greatest_below (excess S assignment.heads u) (length assignment.heads) (omega (arith, inside)) in
+    absurd (none_above network S time intervals levels tanks links assignment grid u j i c certificate inside
+    (let e : head_at assignment.heads j ≡ h = get_or_from_slice_get assignment.heads j h (pos 0) is in omega (arith, ints, e, ge)) best))
 
 -- none below a lower one
-none_below : (network : Project) (S time : ℕ) (intervals : List Interval) (levels : List ℤ) (tanks : List TankState) (links : List LinkState) (given : Assignment) (grid : Grid) (u : List ℤ) (j i : ℕ)
-    → IsCompared network S time intervals levels tanks links given grid → IsCertificate grid Main Lower u → j < length given.heads
-    → head_at given.heads j ≤ℤ (pos S *ℤ head_at u j) → IsGreatestBelow (lack S given.heads u) (length given.heads) i → ⊥
-none_below network S time intervals levels tanks links given grid u j i c certificate lt ge best =
-    let same = one_each network S time intervals levels tanks links given grid Main Lower u c certificate in
-    let top : lack S given.heads u j ≤ℤ lack S given.heads u i = best.each j lt in
-    let t : pos 0 ≤ℤ lack S given.heads u i = omega (arith, ints, top, ge) in
+none_below : (network : Project) (S time : ℕ) (intervals : List Interval) (levels : List ℤ) (tanks : List TankState) (links : List LinkState) (assignment : Assignment) (grid : Grid) (u : List ℤ) (j i : ℕ)
+    → IsCompared network S time intervals levels tanks links assignment grid → IsCertificate grid Main Lower u → j < length assignment.heads
+    → head_at assignment.heads j ≤ℤ (pos S *ℤ head_at u j) → IsGreatestBelow (lack S assignment.heads u) (length assignment.heads) i → ⊥
+none_below network S time intervals levels tanks links assignment grid u j i c certificate lt ge best =
+    let same = one_each network S time intervals levels tanks links assignment grid Main Lower u c certificate in
+    let top : lack S assignment.heads u j ≤ℤ lack S assignment.heads u i = best.each j lt in
+    let t : pos 0 ≤ℤ lack S assignment.heads u i = omega (arith, ints, top, ge) in
     let front : i < length u = (let l = best.below in omega (arith, l, same)) in
-    no_lack network S time intervals levels tanks links given grid Main u i c certificate front
-    (λ m. rw (head_front given.heads _ i best.below, head_front u _ i front)
-    (lack_after S given.heads u _ _ (lack S given.heads u i) same
-    (fixed_above network S time intervals levels tanks links grid (lack S given.heads u i) c.is_grid c.lie t) m (λ lt. best.each m lt)))
+    no_lack network S time intervals levels tanks links assignment grid Main u i c certificate front
+    (λ m. rw (head_front assignment.heads _ i best.below, head_front u _ i front)
+    (lack_after S assignment.heads u _ _ (lack S assignment.heads u i) same
+    (fixed_above network S time intervals levels tanks links grid (lack S assignment.heads u i) c.is_grid c.lie t) m (λ lt. best.each m lt)))
     (omega (arith, ints, t))
 
-pub above_main : (network : Project) (S time : ℕ) (intervals : List Interval) (levels : List ℤ) (tanks : List TankState) (links : List LinkState) (given : Assignment) (grid : Grid) (u : List ℤ)
-    → IsCompared network S time intervals levels tanks links given grid → IsCertificate grid Main Lower u → Each given.heads (λ j h. at_scale S (head_at u j) <ℤ h)
-above_main network S time intervals levels tanks links given grid u c certificate j h is = by_lt_z (pos S *ℤ head_at u j) h (λ lt. lt)
+pub above_main : (network : Project) (S time : ℕ) (intervals : List Interval) (levels : List ℤ) (tanks : List TankState) (links : List LinkState) (assignment : Assignment) (grid : Grid) (u : List ℤ)
+    → IsCompared network S time intervals levels tanks links assignment grid → IsCertificate grid Main Lower u → Each assignment.heads (λ j h. at_scale S (head_at u j) <ℤ h)
+above_main network S time intervals levels tanks links assignment grid u c certificate j h is = by_lt_z (pos S *ℤ head_at u j) h (λ lt. lt)
     (λ ge.
-    let inside = slice_get_within given.heads j h is in
-    let (i, best) = greatest_below (lack S given.heads u) (length given.heads) (omega (arith, inside)) in
-    absurd (none_below network S time intervals levels tanks links given grid u j i c certificate inside
-    (let e : head_at given.heads j ≡ h = get_or_from_slice_get given.heads j h (pos 0) is in omega (arith, ints, e, ge)) best))
+    let inside = slice_get_within assignment.heads j h is in
+    let (i, best) = greatest_below (lack S assignment.heads u) (length assignment.heads) (omega (arith, inside)) in
+    absurd (none_below network S time intervals levels tanks links assignment grid u j i c certificate inside
+    (let e : head_at assignment.heads j ≡ h = get_or_from_slice_get assignment.heads j h (pos 0) is in omega (arith, ints, e, ge)) best))

@@ -14,24 +14,24 @@ use Rattle.std.specs.Prelude.{Bool, true, false, unsigned_abs}
 use Rattle.hyd_resist.proofs.Enclosures.{IsEnclosure-made}
 use Rattle.hyd_resist.proofs.SquaredFlows.{ratio-above}
 use Rattle.hyd_spec.specs.Types.{Capacity, Origin, Pipe, Valve, Pump, Emitter, PressureDemand}
-use Rattle.hyd_spec.specs.Enclosing.{quad_low, quad_high, low, high}
-use Rattle.hyd_spec.specs.Law.{Law, Shut, Quad, Straight, Lifted, ForwardOnly, ReverseOnly, Capped, odd_at_least, odd_at_most, flow_at_least, flow_at_most, loss_at_most, loss_at_least}
+use Rattle.hyd_spec.specs.Enclosing.{quadratic_low, quadratic_high, low, high}
+use Rattle.hyd_spec.specs.Law.{Law, Shut, QuadraticLaw, LinearLaw, Lifted, ForwardOnly, ReverseOnly, Capped, odd_at_least, odd_at_most, flow_at_least, flow_at_most, loss_at_most, loss_at_least}
 use Rattle.hyd_resist.proofs.Enclosing.{numerator_above, denominator_above}
 use Rattle.hyd_laws.specs.Laws.{IsLaw, IsSoundCapacity, IsSoundLaw, HasPositiveNumbers}
 use Rattle.hyd_laws.proofs.Integers.{floor_low, ceiling_high, floor_greatest, ceiling_least, floor_at_most_ceiling}
 use Rattle.hyd_laws.proofs.LossLaws.{IsLossLaw-origin}
 use Rattle.hyd_laws.proofs.LinkLaws.{IsLaw-shut, IsLaw-forward, IsLaw-reverse, IsLaw-capped, IsLaw-lifted, odd-consistent, odd-downward, odd-upward, quad-below, quad-above, low-rises, high-rises, roots-ordered, roots_low, roots_high}
 
-pub low_is : (c : Capacity) (d : ℤ) → quad_low c d ≡ roots_low (numerator c.lo) (denominator c.lo) (numerator c.hi) (denominator c.hi) d
+pub low_is : (c : Capacity) (d : ℤ) → quadratic_low c d ≡ roots_low (numerator c.lo) (denominator c.lo) (numerator c.hi) (denominator c.hi) d
 low_is c (pos d) = refl
 low_is c (negsuc d) = refl
 
-pub high_is : (c : Capacity) (d : ℤ) → quad_high c d ≡ roots_high (numerator c.lo) (denominator c.lo) (numerator c.hi) (denominator c.hi) d
+pub high_is : (c : Capacity) (d : ℤ) → quadratic_high c d ≡ roots_high (numerator c.lo) (denominator c.lo) (numerator c.hi) (denominator c.hi) d
 high_is c (pos d) = refl
 high_is c (negsuc d) = refl
 
 pub IsLaw-quad : (c : Capacity) → IsSoundCapacity c
-    → IsLaw (odd_at_least (loss_at_most c.origin) (loss_at_least c.origin)) (odd_at_most (loss_at_most c.origin) (loss_at_least c.origin)) (quad_low c) (quad_high c)
+    → IsLaw (odd_at_least (loss_at_most c.origin) (loss_at_least c.origin)) (odd_at_most (loss_at_most c.origin) (loss_at_least c.origin)) (quadratic_low c) (quadratic_high c)
 IsLaw-quad c sound = record {
   low_rises = λ x d le. rw (low_is c x, low_is c d) (low-rises (numerator c.lo) (denominator c.lo) (numerator c.hi) (denominator c.hi) (denominator_above c.lo) (denominator_above c.hi) x d le);
   high_rises = λ x d le. rw (high_is c x, high_is c d) (high-rises (numerator c.lo) (denominator c.lo) (numerator c.hi) (denominator c.hi) (denominator_above c.lo) (denominator_above c.hi) x d le);
@@ -87,14 +87,14 @@ IsLaw-passed g k above = record {
   upward = λ S x a b some le most. let l = times_rises k a b le in omega (arith, ints, l, most);
 }
 
-pub IsLaw-straight : IsLaw (flow_at_least Straight) (flow_at_most Straight) (low Straight) (high Straight)
+pub IsLaw-straight : IsLaw (flow_at_least LinearLaw) (flow_at_most LinearLaw) (low LinearLaw) (high LinearLaw)
 IsLaw-straight = IsLaw-passed 8026822656 (10 ^ 6) (omega arith)
 
 -- every sound law
 pub IsLaw-each : (law : Law) → IsSoundLaw law → IsLaw (flow_at_least law) (flow_at_most law) (low law) (high law)
 IsLaw-each Shut sound = IsLaw-shut
-IsLaw-each (Quad capacity) sound = IsLaw-quad capacity sound
-IsLaw-each Straight sound = IsLaw-straight
+IsLaw-each (QuadraticLaw capacity) sound = IsLaw-quad capacity sound
+IsLaw-each LinearLaw sound = IsLaw-straight
 IsLaw-each (Lifted lift law) sound = IsLaw-lifted lift (flow_at_least law) (flow_at_most law) (low law) (high law) sound.0 (IsLaw-each law sound.1)
 IsLaw-each (ForwardOnly law) sound = IsLaw-forward (flow_at_least law) (flow_at_most law) (low law) (high law) (IsLaw-each law sound)
 IsLaw-each (ReverseOnly law) sound = IsLaw-reverse (flow_at_least law) (flow_at_most law) (low law) (high law) (IsLaw-each law sound)

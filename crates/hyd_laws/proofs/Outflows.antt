@@ -10,8 +10,8 @@ use Rattle.hyd_num.specs.Rational.{Rational, floor, ceiling, negated, is_at_most
 use Rattle.hyd_spec.specs.Types.{Project, Junction, Capacity, Decimal, Origin}
 use Rattle.hyd_spec.specs.Scale.{at_scale}
 use Rattle.hyd_spec.specs.Quantity.{is_us, pressure_value, minimum_pressure, required_pressure}
-use Rattle.hyd_spec.specs.Law.{Quad, Follows, Relation, lifted, odd_at_least, odd_at_most, pressure_resistance, loss_at_most, loss_at_least}
-use Rattle.hyd_spec.specs.Enclosing.{DemandLaw, Fixed, Driven, demand_low, demand_high, emitter_low, emitter_high, quad_low, quad_high}
+use Rattle.hyd_spec.specs.Law.{QuadraticLaw, Follows, Relation, lifted, odd_at_least, odd_at_most, pressure_resistance, loss_at_most, loss_at_least}
+use Rattle.hyd_spec.specs.Enclosing.{DemandLaw, Fixed, Driven, demand_low, demand_high, emitter_low, emitter_high, quadratic_low, quadratic_high}
 use Rattle.hyd_spec.specs.Outflow.{IsWithinTolerance, pressure_at, is_pressure_driven, FollowsPart, FollowsPressure, FollowsEmitter, part_at_least, part_at_most}
 use Rattle.hyd_spec.specs.Grid.{IsDriven, IsDemandLaw}
 use Rattle.hyd_laws.specs.Laws.{IsLaw, IsSoundCapacity}
@@ -32,22 +32,22 @@ use Rattle.hyd_laws.proofs.Sums.{flow-below, flow-above}
 pub emitter-below : (junction : Junction) (emitter : Option Capacity) (S : ℕ) (d x q : ℤ) → emitter ≡ junction.emitter → IfSome emitter IsSoundCapacity → 0 < S
     → (pos S *ℤ d) ≤ℤ x → FollowsEmitter junction S x q → (pos S *ℤ emitter_low emitter d) ≤ℤ (q +ℤ pos (S * 10))
 emitter-below junction emitter S d x q same sound some le follows =
-    by_case emitter sound (subst (λ (o : Option Capacity). MatchOption o (q ≡ pos 0) (λ capacity. Follows (Quad capacity) S x q)) (sym same) follows)
+    by_case emitter sound (subst (λ (o : Option Capacity). MatchOption o (q ≡ pos 0) (λ capacity. Follows (QuadraticLaw capacity) S x q)) (sym same) follows)
   where
-    by_case : (e : Option Capacity) → IfSome e IsSoundCapacity → MatchOption e (q ≡ pos 0) (λ capacity. Follows (Quad capacity) S x q)
+    by_case : (e : Option Capacity) → IfSome e IsSoundCapacity → MatchOption e (q ≡ pos 0) (λ capacity. Follows (QuadraticLaw capacity) S x q)
         → (pos S *ℤ emitter_low e d) ≤ℤ (q +ℤ pos (S * 10))
     by_case None sound h = omega (arith, ints, h)
-    by_case (Some c) sound h = flow-below (Quad c) S d x q sound some le h
+    by_case (Some c) sound h = flow-below (QuadraticLaw c) S d x q sound some le h
 
 pub emitter-above : (junction : Junction) (emitter : Option Capacity) (S : ℕ) (d x q : ℤ) → emitter ≡ junction.emitter → IfSome emitter IsSoundCapacity → 0 < S
     → x ≤ℤ (pos S *ℤ d) → FollowsEmitter junction S x q → (q -ℤ pos (S * 10)) ≤ℤ (pos S *ℤ emitter_high emitter d)
 emitter-above junction emitter S d x q same sound some le follows =
-    by_case emitter sound (subst (λ (o : Option Capacity). MatchOption o (q ≡ pos 0) (λ capacity. Follows (Quad capacity) S x q)) (sym same) follows)
+    by_case emitter sound (subst (λ (o : Option Capacity). MatchOption o (q ≡ pos 0) (λ capacity. Follows (QuadraticLaw capacity) S x q)) (sym same) follows)
   where
-    by_case : (e : Option Capacity) → IfSome e IsSoundCapacity → MatchOption e (q ≡ pos 0) (λ capacity. Follows (Quad capacity) S x q)
+    by_case : (e : Option Capacity) → IfSome e IsSoundCapacity → MatchOption e (q ≡ pos 0) (λ capacity. Follows (QuadraticLaw capacity) S x q)
         → (q -ℤ pos (S * 10)) ≤ℤ (pos S *ℤ emitter_high e d)
     by_case None sound h = omega (arith, ints, h)
-    by_case (Some c) sound h = flow-above (Quad c) S d x q sound some le h
+    by_case (Some c) sound h = flow-above (QuadraticLaw c) S d x q sound some le h
 
 -- ---- demands
 
@@ -93,7 +93,7 @@ not_over S d p x le at large =
     let b = times_rises S x.num (pos x.den *ℤ d) large in
     let e : ⊥ = omega (arith, ints, a, b, at, *ℤ_comm p (pos x.den), *ℤ_comm x.num (pos S), exchanged S x.den d) in e
 
-pub high-positive : (c : Capacity) (z : ℤ) → pos 0 ≤ℤ z → pos 0 ≤ℤ quad_high c z
+pub high-positive : (c : Capacity) (z : ℤ) → pos 0 ≤ℤ z → pos 0 ≤ℤ quadratic_high c z
 high-positive c (pos n) le = omega (arith, ints)
 high-positive c (negsuc n) le = absurd (omega (arith, ints))
 
@@ -101,13 +101,13 @@ twice_negated : (x : Rational) → floor (negated (negated x)) ≡ floor x
 twice_negated x = ap (λ (z : ℤ). floor (record { num = z; den = x.den })) (let e : neg_ℤ (neg_ℤ x.num) ≡ x.num = omega (arith, ints) in e)
 
 pub driven-below : (least most : Rational) (D : ℤ) (c : Capacity) (A B : Relation) (S : ℕ) (d p q : ℤ) (P : Type 0) → 0 < least.den → 0 < most.den → 0 < S → pos 0 ≤ℤ D
-    → IsLaw A B (λ d. quad_low c (d +ℤ floor (negated least))) (λ d. quad_high c (d +ℤ ceiling (negated least)))
+    → IsLaw A B (λ d. quadratic_low c (d +ℤ floor (negated least))) (λ d. quadratic_high c (d +ℤ ceiling (negated least)))
     → ((least.num *ℤ pos S) <ℤ (p *ℤ pos least.den) → A S p (pos 0)) → (P → B S p (q +ℤ pos (S * 10))) → (pos S *ℤ d) ≤ℤ p
     → MatchBool (is_at_most (pressure_at S p) least) (IsWithinTolerance S q (pos 0)) (MatchBool (is_at_most most (pressure_at S p)) (IsWithinTolerance S q (at_scale S D)) P)
     → (pos S *ℤ demand_low (Driven D c least most) d) ≤ℤ (q +ℤ pos (S * 10))
 driven-below least most D c A B S d p q P pl pm some positive law begins part le follows = elim (cases_Bool (is_at_most (pressure_at S p) least)) [
   | inl held ↦ none-below S q (demand_low (Driven D c least most) d)
-      (cond_both (int_le d (ceiling least)) (pos 0) (if int_le (ceiling most) d then D else int_min D (quad_low c (d -ℤ ceiling least))) (λ z. z ≤ℤ pos 0)
+      (cond_both (int_le d (ceiling least)) (pos 0) (if int_le (ceiling most) d then D else int_min D (quadratic_low c (d -ℤ ceiling least))) (λ z. z ≤ℤ pos 0)
       (λ e. omega (arith, ints))
       (λ e. absurd (let a = le-no d (ceiling least) e in
       let b = floor_greatest least d pl (under S d p least some le (le-yes (p *ℤ pos least.den) (least.num *ℤ pos S) held)) in
@@ -116,38 +116,38 @@ driven-below least most D c A B S d p q P pl pm some positive law begins part le
   | inr fails ↦ let rest = MatchBool-at_false (IsWithinTolerance S q (pos 0)) (MatchBool (is_at_most most (pressure_at S p)) (IsWithinTolerance S q (at_scale S D)) P) fails follows in
       elim (cases_Bool (is_at_most most (pressure_at S p))) [
         | inl held ↦ within-below S q D (demand_low (Driven D c least most) d)
-            (cond_both (int_le d (ceiling least)) (pos 0) (if int_le (ceiling most) d then D else int_min D (quad_low c (d -ℤ ceiling least))) (λ z. z ≤ℤ D)
+            (cond_both (int_le d (ceiling least)) (pos 0) (if int_le (ceiling most) d then D else int_min D (quadratic_low c (d -ℤ ceiling least))) (λ z. z ≤ℤ D)
             (λ e. positive)
-            (λ e. cond_both (int_le (ceiling most) d) D (int_min D (quad_low c (d -ℤ ceiling least))) (λ z. z ≤ℤ D)
-            (λ g. omega (arith, ints)) (λ g. min_left D (quad_low c (d -ℤ ceiling least)))))
+            (λ e. cond_both (int_le (ceiling most) d) D (int_min D (quadratic_low c (d -ℤ ceiling least))) (λ z. z ≤ℤ D)
+            (λ g. omega (arith, ints)) (λ g. min_left D (quadratic_low c (d -ℤ ceiling least)))))
             (MatchBool-at_true _ _ held rest)
         | inr below ↦
             let end = part (MatchBool-at_false (IsWithinTolerance S q (at_scale S D)) P below rest) in
-            cond_both (int_le d (ceiling least)) (pos 0) (if int_le (ceiling most) d then D else int_min D (quad_low c (d -ℤ ceiling least))) (λ z. (pos S *ℤ z) ≤ℤ (q +ℤ pos (S * 10)))
+            cond_both (int_le d (ceiling least)) (pos 0) (if int_le (ceiling most) d then D else int_min D (quadratic_low c (d -ℤ ceiling least))) (λ z. (pos S *ℤ z) ≤ℤ (q +ℤ pos (S * 10)))
             (λ e. let a = law.consistent S p (pos 0) (q +ℤ pos (S * 10)) some (begins (le-no (p *ℤ pos least.den) (least.num *ℤ pos S) fails)) end in omega (arith, ints, a))
-            (λ e. cond_both (int_le (ceiling most) d) D (int_min D (quad_low c (d -ℤ ceiling least))) (λ z. (pos S *ℤ z) ≤ℤ (q +ℤ pos (S * 10)))
+            (λ e. cond_both (int_le (ceiling most) d) D (int_min D (quadratic_low c (d -ℤ ceiling least))) (λ z. (pos S *ℤ z) ≤ℤ (q +ℤ pos (S * 10)))
             (λ g. absurd (not_over S d p most le (le-no (most.num *ℤ pos S) (p *ℤ pos most.den) below)
             (let a = ceiling_high most pm in let b = times_rises most.den (ceiling most) d (le-yes (ceiling most) d g) in omega (arith, ints, a, b))))
-            (λ g. let a = times_rises S (int_min D (quad_low c (d -ℤ ceiling least))) (quad_low c (d -ℤ ceiling least)) (min_right D (quad_low c (d -ℤ ceiling least))) in
-            let b = law.consistent S p (pos S *ℤ quad_low c (d +ℤ floor (negated least))) (q +ℤ pos (S * 10)) some (law.encloses_below S d p some le) end in
+            (λ g. let a = times_rises S (int_min D (quadratic_low c (d -ℤ ceiling least))) (quadratic_low c (d -ℤ ceiling least)) (min_right D (quadratic_low c (d -ℤ ceiling least))) in
+            let b = law.consistent S p (pos S *ℤ quadratic_low c (d +ℤ floor (negated least))) (q +ℤ pos (S * 10)) some (law.encloses_below S d p some le) end in
             let e : d +ℤ floor (negated least) ≡ d -ℤ ceiling least = omega (arith, ints) in
-            let b' = subst (λ (z : ℤ). (pos S *ℤ quad_low c z) ≤ℤ (q +ℤ pos (S * 10))) e b in
+            let b' = subst (λ (z : ℤ). (pos S *ℤ quadratic_low c z) ≤ℤ (q +ℤ pos (S * 10))) e b in
             omega (arith, ints, a, b')))
       ]
 ]
 
 pub driven-above : (least most : Rational) (D : ℤ) (c : Capacity) (A B : Relation) (S : ℕ) (d p q : ℤ) (P : Type 0) → 0 < least.den → 0 < most.den → 0 < S → pos 0 ≤ℤ D
-    → IsLaw A B (λ d. quad_low c (d +ℤ floor (negated least))) (λ d. quad_high c (d +ℤ ceiling (negated least)))
+    → IsLaw A B (λ d. quadratic_low c (d +ℤ floor (negated least))) (λ d. quadratic_high c (d +ℤ ceiling (negated least)))
     → ((p *ℤ pos most.den) <ℤ (most.num *ℤ pos S) → B S p (pos S *ℤ D)) → (P → A S p (q -ℤ pos (S * 10))) → p ≤ℤ (pos S *ℤ d)
     → MatchBool (is_at_most (pressure_at S p) least) (IsWithinTolerance S q (pos 0)) (MatchBool (is_at_most most (pressure_at S p)) (IsWithinTolerance S q (at_scale S D)) P)
     → (q -ℤ pos (S * 10)) ≤ℤ (pos S *ℤ demand_high (Driven D c least most) d)
 driven-above least most D c A B S d p q P pl pm some positive law ends part le follows = elim (cases_Bool (is_at_most (pressure_at S p) least)) [
   | inl held ↦ none-above S q (demand_high (Driven D c least most) d)
-      (cond_both (int_le d (floor least)) (pos 0) (if int_le (floor most) d then D else int_min D (quad_high c (d -ℤ floor least))) (λ z. pos 0 ≤ℤ z)
+      (cond_both (int_le d (floor least)) (pos 0) (if int_le (floor most) d then D else int_min D (quadratic_high c (d -ℤ floor least))) (λ z. pos 0 ≤ℤ z)
       (λ e. omega (arith, ints))
-      (λ e. cond_both (int_le (floor most) d) D (int_min D (quad_high c (d -ℤ floor least))) (λ z. pos 0 ≤ℤ z)
+      (λ e. cond_both (int_le (floor most) d) D (int_min D (quadratic_high c (d -ℤ floor least))) (λ z. pos 0 ≤ℤ z)
       (λ g. positive)
-      (λ g. min_is (λ z. pos 0 ≤ℤ z) D (quad_high c (d -ℤ floor least)) (λ h. positive)
+      (λ g. min_is (λ z. pos 0 ≤ℤ z) D (quadratic_high c (d -ℤ floor least)) (λ h. positive)
       (λ h. high-positive c (d -ℤ floor least) (let a = le-no d (floor least) e in omega (arith, ints, a))))))
       (MatchBool-at_true _ _ held follows)
   | inr fails ↦ let rest = MatchBool-at_false (IsWithinTolerance S q (pos 0)) (MatchBool (is_at_most most (pressure_at S p)) (IsWithinTolerance S q (at_scale S D)) P) fails follows in
@@ -155,9 +155,9 @@ driven-above least most D c A B S d p q P pl pm some positive law ends part le f
       (let a = floor_low least pl in let b = times_rises least.den d (floor least) (le-yes d (floor least) e) in omega (arith, ints, a, b))) in
       elim (cases_Bool (is_at_most most (pressure_at S p))) [
         | inl held ↦ within-above S q D (demand_high (Driven D c least most) d)
-            (cond_both (int_le d (floor least)) (pos 0) (if int_le (floor most) d then D else int_min D (quad_high c (d -ℤ floor least))) (λ z. D ≤ℤ z)
+            (cond_both (int_le d (floor least)) (pos 0) (if int_le (floor most) d then D else int_min D (quadratic_high c (d -ℤ floor least))) (λ z. D ≤ℤ z)
             (λ e. absurd (more e))
-            (λ e. cond_both (int_le (floor most) d) D (int_min D (quad_high c (d -ℤ floor least))) (λ z. D ≤ℤ z)
+            (λ e. cond_both (int_le (floor most) d) D (int_min D (quadratic_high c (d -ℤ floor least))) (λ z. D ≤ℤ z)
             (λ g. omega (arith, ints))
             (λ g. absurd (let a = le-no (floor most) d g in
             let b = ceiling_least most d pm (over_it S d p most some le (le-yes (most.num *ℤ pos S) (p *ℤ pos most.den) held)) in
@@ -166,15 +166,15 @@ driven-above least most D c A B S d p q P pl pm some positive law ends part le f
         | inr below ↦
             let begin = part (MatchBool-at_false (IsWithinTolerance S q (at_scale S D)) P below rest) in
             let whole : (q -ℤ pos (S * 10)) ≤ℤ (pos S *ℤ D) = law.consistent S p (q -ℤ pos (S * 10)) (pos S *ℤ D) some begin (ends (le-no (most.num *ℤ pos S) (p *ℤ pos most.den) below)) in
-            cond_both (int_le d (floor least)) (pos 0) (if int_le (floor most) d then D else int_min D (quad_high c (d -ℤ floor least))) (λ z. (q -ℤ pos (S * 10)) ≤ℤ (pos S *ℤ z))
+            cond_both (int_le d (floor least)) (pos 0) (if int_le (floor most) d then D else int_min D (quadratic_high c (d -ℤ floor least))) (λ z. (q -ℤ pos (S * 10)) ≤ℤ (pos S *ℤ z))
             (λ e. absurd (more e))
-            (λ e. cond_both (int_le (floor most) d) D (int_min D (quad_high c (d -ℤ floor least))) (λ z. (q -ℤ pos (S * 10)) ≤ℤ (pos S *ℤ z))
+            (λ e. cond_both (int_le (floor most) d) D (int_min D (quadratic_high c (d -ℤ floor least))) (λ z. (q -ℤ pos (S * 10)) ≤ℤ (pos S *ℤ z))
             (λ g. whole)
-            (λ g. min_is (λ z. (q -ℤ pos (S * 10)) ≤ℤ (pos S *ℤ z)) D (quad_high c (d -ℤ floor least)) (λ h. whole)
-            (λ h. let b = law.consistent S p (q -ℤ pos (S * 10)) (pos S *ℤ quad_high c (d +ℤ ceiling (negated least))) some begin (law.encloses_above S d p some le) in
+            (λ g. min_is (λ z. (q -ℤ pos (S * 10)) ≤ℤ (pos S *ℤ z)) D (quadratic_high c (d -ℤ floor least)) (λ h. whole)
+            (λ h. let b = law.consistent S p (q -ℤ pos (S * 10)) (pos S *ℤ quadratic_high c (d +ℤ ceiling (negated least))) some begin (law.encloses_above S d p some le) in
             let t = twice_negated least in
             let e : d +ℤ ceiling (negated least) ≡ d -ℤ floor least = omega (arith, ints, t) in
-            subst (λ (z : ℤ). (q -ℤ pos (S * 10)) ≤ℤ (pos S *ℤ quad_high c z)) e b)))
+            subst (λ (z : ℤ). (q -ℤ pos (S * 10)) ≤ℤ (pos S *ℤ quadratic_high c z)) e b)))
       ]
 ]
 
@@ -239,10 +239,10 @@ is_driven network (negsuc n) e = absurd (cc)
 
 driven-law : (network : Project) (demand : ℤ) (law : DemandLaw) (driven : IsDriven network demand law)
     → IsLaw (part_at_least network demand) (part_at_most network demand)
-    (λ d. quad_low driven.capacity (d +ℤ floor (negated (minimum_pressure network)))) (λ d. quad_high driven.capacity (d +ℤ ceiling (negated (minimum_pressure network))))
+    (λ d. quadratic_low driven.capacity (d +ℤ floor (negated (minimum_pressure network)))) (λ d. quadratic_high driven.capacity (d +ℤ ceiling (negated (minimum_pressure network))))
 driven-law network demand law driven =
-    IsLaw-lifted (negated (minimum_pressure network)) _ _ (quad_low driven.capacity) (quad_high driven.capacity) (pressure-above (is_us network))
-    (subst (λ (o : Origin). IsLaw (odd_at_least (loss_at_most o) (loss_at_least o)) (odd_at_most (loss_at_most o) (loss_at_least o)) (quad_low driven.capacity) (quad_high driven.capacity))
+    IsLaw-lifted (negated (minimum_pressure network)) _ _ (quadratic_low driven.capacity) (quadratic_high driven.capacity) (pressure-above (is_us network))
+    (subst (λ (o : Origin). IsLaw (odd_at_least (loss_at_most o) (loss_at_least o)) (odd_at_most (loss_at_most o) (loss_at_least o)) (quadratic_low driven.capacity) (quadratic_high driven.capacity))
     driven.origin (IsLaw-quad driven.capacity (IsSoundCapacity-made driven.capacity driven.made)))
 
 pub demand-below : (network : Project) (demand : ℤ) (law : DemandLaw) (S : ℕ) (d p q : ℤ) → IsDemandLaw network demand law → 0 < S → (pos S *ℤ d) ≤ℤ p

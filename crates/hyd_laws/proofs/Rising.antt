@@ -7,7 +7,7 @@ use Rattle.std.proofs.lemmas.Bool.{cond_both}
 use Rattle.hyd_num.specs.Scaled.{numerator, denominator}
 use Rattle.hyd_num.specs.Rational.{floor, ceiling}
 use Rattle.hyd_spec.specs.Types.{Capacity}
-use Rattle.hyd_spec.specs.Enclosing.{DemandLaw, Fixed, Driven, demand_low, demand_high, emitter_low, emitter_high, quad_low, quad_high}
+use Rattle.hyd_spec.specs.Enclosing.{DemandLaw, Fixed, Driven, demand_low, demand_high, emitter_low, emitter_high, quadratic_low, quadratic_high}
 use Rattle.hyd_resist.proofs.Enclosing.{denominator_above}
 use Rattle.hyd_laws.specs.Laws.{AreEnclosing, IsSoundDemand}
 use Rattle.hyd_laws.proofs.Integers.{floor_at_most_ceiling, min_left, min_rises, min_is}
@@ -15,14 +15,14 @@ use Rattle.hyd_laws.proofs.LinkLaws.{low-rises, high-rises, roots-ordered}
 use Rattle.hyd_laws.proofs.EachLaw.{low_is, high_is}
 use Rattle.hyd_laws.proofs.Outflows.{le-yes, le-no, high-positive}
 
-pub AreEnclosing-quad : (c : Capacity) → AreEnclosing (quad_low c) (quad_high c)
+pub AreEnclosing-quad : (c : Capacity) → AreEnclosing (quadratic_low c) (quadratic_high c)
 AreEnclosing-quad c = record {
   low_rises = λ x d le. rw (low_is c x, low_is c d) (low-rises (numerator c.lo) (denominator c.lo) (numerator c.hi) (denominator c.hi) (denominator_above c.lo) (denominator_above c.hi) x d le);
   high_rises = λ x d le. rw (high_is c x, high_is c d) (high-rises (numerator c.lo) (denominator c.lo) (numerator c.hi) (denominator c.hi) (denominator_above c.lo) (denominator_above c.hi) x d le);
   ordered = λ d. rw (low_is c d, high_is c d) (roots-ordered (numerator c.lo) (denominator c.lo) (numerator c.hi) (denominator c.hi) (denominator_above c.lo) (denominator_above c.hi) c.ordered d);
 }
 
-low-positive : (c : Capacity) (z : ℤ) → pos 0 ≤ℤ z → pos 0 ≤ℤ quad_low c z
+low-positive : (c : Capacity) (z : ℤ) → pos 0 ≤ℤ z → pos 0 ≤ℤ quadratic_low c z
 low-positive c (pos n) le = omega (arith, ints)
 low-positive c (negsuc n) le = absurd (omega (arith, ints))
 
@@ -64,9 +64,9 @@ AreEnclosing-demand (Fixed demand) sound = record {
   ordered = λ d. omega (arith, ints);
 }
 AreEnclosing-demand (Driven demand capacity minimum required) sound = record {
-  low_rises = λ c d le. stepped-rises demand (ceiling minimum) (ceiling required) (quad_low capacity) c d sound.0 (low-positive capacity) (AreEnclosing-quad capacity).low_rises le;
-  high_rises = λ c d le. stepped-rises demand (floor minimum) (floor required) (quad_high capacity) c d sound.0 (high-positive capacity) (AreEnclosing-quad capacity).high_rises le;
-  ordered = λ d. stepped-ordered demand (ceiling minimum) (floor minimum) (ceiling required) (floor required) (quad_low capacity) (quad_high capacity) d sound.0
+  low_rises = λ c d le. stepped-rises demand (ceiling minimum) (ceiling required) (quadratic_low capacity) c d sound.0 (low-positive capacity) (AreEnclosing-quad capacity).low_rises le;
+  high_rises = λ c d le. stepped-rises demand (floor minimum) (floor required) (quadratic_high capacity) c d sound.0 (high-positive capacity) (AreEnclosing-quad capacity).high_rises le;
+  ordered = λ d. stepped-ordered demand (ceiling minimum) (floor minimum) (ceiling required) (floor required) (quadratic_low capacity) (quadratic_high capacity) d sound.0
       (floor_at_most_ceiling minimum sound.1.0) (floor_at_most_ceiling required sound.1.1) (high-positive capacity)
       (AreEnclosing-quad capacity).low_rises (AreEnclosing-quad capacity).ordered;
 }

@@ -15,7 +15,7 @@ use Rattle.hyd_spec.specs.Scale.{at_scale}
 use Rattle.hyd_spec.specs.Truth.{Truth, Yes, No, Unknown}
 use Rattle.hyd_spec.specs.Enclosing.{DemandLaw, Fixed, Driven}
 use Rattle.hyd_spec.specs.Enclosure.{IsEnclosure}
-use Rattle.hyd_spec.specs.Law.{Relation, Loss, Law, Shut, Quad, Straight, Lifted, ForwardOnly, ReverseOnly, Capped}
+use Rattle.hyd_spec.specs.Law.{Relation, Loss, Law, Shut, QuadraticLaw, LinearLaw, Lifted, ForwardOnly, ReverseOnly, Capped}
 
 -- ---- losses
 
@@ -59,8 +59,8 @@ pub record IsLaw (at_least at_most : Relation) (low high : ℤ → ℤ) : Type 0
 -- Each capacity in a law is sound, and each lift has a denominator above 0.
 abbrev pub IsSoundLaw : Law → Type 0
 IsSoundLaw Shut = ⊤
-IsSoundLaw (Quad capacity) = IsSoundCapacity capacity
-IsSoundLaw Straight = ⊤
+IsSoundLaw (QuadraticLaw capacity) = IsSoundCapacity capacity
+IsSoundLaw LinearLaw = ⊤
 IsSoundLaw (Lifted lift law) = (0 < lift.den) × IsSoundLaw law
 IsSoundLaw (ForwardOnly law) = IsSoundLaw law
 IsSoundLaw (ReverseOnly law) = IsSoundLaw law
@@ -90,12 +90,12 @@ LevelsLie S intervals levels = AllZip (LiesIn S) intervals levels
 
 -- An assignment of a period, and the grid of that period: the laws are sound, and each tank's level lies in its interval.
 pub record IsCompared (network : Project) (S time : ℕ) (intervals : List Interval) (levels : List ℤ) (tanks : List TankState)
-    (links : List LinkState) (given : Assignment) (grid : Grid) : Type 0 where
+    (links : List LinkState) (assignment : Assignment) (grid : Grid) : Type 0 where
   pub some : 0 < S
   pub is_grid : IsGrid network time intervals tanks links grid
   pub sound : IsSoundGrid grid
   pub lie : LevelsLie S intervals levels
-  pub assigned : IsAssignment network S time levels tanks links given
+  pub assigned : IsAssignment network S time levels tanks links assignment
 
 -- At each node a head of the third list, in S-th parts of a tick, lies between those of the others.
 abbrev pub LieBetween : ℕ → List ℤ → List ℤ → List ℤ → Type 0

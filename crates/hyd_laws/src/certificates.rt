@@ -22,13 +22,13 @@ ghost use Rattle.hyd_laws.specs.Laws.{IsCompared, LiesIn, LieBetween, IsSoundGri
 /// Ortega and Rheinboldt 1970).
 pub fn comparison()
     ensures above { (network : Project) (S time : ℕ) (intervals : List Interval) (levels : List ℤ)
-        (tanks : List TankState) (links : List LinkState) (given : Assignment) (grid : Grid) (u : List ℤ)
-        → IsCompared network S time intervals levels tanks links given grid → IsCertificate grid Main Upper u
-        → Each given.heads (λ j h. h <ℤ at_scale S (head_at u j)) }
+        (tanks : List TankState) (links : List LinkState) (assignment : Assignment) (grid : Grid) (u : List ℤ)
+        → IsCompared network S time intervals levels tanks links assignment grid → IsCertificate grid Main Upper u
+        → Each assignment.heads (λ j h. h <ℤ at_scale S (head_at u j)) }
     ensures below { (network : Project) (S time : ℕ) (intervals : List Interval) (levels : List ℤ)
-        (tanks : List TankState) (links : List LinkState) (given : Assignment) (grid : Grid) (u : List ℤ)
-        → IsCompared network S time intervals levels tanks links given grid → IsCertificate grid Main Lower u
-        → Each given.heads (λ j h. at_scale S (head_at u j) <ℤ h) }
+        (tanks : List TankState) (links : List LinkState) (assignment : Assignment) (grid : Grid) (u : List ℤ)
+        → IsCompared network S time intervals levels tanks links assignment grid → IsCertificate grid Main Lower u
+        → Each assignment.heads (λ j h. at_scale S (head_at u j) <ℤ h) }
 {}
 
 /// The grid of a period has sound laws where the capacities are made of the file's numbers.
@@ -41,30 +41,30 @@ pub fn sound_grids()
 /// The heads, flows and outflows of each such assignment lie in the boxes of the certificates.
 pub fn boxes()
     ensures heads { (network : Project) (S time : ℕ) (intervals : List Interval) (levels : List ℤ)
-        (tanks : List TankState) (links : List LinkState) (given : Assignment) (grid : Grid)
-        (below above : List ℤ) → IsCompared network S time intervals levels tanks links given grid
+        (tanks : List TankState) (links : List LinkState) (assignment : Assignment) (grid : Grid)
+        (below above : List ℤ) → IsCompared network S time intervals levels tanks links assignment grid
         → IsCertificate grid Main Lower below → IsCertificate grid Main Upper above
-        → LieBetween S (all_heads grid Main Lower below) (all_heads grid Main Upper above) (node_heads network S time levels given.heads) }
+        → LieBetween S (all_heads grid Main Lower below) (all_heads grid Main Upper above) (node_heads network S time levels assignment.heads) }
     ensures flows { (network : Project) (S time : ℕ) (intervals : List Interval) (levels : List ℤ)
-        (tanks : List TankState) (links : List LinkState) (given : Assignment) (grid : Grid)
-        (below above : List ℤ) → IsCompared network S time intervals levels tanks links given grid
-        → LieBetween S below above (node_heads network S time levels given.heads)
+        (tanks : List TankState) (links : List LinkState) (assignment : Assignment) (grid : Grid)
+        (below above : List ℤ) → IsCompared network S time intervals levels tanks links assignment grid
+        → LieBetween S below above (node_heads network S time levels assignment.heads)
         → (l : ℕ) (link : GridLink) → slice_get grid.links l ≡ Some link
-        → LiesIn S (flow_box link below above) (flow_at given.flows l) }
+        → LiesIn S (flow_box link below above) (flow_at assignment.flows l) }
     ensures outflows { (network : Project) (S time : ℕ) (intervals : List Interval) (levels : List ℤ)
-        (tanks : List TankState) (links : List LinkState) (given : Assignment) (grid : Grid)
-        (below above : List ℤ) → IsCompared network S time intervals levels tanks links given grid
+        (tanks : List TankState) (links : List LinkState) (assignment : Assignment) (grid : Grid)
+        (below above : List ℤ) → IsCompared network S time intervals levels tanks links assignment grid
         → IsCertificate grid Main Lower below → IsCertificate grid Main Upper above
         → (j : ℕ) (here : GridJunction) → slice_get grid.junctions j ≡ Some here
-        → LiesIn S (out_box here (head_at below j) (head_at above j)) (flow_at given.demands j +ℤ flow_at given.emitters j) }
+        → LiesIn S (out_box here (head_at below j) (head_at above j)) (flow_at assignment.demands j +ℤ flow_at assignment.emitters j) }
 {}
 
 /// The inflow of a tank lies in the box of the certificates that pin it: no junction's head lies
 /// further from them than the tank's own.
 pub fn inflows()
     ensures inflow { (network : Project) (S time : ℕ) (intervals : List Interval) (levels : List ℤ)
-        (tanks : List TankState) (links : List LinkState) (given : Assignment) (grid : Grid)
-        (k : ℕ) (below above : List ℤ) → IsCompared network S time intervals levels tanks links given grid
+        (tanks : List TankState) (links : List LinkState) (assignment : Assignment) (grid : Grid)
+        (k : ℕ) (below above : List ℤ) → IsCompared network S time intervals levels tanks links assignment grid
         → IsCertificate grid (Pinned k) Lower below → IsCertificate grid (Pinned k) Upper above
-        → LiesIn S (inflow_box grid k (tank_node network k) below above) (tank_inflow network k given.flows) }
+        → LiesIn S (inflow_box grid k (tank_node network k) below above) (tank_inflow network k assignment.flows) }
 {}

@@ -71,23 +71,23 @@ pub data LinksFollow (network : Project) (tanks : List TankState) (S : ℕ) (hea
       → LinksFollow network tanks S heads (link ∷ links) (state ∷ states) (q ∷ flows)
 
 -- Junction number j: its demand and its emitter follow its pressure, and it balances.
-pub record JunctionObeys (network : Project) (time S : ℕ) (given : Assignment) (j : ℕ) (junction : Junction) : Type 0 where
+pub record JunctionObeys (network : Project) (time S : ℕ) (assignment : Assignment) (j : ℕ) (junction : Junction) : Type 0 where
   pub demand : FollowsDemand network time junction S
-      (head_at given.heads j -ℤ at_scale S junction.elevation) (flow_at given.demands j)
+      (head_at assignment.heads j -ℤ at_scale S junction.elevation) (flow_at assignment.demands j)
   pub emitter : FollowsEmitter junction S
-      (head_at given.heads j -ℤ at_scale S junction.elevation) (flow_at given.emitters j)
-  pub balance : IsBalanced S (net_outflow j network.links.list given.flows)
-      (flow_at given.demands j) (flow_at given.emitters j)
+      (head_at assignment.heads j -ℤ at_scale S junction.elevation) (flow_at assignment.emitters j)
+  pub balance : IsBalanced S (net_outflow j network.links.list assignment.flows)
+      (flow_at assignment.demands j) (flow_at assignment.emitters j)
 
 -- An assignment of a period that begins at `time` with these levels (S-th parts of a head tick) and tank states, one
 -- for each tank, and link states.
 pub record IsAssignment (network : Project) (S time : ℕ) (levels : List ℤ) (tanks : List TankState)
-    (links : List LinkState) (given : Assignment) : Type 0 where
+    (links : List LinkState) (assignment : Assignment) : Type 0 where
   pub level_each : length levels ≡ tank_count network
   pub tank_each : length tanks ≡ tank_count network
-  pub head_each : length given.heads ≡ junction_count network
-  pub demand_each : length given.demands ≡ junction_count network
-  pub emitter_each : length given.emitters ≡ junction_count network
-  pub links_follow : LinksFollow network tanks S (node_heads network S time levels given.heads)
-      network.links.list links given.flows
-  pub junctions_obey : Each network.junctions.list (JunctionObeys network time S given)
+  pub head_each : length assignment.heads ≡ junction_count network
+  pub demand_each : length assignment.demands ≡ junction_count network
+  pub emitter_each : length assignment.emitters ≡ junction_count network
+  pub links_follow : LinksFollow network tanks S (node_heads network S time levels assignment.heads)
+      network.links.list links assignment.flows
+  pub junctions_obey : Each network.junctions.list (JunctionObeys network time S assignment)

@@ -47,9 +47,9 @@ FlowLies network S ends q = LiesBetween ends (at_part S (flow_quantity network.o
 pub record JunctionLies (network : Project) (S : ℕ) (period : Period) (j : ℕ) (head pressure outflow : Interval) : Type 0 where
   pub junction : Junction
   pub is_junction : slice_get network.junctions.list j ≡ Some junction
-  pub head_lies : HeadLies network S head (head_at period.given.heads j)
-  pub pressure_lies : PressureLies network S pressure (head_at period.given.heads j -ℤ at_scale S junction.elevation)
-  pub outflow_lies : FlowLies network S outflow (flow_at period.given.demands j +ℤ flow_at period.given.emitters j)
+  pub head_lies : HeadLies network S head (head_at period.assignment.heads j)
+  pub pressure_lies : PressureLies network S pressure (head_at period.assignment.heads j -ℤ at_scale S junction.elevation)
+  pub outflow_lies : FlowLies network S outflow (flow_at period.assignment.demands j +ℤ flow_at period.assignment.emitters j)
 
 -- Reservoir number r: its head at the start of the period lies between the printed ends.
 pub record ReservoirLies (network : Project) (S : ℕ) (period : Period) (r : ℕ) (head : Interval) : Type 0 where
@@ -63,7 +63,7 @@ pub record TankLies (network : Project) (S : ℕ) (period : Period) (k : ℕ) (h
   pub is_tank : slice_get network.tanks.list k ≡ Some tank
   pub head_lies : HeadLies network S head (at_scale S tank.bottom +ℤ level_at_start period k)
   pub level_lies : HeadLies network S level (level_at_start period k)
-  pub inflow_lies : FlowLies network S inflow (tank_inflow network k period.given.flows)
+  pub inflow_lies : FlowLies network S inflow (tank_inflow network k period.assignment.flows)
   pub state_is : slice_get period.tanks k ≡ Some state
 
 -- ---- links
@@ -71,7 +71,7 @@ pub record TankLies (network : Project) (S : ℕ) (period : Period) (k : ℕ) (h
 -- The head difference along a link.
 abbrev pub difference_along : Project → ℕ → Period → Link → ℤ
 difference_along network S period link =
-    let heads = node_heads network S period.time period.levels period.given.heads in
+    let heads = node_heads network S period.time period.levels period.assignment.heads in
     head_at heads link.from -ℤ head_at heads link.to
 
 -- The driving difference of a running pump: the head difference and its lift (S-th parts of a head tick), multiplied by
@@ -114,7 +114,7 @@ pub record LinkLies (network : Project) (S : ℕ) (period : Period) (l : ℕ) (f
   pub is_link : slice_get network.links.list l ≡ Some link
   pub state : LinkState
   pub is_state : slice_get period.links l ≡ Some state
-  pub flow_lies : FlowLies network S flow (flow_at period.given.flows l)
+  pub flow_lies : FlowLies network S flow (flow_at period.assignment.flows l)
   pub status_holds : StatusHolds (is_us network) word link.kind state S (difference_along network S period link)
 
 -- ---- events, controls, rules

@@ -8,7 +8,7 @@ use Rattle.std.specs.Option.{option_map_or}
 use Rattle.hyd_num.specs.Scaled.{numerator, denominator}
 use Rattle.hyd_spec.specs.Types.{Capacity}
 use Rattle.hyd_num.specs.Rational.{Rational, floor, ceiling}
-use Rattle.hyd_spec.specs.Law.{Law, Shut, Quad, Straight, Lifted, ForwardOnly, ReverseOnly, Capped}
+use Rattle.hyd_spec.specs.Law.{Law, Shut, QuadraticLaw, LinearLaw, Lifted, ForwardOnly, ReverseOnly, Capped}
 
 -- ---- roots
 
@@ -29,26 +29,26 @@ root_up p q = if root_down p q * root_down p q * q == p then root_down p q else 
 -- ---- quadratic laws
 
 -- The root of the capacity times the head difference d (head ticks), with its sign: at most the exact flow (flow ticks).
-abbrev pub quad_low : Capacity → ℤ → ℤ
-quad_low capacity (pos d) = pos (root_down (numerator capacity.lo * d) (denominator capacity.lo))
-quad_low capacity (negsuc d) = neg_ℤ (pos (root_up (numerator capacity.hi * suc d) (denominator capacity.hi)))
+abbrev pub quadratic_low : Capacity → ℤ → ℤ
+quadratic_low capacity (pos d) = pos (root_down (numerator capacity.lo * d) (denominator capacity.lo))
+quadratic_low capacity (negsuc d) = neg_ℤ (pos (root_up (numerator capacity.hi * suc d) (denominator capacity.hi)))
 
 -- The same root, at least the exact flow.
-abbrev pub quad_high : Capacity → ℤ → ℤ
-quad_high capacity (pos d) = pos (root_up (numerator capacity.hi * d) (denominator capacity.hi))
-quad_high capacity (negsuc d) = neg_ℤ (pos (root_down (numerator capacity.lo * suc d) (denominator capacity.lo)))
+abbrev pub quadratic_high : Capacity → ℤ → ℤ
+quadratic_high capacity (pos d) = pos (root_up (numerator capacity.hi * d) (denominator capacity.hi))
+quadratic_high capacity (negsuc d) = neg_ℤ (pos (root_down (numerator capacity.lo * suc d) (denominator capacity.lo)))
 
 -- ---- links
 
 -- What a valve without loss coefficient passes: 8026.822656 flow ticks for a head tick.
-abbrev pub straight_flow : ℤ → Rational
-straight_flow d = record { num = pos 8026822656 *ℤ d; den = 10 ^ 6 }
+abbrev pub linear_flow : ℤ → Rational
+linear_flow d = record { num = pos 8026822656 *ℤ d; den = 10 ^ 6 }
 
 -- At most the exact flow.
 abbrev pub low : Law → ℤ → ℤ
 low Shut d = pos 0
-low (Quad capacity) d = quad_low capacity d
-low Straight d = floor (straight_flow d)
+low (QuadraticLaw capacity) d = quadratic_low capacity d
+low LinearLaw d = floor (linear_flow d)
 low (Lifted lift law) d = low law (d +ℤ floor lift)
 low (ForwardOnly law) d = int_max (pos 0) (low law d)
 low (ReverseOnly law) d = int_min (pos 0) (low law d)
@@ -57,8 +57,8 @@ low (Capped setting law) d = int_min setting (low law d)
 -- At least the exact flow.
 abbrev pub high : Law → ℤ → ℤ
 high Shut d = pos 0
-high (Quad capacity) d = quad_high capacity d
-high Straight d = ceiling (straight_flow d)
+high (QuadraticLaw capacity) d = quadratic_high capacity d
+high LinearLaw d = ceiling (linear_flow d)
 high (Lifted lift law) d = high law (d +ℤ ceiling lift)
 high (ForwardOnly law) d = int_max (pos 0) (high law d)
 high (ReverseOnly law) d = int_min (pos 0) (high law d)
@@ -78,7 +78,7 @@ demand_low (Fixed demand) p = demand
 demand_low (Driven demand capacity minimum required) p =
     if int_le p (ceiling minimum) then pos 0
     else if int_le (ceiling required) p then demand
-    else int_min demand (quad_low capacity (p -ℤ ceiling minimum))
+    else int_min demand (quadratic_low capacity (p -ℤ ceiling minimum))
 
 -- At least it.
 abbrev pub demand_high : DemandLaw → ℤ → ℤ
@@ -86,12 +86,12 @@ demand_high (Fixed demand) p = demand
 demand_high (Driven demand capacity minimum required) p =
     if int_le p (floor minimum) then pos 0
     else if int_le (floor required) p then demand
-    else int_min demand (quad_high capacity (p -ℤ floor minimum))
+    else int_min demand (quadratic_high capacity (p -ℤ floor minimum))
 
 -- At most the exact emitter flow at a pressure p (head ticks): by its quadratic law, none where there is no emitter.
 abbrev pub emitter_low : Option Capacity → ℤ → ℤ
-emitter_low emitter p = option_map_or (λ capacity. quad_low capacity p) emitter (pos 0)
+emitter_low emitter p = option_map_or (λ capacity. quadratic_low capacity p) emitter (pos 0)
 
 -- At least it.
 abbrev pub emitter_high : Option Capacity → ℤ → ℤ
-emitter_high emitter p = option_map_or (λ capacity. quad_high capacity p) emitter (pos 0)
+emitter_high emitter p = option_map_or (λ capacity. quadratic_high capacity p) emitter (pos 0)

@@ -82,8 +82,8 @@ pub record Agrees (network : Project) (S : ℕ) (commanded : List LinkState) (pe
   pub length_is : period.length ≡ found.row.length
   pub tanks : period.tanks ≡ found.standing.tanks
   pub links : period.links ≡ links_at network found.standing
-  pub above_lower : Each period.given.heads (λ j h. at_scale S (head_at found.row.main.lower j) <ℤ h)
-  pub below_upper : Each period.given.heads (λ j h. h <ℤ at_scale S (head_at found.row.main.upper j))
+  pub above_lower : Each period.assignment.heads (λ j h. at_scale S (head_at found.row.main.lower j) <ℤ h)
+  pub below_upper : Each period.assignment.heads (λ j h. h <ℤ at_scale S (head_at found.row.main.upper j))
   pub lines_hold : AllByRecursion (LineHolds network S commanded period) found.lines
 
 -- The periods agree with what was found, one after another, as far as both go.

@@ -27,14 +27,14 @@ pub record Begins (network : Project) (S time : ℕ) (levels : List ℤ) (comman
 
 -- Throughout a period its heads and flows obey the laws, and it has its length.
 pub record IsPeriod (network : Project) (S : ℕ) (period : Period) : Type 0 where
-  pub obeys : IsAssignment network S period.time period.levels period.tanks period.links period.given
+  pub obeys : IsAssignment network S period.time period.levels period.tanks period.links period.assignment
   pub lasts : HasItsLength network S period
 
 -- The levels at a period's end: one for each tank, by its inflow.
 pub record AreNextLevels (network : Project) (S : ℕ) (period : Period) (levels : List ℤ) : Type 0 where
   pub one_each : length levels ≡ tank_count network
   pub each : Each network.tanks.list (λ k tank. IsNextLevel S tank (level_at_start period k)
-      (tank_inflow network k period.given.flows) period.length (slice_index_or levels k (pos 0)))
+      (tank_inflow network k period.assignment.flows) period.length (slice_index_or levels k (pos 0)))
 
 -- The link states that are commanded at a period's end: those of the rules' actions where the rules are tried
 -- there, else those of the period.

@@ -84,8 +84,8 @@ loss_at_least (PressureDemand demand minimum required us) = SquareLossAtLeast (p
 -- a law that passes one way only; a law held at or below a setting (flow ticks).
 pub data Law : Type 0 where
   Shut : Law
-  Quad : Capacity → Law
-  Straight : Law
+  QuadraticLaw : Capacity → Law
+  LinearLaw : Law
   Lifted : Rational → Law → Law
   ForwardOnly : Law → Law
   ReverseOnly : Law → Law
@@ -102,8 +102,8 @@ lifted lift R S x a =
 -- lesser of the setting and the inner flow.
 abbrev pub flow_at_least : Law → Relation
 flow_at_least Shut S x a = a ≤ℤ pos 0
-flow_at_least (Quad capacity) S x a = odd_at_least (loss_at_most capacity.origin) (loss_at_least capacity.origin) S x a
-flow_at_least Straight S x a = (pos (10 ^ 6) *ℤ a) ≤ℤ (pos 8026822656 *ℤ x)
+flow_at_least (QuadraticLaw capacity) S x a = odd_at_least (loss_at_most capacity.origin) (loss_at_least capacity.origin) S x a
+flow_at_least LinearLaw S x a = (pos (10 ^ 6) *ℤ a) ≤ℤ (pos 8026822656 *ℤ x)
 flow_at_least (Lifted lift law) S x a = lifted lift (flow_at_least law) S x a
 flow_at_least (ForwardOnly law) S x a = (a ≤ℤ pos 0) ⊎ flow_at_least law S x a
 flow_at_least (ReverseOnly law) S x a = (a ≤ℤ pos 0) × flow_at_least law S x a
@@ -112,8 +112,8 @@ flow_at_least (Capped setting law) S x a = (a ≤ℤ at_scale S setting) × flow
 -- The exact flow at head difference x is at most a.
 abbrev pub flow_at_most : Law → Relation
 flow_at_most Shut S x a = pos 0 ≤ℤ a
-flow_at_most (Quad capacity) S x a = odd_at_most (loss_at_most capacity.origin) (loss_at_least capacity.origin) S x a
-flow_at_most Straight S x a = (pos 8026822656 *ℤ x) ≤ℤ (pos (10 ^ 6) *ℤ a)
+flow_at_most (QuadraticLaw capacity) S x a = odd_at_most (loss_at_most capacity.origin) (loss_at_least capacity.origin) S x a
+flow_at_most LinearLaw S x a = (pos 8026822656 *ℤ x) ≤ℤ (pos (10 ^ 6) *ℤ a)
 flow_at_most (Lifted lift law) S x a = lifted lift (flow_at_most law) S x a
 flow_at_most (ForwardOnly law) S x a = (pos 0 ≤ℤ a) × flow_at_most law S x a
 flow_at_most (ReverseOnly law) S x a = (pos 0 ≤ℤ a) ⊎ flow_at_most law S x a

@@ -17,7 +17,7 @@ pub record Period : Type 0 where
   pub levels : List ℤ
   pub tanks : List TankState
   pub links : List LinkState
-  pub given : Assignment
+  pub assignment : Assignment
 
 -- e is the least of the numbers that P holds of.
 pub record IsLeast (P : ℕ → Type 0) (e : ℕ) : Type 0 where
@@ -49,7 +49,7 @@ level_at_start period k = slice_index_or period.levels k (pos 0)
 -- Its exact level some seconds after the start (S-th parts of a head tick), by the period's flows.
 abbrev pub exact_after : Project → Period → ℕ → Tank → ℕ → Rational
 exact_after network period k tank seconds =
-    exact_level tank (level_at_start period k) (tank_inflow network k period.given.flows) seconds
+    exact_level tank (level_at_start period k) (tank_inflow network k period.assignment.flows) seconds
 
 -- The period may end `seconds` after its start: a tank that wasn't full reaches its maximum, one that wasn't empty its
 -- minimum, or a level control that didn't hold at the start does.
@@ -69,10 +69,10 @@ pub data EndsByLevel (network : Project) (S : ℕ) (period : Period) (seconds : 
 -- What the rules look at `seconds` after the start of a period.
 abbrev pub readings_after : Project → ℕ → Period → ℕ → Readings
 readings_after network S period seconds = record {
-  heads = node_heads network S period.time period.levels period.given.heads;
-  levels = map_from (λ k tank. carried_level S tank (level_at_start period k) (tank_inflow network k period.given.flows) seconds)
+  heads = node_heads network S period.time period.levels period.assignment.heads;
+  levels = map_from (λ k tank. carried_level S tank (level_at_start period k) (tank_inflow network k period.assignment.flows) seconds)
       0 network.tanks.list;
-  flows = map unsigned_abs period.given.flows;
+  flows = map unsigned_abs period.assignment.flows;
   links = period.links;
 }
 

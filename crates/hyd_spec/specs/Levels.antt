@@ -15,27 +15,28 @@ end_of tank x inside =
     else if is_at_minimum 1 tank x then tank.minimum
     else inside
 
--- A lower end: the bound, or the level rounded down and moved down by the room, but not below the minimum.
+-- A lower end: the bound, or the level rounded down and moved down by the widening (head ticks), but not below the
+-- minimum.
 abbrev pub lower_end : Tank → Rational → ℤ → ℤ
-lower_end tank x room = end_of tank x (int_max tank.minimum (floor x -ℤ room))
+lower_end tank x widening = end_of tank x (int_max tank.minimum (floor x -ℤ widening))
 
--- An upper end: the bound, or the level rounded up and moved up by the room, but not above the maximum.
+-- An upper end: the bound, or the level rounded up and moved up by the widening, but not above the maximum.
 abbrev pub upper_end : Tank → Rational → ℤ → ℤ
-upper_end tank x room = end_of tank x (int_min tank.maximum (ceiling x +ℤ room))
+upper_end tank x widening = end_of tank x (int_min tank.maximum (ceiling x +ℤ widening))
 
--- The levels after some seconds, each end rounded outward, moved outward by `room` ticks and held between minimum
--- and maximum.
+-- The levels after some seconds, each end rounded outward, moved outward by the widening and held between minimum and
+-- maximum.
 abbrev pub levels_after : ℤ → Tank → Interval → Interval → ℕ → Interval
-levels_after room tank level inflow seconds = record {
-  lo = lower_end tank (exact_level tank level.lo inflow.lo seconds) room;
-  hi = upper_end tank (exact_level tank level.hi inflow.hi seconds) room;
+levels_after widening tank level inflow seconds = record {
+  lo = lower_end tank (exact_level tank level.lo inflow.lo seconds) widening;
+  hi = upper_end tank (exact_level tank level.hi inflow.hi seconds) widening;
 }
 
 -- The interval of carried levels.
 abbrev pub carried_levels : Tank → Interval → Interval → ℕ → Interval
 carried_levels tank level inflow seconds = levels_after (pos 0) tank level inflow seconds
 
--- The level interval at which the next period begins: ten ticks more room at either end.
+-- The level interval at which the next period begins: ten ticks wider at either end.
 abbrev pub next_levels : Tank → Interval → Interval → ℕ → Interval
 next_levels tank level inflow seconds = levels_after (pos 10) tank level inflow seconds
 

@@ -6,12 +6,12 @@ use Rattle.std.specs.Option.{option_map_or}
 use Rattle.hyd_spec.specs.Types.{Project, Link, LinkKind, PipeLink, CheckPipe, PumpLink, Tcv, Fcv, OpenValve, Quadratic, Linear, LinkState, Open, Speed, Throttle, Limit, TankState, Full, Empty, Between}
 use Rattle.hyd_spec.specs.Network.{is_tank, tank_number}
 use Rattle.hyd_spec.specs.Quantity.{is_us, lift_of}
-use Rattle.hyd_spec.specs.Law.{Law, Shut, Quad, Straight, Lifted, ForwardOnly, ReverseOnly, Capped}
+use Rattle.hyd_spec.specs.Law.{Law, Shut, QuadraticLaw, LinearLaw, Lifted, ForwardOnly, ReverseOnly, Capped}
 
 -- A valve that is fully open.
 abbrev pub valve_law : OpenValve → Law
-valve_law (Quadratic capacity) = Quad capacity
-valve_law Linear = Straight
+valve_law (Quadratic capacity) = QuadraticLaw capacity
+valve_law Linear = LinearLaw
 
 -- The law of a link of this kind in this state, whatever the tanks at its ends allow.
 -- A running pump passes forward only, what its curve gives at the head difference plus its lift; a
@@ -19,9 +19,9 @@ valve_law Linear = Straight
 -- its setting. A pump's state is closed or a speed, a pipe's open or closed: a kind and a state that
 -- don't go together have the law of a closed link.
 abbrev pub own_law : Bool → LinkKind → LinkState → Law
-own_law us (PipeLink capacity) Open = Quad capacity
-own_law us (CheckPipe capacity) Open = ForwardOnly (Quad capacity)
-own_law us (PumpLink capacity shutoff head pattern) (Speed speed) = ForwardOnly (Lifted (lift_of us head speed) (Quad capacity))
+own_law us (PipeLink capacity) Open = QuadraticLaw capacity
+own_law us (CheckPipe capacity) Open = ForwardOnly (QuadraticLaw capacity)
+own_law us (PumpLink capacity shutoff head pattern) (Speed speed) = ForwardOnly (Lifted (lift_of us head speed) (QuadraticLaw capacity))
 own_law us (Tcv valve) Open = valve_law valve
 own_law us (Tcv valve) (Throttle setting law) = valve_law law
 own_law us (Fcv valve) Open = valve_law valve

@@ -7,7 +7,7 @@ use Rattle.hyd_spec.specs.Types.{Project, Junction}
 use Rattle.hyd_num.specs.Rational.{Rational, negated, is_at_most}
 use Rattle.hyd_spec.specs.Scale.{at_scale, tolerance}
 use Rattle.hyd_spec.specs.Quantity.{is_us, demand_of, minimum_pressure, required_pressure}
-use Rattle.hyd_spec.specs.Law.{Quad, Follows, Relation, lifted, odd_at_least, odd_at_most, pressure_resistance}
+use Rattle.hyd_spec.specs.Law.{QuadraticLaw, Follows, Relation, lifted, odd_at_least, odd_at_most, pressure_resistance}
 use Rattle.hyd_spec.specs.Loss.{SquareLossAtMost, SquareLossAtLeast}
 
 -- Two flows differ by at most the tolerance.
@@ -62,4 +62,4 @@ FollowsDemand network time junction S p q =
 -- negative pressure; none where the junction has no emitter.
 abbrev pub FollowsEmitter : Junction → ℕ → ℤ → ℤ → Type 0
 FollowsEmitter junction S p q =
-    MatchOption junction.emitter (q ≡ pos 0) (λ capacity. Follows (Quad capacity) S p q)
+    MatchOption junction.emitter (q ≡ pos 0) (λ capacity. Follows (QuadraticLaw capacity) S p q)

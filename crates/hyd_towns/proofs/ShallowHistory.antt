@@ -4,7 +4,7 @@ use Rattle.std.proofs.lemmas.Int.{ints}
 use Rattle.hyd_spec.specs.Types.{Linear, Throttle, Limit}
 use Rattle.hyd_spec.specs.Scale.{at_scale}
 use Rattle.hyd_spec.specs.Assignment.{head_at}
-use Rattle.hyd_spec.specs.Law.{Straight, ForwardOnly, ReverseOnly, Capped, Follows}
+use Rattle.hyd_spec.specs.Law.{LinearLaw, ForwardOnly, ReverseOnly, Capped, Follows}
 use Rattle.hyd_spec.specs.Length.{HasItsLength, by_level, full, empty}
 use Rattle.hyd_spec.specs.History.{IsPeriod, ComesAfter, initial_links, commanded_after}
 use Rattle.hyd_spec.specs.Headline.{Agrees}
@@ -15,13 +15,13 @@ use Rattle.hyd_towns.proofs.VillageFlows.{straight, at_setting, obeys}
 use Rattle.hyd_towns.proofs.VillageLengths.{has_length, next_level}
 
 -- a closed way, and an open one
-held_back : (setting x : ℤ) → (pos 0) ≤ℤ setting → (pos 0) ≤ℤ x → Follows (ReverseOnly (Capped setting Straight)) 1000 x (pos 0)
+held_back : (setting x : ℤ) → (pos 0) ≤ℤ setting → (pos 0) ≤ℤ x → Follows (ReverseOnly (Capped setting LinearLaw)) 1000 x (pos 0)
 held_back setting x some ahead = record {
   at_least = (omega (arith, ints), (omega (arith, ints, some), omega (arith, ints, ahead)));
   at_most = inl (omega (arith, ints));
 }
 
-lets_through : (x q : ℤ) → (pos 0) ≤ℤ q → Follows Straight 1000 x q → Follows (ForwardOnly Straight) 1000 x q
+lets_through : (x q : ℤ) → (pos 0) ≤ℤ q → Follows LinearLaw 1000 x q → Follows (ForwardOnly LinearLaw) 1000 x q
 lets_through x q some follows = record { at_least = inr follows.at_least; at_most = (omega (arith, ints, some), follows.at_most) }
 
 first_lasts : HasItsLength (village_with shallow) 1000 period_0

@@ -3,7 +3,7 @@ use Rattle.std.proofs.Common.{◌^◌, ℤ, pos, true, false, [], ◌∷◌, inr
 use Rattle.std.proofs.lemmas.Int.{ints, clamps}
 use Rattle.hyd_spec.specs.declared.Problem.TheVariants.{Main}
 use Rattle.hyd_spec.specs.declared.Side.TheVariants.{Lower}
-use Rattle.hyd_spec.specs.Law.{Straight, ForwardOnly, ReverseOnly, Capped}
+use Rattle.hyd_spec.specs.Law.{LinearLaw, ForwardOnly, ReverseOnly, Capped}
 use Rattle.hyd_spec.specs.Length.{pattern, step}
 use Rattle.hyd_spec.specs.Grid.{Grid}
 use Rattle.hyd_spec.specs.Certificate.{IsCertificate, Passes}
@@ -103,7 +103,7 @@ is_run =
 
 -- nothing leaves the empty tank
 abbrev last_grid : Grid
-last_grid = village_grid (pos 8000000000) (ForwardOnly (Capped (pos 10000000000) Straight)) (ReverseOnly Straight)
+last_grid = village_grid (pos 8000000000) (ForwardOnly (Capped (pos 10000000000) LinearLaw)) (ReverseOnly LinearLaw)
     (record { lo = pos 620105000000000; hi = pos 620105000000000 })
 
 no_deficit : (x y : ℤ) → Passes last_grid Main Lower (x ∷ y ∷ []) 1 grid_farm → ⊥

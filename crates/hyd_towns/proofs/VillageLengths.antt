@@ -144,11 +144,11 @@ each_one X P x p zero y e = let same : x ≡ y = cc in subst (P 0) same p
 each_one X P x p (suc k) y e = absurd (cc)
 
 pub next_level : (choice : Choice) (period : Period) (level : ℤ)
-    → IsNextLevel 1000 choice.tank (level_at_start period 0) (tank_inflow (village_with choice) 0 period.given.flows) period.length level
+    → IsNextLevel 1000 choice.tank (level_at_start period 0) (tank_inflow (village_with choice) 0 period.assignment.flows) period.length level
     → AreNextLevels (village_with choice) 1000 period (level ∷ [])
 next_level choice period level next = record {
   one_each = refl;
-  each = each_one Tank (λ k tank. IsNextLevel 1000 tank (level_at_start period k) (tank_inflow (village_with choice) k period.given.flows) period.length (slice_index_or (level ∷ []) k (pos 0))) choice.tank next;
+  each = each_one Tank (λ k tank. IsNextLevel 1000 tank (level_at_start period k) (tank_inflow (village_with choice) k period.assignment.flows) period.length (slice_index_or (level ∷ []) k (pos 0))) choice.tank next;
 }
 
 pub second_comes : ComesAfter village 1000 period_0 period_1

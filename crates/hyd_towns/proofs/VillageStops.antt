@@ -2,7 +2,7 @@
 use Rattle.std.proofs.Common.{◌^◌, ◌≡◌, pos, true, [], ◌∷◌, inl, inr, refl, subst, arith, lit≤, lit<}
 use Rattle.hyd_spec.specs.declared.Problem.TheVariants.{Main}
 use Rattle.hyd_spec.specs.declared.Side.TheVariants.{Upper, Lower}
-use Rattle.hyd_spec.specs.Law.{Straight, Shut, Capped}
+use Rattle.hyd_spec.specs.Law.{LinearLaw, Shut, Capped}
 use Rattle.hyd_spec.specs.Length.{step}
 use Rattle.hyd_spec.specs.Grid.{Grid}
 use Rattle.hyd_spec.specs.Certificate.{IsCertificate, none}
@@ -48,8 +48,8 @@ rounds_stop = record {
 abbrev dry_grid : Grid
 dry_grid = record grid_0 {
   links =
-      (record { from = 2; to = 0; law = Straight })
-      ∷ (record { from = 0; to = 3; law = Capped (pos 10000000000) Straight })
+      (record { from = 2; to = 0; law = LinearLaw })
+      ∷ (record { from = 0; to = 3; law = Capped (pos 10000000000) LinearLaw })
       ∷ (record { from = 3; to = 1; law = Shut })
       ∷ [];
 }

@@ -8,7 +8,7 @@ use Rattle.hyd_spec.specs.declared.Side.{Side}
 use Rattle.hyd_spec.specs.declared.Side.TheVariants.{Upper, Lower}
 use Rattle.hyd_spec.specs.Lists.{Each}
 use Rattle.hyd_spec.specs.Interval.{Interval}
-use Rattle.hyd_spec.specs.Law.{Law, Shut, Straight, Capped}
+use Rattle.hyd_spec.specs.Law.{Law, Shut, LinearLaw, Capped}
 use Rattle.hyd_spec.specs.Enclosing.{low, high}
 use Rattle.hyd_spec.specs.Grid.{Grid, GridJunction, end_on, tank_side}
 use Rattle.hyd_spec.specs.Assignment.{head_at}
@@ -38,7 +38,7 @@ pub record IsRising (law : Law) : Type 0 where
   pub low_rises : (c d : ℤ) → c ≤ℤ d → low law c ≤ℤ low law d
   pub high_rises : (c d : ℤ) → c ≤ℤ d → high law c ≤ℤ high law d
 
-pub straight_rises : IsRising Straight
+pub straight_rises : IsRising LinearLaw
 straight_rises = record {
   low_rises = λ c d le. quotient_rises (pos 8026822656 *ℤ c) (pos 8026822656 *ℤ d) (omega (arith, ints, le));
   high_rises = λ c d le.
@@ -48,7 +48,7 @@ straight_rises = record {
 pub shut_rises : IsRising Shut
 shut_rises = record { low_rises = λ c d le. omega (arith, ints); high_rises = λ c d le. omega (arith, ints) }
 
-pub capped_rises : (cap : ℤ) → IsRising (Capped cap Straight)
+pub capped_rises : (cap : ℤ) → IsRising (Capped cap LinearLaw)
 capped_rises cap = record {
   low_rises = λ c d le. let r = straight_rises.low_rises c d le in omega (arith, ints, clamps, r);
   high_rises = λ c d le. let r = straight_rises.high_rises c d le in omega (arith, ints, clamps, r);

@@ -5,7 +5,7 @@ use Rattle.std.proofs.Common.{lit≤}
 use Rattle.hyd_num.specs.declared.units.FlowUnit.TheVariants.{Gpm}
 use Rattle.hyd_spec.specs.Types.{Project, Options, Times, Junction, Reservoir, Tank, Link, Tcv, Fcv, Linear, LinkState, Limit, Throttle, Rule, And, Or, Less, More, Pressure, Value, Amount}
 use Rattle.hyd_spec.specs.declared.TankState.TheVariants.{Between}
-use Rattle.hyd_spec.specs.Law.{Straight, Capped}
+use Rattle.hyd_spec.specs.Law.{LinearLaw, Capped}
 use Rattle.hyd_spec.specs.Enclosing.{Fixed}
 use Rattle.hyd_spec.specs.Grid.{Grid}
 use Rattle.hyd_spec.specs.Record.{Record, Standing}
@@ -156,8 +156,8 @@ grid_at_start = record {
   junctions = record { elevation = pos 304800000000000; demand = Fixed (pos 3270595781); emitter = None } ∷ [];
   reservoirs = pos 762000000000000 ∷ [];
   tanks = record { lo = pos 396240000000000; hi = pos 396240000000000 } ∷ [];
-  links = record { from = 1; to = 2; law = Capped (pos 5450992968) Straight }
-      ∷ record { from = 2; to = 0; law = Straight } ∷ [];
+  links = record { from = 1; to = 2; law = Capped (pos 5450992968) LinearLaw }
+      ∷ record { from = 2; to = 0; law = LinearLaw } ∷ [];
 }
 
 abbrev pub row_at_start : Record

@@ -6,7 +6,7 @@ use Rattle.hyd_spec.specs.Types.{Limit}
 use Rattle.hyd_spec.specs.declared.TankState.TheVariants.{Empty, Between, Full}
 use Rattle.hyd_spec.specs.declared.StatusWord.TheVariants.{Active as WordActive}
 use Rattle.hyd_spec.specs.Lists.{joined}
-use Rattle.hyd_spec.specs.Law.{Straight, ForwardOnly, ReverseOnly, Capped}
+use Rattle.hyd_spec.specs.Law.{LinearLaw, ForwardOnly, ReverseOnly, Capped}
 use Rattle.hyd_spec.specs.Length.{Period}
 use Rattle.hyd_spec.specs.Grid.{Grid}
 use Rattle.hyd_spec.specs.Record.{Record, Standing}
@@ -43,11 +43,11 @@ left = village_standing 2 6 (record { lo = pos 20105000000000; hi = pos 20105000
 
 -- The grid of period 0.
 abbrev pub grid_0 : Grid
-grid_0 = village_grid (pos 8000000000) (Capped (pos 10000000000) Straight) Straight (record { lo = pos 620120000000000; hi = pos 620120000000000 })
+grid_0 = village_grid (pos 8000000000) (Capped (pos 10000000000) LinearLaw) LinearLaw (record { lo = pos 620120000000000; hi = pos 620120000000000 })
 
 -- The grid of period 1.
 abbrev pub grid_1 : Grid
-grid_1 = village_grid (pos 8000000000) (ReverseOnly (Capped (pos 10000000000) Straight)) (ForwardOnly Straight) (record { lo = pos 620225000000000; hi = pos 620225000000000 })
+grid_1 = village_grid (pos 8000000000) (ReverseOnly (Capped (pos 10000000000) LinearLaw)) (ForwardOnly LinearLaw) (record { lo = pos 620225000000000; hi = pos 620225000000000 })
 
 -- The record of period 0.
 abbrev pub row_0 : Record

@@ -2,7 +2,7 @@
 use Rattle.std.specs.Prelude.{pos, [], ◌∷◌, None, false}
 use Rattle.hyd_spec.specs.Types.{Open, Closed, Speed}
 use Rattle.hyd_spec.specs.declared.TankState.TheVariants.{Empty, Between, Full}
-use Rattle.hyd_spec.specs.Law.{Shut, Straight, ForwardOnly, ReverseOnly, Capped}
+use Rattle.hyd_spec.specs.Law.{Shut, LinearLaw, ForwardOnly, ReverseOnly, Capped}
 use Rattle.hyd_spec.specs.Enclosing.{Fixed}
 use Rattle.hyd_spec.specs.Grid.{Grid, GridJunction}
 use Rattle.hyd_spec.specs.Record.{Record, Standing}
@@ -99,10 +99,10 @@ grid_at_two = record {
   tanks = record { lo = pos 449923185009438; hi = pos 449923193569894 }
       ∷ record { lo = pos 215076805853966; hi = pos 215076814393200 } ∷ [];
   links = record { from = 2; to = 0; law = Shut }
-      ∷ record { from = 2; to = 3; law = Capped (pos 11640000000) Straight }
-      ∷ record { from = 3; to = 0; law = Straight }
-      ∷ record { from = 0; to = 1; law = Capped (pos 4000000000) Straight }
-      ∷ record { from = 4; to = 1; law = Straight } ∷ [];
+      ∷ record { from = 2; to = 3; law = Capped (pos 11640000000) LinearLaw }
+      ∷ record { from = 3; to = 0; law = LinearLaw }
+      ∷ record { from = 0; to = 1; law = Capped (pos 4000000000) LinearLaw }
+      ∷ record { from = 4; to = 1; law = LinearLaw } ∷ [];
 }
 
 -- Its tight vectors.
@@ -126,9 +126,9 @@ grid_when_full = record {
       ∷ record { lo = pos 215000000000000; hi = pos 215000000000000 } ∷ [];
   links = record { from = 2; to = 0; law = Shut }
       ∷ record { from = 2; to = 3; law = ReverseOnly Shut }
-      ∷ record { from = 3; to = 0; law = ForwardOnly Straight }
-      ∷ record { from = 0; to = 1; law = Capped (pos 9000000000) Straight }
-      ∷ record { from = 4; to = 1; law = ReverseOnly Straight } ∷ [];
+      ∷ record { from = 3; to = 0; law = ForwardOnly LinearLaw }
+      ∷ record { from = 0; to = 1; law = Capped (pos 9000000000) LinearLaw }
+      ∷ record { from = 4; to = 1; law = ReverseOnly LinearLaw } ∷ [];
 }
 
 -- Its tight vectors.

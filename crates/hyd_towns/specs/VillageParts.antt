@@ -3,7 +3,7 @@ use Rattle.std.specs.Prelude.{ℕ, ℤ, pos, false, [], ◌∷◌, None}
 use Rattle.hyd_spec.specs.Types.{LinkState, Linear, Throttle}
 use Rattle.hyd_spec.specs.declared.TankState.{TankState}
 use Rattle.hyd_spec.specs.Interval.{Interval}
-use Rattle.hyd_spec.specs.Law.{Law, Straight}
+use Rattle.hyd_spec.specs.Law.{Law, LinearLaw}
 use Rattle.hyd_spec.specs.Enclosing.{Fixed}
 use Rattle.hyd_spec.specs.Length.{Period}
 use Rattle.hyd_spec.specs.Grid.{Grid, GridJunction}
@@ -35,7 +35,7 @@ village_grid demand feed drop head = record {
   reservoirs = pos 1000000000000000 ∷ [];
   tanks = head ∷ [];
   links =
-      (record { from = 2; to = 0; law = Straight })
+      (record { from = 2; to = 0; law = LinearLaw })
       ∷ (record { from = 0; to = 3; law = feed })
       ∷ (record { from = 3; to = 1; law = drop })
       ∷ [];
@@ -55,7 +55,7 @@ village_period time length level state feed mill farm main fed dropped takes = r
   levels = level ∷ [];
   tanks = state ∷ [];
   links = Throttle (pos 0) Linear ∷ feed ∷ Throttle (pos 0) Linear ∷ [];
-  given = record {
+  assignment = record {
     heads = mill ∷ farm ∷ [];
     flows = main ∷ fed ∷ dropped ∷ [];
     demands = takes ∷ pos 2000000000000 ∷ [];

@@ -3,7 +3,7 @@ use Rattle.std.specs.Prelude.{pos, true, List, [], ◌∷◌}
 use Rattle.hyd_spec.specs.Types.{Closed, Limit}
 use Rattle.hyd_spec.specs.declared.TankState.TheVariants.{Between}
 use Rattle.hyd_spec.specs.declared.StatusWord.TheVariants.{Active as WordActive}
-use Rattle.hyd_spec.specs.Law.{Shut, Straight, Capped}
+use Rattle.hyd_spec.specs.Law.{Shut, LinearLaw, Capped}
 use Rattle.hyd_spec.specs.Grid.{Grid}
 use Rattle.hyd_spec.specs.Record.{Record, Standing}
 use Rattle.hyd_spec.specs.ReportLine.{ReportLine, TimeLine, JunctionLine, ReservoirLine, TankLine, LinkLine, ReachedLine, ControlLine, RuleLine}
@@ -36,23 +36,23 @@ left = record standing_4 { number = 5; finished = true }
 
 -- The grid of period 0.
 abbrev pub grid_0 : Grid
-grid_0 = village_grid (pos 8000000000) (Capped (pos 10000000000) Straight) Straight (record { lo = pos 620000000000000; hi = pos 620000000000000 })
+grid_0 = village_grid (pos 8000000000) (Capped (pos 10000000000) LinearLaw) LinearLaw (record { lo = pos 620000000000000; hi = pos 620000000000000 })
 
 -- The grid of period 1.
 abbrev pub grid_1 : Grid
-grid_1 = village_grid (pos 4000000000) (Capped (pos 10000000000) Straight) Straight (record { lo = pos 620058946250974; hi = pos 620058946310442 })
+grid_1 = village_grid (pos 4000000000) (Capped (pos 10000000000) LinearLaw) LinearLaw (record { lo = pos 620058946250974; hi = pos 620058946310442 })
 
 -- The grid of period 2.
 abbrev pub grid_2 : Grid
-grid_2 = village_grid (pos 4000000000) Shut Straight (record { lo = pos 620081051095083; hi = pos 620081051176864 })
+grid_2 = village_grid (pos 4000000000) Shut LinearLaw (record { lo = pos 620081051095083; hi = pos 620081051176864 })
 
 -- The grid of period 3.
 abbrev pub grid_3 : Grid
-grid_3 = village_grid (pos 4000000000) (Capped (pos 3000000000) Straight) Straight (record { lo = pos 620075524872686; hi = pos 620075524976781 })
+grid_3 = village_grid (pos 4000000000) (Capped (pos 3000000000) LinearLaw) LinearLaw (record { lo = pos 620075524872686; hi = pos 620075524976781 })
 
 -- The grid of period 4.
 abbrev pub grid_4 : Grid
-grid_4 = village_grid (pos 8000000000) (Capped (pos 3000000000) Straight) Straight (record { lo = pos 620077366937719; hi = pos 620077367056697 })
+grid_4 = village_grid (pos 8000000000) (Capped (pos 3000000000) LinearLaw) LinearLaw (record { lo = pos 620077366937719; hi = pos 620077367056697 })
 
 -- The record of period 0.
 abbrev pub row_0 : Record

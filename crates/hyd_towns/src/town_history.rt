@@ -30,12 +30,12 @@ pub fn states()
 /// The inflows of the tanks, and their levels at the start.
 pub fn inflows()
     ensures inflows_at_two { (network : Project) → IsTown network
-        → map (λ tank. tank_inflow network tank period_at_two.given.flows) (0 ∷ 1 ∷ [])
+        → map (λ tank. tank_inflow network tank period_at_two.assignment.flows) (0 ∷ 1 ∷ [])
         ≡ pos 4640000000000 ∷ neg_ℤ (pos 4640000000000) ∷ [] }
     ensures levels_at_two { map (level_at_start period_at_two) (0 ∷ 1 ∷ [])
         ≡ pos 49923192905666460 ∷ pos 15076807094333538 ∷ [] }
     ensures inflows_when_full { (network : Project) → IsTown network
-        → map (λ tank. tank_inflow network tank period_when_full.given.flows) (0 ∷ 1 ∷ [])
+        → map (λ tank. tank_inflow network tank period_when_full.assignment.flows) (0 ∷ 1 ∷ [])
         ≡ neg_ℤ (pos 12000000000000) ∷ pos 360000000000 ∷ [] }
     ensures levels_when_full { map (level_at_start period_when_full) (0 ∷ 1 ∷ [])
         ≡ pos 50000000000000000 ∷ pos 15000000000000000 ∷ [] }

@@ -1,7 +1,7 @@
 -- The head difference fits, and so does the flow with its tolerance.
 use Rattle.std.proofs.Common.{◌≡◌, ◌-ℤ◌, ◌∙◌, ap, w64, to_z, of_z, arith}
 use Rattle.std.proofs.lemmas.Int.{ints}
-use Rattle.hyd_spec.specs.Enclosing.{quad_high}
+use Rattle.hyd_spec.specs.Enclosing.{quadratic_high}
 use Rattle.hyd_cli.proofs.texts.greatest_flow.Goals as goal
 
 pub returns-clause-value : goal.returns-clause-value
@@ -9,6 +9,6 @@ returns-clause-value c =
     let valve = c.args.valve.now in
     let e : to_z w64 (of_z w64 (to_z w64 (of_z w64 valve.head) -ℤ to_z w64 (of_z w64 c.args.lower))) ≡ valve.head -ℤ c.args.lower =
     omega (arith, ints, valve.head_in_range) in
-    let flow : c.quad_high.result ≡ quad_high valve.capacity (valve.head -ℤ c.args.lower) =
-    c.quad_high.ensures.value ∙ ap (quad_high valve.capacity) e in
-    omega (arith, ints, flow, c.quad_high.ensures.small, c.from.ensures)
+    let flow : c.quadratic_high.result ≡ quadratic_high valve.capacity (valve.head -ℤ c.args.lower) =
+    c.quadratic_high.ensures.value ∙ ap (quadratic_high valve.capacity) e in
+    omega (arith, ints, flow, c.quadratic_high.ensures.small, c.from.ensures)

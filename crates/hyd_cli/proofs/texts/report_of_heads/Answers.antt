@@ -3,7 +3,7 @@ use Rattle.std.proofs.Common.{◌≡◌, ℕ, pos, ◌-ℤ◌, ◌+ℤ◌, List,
 use Rattle.std.specs.Int.{w128}
 use Rattle.std.proofs.lemmas.Int.{ints}
 use Rattle.hyd_cli.specs.Lines.{AppendsJunction, AppendsReservoir, AppendsValve}
-use Rattle.hyd_spec.specs.Enclosing.{quad_low, quad_high}
+use Rattle.hyd_spec.specs.Enclosing.{quadratic_low, quadratic_high}
 use Rattle.hyd_spec.specs.Lists.{joined}
 use Rattle.hyd_cli.proofs.TextLemmas.{first_report}
 use Rattle.hyd_cli.proofs.texts.report_of_heads.Goals as goal
@@ -31,8 +31,8 @@ returns c =
     let last : List ℕ = c.as_slice-2.result.now in
     let begun : c.push_all.new.out.items ≡ start ++ joined (first ∷ []) = c.in_ok-push_all.ensures in
     let ended : c.push_all-2.new.out.items ≡ c.push_valve.new.out.items ++ joined (last ∷ []) = c.in_ok-push_all-2.ensures in
-    let least_is : c.least_flow-least.result ≡ quad_low valve.capacity (valve.head -ℤ c.args.upper) -ℤ pos 10 = simp to_z-of_z at c.least_flow-least.ensures.value in
-    let greatest_is : c.greatest_flow-greatest.result ≡ quad_high valve.capacity (valve.head -ℤ c.args.lower) +ℤ pos 10 = simp to_z-of_z at c.greatest_flow-greatest.ensures.value in
+    let least_is : c.least_flow-least.result ≡ quadratic_low valve.capacity (valve.head -ℤ c.args.upper) -ℤ pos 10 = simp to_z-of_z at c.least_flow-least.ensures.value in
+    let greatest_is : c.greatest_flow-greatest.result ≡ quadratic_high valve.capacity (valve.head -ℤ c.args.lower) +ℤ pos 10 = simp to_z-of_z at c.greatest_flow-greatest.ensures.value in
     first_report network c.requires.first valve c.requires.valve elevation c.args.upper c.args.lower c.least_flow-least.result c.greatest_flow-greatest.result
     start first last c.push_all.new.out.items c.push_junction.new.out.items c.push_reservoir.new.out.items c.push_valve.new.out.items c.push_all-2.new.out.items
     c.id.result.now c.id-2.result.now c.id-3.result.now c.junction_elevation-elevation.ensures
