@@ -1,5 +1,5 @@
 -- Every history of a network of the first form agrees with the record of its one period.
-use Rattle.std.proofs.Common.{◌≡◌, ℕ, zero, suc, ◌≤◌, ℤ, Bool, true, MatchBool, List, [], ◌∷◌, ◌++◌, refl, sym, ap, subst, ◌∙◌, arith}
+use Rattle.std.proofs.Common.{◌≡◌, ℕ, zero, suc, ◌≤◌, ℤ, Bool, MatchBool, List, [], ◌∷◌, ◌++◌, refl, sym, ap, subst, ◌∙◌, arith}
 use Rattle.std.specs.Prelude.{Option, Some, None, slice_get}
 use Rattle.std.specs.List.{AllByRecursion, AllZip}
 use Rattle.std.specs.Option.{IfSome}
@@ -23,9 +23,9 @@ use Rattle.hyd_spec.specs.Record.{Record, Standing, initial_standing}
 use Rattle.hyd_spec.specs.Decided.{links_at, heads_below, heads_above, by_rules, by_clock}
 use Rattle.hyd_spec.specs.Valid.{IsGridAt}
 use Rattle.hyd_spec.specs.ReportLine.{ReportLine, LinkLine}
-use Rattle.hyd_spec.specs.Report.{IsReport, AreEndLines, at_end as ends_last, by_rules as ends_by_rules, by_clock as ends_by_clock, AreStateLines, IsLinkLine, IsTankLine, is_report_time, control_lines, status_of}
+use Rattle.hyd_spec.specs.Report.{IsReport, AreEndLines, at_end as ends_last, by_rules as ends_by_rules, by_clock as ends_by_clock, AreStateLines, IsLinkLine, IsTankLine, status_of}
 use Rattle.hyd_spec.specs.Claims.{LineHolds, StatusHolds}
-use Rattle.hyd_spec.specs.FirstForm.{IsFirstNetwork, IsPlain}
+use Rattle.hyd_spec.specs.FirstForm.{IsFirstNetwork}
 use Rattle.hyd_spec.specs.Headline.{Agrees, AllAgree, EveryHistoryAgrees}
 use Rattle.hyd_laws.specs.Laws.{LevelsLie, IsSoundGrid, IsSoundLaw, IsSoundCapacity}
 use Rattle.hyd_laws.proofs.EachLaw.{IsSoundCapacity-made}

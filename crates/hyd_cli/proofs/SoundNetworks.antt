@@ -1,7 +1,7 @@
 -- A network of the first form is sound.
-use Rattle.std.proofs.Common.{◌≡◌, ◌≢◌, ℕ, zero, suc, ◌+◌, ◌*◌, ◌^◌, ◌<◌, ◌≤◌, ℤ, pos, neg_ℤ, ◌≤ℤ◌, Bool, true, false, List, [], ◌∷◌, All, length, unsigned_abs, refl, sym, ap, subst, ◌∙◌, lit≤, arith}
+use Rattle.std.proofs.Common.{◌≡◌, ◌≢◌, ℕ, ◌*◌, ◌^◌, ◌<◌, ◌≤◌, ℤ, pos, ◌≤ℤ◌, false, List, [], ◌∷◌, All, length, unsigned_abs, refl, sym, ap, subst, lit≤, arith}
 use Rattle.std.specs.Prelude.{None, IfSome}
-use Rattle.std.specs.List.{HoldsAt, AllPairs}
+use Rattle.std.specs.List.{AllPairs}
 use Rattle.std.proofs.lemmas.Int.{ints}
 use Rattle.std.proofs.lemmas.List.Elements.{All-nil, All-cons, at_read}
 use Rattle.std.proofs.lemmas.List.Kept.{AllPairs-cons}
@@ -9,15 +9,15 @@ use Rattle.hyd_num.specs.Numeral.{nano_of}
 use Rattle.hyd_num.specs.Quantity.{head_ticks, flow_ticks}
 use Rattle.hyd_num.specs.Chain.{IsMade}
 use Rattle.hyd_num.specs.declared.capacities.Origin.{Origin}
-use Rattle.hyd_spec.specs.Types.{Project, Junction, Reservoir, Tank, Link, LinkKind, LinkState, OpenValve, Capacity, Valve, Tcv, Linear, Quadratic, Throttle, Pattern, Control, Rule, Demand, Decimal, Cmd}
-use Rattle.hyd_spec.specs.FirstForm.{Words, IsId, IsFirstNetwork, HasParts, IsPlain, IsValve}
+use Rattle.hyd_spec.specs.Types.{Project, Junction, Reservoir, Tank, Link, LinkKind, LinkState, Capacity, Valve, Tcv, Linear, Quadratic, Throttle, Pattern, Control, Rule, Demand, Decimal, Cmd}
+use Rattle.hyd_spec.specs.FirstForm.{IsId, IsFirstNetwork, IsPlain}
 use Rattle.hyd_net.specs.Ids.{AreDistinct, IsId as IsShortId}
-use Rattle.hyd_net.specs.Ranges.{Lies, LiesWithin, IsHead, IsFlow}
+use Rattle.hyd_net.specs.Ranges.{Lies, IsHead, IsFlow}
 use Rattle.hyd_net.specs.States.{CanHave}
 use Rattle.hyd_net.specs.Commands.{node_count, IsControl, IsRule}
 use Rattle.hyd_net.specs.Sizes.{HasOptions, IsJunction, IsReservoir, IsTank, HasSizes, IsDemand, IsValveOrigin, HasQuantities}
 use Rattle.hyd_net.specs.Made.{IsAreaMade, IsKindMade, IsStateMade, IsRuleMade, IsAllMade, IsAcross, IsKindAcross, IsStateAcross}
-use Rattle.hyd_net.specs.Sound.{HasIds, IsWithinLimits, HasEnds, IsPattern, AreTimes, demand_rows, part_count, Sound}
+use Rattle.hyd_net.specs.Sound.{HasIds, IsWithinLimits, HasEnds, IsPattern, AreTimes, Sound}
 
 -- ---- lists of one item, and of none
 

@@ -16,3 +16,4 @@ pub mod VillageWhole
 pub mod ShallowRun
 pub mod ShallowHistory
 pub mod VillageSound
+pub mod NarrowRecords

@@ -2,7 +2,6 @@
 use Rattle.std.specs.Prelude.{pos, [], ◌∷◌, Some}
 use Rattle.std.specs.Int.Signed.{≤ℤ_refl}
 use Rattle.std.proofs.Common.{lit≤}
-use Rattle.hyd_num.specs.Rational.{whole}
 use Rattle.hyd_spec.specs.Types.{Project, Closed, And, Level, Status, Less, Equal, Amount, ValueActive}
 use Rattle.hyd_spec.specs.Interval.{Interval}
 use Rattle.hyd_spec.specs.Decided.{OpenRule}

@@ -3,6 +3,7 @@
 #![tactic(auto)]
 
 pub mod clauses;
+pub mod run_ends;
 pub mod shallow;
 pub mod town_ends;
 pub mod town_history;
