@@ -1,6 +1,6 @@
 -- Pairs of binary numbers that enclose a real number, and what their operations give: each lower end is the greatest binary
 -- number at most the exact result of the ends that make it least, each upper end the least one at least the exact greatest.
-use Rattle.std.specs.Prelude.{◌≡◌, ℕ, ◌+◌, ◌*◌, ◌≤◌}
+use Rattle.std.specs.Prelude.{◌≡◌, ℕ, ◌+◌, ◌*◌, ◌^◌, ◌≤◌}
 use Rattle.hyd_num.specs.declared.binary.Scaled.{Scaled}
 use Rattle.hyd_num.specs.declared.pairs.Pair.{Pair}
 use Rattle.hyd_num.specs.Fraction.{Fraction, AtMost}
@@ -31,12 +31,20 @@ pub record IsSum (x y r : Pair) : Type 0 where
   pub low : IsDown (numerator x.lo * denominator y.lo + numerator y.lo * denominator x.lo) (denominator x.lo * denominator y.lo) r.lo
   pub high : IsUp (numerator x.hi * denominator y.hi + numerator y.hi * denominator x.hi) (denominator x.hi * denominator y.hi) r.hi
 
+-- how far from 1 a pair can lie
+abbrev pub pair_reach : Pair → ℕ
+pair_reach x = reach x.lo + reach x.hi
+
 -- r is the power of x that its binary digits make: x for the first digit, and for each further one
 -- a square that is multiplied by x where the digit is 1
 pub data IsPower (x : Pair) : ℕ → Pair → Type 0 where
   once : IsPower x 1 x
   even : (n k : ℕ) (r s : Pair) → k ≡ 2 * n → IsPower x n r → IsProduct r r s → IsPower x k s
   odd : (n k : ℕ) (r s t : Pair) → k ≡ 2 * n + 1 → IsPower x n r → IsProduct r r s → IsProduct s x t → IsPower x k t
+
+-- the powers of x up to the n-th keep their exponents near 0
+abbrev pub StaysNear : Pair → ℕ → Type 0
+StaysNear x n = (k : ℕ) (r : Pair) → k ≤ n → IsPower x k r → pair_reach r ≤ 2 ^ 22
 
 -- r is the power of a pair whose two ends are s
 pub record IsOwnPower (s : Scaled) (n : ℕ) (r : Pair) : Type 0 where
@@ -73,7 +81,3 @@ pub record IsRoot533 (d r : Pair) : Type 0 where
   pub made : IsPower d 533 raised
   pub low : IsRootDown raised.lo r.lo
   pub high : IsRootUp raised.hi r.hi
-
--- how far from 1 a pair can lie
-abbrev pub pair_reach : Pair → ℕ
-pair_reach x = reach x.lo + reach x.hi

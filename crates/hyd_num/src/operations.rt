@@ -5,9 +5,9 @@
 //! chain of them fits.
 #![tactic(auto)]
 
-ghost use Rattle.std.specs.Prelude.{ℕ, ◌+◌, ◌*◌, ◌^◌, ◌<◌, ◌≤◌, ◌≡◌};
+ghost use Rattle.std.specs.Prelude.{ℕ, ◌+◌, ◌*◌, ◌^◌, ◌<◌, ◌≤◌, ◌≡◌, ◌⊎◌};
 ghost use Rattle.hyd_num.specs.Scaled.{numerator, denominator, reach, IsDown, IsUp};
-ghost use Rattle.hyd_num.specs.Pairs.{IsRatio, IsProduct, IsQuotient, IsSum, IsPower, pair_reach};
+ghost use Rattle.hyd_num.specs.Pairs.{IsRatio, IsProduct, IsQuotient, IsSum, IsPower, StaysNear, pair_reach};
 
 use crate::binary::Scaled;
 use crate::cuts::{product, quotient, raised, sum};
@@ -63,10 +63,11 @@ pub fn add(x: Pair, y: Pair) -> Pair
     between(sum_down(x.lo, y.lo), sum_up(x.hi, y.hi))
 }
 
-/// The enclosure of `x` to the power `n`, by the binary digits of `n`.
+/// The enclosure of `x` to the power `n`, by the binary digits of `n`. Its exponents stay near 0
+/// where `n` times the reach of `x` is small, or since `x` is near 1.
 pub fn pow(x: Pair, n: u32) -> Pair
     requires positive { 1 ≤ n }
-    requires near { n * pair_reach x ≤ 2 ^ 30 }
+    requires near { (n * pair_reach x ≤ 2 ^ 30) ⊎ StaysNear x n }
     ensures power { IsPower x n result }
     ensures near { pair_reach result ≤ n * pair_reach x }
 {
