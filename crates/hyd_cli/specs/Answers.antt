@@ -48,7 +48,7 @@ ChangesOnly name before now = (other : List ℕ) → other ≢ name → file_at 
 
 -- ---- faults
 
--- A fault comes only where one call failed or stalled, the last one: its count is one more, the read faults, the write or the
+-- A fault comes only where one call failed or stalled: its count is one more, the read faults, the write or the
 -- print faults, or the stalls, and no other count changed. Else the counts stay.
 abbrev pub HasCause : Status → Faults → Faults → Type 0
 HasCause ReadFault before now = now ≡ with_read_fault before
@@ -73,7 +73,7 @@ AnswersUsage status before now = ⊥
 
 -- ---- texts without the form
 
--- what is printed of a text that isn't read
+-- what is printed of a text that isn't of the form
 abbrev pub refused_line : List ℕ
 refused_line = codes "REFUSED line 0 cause 6 detail 12" ++ (10 ∷ [])
 
@@ -109,7 +109,7 @@ pub record FrontsPut (certificate report : List ℕ) (before now : Seen) : Type 
   pub printed : PutOut before.printed now.printed report
   pub in_order : (now.printed ≡ before.printed) ⊎ (now.written ≡ where_told before.files certificate)
 
--- A fault broke the delivery of a run of the network off.
+-- A fault broke the delivery of a run of the network off. The status in it is the one that the whole run would have had.
 pub record BrokeOff (network : Project) (before now : Seen) : Type 0 where
   pub status : Status
   pub certificate : List ℕ

@@ -22,7 +22,7 @@ abbrev pub AreTightHeads : Project → Solution → Type 0
 AreTightHeads network (Heads upper lower) = IsTightHead network Upper upper × IsTightHead network Lower lower
 AreTightHeads network (NoCertificate side) = ⊤
 
--- Where no certificate is named, the side has none, and is the first such.
+-- Where a side is named, it has no certificate, and is the first such.
 abbrev pub LacksOnSide : Project → Solution → Type 0
 LacksOnSide network (Heads upper lower) = ⊤
 LacksOnSide network (NoCertificate side) = HasNoCertificate network (initial_standing network) Main side

@@ -31,8 +31,7 @@ const REFUSED: &[u8] = b"REFUSED line 0 cause 6 detail 12\n";
 ///
 /// The words `run`, NET, CERT, `--tight` read the network of NET, write its certificate to CERT and
 /// print its report; NET and CERT differ and don't begin with `-`. Nothing but NET is opened and
-/// nothing but CERT created. A call on the desk that fails or stalls ends the work and decides the
-/// status.
+/// nothing but CERT created. A call on the desk that fails or stalls decides the status.
 pub fn tool<D: Desk>(alloc: Global, words: &[String], desk: &mut D) -> Status
     requires opens { (names : Names) → command (map string_bytes words.now) ≡ Some names
         → IsTrue (D.may_open names.net) }
@@ -151,7 +150,7 @@ fn refuse_words<D: Desk>(desk: &mut D) -> Status
     }
 }
 
-/// Prints the line of a text that isn't read.
+/// Prints the line of a text that isn't of the form.
 fn refuse_text<D: Desk>(desk: &mut D) -> Status
     ensures cause { HasCause result (D.counts desk.old) (D.counts desk.new) }
     ensures answers { AnswersRefused result

@@ -9,14 +9,14 @@ use Rattle.hyd_num.specs.Rational.{floor, ceiling}
 use Rattle.hyd_spec.specs.Types.{Capacity}
 use Rattle.hyd_spec.specs.Enclosing.{DemandLaw, Fixed, Driven, demand_low, demand_high, emitter_low, emitter_high, quadratic_low, quadratic_high}
 use Rattle.hyd_resist.proofs.Enclosing.{denominator_above}
-use Rattle.hyd_laws.specs.Laws.{AreEnclosing, IsSoundDemand}
+use Rattle.hyd_laws.specs.Laws.{AreRising, IsSoundDemand}
 use Rattle.hyd_laws.proofs.Integers.{floor_at_most_ceiling, min_left, min_rises, min_is}
 use Rattle.hyd_laws.proofs.LinkLaws.{low-rises, high-rises, roots-ordered}
 use Rattle.hyd_laws.proofs.EachLaw.{low_is, high_is}
 use Rattle.hyd_laws.proofs.Outflows.{le-yes, le-no, high-positive}
 
-pub AreEnclosing-quad : (c : Capacity) → AreEnclosing (quadratic_low c) (quadratic_high c)
-AreEnclosing-quad c = record {
+pub AreRising-quad : (c : Capacity) → AreRising (quadratic_low c) (quadratic_high c)
+AreRising-quad c = record {
   low_rises = λ x d le. rw (low_is c x, low_is c d) (low-rises (numerator c.lo) (denominator c.lo) (numerator c.hi) (denominator c.hi) (denominator_above c.lo) (denominator_above c.hi) x d le);
   high_rises = λ x d le. rw (high_is c x, high_is c d) (high-rises (numerator c.lo) (denominator c.lo) (numerator c.hi) (denominator c.hi) (denominator_above c.lo) (denominator_above c.hi) x d le);
   ordered = λ d. rw (low_is c d, high_is c d) (roots-ordered (numerator c.lo) (denominator c.lo) (numerator c.hi) (denominator c.hi) (denominator_above c.lo) (denominator_above c.hi) c.ordered d);
@@ -57,24 +57,24 @@ stepped-ordered D m m' r r' f g p some lower sooner positive rises ordered = ste
     (λ k n. min_rises D (f (p -ℤ m)) (g (p -ℤ m'))
     (let a = rises (p -ℤ m) (p -ℤ m') (omega (arith, ints, lower)) in let b = ordered (p -ℤ m') in omega (arith, ints, a, b))))
 
-pub AreEnclosing-demand : (law : DemandLaw) → IsSoundDemand law → AreEnclosing (demand_low law) (demand_high law)
-AreEnclosing-demand (Fixed demand) sound = record {
+pub AreRising-demand : (law : DemandLaw) → IsSoundDemand law → AreRising (demand_low law) (demand_high law)
+AreRising-demand (Fixed demand) sound = record {
   low_rises = λ c d le. omega (arith, ints);
   high_rises = λ c d le. omega (arith, ints);
   ordered = λ d. omega (arith, ints);
 }
-AreEnclosing-demand (Driven demand capacity minimum required) sound = record {
-  low_rises = λ c d le. stepped-rises demand (ceiling minimum) (ceiling required) (quadratic_low capacity) c d sound.0 (low-positive capacity) (AreEnclosing-quad capacity).low_rises le;
-  high_rises = λ c d le. stepped-rises demand (floor minimum) (floor required) (quadratic_high capacity) c d sound.0 (high-positive capacity) (AreEnclosing-quad capacity).high_rises le;
+AreRising-demand (Driven demand capacity minimum required) sound = record {
+  low_rises = λ c d le. stepped-rises demand (ceiling minimum) (ceiling required) (quadratic_low capacity) c d sound.0 (low-positive capacity) (AreRising-quad capacity).low_rises le;
+  high_rises = λ c d le. stepped-rises demand (floor minimum) (floor required) (quadratic_high capacity) c d sound.0 (high-positive capacity) (AreRising-quad capacity).high_rises le;
   ordered = λ d. stepped-ordered demand (ceiling minimum) (floor minimum) (ceiling required) (floor required) (quadratic_low capacity) (quadratic_high capacity) d sound.0
       (floor_at_most_ceiling minimum sound.1.0) (floor_at_most_ceiling required sound.1.1) (high-positive capacity)
-      (AreEnclosing-quad capacity).low_rises (AreEnclosing-quad capacity).ordered;
+      (AreRising-quad capacity).low_rises (AreRising-quad capacity).ordered;
 }
 
-pub AreEnclosing-emitter : (emitter : Option Capacity) → AreEnclosing (emitter_low emitter) (emitter_high emitter)
-AreEnclosing-emitter None = record {
+pub AreRising-emitter : (emitter : Option Capacity) → AreRising (emitter_low emitter) (emitter_high emitter)
+AreRising-emitter None = record {
   low_rises = λ c d le. omega (arith, ints);
   high_rises = λ c d le. omega (arith, ints);
   ordered = λ d. omega (arith, ints);
 }
-AreEnclosing-emitter (Some capacity) = AreEnclosing-quad capacity
+AreRising-emitter (Some capacity) = AreRising-quad capacity

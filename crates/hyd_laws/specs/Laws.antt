@@ -142,7 +142,7 @@ TellEach truths tests = AllZip Tells truths tests
 -- ---- outflows
 
 -- The enclosing functions of an outflow: neither falls as the pressure rises, and the lower is at most the higher.
-pub record AreEnclosing (low high : ℤ → ℤ) : Type 0 where
+pub record AreRising (low high : ℤ → ℤ) : Type 0 where
   pub low_rises : (c d : ℤ) → c ≤ℤ d → low c ≤ℤ low d
   pub high_rises : (c d : ℤ) → c ≤ℤ d → high c ≤ℤ high d
   pub ordered : (d : ℤ) → low d ≤ℤ high d

@@ -59,8 +59,7 @@ pub fn boxes()
         → LiesIn S (out_box here (head_at below j) (head_at above j)) (flow_at assignment.demands j +ℤ flow_at assignment.emitters j) }
 {}
 
-/// The inflow of a tank lies in the box of the certificates that pin it: no junction's head lies
-/// further from them than the tank's own.
+/// The inflow of a tank lies in the box of the certificates that pin it.
 pub fn inflows()
     ensures inflow { (network : Project) (S time : ℕ) (intervals : List Interval) (levels : List ℤ)
         (tanks : List TankState) (links : List LinkState) (assignment : Assignment) (grid : Grid)

@@ -1,5 +1,6 @@
 //! What a record decides is one, in every network: the tight vectors of a grid, the end of the period, the standing that it
-//! leads on to, and the lines of its report. So what the relations accept of an independent run is all that they accept.
+//! leads on to, and the lines of its report. So what the relations accept of an independent tight run is all that they
+//! accept.
 #![tactic(auto)]
 
 ghost use Rattle.std.specs.Prelude.{◌≡◌, ℕ, ℤ, false, List, length};

@@ -52,8 +52,8 @@ pub fn control_valve()
 {}
 
 /// A base demand of 10 cubic metres a day under a demand multiplier of 0.5 and a pattern of the
-/// multipliers 1, 2 and 0 is 5, 10 and 0 cubic metres a day in the first three hours, and 5 again
-/// in the fourth.
+/// multipliers 1, 2 and 0 is 5, 10 and 0 cubic metres a day at the start of the first three hours,
+/// and 5 again at that of the fourth.
 pub fn demands()
     ensures { (network : Project) (category : Demand) → category.base ≡ pos (10 ^ 8) → category.pattern ≡ Some 0
         → network.options.multiplier.nano ≡ pos (5 * 10 ^ 8) → network.times.pattern ≡ 3600 → network.times.pattern_start ≡ 0

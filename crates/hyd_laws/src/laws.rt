@@ -6,10 +6,10 @@ ghost use Rattle.hyd_num.specs.Roots.{IsSquareRootDown, IsSquareRootUp};
 ghost use Rattle.hyd_spec.specs.Types.{Origin, Capacity};
 ghost use Rattle.hyd_spec.specs.Law.{Law, loss_at_most, loss_at_least, flow_at_least, flow_at_most};
 ghost use Rattle.hyd_spec.specs.Enclosing.{low, high, root_down, root_up, DemandLaw, demand_low, demand_high, emitter_low, emitter_high};
-ghost use Rattle.hyd_laws.specs.Laws.{IsLossLaw, HasPositiveNumbers, IsLaw, IsSoundLaw, AreEnclosing, IsSoundDemand};
+ghost use Rattle.hyd_laws.specs.Laws.{IsLossLaw, HasPositiveNumbers, IsLaw, IsSoundLaw, AreRising, IsSoundDemand};
 
 /// What is lost in pipes, valves, pumps, emitters and by demands that depend on the pressure
-/// rises with the flow, and no two flows lose the same.
+/// rises with the flow: one that loses at most a head is at most one that loses at least it.
 pub fn losses()
     ensures each { (origin : Origin) → HasPositiveNumbers origin → IsLossLaw (loss_at_most origin) (loss_at_least origin) }
 {}
@@ -28,6 +28,6 @@ pub fn roots()
 
 /// The enclosing functions of demands and emitters rise with the pressure.
 pub fn outflows()
-    ensures demands { (law : DemandLaw) → IsSoundDemand law → AreEnclosing (demand_low law) (demand_high law) }
-    ensures emitters { (emitter : Option Capacity) → AreEnclosing (emitter_low emitter) (emitter_high emitter) }
+    ensures demands { (law : DemandLaw) → IsSoundDemand law → AreRising (demand_low law) (demand_high law) }
+    ensures emitters { (emitter : Option Capacity) → AreRising (emitter_low emitter) (emitter_high emitter) }
 {}

@@ -1,11 +1,12 @@
-//! What a run is made of, and what is left of one that breaks off.
+//! What a run is made of, what is left of one that breaks off, and what a check accepts.
 #![tactic(auto)]
 
-ghost use Rattle.std.specs.Prelude.{◌≡◌, ℕ, List, ◌++◌};
+ghost use Rattle.std.specs.Prelude.{◌≡◌, ℕ, List, ◌++◌, length};
 ghost use Rattle.hyd_spec.specs.Types.{Project};
 ghost use Rattle.hyd_spec.specs.Record.{Standing};
 ghost use Rattle.hyd_spec.specs.Valid.{AreValid};
-ghost use Rattle.hyd_spec.specs.Headline.{Found, IsRun, rows_of, Sharpness, Outcome, RunWrites, RunBreaksOff};
+ghost use Rattle.hyd_spec.specs.ReportLine.{report_text};
+ghost use Rattle.hyd_spec.specs.Headline.{Found, IsRun, rows_of, lines_of, Sharpness, Outcome, RunWrites, RunBreaksOff, CheckAccepts, accepted_line};
 
 /// The records of a run are valid one after another, from its start to the standing that it leaves.
 pub fn records()
@@ -20,4 +21,12 @@ pub fn fronts()
         → RunWrites network rounds sharpness outcome certificate report
         → written ++ unwritten ≡ certificate → printed ++ unprinted ≡ report
         → RunBreaksOff network rounds sharpness written printed }
+{}
+
+/// A check accepts the certificate that a run wrote, and prints its report with a last line of its own.
+pub fn acceptance()
+    ensures { (network : Project) (rounds : ℕ) (sharpness : Sharpness) (outcome : Outcome) (certificate report : List ℕ)
+        (run : RunWrites network rounds sharpness outcome certificate report)
+        → CheckAccepts network certificate
+        (report_text network (lines_of run.founds) (accepted_line (length run.founds) run.left.finished)) }
 {}

@@ -92,7 +92,7 @@ abbrev pub HasCoefficient : ℤ → Origin → Type 0
 HasCoefficient nano (ValveOrigin diameter k us) = k.nano ≡ nano
 HasCoefficient nano _ = ⊥
 
--- the law of an open valve with this loss coefficient: linear exactly at 0
+-- the law of an open valve with this loss coefficient: linear only at 0 (a quadratic one's coefficient is above 0 by its range)
 abbrev pub HasLaw : ℤ → OpenValve → Type 0
 HasLaw nano (Quadratic cap) = HasCoefficient nano cap.origin
 HasLaw nano Linear = nano ≡ pos 0

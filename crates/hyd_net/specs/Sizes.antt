@@ -1,4 +1,4 @@
--- The ranges of a network's quantities, in the file's units.
+-- The ranges of a network's quantities, in ticks or in the file's units.
 -- Source: EPANET 2.2 User Manual, appendix C; the ranges are this program's.
 use Rattle.std.specs.Prelude.{◌≡◌, ℕ, ◌*◌, ◌^◌, Bool, true, List, length, Option, IfSome, ℤ, pos, ◌+ℤ◌, ◌-ℤ◌, ◌*ℤ◌, ◌≤ℤ◌, ⊤}
 use Rattle.std.specs.List.{All}
@@ -22,7 +22,7 @@ use Rattle.hyd_net.specs.declared.links.LinkKind.TheVariants.{Pipe, CheckPipe, P
 use Rattle.hyd_net.specs.declared.patterns.Pattern.{Pattern}
 use Rattle.hyd_net.specs.declared.project.Project.{Project}
 
--- a pattern is named, and each of its multipliers has this property; nothing is asked where none is named
+-- where a pattern is named, it is there and each of its multipliers has this property
 abbrev pub HasPattern : (ℤ → Type 0) → List Pattern → Option ℕ → Type 0
 HasPattern P patterns named = IfSome named (Numbers (λ (p : Pattern). All P p.multipliers.list) patterns)
 
@@ -38,7 +38,7 @@ pub record HasOptions (options : Options) (patterns : List Pattern) : Type 0 whe
   pub multiplier : IsNumberUpTo (10 ^ 6) options.multiplier
   pub minimum : IsPressure options.unit options.p0
   pub required : IsPressure options.unit options.pf
-  -- where demands depend on pressure, the pressures are a tenth of a unit apart
+  -- where demands depend on pressure, the required pressure exceeds the minimum by at least a tenth of a unit
   pub apart : options.pda ≡ true → (options.p0.nano +ℤ pos (10 ^ 8)) ≤ℤ options.pf.nano
   pub default_pattern : HasPattern (λ _. ⊤) patterns options.default_pattern
 
@@ -111,7 +111,7 @@ abbrev pub IsValve : FlowUnit → OpenValve → Type 0
 IsValve unit (Quadratic cap) = IsValveOrigin unit cap.origin
 IsValve unit Linear = ⊤
 
--- a curve's flow and the head that is lost at it are above 0, the flow cut to ticks is a flow
+-- a curve's flow and its drop (of a curve of one point: its head) are above 0, the flow cut to ticks is a flow
 pub record IsPumpNumbers (unit : FlowUnit) (flow drop : Decimal) (own : FlowUnit) : Type 0 where
   pub flows : pos 1 ≤ℤ flow.nano
   pub flow_range : IsFlow (flow_ticks unit flow.nano)

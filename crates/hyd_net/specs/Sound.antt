@@ -67,7 +67,7 @@ pub record IsPattern (p : Pattern) : Type 0 where
 -- ---- times
 
 -- times are at most 10^8 seconds, steps at least one; the hydraulic step is at most the pattern step and the report step, the rule step
--- at most the hydraulic one; the start is a time of day
+-- at most the hydraulic one; the clock's start is a time of day
 pub record AreTimes (t : Times) : Type 0 where
   pub duration : t.duration ≤ 10 ^ 8
   pub hydraulic : 1 ≤ t.hydraulic

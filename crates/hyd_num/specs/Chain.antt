@@ -1,7 +1,8 @@
 -- Which pair each kind of capacity is, step by step, from the numbers of a file. A capacity is the square of the flow in ticks
 -- that one head tick drives. Head losses are Manning's, with Chezy's form of the friction (EPANET 2.2 User Manual, Analysis
 -- Algorithms): in feet and cubic feet a second, 4.66 n^2 L d^-5.33 q^2 for friction and 0.02517 K d^-4 q^2 for minor losses.
---     A number that is negative counts as 0. Where a quotient needs a number above 0, one that counts as 0 stands for no pair.
+--     A number that is negative counts as 0. No pair encloses 0, so a number that counts as 0 stands for none; a pipe's minor
+--     coefficient of 0 is left out.
 use Rattle.std.specs.Prelude.{◌≡◌, ℕ, zero, suc, ◌*◌, ◌^◌, Bool, ℤ, ◌-ℤ◌}
 use borrow.Author.Differences.{up}
 use Rattle.hyd_num.specs.declared.pairs.Pair.{Pair}
@@ -116,7 +117,7 @@ pub record IsEmitterPair (coefficient : Decimal) (unit : FlowUnit) (r : Pair) : 
   pub head_is : IsPairOf (pressure_fraction (is_us_unit unit) (10 ^ 9)) head
   pub capacity_is : IsSquareOver flows head r
 
--- a demand that is met at one pressure and 0 at another, from that one up
+-- a demand that is met at the required pressure and is 0 at the minimum one
 pub record IsPressurePair (demand : ℤ) (minimum required : Decimal) (us : Bool) (r : Pair) : Type 0 where
   pub flows : Pair
   pub flows_is : IsRatio (up demand) 1 flows

@@ -79,11 +79,11 @@ ends_well text = if has_exponent text then is_exponent (exponent_text text) else
 unfoldable pub is_numeral : List ℕ → Bool
 is_numeral text = has_digits text && ends_well text
 
--- the power of ten by which the number is multiplied, 0 where there is no exponent
+-- the exponent of the power of ten by which the number is multiplied, 0 where there is none
 abbrev pub exponent : List ℕ → ℤ
 exponent text = signed (is_negative (exponent_text text)) (number (behind_sign (exponent_text text)))
 
--- the power of ten by which the number of all its digits makes billionths
+-- the exponent of the power of ten by which the number of all its digits makes billionths
 abbrev pub places : List ℕ → ℤ
 places text = (exponent text +ℤ pos 9) -ℤ pos (length (decimal_digits text))
 

@@ -35,7 +35,7 @@ pub record IsSum (x y r : Pair) : Type 0 where
 abbrev pub pair_reach : Pair → ℕ
 pair_reach x = reach x.lo + reach x.hi
 
--- r is the power of x that its binary digits make: x for the first digit, and for each further one
+-- r is the n-th power of x, by the binary digits of n: x for the first digit, and for each further one
 -- a square that is multiplied by x where the digit is 1
 pub data IsPower (x : Pair) : ℕ → Pair → Type 0 where
   once : IsPower x 1 x

@@ -1,7 +1,7 @@
 -- The hydraulic state of a period: a head at each junction and a flow in each link that obey the
 -- laws and balance at each junction. Heads are S-th parts of a head tick, flows of a flow tick.
 -- Source: EPANET 2.2 User Manual, chapter 3 (hydraulic simulation model).
-use Rattle.std.specs.Prelude.{◌≡◌, ℕ, ℤ, pos, ◌+ℤ◌, ◌-ℤ◌, Bool, true, false, List, [], ◌∷◌, ◌++◌, length, map, slice_index_or, ◌==◌}
+use Rattle.std.specs.Prelude.{◌≡◌, ℕ, ◌≤◌, ℤ, pos, ◌+ℤ◌, ◌-ℤ◌, Bool, true, false, List, [], ◌∷◌, ◌++◌, length, map, slice_index_or, ◌==◌}
 use Rattle.hyd_spec.specs.Types.{Project, Junction, Link, LinkState, Tank, TankState}
 use Rattle.hyd_spec.specs.Scale.{at_scale}
 use Rattle.hyd_spec.specs.Quantity.{reservoir_head}
@@ -79,10 +79,11 @@ pub record JunctionObeys (network : Project) (time S : ℕ) (assignment : Assign
   pub balance : IsBalanced S (net_outflow j network.links.list assignment.flows)
       (flow_at assignment.demands j) (flow_at assignment.emitters j)
 
--- An assignment of a period that begins at `time` with these levels (S-th parts of a head tick) and tank states, one
--- for each tank, and link states.
+-- An assignment, at a scale S of at least 1, of a period that begins at `time` with these levels (S-th parts of a head
+-- tick) and tank states, one for each tank, and link states.
 pub record IsAssignment (network : Project) (S time : ℕ) (levels : List ℤ) (tanks : List TankState)
     (links : List LinkState) (assignment : Assignment) : Type 0 where
+  pub scale : 1 ≤ S
   pub level_each : length levels ≡ tank_count network
   pub tank_each : length tanks ≡ tank_count network
   pub head_each : length assignment.heads ≡ junction_count network

@@ -83,7 +83,7 @@ tank_watches k (tank ∷ tanks) (state ∷ states) =
     ++ ((if is_empty state then [] else record { tank = k; target = tank.minimum; rising = false } ∷ [])
     ++ tank_watches (suc k) tanks states)
 
--- A level control that doesn't hold at the start.
+-- A level control that doesn't hold at the start (each is decided there).
 abbrev pub watch_of : List Interval → Control → Option Watch
 watch_of levels control = by_when control.when
   where
@@ -127,7 +127,7 @@ abbrev pub IsEarliestEnd : Project → Grid → Standing → Record → ℕ → 
 IsEarliestEnd network grid standing row second =
     IsLeast (λ s. IsClockLength network standing.time s ⊎ ((1 ≤ s) × SomeMayReach network grid standing row s)) second
 
--- The latest second after the start by which the clock or an event must have ended the period.
+-- The first second after the start by which the clock or an event must have ended the period: its latest end.
 abbrev pub IsLatestEnd : Project → Grid → Standing → Record → ℕ → Type 0
 IsLatestEnd network grid standing row second =
     IsLeast (λ s. IsClockLength network standing.time s ⊎ ((1 ≤ s) × SomeMustReach network grid standing row s)) second

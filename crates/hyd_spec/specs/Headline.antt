@@ -145,7 +145,7 @@ outcome_number (Stopped cause) = 6
 
 -- ---- what was put out before a fault
 
--- The certificate and the report as far as some records go, with their ends where the run's end is known.
+-- The certificate as far as some records go, with its end line where the run's end is known.
 abbrev pub certificate_so_far : Project → List Found → Option Outcome → List ℕ
 certificate_so_far network founds last =
     header_line (junction_count network) (tank_count network)

@@ -8,7 +8,7 @@ use Rattle.hyd_num.specs.Rational.{Rational, floor, ceiling}
 use Rattle.hyd_spec.specs.Interval.{Interval}
 use Rattle.hyd_spec.specs.Tank.{exact_level, is_at_maximum, is_at_minimum, reaches, tank_state}
 
--- A level x as an end of an interval: the bound where x is at or beyond one, else what `inside` makes of it.
+-- A level x as an end of an interval: the bound where x is at or beyond one, else `inside`.
 abbrev pub end_of : Tank → Rational → ℤ → ℤ
 end_of tank x inside =
     if is_at_maximum 1 tank x then tank.maximum
@@ -36,7 +36,7 @@ levels_after widening tank level inflow seconds = record {
 abbrev pub carried_levels : Tank → Interval → Interval → ℕ → Interval
 carried_levels tank level inflow seconds = levels_after (pos 0) tank level inflow seconds
 
--- The level interval at which the next period begins: ten ticks wider at either end.
+-- The level interval at which the next period begins: moved outward by up to ten ticks, inside minimum and maximum.
 abbrev pub next_levels : Tank → Interval → Interval → ℕ → Interval
 next_levels tank level inflow seconds = levels_after (pos 10) tank level inflow seconds
 

@@ -1,5 +1,6 @@
 -- Exact quantities: what the numbers of the file are worth, in ticks, at a time of the run.
--- A head tick is 10^-13 m, a flow tick 10^-7 cubic metres a day; `nano` counts billionths of the file's unit.
+-- A head tick is 10^-13 m, a flow tick 10^-7 cubic metres a day; `nano` counts
+-- billionths of the file's unit, or of a plain number.
 -- Source: EPANET 2.2 User Manual, chapter 3 (the network model) and appendix C (sections [DEMANDS],
 -- [PATTERNS], [RESERVOIRS], [CURVES], [TIMES]).
 use Rattle.std.specs.Prelude.{ℕ, ◌+◌, ◌*◌, ◌/◌, ◌%◌, ◌^◌, ℤ, pos, ◌*ℤ◌, Bool, List, [], length, map, slice_get, slice_index_or}
@@ -73,11 +74,10 @@ lift_of us head speed =
 abbrev pub pressure_value : Bool → Decimal → Rational
 pressure_value us pressure = record { num = pressure_numerator us pressure.nano; den = pressure_denominator us }
 
--- The pressures of pressure-driven demands, in head ticks: below the minimum nothing is
--- delivered, from the required pressure on the whole demand.
+-- The minimum pressure, in head ticks: up to it a pressure-driven demand gets nothing.
 abbrev pub minimum_pressure : Project → Rational
 minimum_pressure network = pressure_value (is_us network) network.options.p0
 
--- The required pressure, in head ticks.
+-- The required pressure, in head ticks: from it on a pressure-driven demand gets all.
 abbrev pub required_pressure : Project → Rational
 required_pressure network = pressure_value (is_us network) network.options.pf

@@ -12,7 +12,7 @@ use Rattle.hyd_spec.specs.Network.{tank_node, junction_count}
 use Rattle.hyd_spec.specs.CertificateText.{line}
 use Rattle.hyd_spec.specs.Stops.{StopCause, DemandOutOfRange, NoCertificate, RoundsSpent, RuleOpen, EventOpen, TankOpen, ControlOpen}
 
--- A line of a report, the last one aside.
+-- A line of a report, the first and the last one aside.
 pub data ReportLine : Type 0 where
   -- at a time a control, by its number, gave a link a state
   ControlLine : ℕ → ℕ → ℕ → LinkState → ReportLine

@@ -113,7 +113,7 @@ amount network what value = whole (pos 0)
 
 -- ---- clauses
 
--- ABOVE is more than, BELOW less than.
+-- x stands in the relation to the amount. ABOVE is more than, BELOW less than.
 abbrev pub compares : Relation → Rational → Rational → Bool
 compares Less x amount = is_less x amount
 compares NotMore x amount = is_at_most x amount
@@ -122,7 +122,7 @@ compares NotLess x amount = is_at_most amount x
 compares Equal x amount = is_at_most x amount && is_at_most amount x
 compares Unequal x amount = not (is_at_most x amount && is_at_most amount x)
 
--- A status clause: the commanded state has the word, or hasn't.
+-- The word is the one that the value names.
 abbrev pub is_word : StateWord → Value → Bool
 is_word IsOpen ValueOpen = true
 is_word IsClosed ValueClosed = true
@@ -135,7 +135,8 @@ status_holds Unequal word value = not (is_word word value)
 status_holds relation word value = is_word word value
 
 -- A clause on the time or the clock. Equality holds where the value has come within the last rule step, as `came`
--- says: so a time holds at one instant of the rules, and a time of day once a day.
+-- says: so a time above 0 holds at one instant at which rules are tried, and a time of day once a day, where the
+-- rule step is at most a day.
 abbrev pub time_holds : Relation → ℕ → ℕ → Bool → Bool
 time_holds Equal now at came = came
 time_holds Unequal now at came = not came

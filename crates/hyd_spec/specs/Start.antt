@@ -1,6 +1,6 @@
 -- The start of a period: pump patterns, then simple controls.
--- Source: EPANET 2.2 User Manual, chapter 3 (controls) and appendix C ([CONTROLS], [PUMPS]); that a pump is set at time
--- 0 and where a step of the patterns begins, and at no other time, is this program's.
+-- Source: EPANET 2.2 User Manual, chapter 3 (controls) and appendix C ([CONTROLS], [PUMPS]); that a pump takes its
+-- pattern's multiplier at time 0 and where a step of the patterns begins, and at no other time, is this program's.
 use Rattle.std.specs.Prelude.{ℕ, ◌+◌, ◌%◌, ℤ, pos, Bool, ◌||◌, ◌==◌, List, [], ◌∷◌, Some, fold, slice_set, slice_index_or, int_le, if◌then◌else◌}
 use Rattle.hyd_spec.specs.Types.{Project, Link, LinkKind, PumpLink, LinkState, Closed, Speed, When, AtLevel, AtTime, AtClock}
 use Rattle.hyd_num.specs.Rational.{whole}
@@ -28,7 +28,8 @@ abbrev pub is_pattern_boundary : Project → ℕ → Bool
 is_pattern_boundary network time =
     (time == 0) || ((time + network.times.pattern_start) % network.times.pattern == 0)
 
--- The state of a link where a step of the patterns begins: a pump with a pattern takes its multiplier as speed.
+-- The state of a link at time 0 or where a step of the patterns begins: a pump with a pattern takes its multiplier as
+-- speed.
 abbrev pub patterned_state : Project → ℕ → Link → LinkState → LinkState
 patterned_state network time link state = by_kind link.kind
   where
@@ -36,7 +37,7 @@ patterned_state network time link state = by_kind link.kind
     by_kind (PumpLink capacity shutoff head (Some pattern)) = speed_state (multiplier_at network pattern time)
     by_kind kind = state
 
--- The states of all links where a step of the patterns begins.
+-- The states of all links at such a time.
 abbrev pub after_patterns : Project → ℕ → List Link → List LinkState → List LinkState
 after_patterns network time [] states = states
 after_patterns network time (link ∷ links) [] = []

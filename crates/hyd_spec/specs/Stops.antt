@@ -74,7 +74,8 @@ pub record HasNoCertificate (network : Project) (standing : Standing) (problem :
   pub earlier : EarlierHaveCertificates network grid problem side
   pub none : (u : List ℤ) → IsCertificate grid problem side u → ⊥
 
--- So many plain rounds from the beginning exist, and their result is no certificate; every problem and side before has one.
+-- At a standing with demands in range so many plain rounds from the beginning exist, and their result is no certificate;
+-- every problem and side before has one.
 pub record SpendsRounds (network : Project) (standing : Standing) (problem : Problem) (side : Side) (rounds : ℕ) : Type 0 where
   pub in_range : DemandsAreInRange network standing.time
   pub is_problem : IsProblem network problem
@@ -155,8 +156,9 @@ pub record LeavesControlOpen (network : Project) (standing : Standing) (number :
 
 -- ---- the condition
 
--- The cause holds at a standing, for this number of rounds, and is the first in the order of a period: demands, problems and
--- sides by their turns, then the matters under the tight vectors. Whether the run is over there is said elsewhere.
+-- The cause holds at a standing, for this number of rounds. Every problem and side before one that is named has a certificate;
+-- where a matter is named, all have tight vectors and it is the first open one (that so many rounds find them isn't
+-- said). Whether the run is over there is said elsewhere.
 abbrev pub Stops : Project → Standing → ℕ → StopCause → Type 0
 Stops network standing rounds (DemandOutOfRange junction demand) = IsFirstDemand network standing.time junction demand
 Stops network standing rounds (NoCertificate problem side junction) =

@@ -51,6 +51,7 @@ module _ (choice : Choice) where
         → main ≡ fed +ℤ takes → dropped ≡ pos 2000000000000
         → IsAssignment (village_with choice) 1000 time period.levels period.tanks period.links period.assignment
     obeys main_follows fed_follows dropped_follows mill_takes farm_takes mill_balance farm_balance = record {
+      scale = omega arith;
       level_each = refl;
       tank_each = refl;
       head_each = refl;

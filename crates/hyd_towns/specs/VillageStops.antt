@@ -48,7 +48,7 @@ unsure_event = record usual { ticks = pos 20036841430000 }
 abbrev pub unsure_control : Choice
 unsure_control = record usual { ticks = pos 20058946280000 }
 
--- The tower is nearly full at the end of the first period, or not quite.
+-- The tower counts as full at the end of the first period, or doesn't yet.
 abbrev pub unsure_tank : Choice
 unsure_tank = record usual { tank = record tower { maximum = pos 20060470280000 } }
 

@@ -21,7 +21,7 @@ pub fn statuses()
         ≡ 0 ∷ 6 ∷ 6 ∷ 6 ∷ 6 ∷ 6 ∷ 7 ∷ 8 ∷ [] }
 {}
 
-/// The last words of certificates, and the last lines of a check that accepts them.
+/// Whether a run finished, and the last lines of a check that accepts its certificate.
 pub fn last_words()
     ensures finished { map is_finished (Finished ∷ Stopped (EventOpen 5 6) ∷ []) ≡ true ∷ false ∷ [] }
     ensures accepted { (accepted_line 5 true ∷ accepted_line 2 false ∷ []) ≡ codes "DONE 5\n" ∷ codes "PARTIAL 2\n" ∷ [] }
@@ -39,8 +39,8 @@ pub fn fronts()
         ≡ shallow_printed }
 {}
 
-/// The first two records of the village are narrow for these widths (head ticks) and for no smaller one, by the rule of
-/// widths itself: the independent program doesn't ask it of tight vectors.
+/// The first two records of the village are narrow for these widths (head ticks) and not for one tick less, by the rule
+/// of widths itself: the independent program doesn't ask it of tight vectors.
 pub fn narrow()
     ensures widths { (widest standing_0.levels ∷ widest standing_1.levels ∷ []) ≡ pos 0 ∷ pos 59468 ∷ [] }
     ensures first { IsNarrow (pos 5946800) standing_0 row_0 standing_1 }

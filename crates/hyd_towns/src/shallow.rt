@@ -1,5 +1,5 @@
 //! A village whose tank fills within a second, empties in the next five, and leaves the farm without a source: an
-//! independent calculation stops there. All that it gives up to then, and the stop, hold by the definitions.
+//! independent calculation stops there. Its records, lines and texts up to then, and the stop, hold by the definitions.
 #![tactic(auto)]
 
 ghost use Rattle.std.specs.Prelude.{◌≡◌, false};

@@ -42,7 +42,8 @@ pub fn certificates()
     ensures fifth { AreCertificates village grid_4 row_4 }
 {}
 
-/// How each period ends: by the clock, by the control, by the rule, by the clock again.
+/// How each period ends: without rules after 8 s (by the clock) and 3 s (by the control), by a rule after 3 s, without
+/// rules after 2 s.
 pub fn ends()
     ensures first { EndsBy village grid_0 standing_0 row_0 (ByClock 8) }
     ensures second { EndsBy village grid_1 standing_1 row_1 (ByClock 3) }
@@ -50,7 +51,7 @@ pub fn ends()
     ensures fourth { EndsBy village grid_3 standing_3 row_3 (ByClock 2) }
 {}
 
-/// Each record is valid and leads on to the next one, and so does the whole list.
+/// Each record is valid and leads on to the next standing, and so does the whole list.
 pub fn records()
     ensures first { IsValid village standing_0 grid_0 row_0 standing_1 }
     ensures second { IsValid village standing_1 grid_1 row_1 standing_2 }
