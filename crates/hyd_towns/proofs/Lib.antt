@@ -17,3 +17,4 @@ pub mod ShallowRun
 pub mod ShallowHistory
 pub mod VillageSound
 pub mod NarrowRecords
+pub mod RoundsAre

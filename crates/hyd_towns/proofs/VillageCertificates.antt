@@ -25,7 +25,7 @@ abbrev pub all_inside : List ℤ → Bool
 all_inside [] = true
 all_inside (h ∷ hs) = inside h && all_inside hs
 
-in_box : (h : ℤ) → inside h ≡ true → IsInBox h
+pub in_box : (h : ℤ) → inside h ≡ true → IsInBox h
 in_box h e =
     let low = int_le (neg_ℤ (pos (10 ^ 18))) h in
     let high = int_le h (pos (10 ^ 18)) in
@@ -40,7 +40,7 @@ abbrev pub passing : Grid → Problem → Side → List ℤ → ℕ → GridJunc
 passing grid problem Upper u i junction = int_le (margin grid i +ℤ pos 1) (net_low grid problem u i junction)
 passing grid problem Lower u i junction = int_le (net_high grid problem u i junction) (neg_ℤ (margin grid i +ℤ pos 1))
 
-passes : (grid : Grid) (problem : Problem) (side : Side) (u : List ℤ) (i : ℕ) (junction : GridJunction)
+pub passes : (grid : Grid) (problem : Problem) (side : Side) (u : List ℤ) (i : ℕ) (junction : GridJunction)
     → passing grid problem side u i junction ≡ true → Passes grid problem side u i junction
 passes grid problem Upper u i junction e = le-yes (margin grid i +ℤ pos 1) (net_low grid problem u i junction) e
 passes grid problem Lower u i junction e = le-yes (net_high grid problem u i junction) (neg_ℤ (margin grid i +ℤ pos 1)) e

@@ -93,7 +93,7 @@ nearer Upper x = x -ℤ pos 1
 nearer Lower x = x +ℤ pos 1
 
 -- a head that isn't beyond another has the one next to that beyond it
-next_beyond : (side : Side) (x y : ℤ) → IsBeyond side x y ⊎ IsBeyond side y (nearer side x)
+pub next_beyond : (side : Side) (x y : ℤ) → IsBeyond side x y ⊎ IsBeyond side y (nearer side x)
 next_beyond Upper x y = by_lt_z y x (λ lt. inr (omega (arith, ints, lt))) (λ ge. inl ge)
 next_beyond Lower x y = by_lt_z x y (λ lt. inr (omega (arith, ints, lt))) (λ ge. inl ge)
 

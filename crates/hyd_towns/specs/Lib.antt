@@ -12,3 +12,4 @@ pub mod VillageHistory
 pub mod VillageTexts
 pub mod VillageStops
 pub mod Shallow
+pub mod Rounds
