@@ -48,8 +48,8 @@ ChangesOnly name before now = (other : List ℕ) → other ≢ name → file_at 
 
 -- ---- faults
 
--- A fault comes only where one call failed or stalled: its count is one more, the read faults, the write or the
--- print faults, or the stalls, and no other count changed. Else the counts stay.
+-- A fault comes only where one call failed or stalled: its count is one more (or stands at its last value), the read
+-- faults, the write or the print faults, or the stalls, and no other count changed. Else the counts stay.
 abbrev pub HasCause : Status → Faults → Faults → Type 0
 HasCause ReadFault before now = now ≡ with_read_fault before
 HasCause WriteFault before now = (now ≡ with_write_fault before) ⊎ (now ≡ with_print_fault before)

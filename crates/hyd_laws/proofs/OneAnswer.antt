@@ -10,7 +10,7 @@ use Rattle.hyd_spec.specs.Rules.{measured}
 use Rattle.hyd_spec.specs.Record.{Record, Standing}
 use Rattle.hyd_spec.specs.Truth.{Unknown, is_unknown}
 use Rattle.hyd_num.specs.Rational.{floor, ceiling}
-use Rattle.hyd_spec.specs.Decided.{OpenRule, IsOpenRule, IsFirstMatter, NoRuleMatters, rule_truths, readings_below, readings_above, End, ByRules, ByClock, RuleIsOpen, EventIsOpen, EndsBy, by_rules, rule_is_open, by_clock, event_is_open}
+use Rattle.hyd_spec.specs.Decided.{OpenRule, IsOpenRule, IsFirstMatter, NoRuleMatters, rule_truths, readings_below, readings_above, End, ByRules, WithoutRules, RuleIsOpen, EventIsOpen, EndsBy, by_rules, rule_is_open, by_clock, event_is_open}
 use Rattle.hyd_laws.proofs.Trials.{or-left, or-right}
 
 least_is_one : (P : ℕ → Type 0) (a b : ℕ) → IsLeast P a → IsLeast P b → a ≡ b
@@ -66,7 +66,7 @@ module _ (network : Project) (grid : Grid) (standing : Standing) (row : Record) 
   one_end _ _ (rule_is_open {seconds = s} m is) (event_is_open {earliest = e} n l ne) = absurd (not_both s e m n)
   one_end _ _ (by_clock {second = e} n l) (by_rules {seconds = s} m f) = absurd (not_both s e m n)
   one_end _ _ (by_clock {second = e} n l) (rule_is_open {seconds = s} m is) = absurd (not_both s e m n)
-  one_end _ _ (by_clock {second = d} n l) (by_clock {second = e} m k) = ap ByClock (least_is_one _ d e n.is_earliest m.is_earliest)
+  one_end _ _ (by_clock {second = d} n l) (by_clock {second = e} m k) = ap WithoutRules (least_is_one _ d e n.is_earliest m.is_earliest)
   one_end _ _ (by_clock {second = d} n l) (event_is_open {earliest = e} {latest = f} m k ne) =
       absurd (ne (least_is_one _ e d m.is_earliest n.is_earliest ∙ least_is_one _ d f l k))
   one_end _ _ (event_is_open {earliest = e} n l ne) (by_rules {seconds = s} m f) = absurd (not_both s e m n)

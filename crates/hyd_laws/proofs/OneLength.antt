@@ -3,7 +3,7 @@ use Rattle.std.proofs.Common.{◌≡◌, ℕ, ◌≤◌, ◌⊎◌, inl, inr, Li
 use Rattle.hyd_spec.specs.Types.{Project, LinkState}
 use Rattle.hyd_spec.specs.Grid.{Grid}
 use Rattle.hyd_spec.specs.Record.{Record, Standing}
-use Rattle.hyd_spec.specs.Decided.{SomeMayReach, SomeMustReach, IsClockLength, IsEarliestEnd, IsLatestEnd, RulesMatter, OpenRule, IsOpenRule, IsFirstMatter, NoRuleMatters, End, ByRules, ByClock, EndsBy, by_rules, rule_is_open, by_clock, event_is_open}
+use Rattle.hyd_spec.specs.Decided.{SomeMayReach, SomeMustReach, IsClockLength, IsEarliestEnd, IsLatestEnd, RulesMatter, OpenRule, IsOpenRule, IsFirstMatter, NoRuleMatters, End, ByRules, WithoutRules, EndsBy, by_rules, rule_is_open, by_clock, event_is_open}
 use Rattle.hyd_spec.specs.Valid.{LeavesLinks, by_rules as left_by_rules, by_clock as left_by_clock, LeadsOn, continues, finishes}
 use Rattle.hyd_laws.proofs.OneAnswer.{one_end}
 
@@ -83,7 +83,7 @@ module _ (network : Project) (grid : Grid) (standing : Standing) where
   -- How a period that isn't the last ends, by its length.
   data EndsAfter (row : Record) (n : ℕ) : Type 0 where
     rules : EndsBy network grid standing row (ByRules n) → EndsAfter row n
-    clock : EndsBy network grid standing row (ByClock n) → EndsAfter row n
+    clock : EndsBy network grid standing row (WithoutRules n) → EndsAfter row n
 
   ends_after : (row : Record) (n : ℕ) (links : List LinkState) → LeavesLinks network grid standing row n links → EndsAfter row n
   ends_after row n _ (left_by_rules e) = rules e
@@ -91,9 +91,9 @@ module _ (network : Project) (grid : Grid) (standing : Standing) where
 
   same_after : (row : Record) (n m : ℕ) → EndsAfter row n → EndsAfter (again row m) m → n ≡ m
   same_after row n m (rules e) (rules f) = let same = one_end network grid standing row (ByRules n) (ByRules m) e (ends_again (again row m) row.length (ByRules m) f) in cc
-  same_after row n m (rules e) (clock f) = absurd (let same = one_end network grid standing row (ByRules n) (ByClock m) e (ends_again (again row m) row.length (ByClock m) f) in cc)
-  same_after row n m (clock e) (rules f) = absurd (let same = one_end network grid standing row (ByClock n) (ByRules m) e (ends_again (again row m) row.length (ByRules m) f) in cc)
-  same_after row n m (clock e) (clock f) = let same = one_end network grid standing row (ByClock n) (ByClock m) e (ends_again (again row m) row.length (ByClock m) f) in cc
+  same_after row n m (rules e) (clock f) = absurd (let same = one_end network grid standing row (ByRules n) (WithoutRules m) e (ends_again (again row m) row.length (WithoutRules m) f) in cc)
+  same_after row n m (clock e) (rules f) = absurd (let same = one_end network grid standing row (WithoutRules n) (ByRules m) e (ends_again (again row m) row.length (ByRules m) f) in cc)
+  same_after row n m (clock e) (clock f) = let same = one_end network grid standing row (WithoutRules n) (WithoutRules m) e (ends_again (again row m) row.length (WithoutRules m) f) in cc
 
   pub one_length : (row : Record) (m : ℕ) (next other : Standing) → LeadsOn network grid standing row next → LeadsOn network grid standing (again row m) other
       → row.length ≡ m

@@ -11,7 +11,7 @@ use Rattle.hyd_spec.specs.Rules.{state_of_link}
 use Rattle.hyd_spec.specs.Grid.{Grid, GridLink, GridJunction}
 use Rattle.hyd_spec.specs.Boxes.{difference, out_box}
 use Rattle.hyd_spec.specs.Record.{Record, Standing}
-use Rattle.hyd_spec.specs.Decided.{heads_below, heads_above, links_at, End, EndsBy, ByRules, ByClock, by_rules, rule_is_open, by_clock, event_is_open}
+use Rattle.hyd_spec.specs.Decided.{heads_below, heads_above, links_at, End, EndsBy, ByRules, WithoutRules, by_rules, rule_is_open, by_clock, event_is_open}
 use Rattle.hyd_spec.specs.ReportLine.{ReportLine, TimeLine, JunctionLine, ReservoirLine, TankLine, LinkLine}
 use Rattle.hyd_spec.specs.Report.{Prints, LineEach, IsJunctionLine, IsReservoirLine, IsTankLine, IsLinkLine, status_of, AreStateLines, is_report_time, control_lines, AreEndLines, at_end, by_rules as ended_by_rules, by_clock as ended_by_clock, IsReport}
 use Rattle.hyd_laws.proofs.OneAnswer.{one_end}
@@ -100,17 +100,17 @@ module _ (network : Project) (grid : Grid) (standing : Standing) (row : Record) 
   not_last _ (by_clock n l) = n.not_last
   not_last _ (event_is_open n l ne) = n.not_last
 
-  differ : (n : ℕ) → EndsBy network grid standing row (ByRules n) → EndsBy network grid standing row (ByClock n) → ⊥
-  differ n e f = let same = one_end network grid standing row (ByRules n) (ByClock n) e f in cc
+  differ : (n : ℕ) → EndsBy network grid standing row (ByRules n) → EndsBy network grid standing row (WithoutRules n) → ⊥
+  differ n e f = let same = one_end network grid standing row (ByRules n) (WithoutRules n) e f in cc
 
   one_end_lines : (ls ms : List ReportLine) → AreEndLines network grid standing row ls → AreEndLines network grid standing row ms → ls ≡ ms
   one_end_lines _ _ (at_end e) (at_end f) = refl
   one_end_lines _ _ (at_end e) (ended_by_rules f) = absurd (not_last (ByRules row.length) f e)
-  one_end_lines _ _ (at_end e) (ended_by_clock f) = absurd (not_last (ByClock row.length) f e)
+  one_end_lines _ _ (at_end e) (ended_by_clock f) = absurd (not_last (WithoutRules row.length) f e)
   one_end_lines _ _ (ended_by_rules f) (at_end e) = absurd (not_last (ByRules row.length) f e)
   one_end_lines _ _ (ended_by_rules e) (ended_by_rules f) = refl
   one_end_lines _ _ (ended_by_rules e) (ended_by_clock f) = absurd (differ row.length e f)
-  one_end_lines _ _ (ended_by_clock f) (at_end e) = absurd (not_last (ByClock row.length) f e)
+  one_end_lines _ _ (ended_by_clock f) (at_end e) = absurd (not_last (WithoutRules row.length) f e)
   one_end_lines _ _ (ended_by_clock e) (ended_by_rules f) = absurd (differ row.length f e)
   one_end_lines _ _ (ended_by_clock e) (ended_by_clock f) = refl
 

@@ -12,7 +12,7 @@ use Rattle.hyd_spec.specs.Assignment.{head_at}
 use Rattle.hyd_spec.specs.Grid.{Grid, GridJunction}
 use Rattle.hyd_spec.specs.Certificate.{IsBeyond, IsTight}
 use Rattle.hyd_spec.specs.Record.{Record, Standing}
-use Rattle.hyd_spec.specs.Decided.{ByRules, ByClock}
+use Rattle.hyd_spec.specs.Decided.{ByRules, WithoutRules}
 use Rattle.hyd_spec.specs.Valid.{LeavesLinks, by_rules, by_clock, AreStates, LeadsOn, continues, finishes}
 use Rattle.hyd_laws.proofs.OneAnswer.{one_end}
 
@@ -30,8 +30,8 @@ some_of X (x ∷ a) (y ∷ b) e =
 module _ (network : Project) (grid : Grid) (standing : Standing) (row : Record) where
   one_command : (n : ℕ) (a b : List LinkState) → LeavesLinks network grid standing row n a → LeavesLinks network grid standing row n b → a ≡ b
   one_command n _ _ (by_rules e) (by_rules f) = refl
-  one_command n _ _ (by_rules e) (by_clock f) = absurd (let same = one_end network grid standing row (ByRules n) (ByClock n) e f in cc)
-  one_command n _ _ (by_clock e) (by_rules f) = absurd (let same = one_end network grid standing row (ByRules n) (ByClock n) f e in cc)
+  one_command n _ _ (by_rules e) (by_clock f) = absurd (let same = one_end network grid standing row (ByRules n) (WithoutRules n) e f in cc)
+  one_command n _ _ (by_clock e) (by_rules f) = absurd (let same = one_end network grid standing row (ByRules n) (WithoutRules n) f e in cc)
   one_command n _ _ (by_clock e) (by_clock f) = refl
 
   pub one_standing : (a b : Standing) → LeadsOn network grid standing row a → LeadsOn network grid standing row b → a ≡ b

@@ -1,6 +1,6 @@
 //! What a record decides is one, in every network: the tight vectors of a grid, the end of the period, the standing that it
-//! leads on to, and the lines of its report. So what the relations accept of an independent tight run is all that they
-//! accept.
+//! leads on to, and the lines of its report. So, where no demand depends on the pressure, a tight run that the relations
+//! accept is the only tight one of as many periods.
 #![tactic(auto)]
 
 ghost use Rattle.std.specs.Prelude.{◌≡◌, ℕ, ℤ, false, List, length};

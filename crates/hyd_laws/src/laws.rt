@@ -26,7 +26,8 @@ pub fn roots()
     ensures up { (p q : ℕ) → 0 < q → IsSquareRootUp p q (root_up p q) }
 {}
 
-/// The enclosing functions of demands and emitters rise with the pressure.
+/// The enclosing functions of demands and emitters never fall as the pressure rises, and the lower
+/// is at most the higher.
 pub fn outflows()
     ensures demands { (law : DemandLaw) → IsSoundDemand law → AreRising (demand_low law) (demand_high law) }
     ensures emitters { (emitter : Option Capacity) → AreRising (emitter_low emitter) (emitter_high emitter) }

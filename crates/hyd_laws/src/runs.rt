@@ -23,7 +23,7 @@ pub fn fronts()
         → RunBreaksOff network rounds sharpness written printed }
 {}
 
-/// A check accepts the certificate that a run wrote, and prints its report with a last line of its own.
+/// A check accepts the certificate that a run wrote, and prints its report, with `PARTIAL` in place of the line of a stop.
 pub fn acceptance()
     ensures { (network : Project) (rounds : ℕ) (sharpness : Sharpness) (outcome : Outcome) (certificate report : List ℕ)
         (run : RunWrites network rounds sharpness outcome certificate report)

@@ -63,8 +63,8 @@ pub fn add(x: Pair, y: Pair) -> Pair
     between(sum_down(x.lo, y.lo), sum_up(x.hi, y.hi))
 }
 
-/// The enclosure of `x` to the power `n`, by the binary digits of `n`. Its exponents stay near 0
-/// where `n` times the reach of `x` is small, or since `x` is near 1.
+/// The enclosure of `x` to the power `n`, by the binary digits of `n`. Either `n` times the reach
+/// of `x` is at most 2^30, or no power of `x` up to the `n`-th has a reach above 2^22.
 pub fn pow(x: Pair, n: u32) -> Pair
     requires positive { 1 ≤ n }
     requires near { (n * pair_reach x ≤ 2 ^ 30) ⊎ StaysNear x n }

@@ -227,7 +227,7 @@ pub record IsOpenRule (network : Project) (grid : Grid) (standing : Standing) (r
 -- or it is open by a rule, or between two seconds.
 pub data End : Type 0 where
   ByRules : ℕ → End
-  ByClock : ℕ → End
+  WithoutRules : ℕ → End
   RuleIsOpen : OpenRule → End
   EventIsOpen : ℕ → ℕ → End
 
@@ -257,7 +257,7 @@ pub data EndsBy (network : Project) (grid : Grid) (standing : Standing) (row : R
       → EndsBy network grid standing row (RuleIsOpen open_rule)
   by_clock : {second : ℕ} → NoRuleMatters network grid standing row second
       → IsLatestEnd network grid standing row second
-      → EndsBy network grid standing row (ByClock second)
+      → EndsBy network grid standing row (WithoutRules second)
   event_is_open : {earliest latest : ℕ} → NoRuleMatters network grid standing row earliest
       → IsLatestEnd network grid standing row latest → earliest ≢ latest
       → EndsBy network grid standing row (EventIsOpen earliest latest)

@@ -36,7 +36,8 @@ levels_after widening tank level inflow seconds = record {
 abbrev pub carried_levels : Tank → Interval → Interval → ℕ → Interval
 carried_levels tank level inflow seconds = levels_after (pos 0) tank level inflow seconds
 
--- The level interval at which the next period begins: moved outward by up to ten ticks, inside minimum and maximum.
+-- The level interval at which the next period begins: each end rounded and then moved outward by ten ticks, but not beyond
+-- a bound; an end that is at or beyond a bound before that is the bound.
 abbrev pub next_levels : Tank → Interval → Interval → ℕ → Interval
 next_levels tank level inflow seconds = levels_after (pos 10) tank level inflow seconds
 

@@ -17,7 +17,7 @@ use Rattle.hyd_spec.specs.Grid.{Grid, GridLink, GridJunction}
 use Rattle.hyd_spec.specs.Boxes.{difference, out_box}
 use Rattle.hyd_spec.specs.Record.{Record, Standing}
 use Rattle.hyd_spec.specs.Truth.{is_yes}
-use Rattle.hyd_spec.specs.Decided.{heads_below, heads_above, flow_boxes, carried_at, level_of_tank, inflow_of_tank, links_at, acts_on, control_truth, nowhere, decided_changes, EndsBy, ByRules, ByClock}
+use Rattle.hyd_spec.specs.Decided.{heads_below, heads_above, flow_boxes, carried_at, level_of_tank, inflow_of_tank, links_at, acts_on, control_truth, nowhere, decided_changes, EndsBy, ByRules, WithoutRules}
 use Rattle.hyd_spec.specs.ReportLine.{ReportLine, ControlLine, TimeLine, JunctionLine, ReservoirLine, TankLine, LinkLine, FilledLine, EmptiedLine, ReachedLine, RuleLine}
 
 -- ---- printed intervals
@@ -191,7 +191,7 @@ pub data AreEndLines (network : Project) (grid : Grid) (standing : Standing) (ro
   at_end : standing.time ≡ network.times.duration → AreEndLines network grid standing row []
   by_rules : EndsBy network grid standing row (ByRules row.length)
       → AreEndLines network grid standing row (event_lines network grid standing row ++ rule_lines network grid standing row)
-  by_clock : EndsBy network grid standing row (ByClock row.length)
+  by_clock : EndsBy network grid standing row (WithoutRules row.length)
       → AreEndLines network grid standing row (event_lines network grid standing row)
 
 -- ---- a period's lines

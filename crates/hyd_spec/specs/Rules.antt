@@ -135,8 +135,8 @@ status_holds Unequal word value = not (is_word word value)
 status_holds relation word value = is_word word value
 
 -- A clause on the time or the clock. Equality holds where the value has come within the last rule step, as `came`
--- says: so a time above 0 holds at one instant at which rules are tried, and a time of day once a day, where the
--- rule step is at most a day.
+-- says: so a time above 0 holds at one multiple of the rule step, and a time of day at one in each day, where the rule
+-- step is at most a day. (At time 0 no rule is tried.)
 abbrev pub time_holds : Relation → ℕ → ℕ → Bool → Bool
 time_holds Equal now at came = came
 time_holds Unequal now at came = not came

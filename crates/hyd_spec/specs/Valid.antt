@@ -12,7 +12,7 @@ use Rattle.hyd_spec.specs.Certificate.{IsCertificate}
 use Rattle.hyd_spec.specs.Record.{Record, Standing, vector_of, initial_standing}
 use Rattle.hyd_spec.specs.Levels.{next_levels, state_of}
 use Rattle.hyd_spec.specs.Truth.{is_yes, is_unknown}
-use Rattle.hyd_spec.specs.Decided.{links_at, level_of_tank, inflow_of_tank, nowhere, control_truth, rule_truths, EndsBy, ByRules, ByClock}
+use Rattle.hyd_spec.specs.Decided.{links_at, level_of_tank, inflow_of_tank, nowhere, control_truth, rule_truths, EndsBy, ByRules, WithoutRules}
 
 -- ---- the vectors
 
@@ -49,7 +49,7 @@ pub data LeavesLinks (network : Project) (grid : Grid) (standing : Standing) (ro
   by_rules : {seconds : ℕ} → EndsBy network grid standing row (ByRules seconds)
       → LeavesLinks network grid standing row seconds
       (acted network (map is_yes (rule_truths network grid standing row seconds)) (links_at network standing))
-  by_clock : {seconds : ℕ} → EndsBy network grid standing row (ByClock seconds)
+  by_clock : {seconds : ℕ} → EndsBy network grid standing row (WithoutRules seconds)
       → LeavesLinks network grid standing row seconds (links_at network standing)
 
 -- The level intervals at the end of a period of some length.

@@ -7,7 +7,7 @@ use Rattle.hyd_spec.specs.Law.{LinearLaw, ForwardOnly, ReverseOnly, Capped}
 use Rattle.hyd_spec.specs.Length.{pattern, step}
 use Rattle.hyd_spec.specs.Grid.{Grid}
 use Rattle.hyd_spec.specs.Certificate.{IsCertificate, Passes}
-use Rattle.hyd_spec.specs.Decided.{Watch, SomeMayReach, SomeMustReach, IsClockLength, EndsBy, ByClock, by_clock}
+use Rattle.hyd_spec.specs.Decided.{Watch, SomeMayReach, SomeMustReach, IsClockLength, EndsBy, WithoutRules, by_clock}
 use Rattle.hyd_spec.specs.Valid.{by_clock as left_by_clock, IsValid}
 use Rattle.hyd_spec.specs.Stops.{HasNoCertificate}
 use Rattle.hyd_spec.specs.Report.{AreStateLines, by_clock as ended_by_clock, IsReport}
@@ -36,7 +36,7 @@ may_fill = record { watch = filled; is_watched = (0, lit< tt, refl); tank = shal
 must_fill : SomeMustReach (village_with shallow) grid_0 standing_0 row_0 1
 must_fill = record { watch = filled; is_watched = (0, lit< tt, refl); tank = shallow.tank; is_tank = refl; reached = refl }
 
-first_ends : EndsBy (village_with shallow) grid_0 standing_0 row_0 (ByClock 1)
+first_ends : EndsBy (village_with shallow) grid_0 standing_0 row_0 (WithoutRules 1)
 first_ends = by_clock
     (no_rule shallow grid_0 standing_0 row_0 1 (omega arith)
     (earliest_end shallow grid_0 standing_0 row_0 8 1 clock_0 (omega arith) refl (inr (omega arith, may_fill))) refl)
@@ -80,7 +80,7 @@ may_empty = record { watch = emptied; is_watched = (0, lit< tt, refl); tank = sh
 must_empty : SomeMustReach (village_with shallow) grid_1 standing_1 row_1 5
 must_empty = record { watch = emptied; is_watched = (0, lit< tt, refl); tank = shallow.tank; is_tank = refl; reached = refl }
 
-second_ends : EndsBy (village_with shallow) grid_1 standing_1 row_1 (ByClock 5)
+second_ends : EndsBy (village_with shallow) grid_1 standing_1 row_1 (WithoutRules 5)
 second_ends = by_clock
     (no_rule shallow grid_1 standing_1 row_1 5 (omega arith)
     (earliest_end shallow grid_1 standing_1 row_1 7 5 clock_1 (omega arith) refl (inr (omega arith, may_empty))) refl)

@@ -7,7 +7,7 @@ use Rattle.hyd_spec.specs.Length.{step}
 use Rattle.hyd_spec.specs.Grid.{Grid}
 use Rattle.hyd_spec.specs.Certificate.{IsCertificate, none}
 use Rattle.hyd_spec.specs.Record.{initial_standing}
-use Rattle.hyd_spec.specs.Decided.{Watch, IsClockLength, RulesMatter, IsFirstMatter, IsOpenRule, EndsBy, ByClock, rule_is_open, by_clock, event_is_open}
+use Rattle.hyd_spec.specs.Decided.{Watch, IsClockLength, RulesMatter, IsFirstMatter, IsOpenRule, EndsBy, WithoutRules, rule_is_open, by_clock, event_is_open}
 use Rattle.hyd_spec.specs.Valid.{IsGridAt, levels_next, by_clock as left_by_clock}
 use Rattle.hyd_spec.specs.Stops.{IsFirstDemand, HasNoCertificate, SpendsRounds, IsTightRow, LeavesRuleOpen, LeavesEventOpen, LeavesTankOpen, LeavesControlOpen, EndsAtLevels}
 use Rattle.hyd_towns.specs.Village.{Choice, usual, village, village_with, mill, farm, tower}
@@ -131,7 +131,7 @@ event_stops = record {
 
 -- the end of the period, by the clock
 ends_at : (choice : Choice) → IsGridAt (village_with choice) (initial_standing (village_with choice)) grid_0
-    → EndsBy (village_with choice) grid_0 (initial_standing (village_with choice)) row_0 (ByClock 8)
+    → EndsBy (village_with choice) grid_0 (initial_standing (village_with choice)) row_0 (WithoutRules 8)
     → last_level ∷ [] ≡ levels_next (village_with choice) grid_0 (initial_standing (village_with choice)) row_0 8
     → EndsAtLevels (village_with choice) (initial_standing (village_with choice)) (last_level ∷ [])
 ends_at choice is ends levels = record {
@@ -144,7 +144,7 @@ ends_at choice is ends levels = record {
   levels_are = levels;
 }
 
-control_ends : EndsBy (village_with unsure_control) grid_0 standing_0 row_0 (ByClock 8)
+control_ends : EndsBy (village_with unsure_control) grid_0 standing_0 row_0 (WithoutRules 8)
 control_ends = by_clock
     (no_rule unsure_control grid_0 standing_0 row_0 8 (omega arith) (earliest_end unsure_control grid_0 standing_0 row_0 8 8 (clock unsure_control) (omega arith) refl (inl (clock unsure_control))) refl)
     (latest_end unsure_control grid_0 standing_0 row_0 8 8 (clock unsure_control) (omega arith) refl (inl (clock unsure_control)))
@@ -164,7 +164,7 @@ control_stops = record {
   level_is = refl;
 }
 
-tank_ends : EndsBy (village_with unsure_tank) grid_0 standing_0 row_0 (ByClock 8)
+tank_ends : EndsBy (village_with unsure_tank) grid_0 standing_0 row_0 (WithoutRules 8)
 tank_ends = by_clock
     (no_rule unsure_tank grid_0 standing_0 row_0 8 (omega arith) (earliest_end unsure_tank grid_0 standing_0 row_0 8 8 (clock unsure_tank) (omega arith) refl (inl (clock unsure_tank))) refl)
     (latest_end unsure_tank grid_0 standing_0 row_0 8 8 (clock unsure_tank) (omega arith) refl (inl (clock unsure_tank)))

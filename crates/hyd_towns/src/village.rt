@@ -6,7 +6,7 @@ ghost use Rattle.std.specs.Prelude.{◌≡◌, true, List, [], ◌∷◌, length
 ghost use Rattle.std.specs.List.{AllByRecursion};
 ghost use Rattle.hyd_net.specs.Sound.{Sound};
 ghost use Rattle.hyd_spec.specs.Record.{Standing, initial_standing};
-ghost use Rattle.hyd_spec.specs.Decided.{EndsBy, ByClock, ByRules};
+ghost use Rattle.hyd_spec.specs.Decided.{EndsBy, WithoutRules, ByRules};
 ghost use Rattle.hyd_spec.specs.History.{IsHistory, initial_links};
 ghost use Rattle.hyd_spec.specs.Report.{IsReport};
 ghost use Rattle.hyd_spec.specs.ReportLine.{report_text, done_line};
@@ -42,13 +42,12 @@ pub fn certificates()
     ensures fifth { AreCertificates village grid_4 row_4 }
 {}
 
-/// How each period ends: without rules after 8 s (by the clock) and 3 s (by the control), by a rule after 3 s, without
-/// rules after 2 s.
+/// How each period but the last ends: without rules after 8 s and 3 s, by a rule after 3 s, without rules after 2 s.
 pub fn ends()
-    ensures first { EndsBy village grid_0 standing_0 row_0 (ByClock 8) }
-    ensures second { EndsBy village grid_1 standing_1 row_1 (ByClock 3) }
+    ensures first { EndsBy village grid_0 standing_0 row_0 (WithoutRules 8) }
+    ensures second { EndsBy village grid_1 standing_1 row_1 (WithoutRules 3) }
     ensures third { EndsBy village grid_2 standing_2 row_2 (ByRules 3) }
-    ensures fourth { EndsBy village grid_3 standing_3 row_3 (ByClock 2) }
+    ensures fourth { EndsBy village grid_3 standing_3 row_3 (WithoutRules 2) }
 {}
 
 /// Each record is valid and leads on to the next standing, and so does the whole list.
