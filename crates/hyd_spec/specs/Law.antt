@@ -1,6 +1,6 @@
 -- The exact law of a link or an emitter: which flow belongs to a head difference, stated without
 -- roots as two relations: the exact flow is at least a, the exact flow is at most a.
--- Source: EPANET 2.2 User Manual, chapter 3 (pipes, pumps, valves, emitters); the straight law of a valve without loss
+-- Source: EPANET 2.2 User Manual, chapter 3 (pipes, pumps, valves, emitters); the linear law of a valve without loss
 -- coefficient is this program's.
 use Rattle.std.specs.Prelude.{ℕ, ◌*◌, ◌^◌, ℤ, pos, negsuc, neg_ℤ, unsigned_abs, ◌*ℤ◌, ◌+ℤ◌, ◌-ℤ◌, ◌≤ℤ◌, ◌⊎◌, suc, ⊤, Bool}
 use Rattle.hyd_num.specs.Fraction.{Fraction, fraction, over, power}

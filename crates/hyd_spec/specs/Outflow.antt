@@ -43,8 +43,8 @@ pub record FollowsPart (network : Project) (demand : ℤ) (S : ℕ) (p q : ℤ) 
   pub at_least : part_at_least network demand S p (q -ℤ tolerance S)
   pub at_most : part_at_most network demand S p (q +ℤ tolerance S)
 
--- The flow q (S-th parts) of a pressure-driven demand (whole flow ticks) at pressure p: within the tolerance of nothing up to the
--- minimum pressure, of the whole demand from the required one on, of the square root law between.
+-- The flow q (S-th parts) of a pressure-driven demand (whole flow ticks) at pressure p: within the tolerance of nothing up
+-- to the minimum pressure, of the whole demand from the required one on, of the square root law between.
 abbrev pub FollowsPressure : Project → ℤ → ℕ → ℤ → ℤ → Type 0
 FollowsPressure network demand S p q =
     MatchBool (is_at_most (pressure_at S p) (minimum_pressure network)) (IsWithinTolerance S q (pos 0))
