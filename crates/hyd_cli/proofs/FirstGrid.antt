@@ -6,13 +6,13 @@ use Rattle.hyd_spec.specs.Types.{Project, Junction, Capacity}
 use Rattle.hyd_spec.specs.Law.{QuadraticLaw}
 use Rattle.hyd_spec.specs.Scale.{cut}
 use Rattle.hyd_spec.specs.Quantity.{demand_of, reservoir_head}
-use Rattle.hyd_spec.specs.Enclosing.{DemandLaw, Fixed}
-use Rattle.hyd_spec.specs.Grid.{Grid, GridJunction, IsJunctionOf, IsDemandLaw, IsDriven, grid_links, tank_intervals}
+use Rattle.hyd_spec_certificates.specs.Enclosing.{DemandLaw, Fixed}
+use Rattle.hyd_spec_certificates.specs.Grid.{Grid, GridJunction, IsJunctionOf, IsDemandLaw, IsDriven, grid_links, tank_intervals}
 use Rattle.hyd_spec.specs.Outflow.{is_pressure_driven}
-use Rattle.hyd_spec.specs.Record.{initial_standing}
-use Rattle.hyd_spec.specs.Decided.{links_at}
-use Rattle.hyd_spec.specs.Valid.{IsGridAt}
-use Rattle.hyd_spec.specs.FirstForm.{IsPlain, IsFirstNetwork}
+use Rattle.hyd_spec_certificates.specs.Record.{initial_standing}
+use Rattle.hyd_spec_certificates.specs.Decided.{links_at}
+use Rattle.hyd_spec_certificates.specs.Valid.{IsGridAt}
+use Rattle.hyd_spec_input.specs.FirstForm.{IsPlain, IsFirstNetwork}
 use Rattle.hyd_cli.specs.declared.valve.SingleValve.{SingleValve}
 use Rattle.hyd_cli.specs.SingleValve.{IsValveOf}
 
