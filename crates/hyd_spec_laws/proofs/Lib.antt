@@ -1,5 +1,7 @@
 pub mod Integers
 pub mod Roots
+pub mod StraightLines
+pub mod CurveKnots
 pub mod LossLaws
 pub mod LinkLaws
 pub mod EachLaw
