@@ -9,10 +9,10 @@ use Rattle.hyd_num.specs.Pairs.{IsRatio}
 use Rattle.hyd_num.specs.Chain.{StandsFor, IsMade, IsMinorPair, IsFrictionPair, IsPipePairWith, IsUnitOver, IsSquareOver}
 use Rattle.hyd_spec.specs.Types.{Origin, Pipe, Valve, Pump, Emitter, PressureDemand, Capacity}
 use Rattle.hyd_spec.specs.Enclosure.{IsSharp}
-use Rattle.hyd_resist.proofs.Enclosing.{denominator_above}
-use Rattle.hyd_resist.proofs.SquaredFlows.{ratio-above}
-use Rattle.hyd_resist.proofs.Widths.{IsNear, high, low, ratio-near, product-near, quotient-near, sum-near, power-near, wider, near-sharp}
-use Rattle.hyd_resist.proofs.RootWidths.{root-near}
+use Rattle.hyd_lemmas.proofs.Enclosing.{denominator_above}
+use Rattle.hyd_lemmas.proofs.SquaredFlows.{ratio-above}
+use Rattle.hyd_lemmas.proofs.Widths.{IsNear, high, low, ratio-near, product-near, quotient-near, sum-near, power-near, wider, near-sharp}
+use Rattle.hyd_lemmas.proofs.RootWidths.{root-near}
 
 pub some_factor : (p q : ℕ) (s : Scaled) → 0 < p → IsUp p q s → 0 < q
 some_factor p zero s above made = absurd (nothing_left p (denominator s) above (denominator_above s) (omega (arith, made.at_least)))

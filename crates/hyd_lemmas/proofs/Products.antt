@@ -11,8 +11,8 @@ use Rattle.hyd_num.specs.Cut.{IsCut}
 use Rattle.hyd_num.specs.Pairs.{IsProduct, IsPower, once, even, odd, IsOwnPower}
 use Rattle.hyd_num.proofs.Rounding.{IsCut-product, IsDown-from_cut, IsUp-exact, IsUp-next}
 use Rattle.hyd_num.proofs.Ends.{products_ordered}
-use Rattle.hyd_resist.proofs.Enclosing.{denominator_above}
-use Rattle.hyd_resist.proofs.Grains.{above_of}
+use Rattle.hyd_lemmas.proofs.Enclosing.{denominator_above}
+use Rattle.hyd_lemmas.proofs.Grains.{above_of}
 
 record ProductCut (a b : Scaled) : Type 0 where
   pub number : Scaled

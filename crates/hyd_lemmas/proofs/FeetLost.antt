@@ -9,9 +9,9 @@ use Rattle.hyd_num.specs.Scaled.{numerator, denominator, as_fraction}
 use Rattle.hyd_num.specs.Pairs.{Encloses}
 use Rattle.hyd_num.specs.Chain.{IsMinorPair, IsFrictionPair, IsUnitOver, IsValvePair, IsPlainPipePair, IsFittedPipePair, IsPipePair, IsPipePairWith}
 use Rattle.hyd_spec.specs.Loss.{head_in_feet, flow_in_cfs, friction, minor_loss, PipeLossAtMost, PipeLossAtLeast, ValveLossAtMost, ValveLossAtLeast}
-use Rattle.hyd_resist.proofs.Fractions.{AtMost-itself, AtMost-along}
-use Rattle.hyd_resist.proofs.Enclosing.{numerator_above, denominator_above, turned, ratio-encloses, product-encloses, quotient-encloses, power-encloses, quotient-low, quotient-high, sum-low, sum-high, root-low, root-high}
-use Rattle.hyd_resist.proofs.Losses.{square_is, at_most_lost, at_least_lost, second_at_most, first_at_most, first_at_least, power_at_most, power_at_least}
+use Rattle.hyd_lemmas.proofs.Fractions.{AtMost-itself, AtMost-along}
+use Rattle.hyd_lemmas.proofs.Enclosing.{numerator_above, denominator_above, turned, ratio-encloses, product-encloses, quotient-encloses, power-encloses, quotient-low, quotient-high, sum-low, sum-high, root-low, root-high}
+use Rattle.hyd_lemmas.proofs.Losses.{square_is, at_most_lost, at_least_lost, second_at_most, first_at_most, first_at_least, power_at_most, power_at_least}
 
 -- the capacity of a link that loses one foot at one cubic foot a second
 abbrev unit : Fraction

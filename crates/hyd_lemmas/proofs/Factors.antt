@@ -6,8 +6,8 @@ use Rattle.std.proofs.lemmas.Bool.{cases_lt}
 use Rattle.hyd_num.specs.declared.pairs.Pair.{Pair}
 use Rattle.hyd_num.specs.Fraction.{Fraction, power, AtMost}
 use Rattle.hyd_num.specs.Scaled.{as_fraction}
-use Rattle.hyd_resist.proofs.Grains.{grain, grain_above}
-use Rattle.hyd_resist.proofs.Widths.{IsNear, above, high, low}
+use Rattle.hyd_lemmas.proofs.Grains.{grain, grain_above}
+use Rattle.hyd_lemmas.proofs.Widths.{IsNear, above, high, low}
 
 -- x is at most n factors above y
 pub record IsWithin (n : ℕ) (x y : Fraction) : Type 0 where

@@ -15,8 +15,8 @@ use Rattle.hyd_num.specs.Pairs.{Encloses, IsRatio}
 use Rattle.hyd_num.specs.Chain.{IsSquareOver, IsPumpPair, IsEmitterPair, IsPressurePair}
 use Rattle.hyd_spec.specs.Loss.{SquareLossAtMost, SquareLossAtLeast}
 use Rattle.hyd_spec.specs.Law.{pump_resistance, emitter_resistance, pressure_resistance}
-use Rattle.hyd_resist.proofs.Enclosing.{numerator_above, denominator_above, ratio-encloses, product-encloses, quotient-encloses}
-use Rattle.hyd_resist.proofs.Losses.{square_is}
+use Rattle.hyd_lemmas.proofs.Enclosing.{numerator_above, denominator_above, ratio-encloses, product-encloses, quotient-encloses}
+use Rattle.hyd_lemmas.proofs.Losses.{square_is}
 
 square_below : (a b w v c d s q y : ℕ) → 0 < d → c * (b * b * w) ≤ a * a * v * d → q * q * d ≤ c * (s * y) → (w * b ^ 2) * (q * q) ≤ (v * a ^ 2) * (s * y)
 square_below a b w v c d s q y above end flow =

@@ -7,12 +7,12 @@ use Rattle.hyd_num.specs.declared.pairs.Pair.{Pair}
 use Rattle.hyd_num.specs.Fraction.{power, AtMost}
 use Rattle.hyd_num.specs.Scaled.{numerator, denominator, as_fraction}
 use Rattle.hyd_num.specs.Pairs.{IsOwnPower, IsRootDown, IsRootUp, IsRoot533}
-use Rattle.hyd_resist.proofs.Enclosing.{own-encloses, denominator_above, pow_once}
-use Rattle.hyd_resist.proofs.Losses.{square_is}
-use Rattle.hyd_resist.proofs.Grains.{grain, above_of, below_of}
-use Rattle.hyd_resist.proofs.Widths.{IsNear, above, power-near}
-use Rattle.hyd_resist.proofs.Factors.{IsWithin, within-none, within-along, within-power, within-root, within-wider, ends-within, near-within}
-use Rattle.hyd_resist.proofs.Products.{own_power}
+use Rattle.hyd_lemmas.proofs.Enclosing.{own-encloses, denominator_above, pow_once}
+use Rattle.hyd_lemmas.proofs.Losses.{square_is}
+use Rattle.hyd_lemmas.proofs.Grains.{grain, above_of, below_of}
+use Rattle.hyd_lemmas.proofs.Widths.{IsNear, above, power-near}
+use Rattle.hyd_lemmas.proofs.Factors.{IsWithin, within-none, within-along, within-power, within-root, within-wider, ends-within, near-within}
+use Rattle.hyd_lemmas.proofs.Products.{own_power}
 
 -- one factor
 one_factor : (x y g u : ℕ) → x * g ≤ y * u → x * g ^ 1 ≤ y * u ^ 1

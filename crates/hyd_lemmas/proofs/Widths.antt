@@ -6,8 +6,8 @@ use Rattle.std.proofs.lemmas.Nat.{mul-le, pow-add}
 use Rattle.hyd_num.specs.declared.pairs.Pair.{Pair}
 use Rattle.hyd_num.specs.Scaled.{numerator, denominator, IsDown, IsUp}
 use Rattle.hyd_num.specs.Pairs.{IsRatio, IsProduct, IsQuotient, IsSum, IsPower, once, even, odd}
-use Rattle.hyd_resist.proofs.Enclosing.{numerator_above, denominator_above, square_is as twice_power, pow_once}
-use Rattle.hyd_resist.proofs.Grains.{grain, grain_is, grain_above, down-near, up-near}
+use Rattle.hyd_lemmas.proofs.Enclosing.{numerator_above, denominator_above, square_is as twice_power, pow_once}
+use Rattle.hyd_lemmas.proofs.Grains.{grain, grain_is, grain_above, down-near, up-near}
 
 abbrev pub above : ℕ
 above = grain + 1

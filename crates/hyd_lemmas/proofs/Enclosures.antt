@@ -7,8 +7,8 @@ use Rattle.hyd_num.specs.Chain.{StandsFor, IsMade}
 use Rattle.hyd_spec.specs.Types.{Origin, Pipe, Valve, Pump, Emitter, PressureDemand, Capacity}
 use Rattle.hyd_spec.specs.Law.{loss_at_most, loss_at_least}
 use Rattle.hyd_spec.specs.Enclosure.{IsEnclosure}
-use Rattle.hyd_resist.proofs.FeetLost.{valve-at_most, valve-at_least, pipe-at_most, pipe-at_least}
-use Rattle.hyd_resist.proofs.SquaredFlows.{pump-at_most, pump-at_least, emitter-at_most, emitter-at_least, pressure-at_most, pressure-at_least}
+use Rattle.hyd_lemmas.proofs.FeetLost.{valve-at_most, valve-at_least, pipe-at_most, pipe-at_least}
+use Rattle.hyd_lemmas.proofs.SquaredFlows.{pump-at_most, pump-at_least, emitter-at_most, emitter-at_least, pressure-at_most, pressure-at_least}
 
 pub pair-at_most : (origin : Origin) (r : Pair) (S q y : ℕ) → StandsFor origin r
     → (q * q) * denominator r.lo ≤ numerator r.lo * (S * y) → loss_at_most origin S q y

@@ -4,7 +4,7 @@ use Rattle.std.proofs.Common.{◌≡◌, ℕ, ◌+◌, ◌-◌, ◌*◌, ◌^◌
 use Rattle.std.proofs.Math.Nat.{mul-le-mul_right, le_of_mul-le-mul_right, one-le-pow, pow-le-pow_left, mul-sub, mul_comm}
 use Rattle.std.proofs.lemmas.Nat.{mul-pow}
 use Rattle.hyd_num.specs.Fraction.{Fraction, fraction, times, plus, minus, over, power, AtMost}
-use Rattle.hyd_resist.proofs.Enclosing.{pow_once}
+use Rattle.hyd_lemmas.proofs.Enclosing.{pow_once}
 
 pub square_is : (x : ℕ) → x ^ 2 ≡ x * x
 square_is x = pow-suc x 1 ∙ ap (λ a. a * x) (pow_once x)

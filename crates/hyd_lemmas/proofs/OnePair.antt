@@ -10,11 +10,10 @@ use Rattle.hyd_num.specs.Pairs.{IsRatio, IsProduct, IsQuotient, IsSum, IsPower, 
 use Rattle.hyd_num.specs.Quantity.{billionths}
 use Rattle.hyd_num.specs.Chain.{StandsFor, IsMade, IsMinorPair, IsFrictionPair, IsUnitOver, IsSquareOver, IsPipePairWith}
 use Rattle.hyd_spec.specs.Types.{Origin, Pipe, Valve, Pump, Emitter, PressureDemand, Capacity}
-use Rattle.hyd_resist.specs.Refusal.{IsRefused}
-use Rattle.hyd_resist.proofs.Fractions.{AtMost-itself, AtMost-along, times-rises, over-rises, plus-rises}
-use Rattle.hyd_resist.proofs.Enclosing.{numerator_above, denominator_above, down_below, up_above}
-use Rattle.hyd_resist.proofs.SquaredFlows.{ratio-above}
-use Rattle.hyd_resist.proofs.Sharpness.{some_factor}
+use Rattle.hyd_lemmas.proofs.Fractions.{AtMost-itself, AtMost-along, times-rises, over-rises, plus-rises}
+use Rattle.hyd_lemmas.proofs.Enclosing.{numerator_above, denominator_above, down_below, up_above}
+use Rattle.hyd_lemmas.proofs.SquaredFlows.{ratio-above}
+use Rattle.hyd_lemmas.proofs.Sharpness.{some_factor}
 
 -- neither end of r is above that of s
 pub record IsBelow (r s : Pair) : Type 0 where
@@ -162,33 +161,3 @@ StandsFor-below (Emitter coefficient unit) r s mr ms =
 StandsFor-below (PressureDemand demand minimum required us) r s mr ms =
     square-below mr.flows mr.head r ms.flows ms.head s (ratio-below _ _ mr.flows ms.flows mr.flows_is ms.flows_is)
     (ratio-below _ _ ms.head mr.head ms.head_is mr.head_is) mr.capacity_is ms.capacity_is
-
-too_great : (n d m e : ℕ) → 0 < e → n * e ≤ m * d → 2 ^ 66 * d ≤ n → 0 < d → m < 2 ^ 66 * e → ⊥
-too_great n d m e some le great above less =
-    let a : 2 ^ 66 * d * e ≤ n * e = mul-le-mul_right e great in
-    let b : m * d < 2 ^ 66 * e * d = mul-lt-mul_of_pos_right less above in
-    omega (arith, a, b, le)
-
-too_small : (n d m e : ℕ) → 0 < d → m * d ≤ n * e → n * 2 ^ 61 < d → 0 < e → e ≤ m * 2 ^ 61 → ⊥
-too_small n d m e some le small above least =
-    let a : n * 2 ^ 61 * e < d * e = mul-lt-mul_of_pos_right small above in
-    let b : e * d ≤ m * 2 ^ 61 * d = mul-le-mul_right d least in
-    omega (arith, a, b, le)
-
--- the numbers of a capacity are never refused
-pub not_refused : (origin : Origin) (r : Pair) → StandsFor origin r → denominator r.lo ≤ numerator r.lo * 2 ^ 61 → numerator r.hi < 2 ^ 66 * denominator r.hi
-    → IsRefused origin → ⊥
-not_refused origin r made least greatest refused =
-    let s = refused.pair in
-    elim refused.outside [
-      | inl great ↦ (let le : AtMost (as_fraction s.hi) (as_fraction r.hi) = (StandsFor-below origin s r refused.made made).high in
-          too_great (numerator s.hi) (denominator s.hi) (numerator r.hi) (denominator r.hi) (denominator_above r.hi) le.crossed great (denominator_above s.hi) greatest)
-      | inr small ↦ (let le : AtMost (as_fraction r.lo) (as_fraction s.lo) = (StandsFor-below origin r s made refused.made).low in
-          too_small (numerator s.lo) (denominator s.lo) (numerator r.lo) (denominator r.lo) (denominator_above s.lo) le.crossed small (denominator_above r.lo) least)
-    ]
-
-pub IsMade-not_refused : (c : Capacity) → IsMade c → IsRefused c.origin → ⊥
-IsMade-not_refused c made =
-    not_refused c.origin made.pair made.made
-    (subst (λ (s : Scaled). denominator s ≤ numerator s * 2 ^ 61) (sym made.low) c.least)
-    (subst (λ (s : Scaled). numerator s < 2 ^ 66 * denominator s) (sym made.high) c.greatest)

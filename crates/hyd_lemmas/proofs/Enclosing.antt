@@ -8,7 +8,7 @@ use Rattle.hyd_num.specs.declared.pairs.Pair.{Pair}
 use Rattle.hyd_num.specs.Fraction.{Fraction, fraction, times, plus, over, power, AtMost}
 use Rattle.hyd_num.specs.Scaled.{numerator, denominator, as_fraction, IsDown, IsUp}
 use Rattle.hyd_num.specs.Pairs.{Encloses, IsRatio, IsProduct, IsQuotient, IsSum, IsPower, once, even, odd, IsOwnPower, IsRoot533}
-use Rattle.hyd_resist.proofs.Fractions.{AtMost-itself, AtMost-along, times-rises, over-rises, plus-rises}
+use Rattle.hyd_lemmas.proofs.Fractions.{AtMost-itself, AtMost-along, times-rises, over-rises, plus-rises}
 
 pub numerator_above : (s : Scaled) → 0 < numerator s
 numerator_above s = mul-pos (omega (arith, s.normal)) (pow_pos (up s.exp))
