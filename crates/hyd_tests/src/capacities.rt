@@ -5,9 +5,10 @@
 ghost use Rattle.std.specs.Prelude.{◌≡◌, ◌<◌, ◌*◌, ◌^◌, pos, ◌≤ℤ◌, ◌<ℤ◌, IsTrue};
 ghost use Rattle.hyd_resist.specs.Ranges.{IsPositiveUpTo, IsMinorCoefficient, IsCurveFlow, ArePressures};
 
-use crate::range::CapRange;
-use crate::{emitter_capacity, pda_capacity, pipe_capacity, pump_capacity, valve_capacity};
 use hyd_num::{Capacity, Decimal, FlowUnit};
+use hyd_resist::{
+    CapRange, emitter_capacity, pda_capacity, pipe_capacity, pump_capacity, valve_capacity,
+};
 
 // The mantissas and exponents of the lower and the upper end.
 type Ends = (u64, i32, u64, i32);

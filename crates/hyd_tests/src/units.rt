@@ -1,6 +1,6 @@
 //! Values of an independent program in exact arithmetic.
-use super::*;
 use hyd_num::{Decimal, FlowUnit};
+use hyd_units::*;
 
 #[derive(Clone, Copy)]
 struct Height {

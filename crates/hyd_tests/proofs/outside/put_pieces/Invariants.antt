@@ -1,7 +1,7 @@
 use Rattle.std.proofs.Common.{IsTrue}
 use Rattle.hyd_io.specs.MemoryView.{memory}
 use Rattle.hyd_io.specs.Output.{OnCert}
-use Rattle.hyd_io.proofs.tests.put_pieces.Given as goal
+use Rattle.hyd_tests.proofs.outside.put_pieces.Given as goal
 
 -- the desk stays ready for the pen
 abbrev pub invariant-loop-piece : goal.invariant-loop-piece

@@ -1,6 +1,6 @@
 //! The top call on a desk in memory: how each command ends, and what it leaves.
 
-use super::*;
+use hyd_cli::*;
 use hyd_io::MemDesk;
 use std::alloc::{AllocError, Global};
 use std::test::Fail;

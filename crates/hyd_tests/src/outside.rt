@@ -4,7 +4,7 @@ ghost use Rattle.std.specs.Prelude.{IsTrue};
 ghost use Rattle.hyd_io.specs.MemoryView.{memory};
 ghost use Rattle.hyd_io.specs.Output.{OnCert};
 
-use super::*;
+use hyd_io::*;
 use std::alloc::{AllocError, Global};
 use std::test::Fail;
 

@@ -1,7 +1,7 @@
 //! Tests on values worked out by an independent program.
 #![tactic(auto)]
 
-use crate::*;
+use hyd_num::*;
 use std::process::Abort;
 use std::test::Fail;
 

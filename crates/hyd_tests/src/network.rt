@@ -1,7 +1,7 @@
 //! Lists, tables of IDs and the comparison of projects, on small examples.
 #![tactic(auto)]
 
-use crate::{List, Names, Options, OutOfMemory, Project, Reservoir, Tank, Times, same};
+use hyd_net::{List, Names, Options, OutOfMemory, Project, Reservoir, Tank, Times, same};
 use hyd_num::{Decimal, FlowUnit};
 use std::alloc::Global;
 use std::test::Fail;
