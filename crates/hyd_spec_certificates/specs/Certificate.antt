@@ -47,8 +47,8 @@ abbrev pub IsBeyond : Side → ℤ → ℤ → Type 0
 IsBeyond Upper y x = y ≤ℤ x
 IsBeyond Lower y x = x ≤ℤ y
 
--- A value that junction i may be put to: in the box, as far out as its own head or farther, and such that what is asked of
--- the junction holds with the other heads as they are.
+-- A value that junction i may be put to: in the box, as far out as its own head or farther, and such that what is asked
+-- of the junction holds with the other heads as they are.
 pub record IsCandidateHolding (held : Option HeldJunction) (grid : Grid) (problem : Problem) (side : Side)
     (u : List ℤ) (i : ℕ) (junction : GridJunction) (x : ℤ) : Type 0 where
   pub in_box : IsInBox x
@@ -61,8 +61,8 @@ pub record IsRaisedHolding (held : Option HeldJunction) (grid : Grid) (problem :
   pub is_candidate : IsCandidateHolding held grid problem side u i junction x
   pub nearest : (y : ℤ) → IsCandidateHolding held grid problem side u i junction y → IsBeyond side x y
 
--- A round raises each junction from the same vector. (From a vector in which a held junction stands at its head, its raise
--- is no move.)
+-- A round raises each junction from the same vector. (From a vector in which a held junction stands at its head, its
+-- raise is no move.)
 pub record IsRoundHolding (held : Option HeldJunction) (grid : Grid) (problem : Problem) (side : Side)
     (u v : List ℤ) : Type 0 where
   pub one_each : length v ≡ length u

@@ -16,7 +16,8 @@ LiesBeyond side u v = (i : ℕ) → i < length u → IsBeyond side (head_at u i)
 -- ---- starts
 
 -- A vector that a search may begin at: one head in the box for each junction, with every certificate beyond it.
-pub record IsStart (held : Option HeldJunction) (grid : Grid) (problem : Problem) (side : Side) (u : List ℤ) : Type 0 where
+pub record IsStart (held : Option HeldJunction) (grid : Grid) (problem : Problem) (side : Side)
+    (u : List ℤ) : Type 0 where
   pub one_each : length u ≡ length grid.junctions
   pub in_box : All IsInBox u
   pub nearer : (w : List ℤ) → IsCertificateHolding held grid problem side w → LiesBeyond side u w
@@ -35,7 +36,8 @@ Fails (Some held) grid problem side u i junction =
     MatchBool (held.junction == i) ⊥ (Passes grid problem side u i junction → ⊥)
 
 -- A leap from u to v: v is in the box and beyond u, and each junction that the leap moves fails at v.
-pub record IsLeap (held : Option HeldJunction) (grid : Grid) (problem : Problem) (side : Side) (u v : List ℤ) : Type 0 where
+pub record IsLeap (held : Option HeldJunction) (grid : Grid) (problem : Problem) (side : Side)
+    (u v : List ℤ) : Type 0 where
   pub one_each : length v ≡ length u
   pub in_box : All IsInBox v
   pub beyond : LiesBeyond side u v
