@@ -10,7 +10,7 @@ use Rattle.hyd_num.specs.Pairs.{IsRatio, IsProduct, IsQuotient, IsSum, IsPower, 
 use Rattle.hyd_num.specs.Quantity.{billionths}
 use Rattle.hyd_num.specs.Chain.{StandsFor, IsMade, IsMinorPair, IsFrictionPair, IsUnitOver, IsSquareOver, IsPipePairWith}
 use Rattle.hyd_spec.specs.Types.{Origin, Pipe, Valve, Pump, Emitter, PressureDemand, Capacity}
-use Rattle.hyd_resist.specs.Refusal.{IsRefused}
+use Rattle.hyd_num.specs.Refusal.{IsRefused}
 use Rattle.hyd_resist.proofs.Fractions.{AtMost-itself, AtMost-along, times-rises, over-rises, plus-rises}
 use Rattle.hyd_resist.proofs.Enclosing.{numerator_above, denominator_above, down_below, up_above}
 use Rattle.hyd_resist.proofs.SquaredFlows.{ratio-above}
