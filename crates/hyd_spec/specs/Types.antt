@@ -40,9 +40,3 @@ pub use Rattle.hyd_net.specs.declared.rules.Value.TheVariants.{Amount, Open as V
 pub use Rattle.hyd_net.specs.declared.rules.Action.{Action}
 pub use Rattle.hyd_spec.specs.declared.TankState.{TankState}
 pub use Rattle.hyd_spec.specs.declared.TankState.TheVariants.{Empty, Between, Full}
-pub use Rattle.hyd_spec.specs.declared.Problem.{Problem}
-pub use Rattle.hyd_spec.specs.declared.Problem.TheVariants.{Main, Pinned}
-pub use Rattle.hyd_spec.specs.declared.Side.{Side}
-pub use Rattle.hyd_spec.specs.declared.Side.TheVariants.{Upper, Lower}
-pub use Rattle.hyd_spec.specs.declared.StatusWord.{StatusWord}
-pub use Rattle.hyd_spec.specs.declared.StatusWord.TheVariants.{Open as WordOpen, Closed as WordClosed, Active as WordActive, Unsure as WordUnsure}
