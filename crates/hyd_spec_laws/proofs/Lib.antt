@@ -1,4 +1,3 @@
-pub mod Integers
 pub mod Roots
 pub mod StraightLines
 pub mod CurveKnots
@@ -16,10 +15,10 @@ pub mod Levelling
 pub mod Deciding
 pub mod Worked
 pub mod Rising
+pub mod NetRising
 pub mod RunRecords
 pub mod Pieces
 pub mod CertificateLines
-pub mod Trials
 pub mod OneAnswer
 pub mod OneStanding
 pub mod OneReport
