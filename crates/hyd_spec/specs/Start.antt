@@ -36,6 +36,7 @@ patterned_state network time link state = by_kind link.kind
     by_pattern : Option ℕ → LinkState
     by_pattern (Some pattern) = speed_state (multiplier_at network pattern time)
     by_pattern None = state
+
     by_kind : LinkKind → LinkState
     by_kind (PipeLink capacity) = state
     by_kind (CheckPipe capacity) = state

@@ -74,29 +74,29 @@ pub fn pumps_metres()
 pub fn pumps_feet()
     ensures running_low { (capacity : Capacity) (shutoff : Span) (head : Decimal) (pattern : Option ℕ) → IsPumpInFeet capacity → head.nano
         ≡ pos 252000000000
-        → map (low (own_law true (PumpLink capacity shutoff (Given head) pattern) (Speed (pos 1000000000)))) differences ≡ pos 65411915627
+        → map (low (own_law true [] (PumpLink capacity shutoff (Given head) pattern) (Speed (pos 1000000000)))) differences ≡ pos 65411915627
         ∷ pos 65411915627 ∷ pos 65411915627 ∷ pos 65411915670 ∷ pos 65411915584 ∷ pos 65836344263 ∷ pos 64984715018 ∷ pos 70472981833
         ∷ pos 59924921723 ∷ pos 99243491989 ∷ pos 0 ∷ [] }
     ensures running_high { (capacity : Capacity) (shutoff : Span) (head : Decimal) (pattern : Option ℕ) → IsPumpInFeet capacity → head.nano
         ≡ pos 252000000000
-        → map (high (own_law true (PumpLink capacity shutoff (Given head) pattern) (Speed (pos 1000000000)))) differences ≡ pos 65411915628
+        → map (high (own_law true [] (PumpLink capacity shutoff (Given head) pattern) (Speed (pos 1000000000)))) differences ≡ pos 65411915628
         ∷ pos 65411915628 ∷ pos 65411915628 ∷ pos 65411915671 ∷ pos 65411915585 ∷ pos 65836344264 ∷ pos 64984715019 ∷ pos 70472981834
         ∷ pos 59924921724 ∷ pos 99243491990 ∷ pos 0 ∷ [] }
     ensures fast_low { (capacity : Capacity) (shutoff : Span) (head : Decimal) (pattern : Option ℕ) → IsPumpInFeet capacity → head.nano
         ≡ pos 252000000000
-        → map (low (own_law true (PumpLink capacity shutoff (Given head) pattern) (Speed (pos 1123456789)))) differences ≡ pos 73487460693
+        → map (low (own_law true [] (PumpLink capacity shutoff (Given head) pattern) (Speed (pos 1123456789)))) differences ≡ pos 73487460693
         ∷ pos 73487460693 ∷ pos 73487460693 ∷ pos 73487460731 ∷ pos 73487460655 ∷ pos 73865502090 ∷ pos 73107464455 ∷ pos 78026465648
         ∷ pos 68648994287 ∷ pos 104742345187 ∷ pos 0 ∷ [] }
     ensures fast_high { (capacity : Capacity) (shutoff : Span) (head : Decimal) (pattern : Option ℕ) → IsPumpInFeet capacity → head.nano
         ≡ pos 252000000000
-        → map (high (own_law true (PumpLink capacity shutoff (Given head) pattern) (Speed (pos 1123456789)))) differences ≡ pos 73487460694
+        → map (high (own_law true [] (PumpLink capacity shutoff (Given head) pattern) (Speed (pos 1123456789)))) differences ≡ pos 73487460694
         ∷ pos 73487460694 ∷ pos 73487460694 ∷ pos 73487460732 ∷ pos 73487460656 ∷ pos 73865502091 ∷ pos 73107464456 ∷ pos 78026465649
         ∷ pos 68648994288 ∷ pos 104742345188 ∷ pos 0 ∷ [] }
     ensures closed_low { (capacity : Capacity) (shutoff : Span) (head : Decimal) (pattern : Option ℕ)
-        → map (low (own_law true (PumpLink capacity shutoff (Given head) pattern) Closed)) differences ≡ pos 0 ∷ pos 0 ∷ pos 0 ∷ pos 0 ∷ pos 0 ∷ pos 0
+        → map (low (own_law true [] (PumpLink capacity shutoff (Given head) pattern) Closed)) differences ≡ pos 0 ∷ pos 0 ∷ pos 0 ∷ pos 0 ∷ pos 0 ∷ pos 0
         ∷ pos 0 ∷ pos 0 ∷ pos 0 ∷ pos 0 ∷ pos 0 ∷ [] }
     ensures closed_high { (capacity : Capacity) (shutoff : Span) (head : Decimal) (pattern : Option ℕ)
-        → map (high (own_law true (PumpLink capacity shutoff (Given head) pattern) Closed)) differences ≡ pos 0 ∷ pos 0 ∷ pos 0 ∷ pos 0 ∷ pos 0
+        → map (high (own_law true [] (PumpLink capacity shutoff (Given head) pattern) Closed)) differences ≡ pos 0 ∷ pos 0 ∷ pos 0 ∷ pos 0 ∷ pos 0
         ∷ pos 0 ∷ pos 0 ∷ pos 0 ∷ pos 0 ∷ pos 0 ∷ pos 0 ∷ [] }
 {}
 
