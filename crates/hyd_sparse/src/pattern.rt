@@ -1,5 +1,5 @@
 //! Where the numbers of a factor stand. This is found once, and holds for all numbers.
-ghost use Rattle.std.specs.Prelude.{◌≡◌, ◌<◌, ◌≤◌, ◌-◌, length};
+ghost use Rattle.std.specs.Prelude.{◌≡◌, ◌<◌, ◌≤◌, ◌-◌, length, slice_get, take, drop};
 ghost use Rattle.std.specs.List.{All};
 ghost use Rattle.hyd_sparse.specs.Tables.{IsColumn, IsSpan, IsUpdate, IsTerm};
 
@@ -28,37 +28,40 @@ pub(crate) struct Pattern {
 impl Pattern {
     pub fn column(&self, place: usize) -> Column
         requires { place < length self.now.columns.items }
-        ensures { IsColumn (length self.now.columns.items) (length self.now.rows.items)
+        ensures column { slice_get self.now.columns.items place ≡ Some result }
+        ensures inside { IsColumn (length self.now.columns.items) (length self.now.rows.items)
             (length self.now.updates.items) (length self.now.terms.items) result }
     {
         self.columns[place]
     }
 
     pub fn rows(&self) -> &[u32]
-        ensures length { length result.now ≡ length self.now.rows.items }
-        ensures rows { All (λ row. row < length self.now.columns.items) result.now }
+        ensures rows { result.now ≡ self.now.rows.items }
+        ensures inside { All (λ row. row < length self.now.columns.items) result.now }
     {
         self.rows.as_slice()
     }
 
     pub fn rows_of(&self, entries: Span) -> &[u32]
         requires { IsSpan (length self.now.rows.items) entries }
-        ensures length { length result.now ≡ entries.to - entries.from }
-        ensures rows { All (λ row. row < length self.now.columns.items) result.now }
+        ensures rows { result.now ≡ take (entries.to - entries.from) (drop entries.from self.now.rows.items) }
+        ensures inside { All (λ row. row < length self.now.columns.items) result.now }
     {
         &self.rows[entries.from..entries.to]
     }
 
     pub fn updates_of(&self, updates: Span) -> &[Update]
         requires { IsSpan (length self.now.updates.items) updates }
-        ensures { All (IsUpdate (length self.now.columns.items) (length self.now.rows.items)) result.now }
+        ensures updates { result.now ≡ take (updates.to - updates.from) (drop updates.from self.now.updates.items) }
+        ensures inside { All (IsUpdate (length self.now.columns.items) (length self.now.rows.items)) result.now }
     {
         &self.updates[updates.from..updates.to]
     }
 
     pub fn terms_of(&self, terms: Span) -> &[Term]
         requires { IsSpan (length self.now.terms.items) terms }
-        ensures { All (IsTerm (length self.now.columns.items) self.now.links) result.now }
+        ensures terms { result.now ≡ take (terms.to - terms.from) (drop terms.from self.now.terms.items) }
+        ensures inside { All (IsTerm (length self.now.columns.items) self.now.links) result.now }
     {
         &self.terms[terms.from..terms.to]
     }
