@@ -1,5 +1,5 @@
 -- Numbers of few digits.
-use Rattle.std.proofs.Common.{◌≡◌, ℕ, ◌+◌, ◌*◌, ◌^◌, ◌<◌, ◌≤◌, ◌&&◌, true, List, length, nat_le, min, sym, ◌∙◌, ap, arith, lit≤, leb-true, lt_of_lt_of_le}
+use Rattle.std.proofs.Common.{◌≡◌, ℕ, ◌^◌, ◌<◌, ◌≤◌, ◌&&◌, true, List, length, nat_le, min, arith, lit≤, leb-true, lt_of_lt_of_le}
 use Rattle.std.specs.List.{list_all}
 use Rattle.std.proofs.Math.Nat.{pow-le-pow_right}
 use Rattle.std.proofs.lemmas.Bool.{and_parts}
@@ -11,7 +11,7 @@ use Rattle.hyd_spec_input.specs.Moments.{are_digits}
 pub below_million : (part : List ℕ) → are_digits 6 part ≡ true → number part < 1000000
 below_million part h =
     let p : (list_all is_digit part ≡ true) × ((nat_le 1 (length part) && nat_le (length part) 6) ≡ true) =
-        and_parts (list_all is_digit part) (nat_le 1 (length part) && nat_le (length part) 6) h in
+    and_parts (list_all is_digit part) (nat_le 1 (length part) && nat_le (length part) 6) h in
     let q : (nat_le 1 (length part) ≡ true) × (nat_le (length part) 6 ≡ true) = and_parts (nat_le 1 (length part)) (nat_le (length part) 6) p.1 in
     let l : length part ≤ 6 = leb-true (length part) 6 q.1 in
     let m : 10 ^ length part ≤ 10 ^ 6 = pow-le-pow_right (lit≤ tt) l in

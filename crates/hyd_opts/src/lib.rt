@@ -12,3 +12,10 @@ mod rules;
 mod times;
 
 pub use columns::{check_id, ends, id, needed, number, number_within};
+pub use controls::{Asked, ControlLine, WhenLine, read_control};
+pub use hyd_net::Relation;
+pub use hyd_spec_input::{Attribute, LinkWord, NodeWord};
+pub use moments::{read_clock, read_time};
+pub use options::{OptionSet, read_option};
+pub use rules::{ActionLine, ClauseLine, Object, RuleLine, Value, read_rule_line};
+pub use times::{TimeSet, read_time_line};

@@ -1,5 +1,4 @@
-use Rattle.std.proofs.Common.{◌≡◌, ◌∷◌, List, ℕ, sym, ap, ◌∙◌, []}
-use Rattle.std.specs.List.{slice_split}
+use Rattle.std.proofs.Common.{◌∷◌, List, ℕ, sym, ap, ◌∙◌}
 use Rattle.hyd_spec_input.specs.Moments.{is_colon}
 use Rattle.hyd_opts.proofs.Colons.{no_colon, too_many}
 use Rattle.hyd_opts.proofs.parts.cut.Goals as goal

@@ -1,6 +1,6 @@
-use Rattle.std.proofs.Common.{◌≡◌, sym, ◌∙◌}
+use Rattle.std.proofs.Common.{sym}
 use Rattle.hyd_spec_input.specs.Moments.{is_colon}
-use Rattle.hyd_opts.proofs.Colons.{cut_at, not_cut, not_within}
+use Rattle.hyd_opts.proofs.Colons.{cut_at, not_cut}
 use Rattle.hyd_opts.proofs.parts.split_colon.Goals as goal
 
 pub returns-in_err-place-clause-none : goal.returns-in_err-place-clause-none
