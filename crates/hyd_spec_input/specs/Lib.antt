@@ -1,3 +1,4 @@
+pub mod FirstForm
 pub mod Columns
 pub mod Keywords
 pub mod Moments
