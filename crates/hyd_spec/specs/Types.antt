@@ -13,6 +13,7 @@ pub use Rattle.hyd_net.specs.declared.nodes.Demand.{Demand}
 pub use Rattle.hyd_net.specs.declared.nodes.Junction.{Junction}
 pub use Rattle.hyd_net.specs.declared.nodes.Reservoir.{Reservoir}
 pub use Rattle.hyd_net.specs.declared.nodes.Tank.{Tank}
+pub use Rattle.hyd_net.specs.declared.curves.VolumePoint.{VolumePoint}
 pub use Rattle.hyd_net.specs.declared.links.Link.{Link}
 pub use Rattle.hyd_net.specs.declared.links.LinkKind.{LinkKind}
 pub use Rattle.hyd_net.specs.declared.links.LinkKind.TheVariants.{Pipe as PipeLink, CheckPipe, Pump as PumpLink, Tcv, Fcv}

@@ -4,7 +4,7 @@ pub mod Grid
 pub mod NetOutflow
 pub mod Certificate
 pub mod Boxes
-pub mod Levels
+pub mod Stocks
 pub mod Truth
 pub mod Record
 pub mod Decided
