@@ -23,3 +23,4 @@ pub mod OneStanding
 pub mod OneReport
 pub mod OneLength
 pub mod OneRun
+pub mod StraightLines
