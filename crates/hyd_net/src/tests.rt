@@ -63,6 +63,8 @@ fn network(
         tanks,
         links,
         patterns: List::new(alloc),
+        shapes: List::new(alloc),
+        bends: List::new(alloc),
         controls: List::new(alloc),
         rules: List::new(alloc),
     })
@@ -102,6 +104,8 @@ fn tank(diameter: Decimal) -> Tank {
         maximum: 100_000_000_000_000,
         area: 314_159_265_400,
         diameter,
+        shape: None,
+        overflow: false,
     }
 }
 
