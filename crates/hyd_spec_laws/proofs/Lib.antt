@@ -24,3 +24,4 @@ pub mod OneReport
 pub mod OneLength
 pub mod OneRun
 pub mod StraightLines
+pub mod Placing

@@ -22,7 +22,14 @@ UpTo T r v = r.num ≤ℤ (pos r.den *ℤ (pos T *ℤ v))
 abbrev From : ℕ → Rational → ℤ → Type 0
 From T r v = (pos r.den *ℤ (pos T *ℤ v)) ≤ℤ r.num
 
-through : (T U : ℕ) (r s : Rational) (v : ℤ) → UpTo T r v → From U s v → Leads T U r s
+pub moved : (a b c d : ℕ) (z : ℤ) → pos a *ℤ (pos b *ℤ (pos c *ℤ (pos d *ℤ z))) ≡ pos c *ℤ (pos d *ℤ (pos a *ℤ (pos b *ℤ z)))
+moved a b c d z =
+    times_times a b (pos c *ℤ (pos d *ℤ z)) ∙ ap (λ (w : ℤ). pos (a * b) *ℤ w) (times_times c d z)
+    ∙ exchanged (c * d) (a * b) z
+    ∙ sym (times_times c d (pos (a * b) *ℤ z)) ∙ ap (λ (w : ℤ). pos c *ℤ (pos d *ℤ w)) (sym (times_times a b z))
+
+-- along a whole number between
+pub through : (T U : ℕ) (r s : Rational) (v : ℤ) → UpTo T r v → From U s v → Leads T U r s
 through T U r s v most least = record {
   crossed =
       let a = times_rises s.den (pos U *ℤ r.num) (pos U *ℤ (pos r.den *ℤ (pos T *ℤ v))) (times_rises U r.num (pos r.den *ℤ (pos T *ℤ v)) most) in
@@ -30,12 +37,6 @@ through T U r s v most least = record {
       let same : pos s.den *ℤ (pos U *ℤ (pos r.den *ℤ (pos T *ℤ v))) ≡ pos r.den *ℤ (pos T *ℤ (pos s.den *ℤ (pos U *ℤ v))) = moved s.den U r.den T v in
       omega (arith, ints, a, b, same);
 }
-  where
-    moved : (a b c d : ℕ) (z : ℤ) → pos a *ℤ (pos b *ℤ (pos c *ℤ (pos d *ℤ z))) ≡ pos c *ℤ (pos d *ℤ (pos a *ℤ (pos b *ℤ z)))
-    moved a b c d z =
-        times_times a b (pos c *ℤ (pos d *ℤ z)) ∙ ap (λ (w : ℤ). pos (a * b) *ℤ w) (times_times c d z)
-        ∙ exchanged (c * d) (a * b) z
-        ∙ sym (times_times c d (pos (a * b) *ℤ z)) ∙ ap (λ (w : ℤ). pos c *ℤ (pos d *ℤ w)) (sym (times_times a b z))
 
 -- ---- one line
 
