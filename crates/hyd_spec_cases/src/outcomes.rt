@@ -13,6 +13,7 @@ ghost use Rattle.hyd_spec.specs.LinkLaw.{law_of};
 ghost use Rattle.hyd_spec.specs.Rules.{measured, holds_on};
 ghost use Rattle.hyd_spec_reports.specs.Report.{by_drive, by_setting, status_of, tank_event, control_event};
 ghost use Rattle.hyd_spec_reports.specs.ReportLine.{FilledLine, EmptiedLine, ReachedLine};
+ghost use Rattle.hyd_spec_cases.specs.Tanks.{HasTanks};
 
 /// Status words by the interval of the head difference: of a check valve, a flow control valve and pumps, whose curve
 /// has a shutoff head of 50 m, or gives it as four thirds of 50 m.
@@ -84,21 +85,22 @@ pub fn control_events()
         ≡ Some (ReachedLine 60 0 4) ∷ None ∷ None ∷ [] }
 {}
 
-/// A valve between a junction and tanks, or two tanks: nothing flows into a full tank or out of an empty one.
+/// A valve between a junction and tanks, or two tanks: nothing flows into a full tank that doesn't overflow, or out of an
+/// empty one.
 pub fn tank_laws()
-    ensures out_of_full_low { (network : Project) → length network.junctions.list ≡ 1 → length network.reservoirs.list ≡ 0
+    ensures out_of_full_low { (network : Project) → length network.junctions.list ≡ 1 → length network.reservoirs.list ≡ 0 → HasTanks network false false
         → map (low (law_of network (Full ∷ Between
         ∷ []) (record { from = 1; to = 0; kind = Tcv Linear; start = Open }) Open)) (neg_ℤ (pos 125) ∷ pos 0 ∷ pos 125 ∷ [])
         ≡ pos 0 ∷ pos 0 ∷ pos 1003352 ∷ [] }
-    ensures out_of_full_high { (network : Project) → length network.junctions.list ≡ 1 → length network.reservoirs.list ≡ 0
+    ensures out_of_full_high { (network : Project) → length network.junctions.list ≡ 1 → length network.reservoirs.list ≡ 0 → HasTanks network false false
         → map (high (law_of network (Full ∷ Between
         ∷ []) (record { from = 1; to = 0; kind = Tcv Linear; start = Open }) Open)) (neg_ℤ (pos 125) ∷ pos 0 ∷ pos 125 ∷ [])
         ≡ pos 0 ∷ pos 0 ∷ pos 1003353 ∷ [] }
-    ensures into_full_low { (network : Project) → length network.junctions.list ≡ 1 → length network.reservoirs.list ≡ 0
+    ensures into_full_low { (network : Project) → length network.junctions.list ≡ 1 → length network.reservoirs.list ≡ 0 → HasTanks network false false
         → map (low (law_of network (Full ∷ Between
         ∷ []) (record { from = 0; to = 1; kind = Tcv Linear; start = Open }) Open)) (neg_ℤ (pos 125) ∷ pos 0 ∷ pos 125 ∷ [])
         ≡ neg_ℤ (pos 1003353) ∷ pos 0 ∷ pos 0 ∷ [] }
-    ensures into_full_high { (network : Project) → length network.junctions.list ≡ 1 → length network.reservoirs.list ≡ 0
+    ensures into_full_high { (network : Project) → length network.junctions.list ≡ 1 → length network.reservoirs.list ≡ 0 → HasTanks network false false
         → map (high (law_of network (Full ∷ Between
         ∷ []) (record { from = 0; to = 1; kind = Tcv Linear; start = Open }) Open)) (neg_ℤ (pos 125) ∷ pos 0 ∷ pos 125 ∷ [])
         ≡ neg_ℤ (pos 1003352) ∷ pos 0 ∷ pos 0 ∷ [] }
@@ -118,27 +120,27 @@ pub fn tank_laws()
         → map (high (law_of network (Empty ∷ Between
         ∷ []) (record { from = 0; to = 1; kind = Tcv Linear; start = Open }) Open)) (neg_ℤ (pos 125) ∷ pos 0 ∷ pos 125 ∷ [])
         ≡ pos 0 ∷ pos 0 ∷ pos 1003353 ∷ [] }
-    ensures full_to_full_low { (network : Project) → length network.junctions.list ≡ 1 → length network.reservoirs.list ≡ 0
+    ensures full_to_full_low { (network : Project) → length network.junctions.list ≡ 1 → length network.reservoirs.list ≡ 0 → HasTanks network false false
         → map (low (law_of network (Full ∷ Full
         ∷ []) (record { from = 1; to = 2; kind = Tcv Linear; start = Open }) Open)) (neg_ℤ (pos 125) ∷ pos 0 ∷ pos 125 ∷ [])
         ≡ pos 0 ∷ pos 0 ∷ pos 0 ∷ [] }
-    ensures full_to_full_high { (network : Project) → length network.junctions.list ≡ 1 → length network.reservoirs.list ≡ 0
+    ensures full_to_full_high { (network : Project) → length network.junctions.list ≡ 1 → length network.reservoirs.list ≡ 0 → HasTanks network false false
         → map (high (law_of network (Full ∷ Full
         ∷ []) (record { from = 1; to = 2; kind = Tcv Linear; start = Open }) Open)) (neg_ℤ (pos 125) ∷ pos 0 ∷ pos 125 ∷ [])
         ≡ pos 0 ∷ pos 0 ∷ pos 0 ∷ [] }
-    ensures empty_to_full_low { (network : Project) → length network.junctions.list ≡ 1 → length network.reservoirs.list ≡ 0
+    ensures empty_to_full_low { (network : Project) → length network.junctions.list ≡ 1 → length network.reservoirs.list ≡ 0 → HasTanks network false false
         → map (low (law_of network (Empty ∷ Full
         ∷ []) (record { from = 1; to = 2; kind = Tcv Linear; start = Open }) Open)) (neg_ℤ (pos 125) ∷ pos 0 ∷ pos 125 ∷ [])
         ≡ neg_ℤ (pos 1003353) ∷ pos 0 ∷ pos 0 ∷ [] }
-    ensures empty_to_full_high { (network : Project) → length network.junctions.list ≡ 1 → length network.reservoirs.list ≡ 0
+    ensures empty_to_full_high { (network : Project) → length network.junctions.list ≡ 1 → length network.reservoirs.list ≡ 0 → HasTanks network false false
         → map (high (law_of network (Empty ∷ Full
         ∷ []) (record { from = 1; to = 2; kind = Tcv Linear; start = Open }) Open)) (neg_ℤ (pos 125) ∷ pos 0 ∷ pos 125 ∷ [])
         ≡ neg_ℤ (pos 1003352) ∷ pos 0 ∷ pos 0 ∷ [] }
-    ensures full_to_empty_low { (network : Project) → length network.junctions.list ≡ 1 → length network.reservoirs.list ≡ 0
+    ensures full_to_empty_low { (network : Project) → length network.junctions.list ≡ 1 → length network.reservoirs.list ≡ 0 → HasTanks network false false
         → map (low (law_of network (Full ∷ Empty
         ∷ []) (record { from = 1; to = 2; kind = Tcv Linear; start = Open }) Open)) (neg_ℤ (pos 125) ∷ pos 0 ∷ pos 125 ∷ [])
         ≡ pos 0 ∷ pos 0 ∷ pos 1003352 ∷ [] }
-    ensures full_to_empty_high { (network : Project) → length network.junctions.list ≡ 1 → length network.reservoirs.list ≡ 0
+    ensures full_to_empty_high { (network : Project) → length network.junctions.list ≡ 1 → length network.reservoirs.list ≡ 0 → HasTanks network false false
         → map (high (law_of network (Full ∷ Empty
         ∷ []) (record { from = 1; to = 2; kind = Tcv Linear; start = Open }) Open)) (neg_ℤ (pos 125) ∷ pos 0 ∷ pos 125 ∷ [])
         ≡ pos 0 ∷ pos 0 ∷ pos 1003353 ∷ [] }
@@ -150,6 +152,18 @@ pub fn tank_laws()
         → map (high (law_of network (Between ∷ Between
         ∷ []) (record { from = 1; to = 2; kind = Tcv Linear; start = Open }) Open)) (neg_ℤ (pos 125) ∷ pos 0 ∷ pos 125 ∷ [])
         ≡ neg_ℤ (pos 1003352) ∷ pos 0 ∷ pos 1003353 ∷ [] }
+    ensures into_overflowing_low { (network : Project) → length network.junctions.list ≡ 1 → length network.reservoirs.list ≡ 0 → HasTanks network true false
+        → map (low (law_of network (Full ∷ Between
+        ∷ []) (record { from = 0; to = 1; kind = Tcv Linear; start = Open }) Open)) (neg_ℤ (pos 125) ∷ pos 0 ∷ pos 125 ∷ [])
+        ≡ neg_ℤ (pos 1003353) ∷ pos 0 ∷ pos 1003352 ∷ [] }
+    ensures into_overflowing_high { (network : Project) → length network.junctions.list ≡ 1 → length network.reservoirs.list ≡ 0 → HasTanks network true false
+        → map (high (law_of network (Full ∷ Between
+        ∷ []) (record { from = 0; to = 1; kind = Tcv Linear; start = Open }) Open)) (neg_ℤ (pos 125) ∷ pos 0 ∷ pos 125 ∷ [])
+        ≡ neg_ℤ (pos 1003352) ∷ pos 0 ∷ pos 1003353 ∷ [] }
+    ensures overflowing_to_full_low { (network : Project) → length network.junctions.list ≡ 1 → length network.reservoirs.list ≡ 0 → HasTanks network true false
+        → map (low (law_of network (Full ∷ Full
+        ∷ []) (record { from = 1; to = 2; kind = Tcv Linear; start = Open }) Open)) (neg_ℤ (pos 125) ∷ pos 0 ∷ pos 125 ∷ [])
+        ≡ neg_ℤ (pos 1003353) ∷ pos 0 ∷ pos 0 ∷ [] }
 {}
 
 /// Clauses on a pressure about the amount, which in pounds a square inch isn't a whole number of head ticks.

@@ -5,7 +5,7 @@ pub mod NetOutflow
 pub mod Certificate
 pub mod Climbing
 pub mod Boxes
-pub mod Levels
+pub mod Stocks
 pub mod Truth
 pub mod Record
 pub mod Decided

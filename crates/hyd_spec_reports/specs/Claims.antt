@@ -19,7 +19,7 @@ use Rattle.hyd_spec.specs.Assignment.{node_heads, head_at, flow_at}
 use Rattle.hyd_spec.specs.Tank.{tank_inflow, reaches}
 use Rattle.hyd_spec.specs.Start.{acts_at}
 use Rattle.hyd_spec.specs.Rules.{Change, rule_changes}
-use Rattle.hyd_spec.specs.Length.{Period, level_at_start, exact_after, values_at}
+use Rattle.hyd_spec.specs.Length.{Period, level_at_start, watched_after, values_at}
 use Rattle.hyd_spec_reports.specs.Report.{start_changes}
 use Rattle.hyd_spec_reports.specs.ReportLine.{ReportLine, ControlLine, TimeLine, JunctionLine, ReservoirLine, TankLine, LinkLine, FilledLine, EmptiedLine, ReachedLine, RuleLine}
 
@@ -157,12 +157,13 @@ pub record LinkLies (network : Project) (S : ℕ) (period : Period) (l : ℕ) (f
 
 -- ---- events, controls, rules
 
--- At the second of the period's end the tank's exact level is at or beyond a target.
+-- At the second of the period's end the tank's level, the exact one of a cylinder and the carried one of a tank with a curve, is
+-- at or beyond a target.
 pub record ReachesAtEnd (network : Project) (S : ℕ) (period : Period) (time k : ℕ) (above : Bool) (target : ℤ) : Type 0 where
   pub at_end : time ≡ period.time + period.length
   pub tank : Tank
   pub is_tank : slice_get network.tanks.list k ≡ Some tank
-  pub reached : IsTrue (reaches S above target (exact_after network period k tank period.length))
+  pub reached : IsTrue (reaches S above target (watched_after network S period k tank period.length))
 
 -- The tank, which wasn't full at the start, reaches its maximum.
 pub record Fills (network : Project) (S : ℕ) (period : Period) (time k : ℕ) : Type 0 where

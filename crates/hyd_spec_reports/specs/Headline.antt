@@ -18,7 +18,7 @@ use Rattle.hyd_spec_certificates.specs.Record.{Record, Standing, initial_standin
 use Rattle.hyd_spec_certificates.specs.Decided.{links_at}
 use Rattle.hyd_spec_certificates.specs.Valid.{IsValid, IsProblem}
 use Rattle.hyd_spec_certificates.specs.Narrow.{IsNarrow}
-use Rattle.hyd_spec_reports.specs.CertificateText.{IsCertificateText, header_line, record_text, end_line}
+use Rattle.hyd_spec_reports.specs.CertificateText.{IsCertificateText, version_of, header_line, record_text, end_line}
 use Rattle.hyd_spec_reports.specs.Stops.{StopCause, DemandOutOfRange, RoundsSpent, Stops}
 use Rattle.hyd_spec_reports.specs.Report.{IsReport}
 use Rattle.hyd_spec_reports.specs.ReportLine.{ReportLine, report_text, stop_line, done_line, partial_line}
@@ -132,8 +132,8 @@ pub record RunWrites (network : Project) (rounds : ℕ) (sharpness : Sharpness) 
   pub is_run : IsRun network founds left
   pub sharp : AllByRecursion (IsSharpFound network sharpness) founds
   pub ends_so : EndsSo network left rounds outcome
-  pub certificate : IsCertificateText written (junction_count network) (tank_count network) (rows_of founds)
-      (length founds) (is_finished outcome)
+  pub certificate : IsCertificateText written (version_of network) (junction_count network) (tank_count network)
+      (rows_of founds) (length founds) (is_finished outcome)
   pub report : printed ≡ report_text network (lines_of founds) (last_line network left (length founds) outcome)
   pub every_history : EveryHistoryAgrees network founds
 
@@ -150,7 +150,7 @@ outcome_number (Stopped cause) = 6
 -- The certificate as far as some records go, with its end line where the run's end is known.
 abbrev pub certificate_so_far : Project → List Found → Option Outcome → List ℕ
 certificate_so_far network founds last =
-    header_line (junction_count network) (tank_count network)
+    header_line (version_of network) (junction_count network) (tank_count network)
     ++ (joined (map record_text (rows_of founds))
     ++ option_map_or (λ outcome. end_line (length founds) (is_finished outcome)) last [])
 
@@ -186,7 +186,7 @@ pub record CheckAccepts (network : Project) (text printed : List ℕ) : Type 0 w
   pub founds : List Found
   pub left : Standing
   pub is_run : IsRun network founds left
-  pub certificate : IsCertificateText text (junction_count network) (tank_count network) (rows_of founds)
-      (length founds) left.finished
+  pub certificate : IsCertificateText text (version_of network) (junction_count network) (tank_count network)
+      (rows_of founds) (length founds) left.finished
   pub report : printed ≡ report_text network (lines_of founds) (accepted_line (length founds) left.finished)
   pub every_history : EveryHistoryAgrees network founds
