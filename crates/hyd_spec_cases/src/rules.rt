@@ -5,7 +5,7 @@ ghost use Rattle.std.specs.Prelude.{◌≡◌, pos, neg_ℤ, true, false, [], �
 ghost use Rattle.hyd_num.specs.Rational.{whole};
 ghost use Rattle.hyd_num.specs.declared.decimals.Span.{Span};
 ghost use Rattle.hyd_spec.specs.Types.{Project, Decimal, Rule, Clause, And, Or, Less, NotMore, More, NotLess, Equal, Unequal, Time, Clock, Amount, ValueOpen, ValueClosed, ValueActive, Linear, Open, Closed, Speed, Throttle, Limit};
-ghost use Rattle.hyd_spec_certificates.specs.Truth.{Yes, No, Unknown, at_both_ends, some_holds, all_hold};
+ghost use Rattle.hyd_spec_certificates.specs.Verdict.{Yes, No, Unknown, at_both_ends, some_holds, all_hold};
 ghost use Rattle.hyd_spec.specs.Rules.{IsOpen, IsClosed, IsActive, state_word, setting_of, is_same_state, compares, status_holds, holds_on, Readings, parts_of, groups_in, is_above, rule_changes, acted};
 ghost use Rattle.hyd_spec_certificates.specs.Decided.{least_magnitude, greatest_magnitude};
 
@@ -134,7 +134,7 @@ pub fn premises()
         ≡ (a ∷ b ∷ []) ∷ (c ∷ []) ∷ (d ∷ e ∷ []) ∷ [] }
 {}
 
-/// Truth in three values: what is so at both ends, of some clauses, and of all groups.
+/// Verdict in three values: what is so at both ends, of some clauses, and of all groups.
 pub fn truths()
     ensures ends { map (at_both_ends true) (true ∷ false ∷ []) ≡ Yes ∷ Unknown ∷ [] }
     ensures other_ends { map (at_both_ends false) (true ∷ false ∷ []) ≡ Unknown ∷ No ∷ [] }

@@ -5,7 +5,7 @@ ghost use Rattle.std.specs.Prelude.{◌≡◌, pos, neg_ℤ, true, false, List, 
 ghost use Rattle.hyd_spec.specs.Types.{Project, Capacity, ShutoffHead, Control, PumpLink, Tcv, Linear, Open, Closed, Speed, AtLevel, AtTime, AtClock};
 ghost use Rattle.hyd_spec.specs.Quantity.{multipliers_of};
 ghost use Rattle.hyd_spec.specs.Start.{clock_at, speed_state, is_pattern_boundary, patterned, controlled};
-ghost use Rattle.hyd_spec_certificates.specs.Truth.{Yes, No, Unknown};
+ghost use Rattle.hyd_spec_certificates.specs.Verdict.{Yes, No, Unknown};
 ghost use Rattle.hyd_spec_certificates.specs.Decided.{control_truth, acts_on};
 ghost use Rattle.hyd_spec_reports.specs.Report.{control_changes, is_report_time};
 ghost use Rattle.hyd_num.specs.declared.decimals.Span.{Span};

@@ -15,7 +15,7 @@ use Rattle.hyd_spec_certificates.specs.Grid.{Grid, IsGrid}
 use Rattle.hyd_spec_certificates.specs.Certificate.{IsCertificate}
 use Rattle.hyd_spec_certificates.specs.Record.{Record, Standing, vector_of, initial_standing}
 use Rattle.hyd_spec_certificates.specs.Levels.{next_levels, state_of}
-use Rattle.hyd_spec_certificates.specs.Truth.{is_yes, is_unknown}
+use Rattle.hyd_spec_certificates.specs.Verdict.{is_yes, is_unknown}
 use Rattle.hyd_spec_certificates.specs.Decided.{links_at, level_of_tank, inflow_of_tank, nowhere, control_truth, rule_truths, EndsBy, ByRules, WithoutRules}
 
 -- ---- the vectors

@@ -8,7 +8,7 @@ use Rattle.hyd_spec.specs.Length.{IsLeast}
 use Rattle.hyd_spec_certificates.specs.Grid.{Grid}
 use Rattle.hyd_spec.specs.Rules.{measured}
 use Rattle.hyd_spec_certificates.specs.Record.{Record, Standing}
-use Rattle.hyd_spec_certificates.specs.Truth.{Unknown, is_unknown}
+use Rattle.hyd_spec_certificates.specs.Verdict.{Unknown, is_unknown}
 use Rattle.hyd_num.specs.Rational.{floor, ceiling}
 use Rattle.hyd_spec_certificates.specs.Decided.{OpenRule, IsOpenRule, IsFirstMatter, NoRuleMatters, rule_truths, readings_below, readings_above, End, ByRules, WithoutRules, RuleIsOpen, EventIsOpen, EndsBy, by_rules, rule_is_open, by_clock, event_is_open}
 use Rattle.hyd_spec_laws.proofs.Trials.{or-left, or-right}

@@ -1,6 +1,6 @@
 -- The text of a certificate: a header, the records in order, and an end line. Each line ends by a line feed.
 -- Source: this program's format.
-use Rattle.std.specs.Prelude.{◌≡◌, ℕ, ◌<◌, ◌^◌, ℤ, Bool, List, [], ◌∷◌, ◌++◌, length, map, All, codes, if◌then◌else◌}
+use Rattle.std.specs.Prelude.{◌≡◌, ℕ, ◌+◌, ◌<◌, ◌^◌, ◌==◌, ℤ, Bool, List, [], ◌∷◌, ◌++◌, length, map, All, codes, if◌then◌else◌}
 use Rattle.std.specs.Fmt.{decimal, signed_decimal}
 use Rattle.hyd_spec.specs.Lists.{joined}
 use Rattle.hyd_spec_certificates.specs.Certificate.{IsInBox}
@@ -46,6 +46,11 @@ abbrev pub end_line : ℕ → Bool → List ℕ
 end_line periods finished =
     line (codes "END" ∷ (decimal periods ∷ ((if finished then codes "FINISHED" else codes "STOPPED") ∷ [])))
 
+-- The number of line feeds of a text.
+abbrev pub line_feeds : List ℕ → ℕ
+line_feeds [] = 0
+line_feeds (code ∷ rest) = (if code == 10 then 1 else 0) + line_feeds rest
+
 -- A header for so many junctions and tanks, the records, and the end line.
 abbrev pub certificate_text : ℕ → ℕ → List Record → ℕ → Bool → List ℕ
 certificate_text junctions tanks rows periods finished =
@@ -72,7 +77,8 @@ pub record IsRow (junctions tanks : ℕ) (row : Record) : Type 0 where
 
 -- The text is that of these counts and records, and of an end line with this number and word. All numbers but heads are
 -- below 2^32, so that no line has more than 64 bytes.
-pub record IsCertificateText (text : List ℕ) (junctions tanks : ℕ) (rows : List Record) (periods : ℕ) (finished : Bool) : Type 0 where
+pub record IsCertificateText (text : List ℕ) (junctions tanks : ℕ) (rows : List Record) (periods : ℕ)
+    (finished : Bool) : Type 0 where
   pub junctions_fit : junctions < 2 ^ 32
   pub tanks_fit : tanks < 2 ^ 32
   pub rows_fit : All (IsRow junctions tanks) rows

@@ -9,7 +9,7 @@ use Rattle.hyd_spec_certificates.specs.Grid.{Grid}
 use Rattle.hyd_spec_certificates.specs.Record.{Record, Standing}
 use Rattle.hyd_spec_certificates.specs.Levels.{may_reach, must_reach}
 use Rattle.hyd_spec.specs.Rules.{Change}
-use Rattle.hyd_spec_certificates.specs.Truth.{is_unknown}
+use Rattle.hyd_spec_certificates.specs.Verdict.{is_unknown}
 use Rattle.hyd_spec_certificates.specs.Decided.{Watch, watches, SomeMayReach, SomeMustReach, level_of_tank, inflow_of_tank, IsClockLength, IsEarliestEnd, IsLatestEnd, rule_truths, decided_changes, RulesMatter, NoRuleMatters}
 use Rattle.hyd_spec_towns.specs.Village.{Choice, village_with, level_control}
 use Rattle.hyd_spec_laws.proofs.Trials.{none_below, from, or-left, or-right, and-true, any_of}

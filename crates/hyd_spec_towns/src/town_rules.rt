@@ -4,7 +4,7 @@
 ghost use Rattle.std.specs.Prelude.{◌≡◌, pos, neg_ℤ, true, false, [], ◌∷◌, map, codes, Some, None};
 ghost use Rattle.hyd_num.specs.Rational.{whole};
 ghost use Rattle.hyd_spec.specs.Types.{Project, Open, Closed, Speed};
-ghost use Rattle.hyd_spec_certificates.specs.Truth.{Yes, No, Unknown, is_yes};
+ghost use Rattle.hyd_spec_certificates.specs.Verdict.{Yes, No, Unknown, is_yes};
 ghost use Rattle.hyd_spec.specs.Rules.{head_of, pressure_of, state_of_link, rule_values, offers_from, best_offer, higher, change_of, rule_changes, acted};
 ghost use Rattle.hyd_spec_certificates.specs.Decided.{links_at, readings_below, readings_above, rule_truths, decided_changes};
 ghost use Rattle.hyd_spec_reports.specs.Report.{rule_lines};
