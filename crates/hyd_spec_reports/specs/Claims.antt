@@ -50,15 +50,12 @@ FlowLies network S ends q = LiesBetween ends (at_part S (flow_quantity network.o
 
 -- Junction number j: its head, its pressure and its outflow (demand and emitter together) lie between the printed
 -- ends.
-pub record JunctionLies (network : Project) (S : ℕ) (period : Period) (j : ℕ)
-    (head pressure outflow : Interval) : Type 0 where
+pub record JunctionLies (network : Project) (S : ℕ) (period : Period) (j : ℕ) (head pressure outflow : Interval) : Type 0 where
   pub junction : Junction
   pub is_junction : slice_get network.junctions.list j ≡ Some junction
   pub head_lies : HeadLies network S head (head_at period.assignment.heads j)
-  pub pressure_lies : PressureLies network S pressure
-      (head_at period.assignment.heads j -ℤ at_scale S junction.elevation)
-  pub outflow_lies : FlowLies network S outflow
-      (flow_at period.assignment.demands j +ℤ flow_at period.assignment.emitters j)
+  pub pressure_lies : PressureLies network S pressure (head_at period.assignment.heads j -ℤ at_scale S junction.elevation)
+  pub outflow_lies : FlowLies network S outflow (flow_at period.assignment.demands j +ℤ flow_at period.assignment.emitters j)
 
 -- Reservoir number r: its head at the start of the period lies between the printed ends.
 pub record ReservoirLies (network : Project) (S : ℕ) (period : Period) (r : ℕ) (head : Interval) : Type 0 where
@@ -67,8 +64,7 @@ pub record ReservoirLies (network : Project) (S : ℕ) (period : Period) (r : �
   pub head_lies : HeadLies network S head (at_scale S (reservoir_head network period.time reservoir))
 
 -- Tank number k: its head, its level and its inflow lie between the printed ends, and its state is the printed one.
-pub record TankLies (network : Project) (S : ℕ) (period : Period) (k : ℕ) (head level inflow : Interval)
-    (state : TankState) : Type 0 where
+pub record TankLies (network : Project) (S : ℕ) (period : Period) (k : ℕ) (head level inflow : Interval) (state : TankState) : Type 0 where
   pub tank : Tank
   pub is_tank : slice_get network.tanks.list k ≡ Some tank
   pub head_lies : HeadLies network S head (at_scale S tank.bottom +ℤ level_at_start period k)
@@ -114,14 +110,12 @@ StateIs word state = ⊥
 -- What a status word says of a link in its state, at the head difference x.
 abbrev pub StatusHolds : Bool → StatusWord → LinkKind → LinkState → ℕ → ℤ → Type 0
 StatusHolds us word (CheckPipe capacity) Open S x = DriveIs word x
-StatusHolds us word (PumpLink capacity shutoff head pattern) (Speed speed) S x = DriveIs word
-    (drive_of S (lift_of us head speed) x)
+StatusHolds us word (PumpLink capacity shutoff head pattern) (Speed speed) S x = DriveIs word (drive_of S (lift_of us head speed) x)
 StatusHolds us word (Fcv valve) (Limit setting ticks) S x = SettingIs word valve S x ticks
 StatusHolds us word kind state S x = StateIs word state
 
 -- Link number l: its flow lies between the printed ends, and its status word holds.
-pub record LinkLies (network : Project) (S : ℕ) (period : Period) (l : ℕ) (flow : Interval)
-    (word : StatusWord) : Type 0 where
+pub record LinkLies (network : Project) (S : ℕ) (period : Period) (l : ℕ) (flow : Interval) (word : StatusWord) : Type 0 where
   pub link : Link
   pub is_link : slice_get network.links.list l ≡ Some link
   pub state : LinkState
@@ -132,8 +126,7 @@ pub record LinkLies (network : Project) (S : ℕ) (period : Period) (l : ℕ) (f
 -- ---- events, controls, rules
 
 -- At the second of the period's end the tank's exact level is at or beyond a target.
-pub record ReachesAtEnd (network : Project) (S : ℕ) (period : Period) (time k : ℕ) (above : Bool)
-    (target : ℤ) : Type 0 where
+pub record ReachesAtEnd (network : Project) (S : ℕ) (period : Period) (time k : ℕ) (above : Bool) (target : ℤ) : Type 0 where
   pub at_end : time ≡ period.time + period.length
   pub tank : Tank
   pub is_tank : slice_get network.tanks.list k ≡ Some tank
@@ -164,8 +157,7 @@ pub record ReachesControl (network : Project) (S : ℕ) (period : Period) (time 
   pub reaches_it : ReachesAtEnd network S period time k above ticks
 
 -- At the start of the period, from the states commanded before, the control changes the link to the state.
-pub record IsStartChange (network : Project) (S : ℕ) (commanded : List LinkState) (period : Period) (time : ℕ)
-    (change : Change) : Type 0 where
+pub record IsStartChange (network : Project) (S : ℕ) (commanded : List LinkState) (period : Period) (time : ℕ) (change : Change) : Type 0 where
   pub at_start : time ≡ period.time
   pub is_change : Contains (start_changes network period.time (acts_at S period.levels) commanded) change
 
@@ -182,11 +174,9 @@ abbrev pub LineHolds : Project → ℕ → List LinkState → Period → ReportL
 LineHolds network S commanded period (ControlLine time number link state) =
     IsStartChange network S commanded period time (record { source = ByControl number; link = link; to = state })
 LineHolds network S commanded period (TimeLine time) = period.time ≡ time
-LineHolds network S commanded period (JunctionLine j head pressure outflow) =
-    JunctionLies network S period j head pressure outflow
+LineHolds network S commanded period (JunctionLine j head pressure outflow) = JunctionLies network S period j head pressure outflow
 LineHolds network S commanded period (ReservoirLine r head) = ReservoirLies network S period r head
-LineHolds network S commanded period (TankLine k head level inflow state) =
-    TankLies network S period k head level inflow state
+LineHolds network S commanded period (TankLine k head level inflow state) = TankLies network S period k head level inflow state
 LineHolds network S commanded period (LinkLine l flow word) = LinkLies network S period l flow word
 LineHolds network S commanded period (FilledLine time k) = Fills network S period time k
 LineHolds network S commanded period (EmptiedLine time k) = Empties network S period time k

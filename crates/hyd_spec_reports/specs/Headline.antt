@@ -83,8 +83,7 @@ IsSharpFound network sharpness found =
 
 -- A period of a history agrees with what was found: it begins at the record's time, has its length and its states,
 -- has its heads strictly between the record's vectors, and each line of its report holds.
-pub record Agrees (network : Project) (S : ℕ) (commanded : List LinkState) (period : Period)
-    (found : Found) : Type 0 where
+pub record Agrees (network : Project) (S : ℕ) (commanded : List LinkState) (period : Period) (found : Found) : Type 0 where
   pub time : period.time ≡ found.row.time
   pub length_is : period.length ≡ found.row.length
   pub tanks : period.tanks ≡ found.standing.tanks
@@ -131,8 +130,7 @@ EndsSo network standing rounds Finished = standing.finished ≡ true
 EndsSo network standing rounds (Stopped cause) = (standing.finished ≡ false) × Stops network standing rounds cause
 
 -- What was written is the certificate of a run, what was printed its report, and every history agrees with it.
-pub record RunWrites (network : Project) (rounds : ℕ) (sharpness : Sharpness) (outcome : Outcome)
-    (written printed : List ℕ) : Type 0 where
+pub record RunWrites (network : Project) (rounds : ℕ) (sharpness : Sharpness) (outcome : Outcome) (written printed : List ℕ) : Type 0 where
   pub founds : List Found
   pub left : Standing
   pub is_run : IsRun network founds left
@@ -167,8 +165,7 @@ report_so_far network left founds last =
 
 -- A fault of the outside ended the work: what was written and printed are fronts of the certificate and of the report of a
 -- run, as far as it went, and every history agrees with it.
-pub record RunBreaksOff (network : Project) (rounds : ℕ) (sharpness : Sharpness)
-    (written printed : List ℕ) : Type 0 where
+pub record RunBreaksOff (network : Project) (rounds : ℕ) (sharpness : Sharpness) (written printed : List ℕ) : Type 0 where
   pub founds : List Found
   pub left : Standing
   pub is_run : IsRun network founds left

@@ -85,8 +85,7 @@ LineEach P k [] (l ∷ ls) = ⊥
 LineEach P k (x ∷ xs) [] = ⊥
 
 -- The line of junction number j: its head by the record, its pressure above the elevation, its outflow box.
-pub record IsJunctionLine (network : Project) (grid : Grid) (row : Record) (j : ℕ) (junction : GridJunction)
-    (each : ReportLine) : Type 0 where
+pub record IsJunctionLine (network : Project) (grid : Grid) (row : Record) (j : ℕ) (junction : GridJunction) (each : ReportLine) : Type 0 where
   pub heads : Interval
   pub heads_are : heads ≡ record { lo = head_at row.main.lower j; hi = head_at row.main.upper j }
   pub head : Interval
@@ -105,8 +104,7 @@ pub record IsReservoirLine (network : Project) (r : ℕ) (height : ℤ) (each : 
   pub head_is : Prints (head_quantity (is_us network)) (exactly height) head
 
 -- The line of tank number k: its level interval at the start, its head by it, its inflow and its state.
-pub record IsTankLine (network : Project) (grid : Grid) (standing : Standing) (row : Record) (k : ℕ) (tank : Tank)
-    (each : ReportLine) : Type 0 where
+pub record IsTankLine (network : Project) (grid : Grid) (standing : Standing) (row : Record) (k : ℕ) (tank : Tank) (each : ReportLine) : Type 0 where
   pub head : Interval
   pub level : Interval
   pub inflow : Interval
@@ -143,8 +141,7 @@ status_of us kind (Throttle setting law) d = WordActive
 status_of us kind state d = WordOpen
 
 -- The line of link number l: its flow box and its status word.
-pub record IsLinkLine (network : Project) (grid : Grid) (standing : Standing) (row : Record) (l : ℕ) (link : Link)
-    (each : ReportLine) : Type 0 where
+pub record IsLinkLine (network : Project) (grid : Grid) (standing : Standing) (row : Record) (l : ℕ) (link : Link) (each : ReportLine) : Type 0 where
   pub place : GridLink
   pub place_is : slice_get grid.links l ≡ Some place
   pub box : Interval
@@ -156,8 +153,7 @@ pub record IsLinkLine (network : Project) (grid : Grid) (standing : Standing) (r
       (difference place (heads_below grid row) (heads_above grid row)))
 
 -- The lines of a report time: the time, junctions, reservoirs, tanks and links in order.
-pub record AreStateLines (network : Project) (grid : Grid) (standing : Standing) (row : Record)
-    (lines : List ReportLine) : Type 0 where
+pub record AreStateLines (network : Project) (grid : Grid) (standing : Standing) (row : Record) (lines : List ReportLine) : Type 0 where
   pub junctions : List ReportLine
   pub reservoirs : List ReportLine
   pub tanks : List ReportLine
@@ -189,8 +185,7 @@ control_event before carried number control = by_when control.when
   where
     by_when : When → Option Event
     by_when (AtLevel tank above ticks) =
-        if not (acts_on before tank above ticks) && is_yes (control_truth
-        (slice_index_or carried tank nowhere) above ticks)
+        if not (acts_on before tank above ticks) && is_yes (control_truth (slice_index_or carried tank nowhere) above ticks)
         then Some (record { tank = tank; what = ReachesLevel number })
         else None
     by_when when = None
@@ -234,11 +229,9 @@ pub record AreEndLines (network : Project) (grid : Grid) (standing : Standing) (
 -- ---- a period's lines
 
 -- The lines of a period: changes by controls, the state where it is a report time, then what its end brings.
-pub record IsReport (network : Project) (grid : Grid) (standing : Standing) (row : Record)
-    (lines : List ReportLine) : Type 0 where
+pub record IsReport (network : Project) (grid : Grid) (standing : Standing) (row : Record) (lines : List ReportLine) : Type 0 where
   pub state : List ReportLine
-  pub state_are : MatchBool (is_report_time network standing.time) (AreStateLines network grid standing row state)
-      (state ≡ [])
+  pub state_are : MatchBool (is_report_time network standing.time) (AreStateLines network grid standing row state) (state ≡ [])
   pub at_end : List ReportLine
   pub at_end_are : AreEndLines network grid standing row at_end
   pub lines_are : lines ≡ control_lines network standing ++ (state ++ at_end)

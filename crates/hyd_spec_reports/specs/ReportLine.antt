@@ -122,14 +122,12 @@ reservoir_words id head = codes "RESERVOIR" ∷ (id ∷ with_ends (codes "head")
 -- A tank's ID, head, level, inflow and state.
 abbrev pub tank_words : List ℕ → Interval → Interval → Interval → TankState → List (List ℕ)
 tank_words id head level inflow state =
-    codes "TANK" ∷ (id ∷ with_ends (codes "head") head (with_ends (codes "level") level
-    (with_ends (codes "inflow") inflow
+    codes "TANK" ∷ (id ∷ with_ends (codes "head") head (with_ends (codes "level") level (with_ends (codes "inflow") inflow
     (codes "state" ∷ (tank_word state ∷ [])))))
 
 -- A link's ID, flow and status.
 abbrev pub link_words : List ℕ → Interval → StatusWord → List (List ℕ)
-link_words id flow status = codes "LINK" ∷ (id ∷ with_ends (codes "flow") flow
-    (codes "status" ∷ (status_text status ∷ [])))
+link_words id flow status = codes "LINK" ∷ (id ∷ with_ends (codes "flow") flow (codes "status" ∷ (status_text status ∷ [])))
 
 -- The words of a line.
 abbrev pub line_words : Project → ReportLine → List (List ℕ)
@@ -166,8 +164,7 @@ side_word Lower = codes "LOWER"
 -- The words of a stop's cause; clauses and controls are counted from 1 in print.
 abbrev pub cause_words : Project → StopCause → List (List ℕ)
 cause_words network (NoCertificate period problem side junction) =
-    codes "NOCERT" ∷ (problem_words network problem ++ (side_word side ∷
-    (codes "JUNCTION" ∷ (node_id network junction ∷ []))))
+    codes "NOCERT" ∷ (problem_words network problem ++ (side_word side ∷ (codes "JUNCTION" ∷ (node_id network junction ∷ []))))
 cause_words network (TankOpen period tank lo hi) =
     codes "TANK" ∷ (tank_id network tank ∷ (signed_decimal lo ∷ (signed_decimal hi ∷ [])))
 cause_words network (RuleOpen period rule clause lo hi) =

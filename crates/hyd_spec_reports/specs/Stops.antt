@@ -64,8 +64,7 @@ pub record HasNoCertificate (network : Project) (standing : Standing) (problem :
 
 -- At a standing with demands in range so many plain rounds from the beginning exist, and their result is no certificate;
 -- every problem and side before has one.
-pub record SpendsRounds (network : Project) (standing : Standing) (problem : Problem) (side : Side)
-    (rounds : ℕ) : Type 0 where
+pub record SpendsRounds (network : Project) (standing : Standing) (problem : Problem) (side : Side) (rounds : ℕ) : Type 0 where
   pub in_range : DemandsAreInRange network standing.time
   pub is_problem : IsProblem network problem
   pub grid : Grid
