@@ -11,14 +11,14 @@ use Rattle.hyd_num.specs.declared.pairs.Pair.{Pair}
 use Rattle.hyd_num.specs.Quantity.{billionths, feet, feet_across, is_us_unit, head_ticks, pressure_fraction}
 use borrow.Author.Differences.{up}
 use Rattle.std.specs.Prelude.{Bool, true, false, unsigned_abs}
-use Rattle.hyd_resist.proofs.Enclosures.{IsEnclosure-made}
-use Rattle.hyd_resist.proofs.SquaredFlows.{ratio-above}
+use Rattle.hyd_lemmas.proofs.Enclosures.{IsEnclosure-made}
+use Rattle.hyd_lemmas.proofs.SquaredFlows.{ratio-above}
 use Rattle.hyd_spec.specs.Types.{Capacity, Origin, Pipe, Valve, Pump, Emitter, PressureDemand}
 use Rattle.hyd_spec_certificates.specs.Enclosing.{quadratic_low, quadratic_high, low, high}
 use Rattle.hyd_spec.specs.Law.{Law, Shut, QuadraticLaw, LinearLaw, Lifted, ForwardOnly, ReverseOnly, Capped, odd_at_least, odd_at_most, flow_at_least, flow_at_most, loss_at_most, loss_at_least}
-use Rattle.hyd_resist.proofs.Enclosing.{numerator_above, denominator_above}
+use Rattle.hyd_lemmas.proofs.Enclosing.{numerator_above, denominator_above}
 use Rattle.hyd_spec_laws.specs.Laws.{IsLaw, IsSoundCapacity, IsSoundLaw, HasPositiveNumbers}
-use Rattle.hyd_spec_laws.proofs.Integers.{floor_low, ceiling_high, floor_greatest, ceiling_least, floor_at_most_ceiling}
+use Rattle.hyd_lemmas.proofs.Integers.{floor_low, ceiling_high, floor_greatest, ceiling_least, floor_at_most_ceiling}
 use Rattle.hyd_spec_laws.proofs.LossLaws.{IsLossLaw-origin}
 use Rattle.hyd_spec_laws.proofs.LinkLaws.{IsLaw-shut, IsLaw-forward, IsLaw-reverse, IsLaw-capped, IsLaw-lifted, odd-consistent, odd-downward, odd-upward, quad-below, quad-above, low-rises, high-rises, roots-ordered, roots_low, roots_high}
 

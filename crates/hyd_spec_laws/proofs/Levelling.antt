@@ -15,7 +15,7 @@ use Rattle.hyd_spec.specs.declared.TankState.TheVariants.{Full, Between, Empty}
 use Rattle.hyd_spec.specs.Tank.{tank_state, state_band, is_at_maximum, is_at_minimum, IsNextLevel, IsNearLevel}
 use Rattle.hyd_spec_certificates.specs.Levels.{shared_state, state_of, lower_end, upper_end, levels_after, next_levels}
 use Rattle.hyd_spec_laws.specs.Laws.{LiesIn, IsVessel, IsInside}
-use Rattle.hyd_spec_laws.proofs.Integers.{floor_low, ceiling_high, floor_greatest, ceiling_least, max_left, max_is, max_rises, min_left, min_is, min_rises}
+use Rattle.hyd_lemmas.proofs.Integers.{floor_low, ceiling_high, floor_greatest, ceiling_least, max_left, max_is, max_rises, min_left, min_is, min_rises}
 use Rattle.hyd_spec_laws.proofs.EachLaw.{exchanged}
 use Rattle.hyd_spec_laws.proofs.Outflows.{le-yes, le-no}
 

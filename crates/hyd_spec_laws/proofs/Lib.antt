@@ -1,4 +1,3 @@
-pub mod Integers
 pub mod Roots
 pub mod LossLaws
 pub mod LinkLaws
@@ -18,7 +17,6 @@ pub mod NetRising
 pub mod RunRecords
 pub mod Pieces
 pub mod CertificateLines
-pub mod Trials
 pub mod OneAnswer
 pub mod OneStanding
 pub mod OneReport

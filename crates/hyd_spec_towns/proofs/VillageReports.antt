@@ -18,7 +18,7 @@ use Rattle.hyd_spec_reports.specs.Report.{Prints, IsJunctionLine, IsReservoirLin
 use Rattle.hyd_spec_towns.specs.Village.{Choice, village_with, village, usual}
 use Rattle.hyd_spec_towns.specs.VillageRun.{standing_0, standing_1, standing_2, standing_3, standing_4, grid_0, grid_1, grid_2, grid_3, grid_4, row_0, row_1, row_2, row_3, row_4, lines_0, lines_1, lines_2, lines_3, lines_4}
 use Rattle.hyd_spec_towns.proofs.VillageEnds.{first_ends, second_ends, third_ends, fourth_ends}
-use Rattle.hyd_spec_laws.proofs.Trials.{le-yes, both-first, both-second}
+use Rattle.hyd_lemmas.proofs.Trials.{le-yes, both-first, both-second}
 
 -- ---- printed numbers
 
