@@ -107,13 +107,12 @@ between-is : (T : ℕ) (knot next : Knot) (x : ℤ) → Follows knot next
 between-is T knot next x f =
     let l = f.later in let h = f.higher in
     let ordered : int_lt knot.place next.place ≡ true = lt-from knot.place next.place l in
-    let wide = not-negative (next.place -ℤ knot.place) (omega (arith, ints, l)) in
     let high = not-negative (next.value -ℤ knot.value) (omega (arith, ints, h)) in
     subst (λ (b : Bool). (if b then on_line T knot next x else whole (pos T *ℤ (if int_lt x (pos T *ℤ knot.place) then knot.value else next.value)))
     ≡ record { num = line T (width-of knot next) (rise-of knot next) knot.place knot.value x; den = width-of knot next }) (sym ordered)
     (ap (λ (z : ℤ). record { num = z; den = width-of knot next })
-    (let a : (pos T *ℤ knot.value) *ℤ (next.place -ℤ knot.place) ≡ pos (width-of knot next) *ℤ (pos T *ℤ knot.value) =
-        *ℤ_comm (pos T *ℤ knot.value) (next.place -ℤ knot.place) ∙ ap (λ (z : ℤ). z *ℤ (pos T *ℤ knot.value)) wide in
+    (let a : pos (T * width-of knot next) *ℤ knot.value ≡ pos (width-of knot next) *ℤ (pos T *ℤ knot.value) =
+        sym (times_times T (width-of knot next) knot.value) ∙ exchanged (width-of knot next) T knot.value in
     let b : (next.value -ℤ knot.value) *ℤ (x -ℤ (pos T *ℤ knot.place)) ≡ pos (rise-of knot next) *ℤ (x -ℤ (pos T *ℤ knot.place)) =
         ap (λ (z : ℤ). z *ℤ (x -ℤ (pos T *ℤ knot.place))) high in
     omega (arith, ints, a, b)))
