@@ -25,3 +25,4 @@ pub mod OneLength
 pub mod OneRun
 pub mod StraightLines
 pub mod Placing
+pub mod Vessels
