@@ -16,7 +16,7 @@ use Rattle.hyd_spec.specs.Law.{QuadraticLaw}
 use Rattle.hyd_spec.specs.Start.{patterned, controlled, started}
 use Rattle.hyd_spec.specs.Rules.{state_of_link}
 use Rattle.hyd_spec.specs.Length.{Period, HasItsLength, at_end, before_end}
-use Rattle.hyd_spec.specs.History.{Begins, IsPeriod, initial_links, initial_levels, tank_states, commanded_after}
+use Rattle.hyd_spec.specs.History.{Begins, IsPeriod, initial_links, initial_levels, initial_volumes, tank_states, commanded_after}
 use Rattle.hyd_spec_certificates.specs.Grid.{Grid, GridLink, GridJunction, IsGrid, IsJunctionOf}
 use Rattle.hyd_spec_certificates.specs.Boxes.{difference}
 use Rattle.hyd_spec_certificates.specs.Certificate.{IsCertificate}
@@ -94,7 +94,7 @@ lie_without : (network : Project) (S : ℕ) → network.tanks.list ≡ [] → Le
 lie_without network S e = rw e tt
 
 starts_so : (network : Project) → IsFirstNetwork network → (S : ℕ) (period : Period)
-    → Begins network S 0 (initial_levels network S) (initial_links network) period → StartsSo network S period
+    → Begins network S 0 (initial_levels network S) (initial_volumes network S) (initial_links network) period → StartsSo network S period
 starts_so network first S period begins =
     let plain = first.has_parts.plain in
     record {
@@ -223,7 +223,7 @@ lines_hold network first S commanded period grid row lines over so report =
 -- ---- every history
 
 first_agrees : (network : Project) → IsFirstNetwork network → (S : ℕ) → 1 ≤ S → (period : Period) (grid : Grid) (upper lower : ℤ) (lines : List ReportLine)
-    → Begins network S 0 (initial_levels network S) (initial_links network) period → IsPeriod network S period
+    → Begins network S 0 (initial_levels network S) (initial_volumes network S) (initial_links network) period → IsPeriod network S period
     → IsGridAt network (initial_standing network) grid → IsCertificate grid Main Upper (upper ∷ []) → IsCertificate grid Main Lower (lower ∷ [])
     → IsReport network grid (initial_standing network) (first_row upper lower) lines
     → Agrees network S (initial_links network) period (first_found network grid upper lower lines)

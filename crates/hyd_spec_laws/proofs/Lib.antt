@@ -26,3 +26,4 @@ pub mod OneLength
 pub mod OneRun
 pub mod RisingLines
 pub mod Placing
+pub mod Vessels

@@ -12,6 +12,11 @@ ghost use Rattle.hyd_spec_certificates.specs.Stocks.{Stocks, carried_levels, nex
 ghost use Rattle.hyd_spec_certificates.specs.FirstSeconds.{IsFirstSecond};
 ghost use Rattle.hyd_spec_laws.specs.Laws.{LiesIn, LiesAround, StockLies, IsVessel, IsInside, AreInside, IsWithin};
 
+/// The tanks of a sound network hold water, and their bounds are in order.
+pub fn vessels()
+    ensures { (network : Project) → Sound network → Each network.tanks.list (λ k tank. IsVessel (walls_of network tank) tank) }
+{}
+
 /// Each stock with which a next period may begin lies in the next stocks, and lesser stocks lead
 /// into lesser ones.
 pub fn next_stock()
