@@ -6,3 +6,4 @@ pub mod Single
 pub mod Forms
 pub mod Tanks
 pub mod Curves
+pub mod Cylinders

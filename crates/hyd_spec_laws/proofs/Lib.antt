@@ -24,3 +24,6 @@ pub mod OneStanding
 pub mod OneReport
 pub mod OneLength
 pub mod OneRun
+pub mod RisingLines
+pub mod Placing
+pub mod Vessels
