@@ -13,7 +13,7 @@ ghost use Rattle.hyd_spec_reports.specs.Report.{status_of};
 ghost use Rattle.hyd_spec_cases.specs.Curves.{bends, pump_points, valve_points, volume_points};
 ghost use Rattle.hyd_spec_cases.specs.Curves.{steps, rising_steps, last_step};
 ghost use Rattle.hyd_spec_cases.specs.Curves.{running, along_pump, along_slow_pump, intervals, along_valve, either_way};
-ghost use Rattle.hyd_spec_cases.specs.Tanks.{between_tanks, pairs};
+ghost use Rattle.hyd_spec_cases.specs.Tanks.{between_tanks, pairs, HasTanks};
 
 /// Values on straight lines, rounded down and up, where neighbours have one place too.
 pub fn lines()
@@ -112,6 +112,7 @@ pub fn valves()
 pub fn at_tanks()
     ensures pump_low { (network : Project) → network.bends.list ≡ bends
         → length network.junctions.list ≡ 1 → length network.reservoirs.list ≡ 0
+        → HasTanks network false false
         → map (λ tanks. map (low (law_of network tanks (between_tanks (CurvePump 0 None)) (Speed (pos 1000000000))))
         either_way) pairs
         ≡ (pos 0 ∷ pos 0 ∷ []) ∷ (pos 31333333333 ∷ pos 23333333333 ∷ []) ∷ (pos 31333333333 ∷ pos 23333333333
@@ -119,6 +120,7 @@ pub fn at_tanks()
         ∷ pos 23333333333 ∷ []) ∷ (pos 0 ∷ pos 0 ∷ []) ∷ (pos 0 ∷ pos 0 ∷ []) ∷ (pos 0 ∷ pos 0 ∷ []) ∷ [] }
     ensures pump_high { (network : Project) → network.bends.list ≡ bends
         → length network.junctions.list ≡ 1 → length network.reservoirs.list ≡ 0
+        → HasTanks network false false
         → map (λ tanks. map (high (law_of network tanks (between_tanks (CurvePump 0 None)) (Speed (pos 1000000000))))
         either_way) pairs
         ≡ (pos 0 ∷ pos 0 ∷ []) ∷ (pos 31333333334 ∷ pos 23333333334 ∷ []) ∷ (pos 31333333334 ∷ pos 23333333334
@@ -126,6 +128,7 @@ pub fn at_tanks()
         ∷ pos 23333333334 ∷ []) ∷ (pos 0 ∷ pos 0 ∷ []) ∷ (pos 0 ∷ pos 0 ∷ []) ∷ (pos 0 ∷ pos 0 ∷ []) ∷ [] }
     ensures valve_low { (network : Project) → network.bends.list ≡ bends
         → length network.junctions.list ≡ 1 → length network.reservoirs.list ≡ 0
+        → HasTanks network false false
         → map (λ tanks. map (low (law_of network tanks (between_tanks (Gpv 1)) Open)) either_way) pairs
         ≡ (pos 0 ∷ pos 0 ∷ []) ∷ (pos 1333333333 ∷ pos 0 ∷ []) ∷ (pos 1333333333 ∷ pos 0 ∷ []) ∷ (pos 0
         ∷ neg_ℤ (pos 4000000000) ∷ []) ∷ (pos 1333333333 ∷ neg_ℤ (pos 4000000000) ∷ []) ∷ (pos 1333333333
@@ -133,6 +136,7 @@ pub fn at_tanks()
         ∷ pos 0 ∷ []) ∷ [] }
     ensures valve_high { (network : Project) → network.bends.list ≡ bends
         → length network.junctions.list ≡ 1 → length network.reservoirs.list ≡ 0
+        → HasTanks network false false
         → map (λ tanks. map (high (law_of network tanks (between_tanks (Gpv 1)) Open)) either_way) pairs
         ≡ (pos 0 ∷ pos 0 ∷ []) ∷ (pos 1333333334 ∷ pos 0 ∷ []) ∷ (pos 1333333334 ∷ pos 0 ∷ []) ∷ (pos 0
         ∷ neg_ℤ (pos 4000000000) ∷ []) ∷ (pos 1333333334 ∷ neg_ℤ (pos 4000000000) ∷ []) ∷ (pos 1333333334
