@@ -22,6 +22,3 @@ pub use command::tool;
 pub use program::{run_program, start};
 pub use solve::Solution;
 pub use status::Status;
-
-#[cfg(test)]
-mod tests;

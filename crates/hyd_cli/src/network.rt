@@ -175,6 +175,8 @@ pub(crate) fn plain(
         tanks: List::new(alloc),
         links,
         patterns: List::new(alloc),
+        shapes: List::new(alloc),
+        bends: List::new(alloc),
         controls: List::new(alloc),
         rules: List::new(alloc),
     }

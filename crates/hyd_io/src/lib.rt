@@ -13,6 +13,3 @@ pub use files::FileDesk;
 pub use input::{InFault, read_all};
 pub use memory::MemDesk;
 pub use output::{Channel, OutFault, Pen};
-
-#[cfg(test)]
-mod tests;

@@ -6,7 +6,7 @@ use Rattle.hyd_num.specs.Fraction.{AtMost}
 use Rattle.hyd_num.specs.Scaled.{numerator, denominator, as_fraction}
 use Rattle.hyd_num.specs.Chain.{StandsFor}
 use Rattle.hyd_spec.specs.Types.{Origin}
-use Rattle.hyd_resist.specs.Refusal.{IsRefused}
+use Rattle.hyd_num.specs.Refusal.{IsRefused}
 use Rattle.hyd_lemmas.proofs.Enclosing.{denominator_above}
 use Rattle.hyd_lemmas.proofs.OnePair.{StandsFor-below}
 

@@ -117,13 +117,15 @@ pub record HasPlainTimes (times : Times) : Type 0 where
   pub start_clock : times.start_clock ≡ 0
   pub rule_step : times.rule ≡ 360
 
--- Whatever a file of the form doesn't name is as where it is left out, and there are no tanks, patterns, controls and
--- rules.
+-- Whatever a file of the form doesn't name is as where it is left out, and there are no tanks, patterns, curves, controls
+-- and rules.
 pub record IsPlain (network : Project) : Type 0 where
   pub options : HasPlainOptions network.options
   pub times : HasPlainTimes network.times
   pub no_tanks : network.tanks.list ≡ []
   pub no_patterns : network.patterns.list ≡ []
+  pub no_shapes : network.shapes.list ≡ []
+  pub no_bends : network.bends.list ≡ []
   pub no_controls : network.controls.list ≡ []
   pub no_rules : network.rules.list ≡ []
 

@@ -8,7 +8,7 @@ use Rattle.std.proofs.lemmas.List.Elements.{recursion_from_All}
 use Rattle.hyd_num.specs.Chain.{IsMade}
 use Rattle.hyd_num.specs.declared.units.FlowUnit.{FlowUnit}
 use Rattle.hyd_net.specs.Made.{IsKindMade, IsStateMade, IsValveMade}
-use Rattle.hyd_spec.specs.Types.{Project, Junction, Capacity, Link, LinkKind, PipeLink, CheckPipe, PumpLink, Tcv, Fcv, OpenValve, Quadratic, Linear, LinkState, Open, Closed, Speed, Throttle, Limit, ShutoffHead, FourThirds, Given}
+use Rattle.hyd_spec.specs.Types.{Project, Junction, Capacity, Link, LinkKind, PipeLink, CheckPipe, PumpLink, CurvePump, Tcv, Fcv, Gpv, OpenValve, Quadratic, Linear, LinkState, Open, Closed, Speed, Throttle, Limit, ShutoffHead, FourThirds, Given}
 use Rattle.hyd_spec.specs.declared.TankState.{TankState}
 use Rattle.hyd_spec_certificates.specs.Interval.{Interval}
 use Rattle.hyd_spec.specs.Quantity.{is_us, shutoff_head}
@@ -52,6 +52,16 @@ own-sound us unit (Fcv valve) Closed kind state = tt
 own-sound us unit (Fcv valve) (Speed speed) kind state = tt
 own-sound us unit (Fcv valve) (Throttle nano law) kind state = tt
 own-sound us unit (Fcv valve) (Limit nano ticks) kind state = valve-sound valve kind
+own-sound us unit (CurvePump bend pattern) Open kind state = tt
+own-sound us unit (CurvePump bend pattern) Closed kind state = tt
+own-sound us unit (CurvePump bend pattern) (Speed speed) kind state = tt
+own-sound us unit (CurvePump bend pattern) (Throttle nano law) kind state = tt
+own-sound us unit (CurvePump bend pattern) (Limit nano ticks) kind state = tt
+own-sound us unit (Gpv bend) Open kind state = tt
+own-sound us unit (Gpv bend) Closed kind state = tt
+own-sound us unit (Gpv bend) (Speed speed) kind state = tt
+own-sound us unit (Gpv bend) (Throttle nano law) kind state = tt
+own-sound us unit (Gpv bend) (Limit nano ticks) kind state = tt
 
 ways-sound : (forward reverse : Bool) (own : Law) → IsSoundLaw own
     → IsSoundLaw (if reverse then ForwardOnly (if forward then ReverseOnly own else own) else (if forward then ReverseOnly own else own))

@@ -13,6 +13,7 @@ pub mod Levelling
 pub mod Deciding
 pub mod Worked
 pub mod Rising
+pub mod NetRising
 pub mod RunRecords
 pub mod Pieces
 pub mod CertificateLines

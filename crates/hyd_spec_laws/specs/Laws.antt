@@ -151,3 +151,8 @@ pub record AreRising (low high : ℤ → ℤ) : Type 0 where
 abbrev pub IsSoundDemand : DemandLaw → Type 0
 IsSoundDemand (Fixed demand) = ⊤
 IsSoundDemand (Driven demand capacity minimum required) = (pos 0 ≤ℤ demand) × ((0 < minimum.den) × (0 < required.den))
+
+-- A grid of which every law is sound: of links, emitters and demands. Sweeps ask for no more.
+pub record IsSteady (grid : Grid) : Type 0 where
+  pub sound : IsSoundGrid grid
+  pub demands : AllByRecursion (λ junction. IsSoundDemand junction.demand) grid.junctions

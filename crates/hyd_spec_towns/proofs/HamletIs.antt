@@ -16,6 +16,8 @@ written {network} hamlet = record {
   tanks = record network.tanks { list = tank ∷ [] };
   links = record network.links { list = links };
   patterns = record network.patterns { list = [] };
+  shapes = record network.shapes { list = [] };
+  bends = record network.bends { list = [] };
   controls = record network.controls { list = [] };
   rules = record network.rules { list = rule hamlet.room ∷ [] };
 }
@@ -31,6 +33,8 @@ hamlet_is {network} hamlet = λ i. record {
   tanks = record network.tanks { list = hamlet.tanks i };
   links = record network.links { list = hamlet.links_are i };
   patterns = record network.patterns { list = hamlet.patterns i };
+  shapes = record network.shapes { list = hamlet.shapes i };
+  bends = record network.bends { list = hamlet.bends i };
   controls = record network.controls { list = hamlet.controls i };
   rules = record network.rules { list = hamlet.rules i };
 }

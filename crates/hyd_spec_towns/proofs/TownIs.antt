@@ -16,6 +16,8 @@ written {network} town = record {
   tanks = record network.tanks { list = north ∷ south ∷ [] };
   links = record network.links { list = links town.capacity };
   patterns = record network.patterns { list = speeds (town.room 18) ∷ [] };
+  shapes = record network.shapes { list = [] };
+  bends = record network.bends { list = [] };
   controls = record network.controls { list = controls };
   rules = record network.rules { list = low town.room ∷ night town.room ∷ rest town.room ∷ idle town.room ∷ [] };
 }
@@ -31,6 +33,8 @@ town_is {network} town = λ i. record {
   tanks = record network.tanks { list = town.tanks i };
   links = record network.links { list = town.links_are i };
   patterns = record network.patterns { list = town.patterns i };
+  shapes = record network.shapes { list = town.shapes i };
+  bends = record network.bends { list = town.bends i };
   controls = record network.controls { list = town.controls_are i };
   rules = record network.rules { list = town.rules i };
 }

@@ -75,7 +75,7 @@ quantities = record {
     ),
   );
   reservoirs = All-from_recursion (IsReservoir village.patterns.list) village.reservoirs.list (record { head = record { at_least = omega (arith, ints); at_most = omega (arith, ints) }; pattern = tt }, tt);
-  tanks = All-from_recursion IsTank village.tanks.list (
+  tanks = All-from_recursion (IsTank village.shapes.list) village.tanks.list (
     record {
       bottom = record { at_least = omega (arith, ints); at_most = omega (arith, ints) };
       lowest = omega (arith, ints);
@@ -83,10 +83,11 @@ quantities = record {
       apart = omega (arith, ints);
       top = record { at_least = omega (arith, ints); at_most = omega (arith, ints) };
       diameter = record { at_least = omega (arith, ints); at_most = omega (arith, ints) };
+      shape = tt;
     },
     tt,
   );
-  links = All-from_recursion (λ l. HasSizes Cmd village.patterns.list l.kind) village.links.list (tt, (tt, (tt, tt)));
+  links = All-from_recursion (λ l. HasSizes Cmd village.patterns.list village.bends.list l.kind) village.links.list (tt, (tt, (tt, tt)));
 }
 
 -- what no state or kind of a valve without loss coefficient says
@@ -141,6 +142,10 @@ sound = record {
     links = omega arith;
     patterns = omega arith;
     multipliers = omega arith;
+    shapes = omega arith;
+    shape_points = omega arith;
+    bends = omega arith;
+    bend_points = omega arith;
     demands = omega arith;
     controls = omega arith;
     rules = omega arith;

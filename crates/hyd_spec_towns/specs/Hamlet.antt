@@ -57,6 +57,8 @@ tank = record {
   maximum = pos 60960000000000;
   area = pos 116745403199;
   diameter = record { nano = pos 40000000000; bounded = lit≤ tt };
+  shape = None;
+  overflow = false;
 }
 
 -- Settings of 100 and 50 gallons a minute.
@@ -120,6 +122,8 @@ pub record IsHamlet (network : Project) : Type 0 where
   pub tanks : network.tanks.list ≡ tank ∷ []
   pub links_are : network.links.list ≡ links
   pub patterns : network.patterns.list ≡ []
+  pub shapes : network.shapes.list ≡ []
+  pub bends : network.bends.list ≡ []
   pub controls : network.controls.list ≡ []
   pub rules : network.rules.list ≡ rule room ∷ []
 
@@ -135,6 +139,8 @@ hamlet = record {
   tanks = listed 0 (tank ∷ []);
   links = listed 0 links;
   patterns = listed 0 [];
+  shapes = listed 0 [];
+  bends = listed 0 [];
   controls = listed 0 [];
   rules = listed 0 (rule no_room ∷ []);
 }

@@ -25,6 +25,8 @@ shallow = record usual {
     maximum = pos 20225000000000;
     area = pos 785398163;
     diameter = record { nano = pos 1000000000; bounded = lit≤ tt };
+    shape = None;
+    overflow = false;
   };
   ticks = pos 40000000000000;
 }

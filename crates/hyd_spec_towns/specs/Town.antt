@@ -87,6 +87,8 @@ north = record {
   maximum = pos 50000000000000;
   area = pos 78539816350;
   diameter = ten;
+  shape = None;
+  overflow = false;
 }
 
 -- SOUTH 20 2 1.5 4 10 0
@@ -98,6 +100,8 @@ south = record {
   maximum = pos 40000000000000;
   area = pos 78539816350;
   diameter = ten;
+  shape = None;
+  overflow = false;
 }
 
 -- ---- links
@@ -255,6 +259,8 @@ pub record IsTown (network : Project) : Type 0 where
   pub tanks : network.tanks.list ≡ north ∷ south ∷ []
   pub links_are : network.links.list ≡ links capacity
   pub patterns : network.patterns.list ≡ speeds (room 18) ∷ []
+  pub shapes : network.shapes.list ≡ []
+  pub bends : network.bends.list ≡ []
   pub controls_are : network.controls.list ≡ controls
   pub rules : network.rules.list ≡ low room ∷ night room ∷ rest room ∷ idle room ∷ []
 
@@ -273,6 +279,8 @@ town capacity = record {
   tanks = listed 0 (north ∷ south ∷ []);
   links = listed 0 (links capacity);
   patterns = listed 0 (speeds 0 ∷ []);
+  shapes = listed 0 [];
+  bends = listed 0 [];
   controls = listed 0 controls;
   rules = listed 0 (low no_room ∷ night no_room ∷ rest no_room ∷ idle no_room ∷ []);
 }

@@ -35,6 +35,8 @@ tower = record {
   maximum = pos 50000000000000;
   area = pos 12566370616;
   diameter = record { nano = pos 4000000000; bounded = lit≤ tt };
+  shape = None;
+  overflow = false;
 }
 
 -- The valve from the lake to the mill.
@@ -99,6 +101,8 @@ village_with choice = record {
   tanks = listed (choice.tank ∷ []);
   links = listed (main_link ∷ feed_link ∷ drop_link choice.drop ∷ []);
   patterns = listed (record { multipliers = listed (pos 1000000000 ∷ pos 500000000 ∷ []) } ∷ []);
+  shapes = listed [];
+  bends = listed [];
   controls = listed (level_control choice.ticks ∷ []);
   rules = listed (refill_rule choice.clauses ∷ []);
 }

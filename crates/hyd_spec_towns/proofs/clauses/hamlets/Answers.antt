@@ -14,6 +14,8 @@ returns c = record {
   tanks = refl;
   links_are = refl;
   patterns = refl;
+  shapes = refl;
+  bends = refl;
   controls = refl;
   rules = refl;
 }

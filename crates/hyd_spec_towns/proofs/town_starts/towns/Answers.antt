@@ -15,6 +15,8 @@ returns c = λ capacity. record {
   tanks = refl;
   links_are = refl;
   patterns = refl;
+  shapes = refl;
+  bends = refl;
   controls_are = refl;
   rules = refl;
 }
