@@ -14,8 +14,6 @@ mod options;
 mod patterns;
 mod project;
 mod rules;
-#[cfg(test)]
-mod tests;
 
 pub use cause::Cause;
 pub use comparison::same;

@@ -20,3 +20,13 @@ pub enum Side {
     /// Below: on balance water flows into every junction.
     Lower,
 }
+
+/// A junction, by its number, that is held at a head: of it is asked that it stands at that head, and not that its
+/// balance passes (Dirichlet condition at one node of the network).
+#[derive(Debug, Clone, Copy, PartialEq, Eq, Drop)]
+pub struct HeldJunction {
+    /// Its number among the junctions, counted from 0.
+    pub junction: u32,
+    /// The head that it is held at, in head ticks.
+    pub head: i64,
+}

@@ -19,7 +19,7 @@ use Rattle.hyd_spec_laws.specs.Laws.{LiesIn, IsVessel, StockLies, AreInside, IsI
 use Rattle.hyd_spec_laws.proofs.EachLaw.{exchanged}
 use Rattle.hyd_spec_laws.proofs.Outflows.{le-yes}
 use Rattle.hyd_net.specs.Curves.{volume_at}
-use Rattle.hyd_spec_laws.proofs.StraightLines.{Leads}
+use Rattle.hyd_spec_laws.proofs.TwoScales.{Leads}
 use Rattle.hyd_spec_laws.proofs.Placing.{above-yes, below-yes, above-from, below-from, one_times, le-from, passes-up, passes-down}
 use Rattle.hyd_spec_laws.proofs.Levelling.{exact-some, content-leads, carried-some, carried-leads, content-low, content-high, content-up}
 

@@ -11,7 +11,7 @@ use Rattle.hyd_num.specs.declared.units.FlowUnit.TheVariants.{Cfs, Gpm, Mgd, Img
 use Rattle.hyd_num.specs.Quantity.{billionths, feet, feet_across, is_us_unit, head_ticks, flow_factor, flow_fraction, pressure_fraction}
 use Rattle.hyd_spec.specs.Types.{Origin, Pipe, Valve, Pump, Emitter, PressureDemand}
 use Rattle.hyd_spec.specs.Law.{loss_at_most, loss_at_least, pump_resistance, emitter_resistance, pressure_resistance}
-use Rattle.hyd_resist.proofs.Fractions.{AtMost-along, times-rises, power-rises, AtMost-itself}
+use Rattle.hyd_lemmas.proofs.Fractions.{AtMost-along, times-rises, power-rises, AtMost-itself}
 use Rattle.hyd_spec_laws.specs.Laws.{IsLossLaw, HasPositiveNumbers}
 use Rattle.hyd_spec_laws.proofs.Roots.{square_reflects}
 use Rattle.hyd_spec.specs.Loss.{SquareLossAtMost, SquareLossAtLeast, ValveLossAtMost, ValveLossAtLeast, PipeLossAtMost, PipeLossAtLeast, head_in_feet, flow_in_cfs, friction, minor_loss}

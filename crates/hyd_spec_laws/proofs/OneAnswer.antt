@@ -11,7 +11,7 @@ use Rattle.hyd_spec_certificates.specs.Record.{Record, Standing}
 use Rattle.hyd_spec_certificates.specs.Truth.{Unknown, is_unknown}
 use Rattle.hyd_num.specs.Rational.{floor, ceiling}
 use Rattle.hyd_spec_certificates.specs.Decided.{OpenRule, IsOpenRule, IsFirstMatter, NoRuleMatters, rule_truths, readings_below, readings_above, End, ByRules, WithoutRules, RuleIsOpen, EventIsOpen, EndsBy, by_rules, rule_is_open, by_clock, event_is_open}
-use Rattle.hyd_spec_laws.proofs.Trials.{or-left, or-right}
+use Rattle.hyd_lemmas.proofs.Trials.{or-left, or-right}
 
 least_is_one : (P : ℕ → Type 0) (a b : ℕ) → IsLeast P a → IsLeast P b → a ≡ b
 least_is_one P a b x y = let l = x.least b y.holds in let m = y.least a x.holds in omega (arith, l, m)

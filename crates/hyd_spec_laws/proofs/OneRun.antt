@@ -20,7 +20,7 @@ use Rattle.hyd_spec_reports.specs.Headline.{Found, IsFound, IsRunFrom, more, IsT
 use Rattle.hyd_spec_laws.proofs.OneLength.{one_length}
 use Rattle.hyd_spec_laws.proofs.OneStanding.{one_standing, one_vector}
 use Rattle.hyd_spec_laws.proofs.OneReport.{one_report}
-use Rattle.hyd_spec_laws.proofs.Trials.{same_either_way}
+use Rattle.hyd_lemmas.proofs.Trials.{same_either_way}
 
 module _ (network : Project) (fixed : network.options.pda ≡ false) where
   -- ---- grids

@@ -8,9 +8,9 @@ use Rattle.hyd_num.specs.Scaled.{numerator, denominator}
 use Rattle.hyd_num.specs.Rational.{floor, ceiling}
 use Rattle.hyd_spec.specs.Types.{Capacity}
 use Rattle.hyd_spec_certificates.specs.Enclosing.{DemandLaw, Fixed, Driven, demand_low, demand_high, emitter_low, emitter_high, quadratic_low, quadratic_high}
-use Rattle.hyd_resist.proofs.Enclosing.{denominator_above}
+use Rattle.hyd_lemmas.proofs.Enclosing.{denominator_above}
 use Rattle.hyd_spec_laws.specs.Laws.{AreRising, IsSoundDemand}
-use Rattle.hyd_spec_laws.proofs.Integers.{floor_at_most_ceiling, min_left, min_rises, min_is}
+use Rattle.hyd_lemmas.proofs.Integers.{floor_at_most_ceiling, min_left, min_rises, min_is}
 use Rattle.hyd_spec_laws.proofs.LinkLaws.{low-rises, high-rises, roots-ordered}
 use Rattle.hyd_spec_laws.proofs.EachLaw.{low_is, high_is}
 use Rattle.hyd_spec_laws.proofs.Outflows.{le-yes, le-no, high-positive}

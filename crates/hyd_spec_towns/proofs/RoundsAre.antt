@@ -12,7 +12,8 @@ use Rattle.hyd_spec.specs.Assignment.{head_at}
 use Rattle.hyd_spec_certificates.specs.Certificate.{IsBeyond, Passes, IsCertificate, IsCandidate, IsRaised, IsRound, AreRounds, none, more, IsTight}
 use Rattle.hyd_spec_towns.specs.Rounds.{chain, first_junction, second_junction, floor_heads, ceiling_heads, floor_once, floor_twice, ceiling_once, ceiling_twice}
 use Rattle.hyd_spec_towns.proofs.VillageCertificates.{inside, in_box, passing, passes, passes_test, is_certificate, certificate, no_certificate}
-use Rattle.hyd_spec_towns.proofs.VillageTight.{IsRising, straight_rises, capped_rises, nearer, next_beyond, two_heads, each_two}
+use Rattle.hyd_spec_towns.proofs.VillageTight.{IsRising, straight_rises, capped_rises, nearer, next_beyond, two_heads}
+use Rattle.hyd_lemmas.proofs.Each.{each_two}
 
 -- ---- heads further out
 

@@ -10,7 +10,7 @@ use Rattle.hyd_spec.specs.History.{IsPeriod, ComesAfter, initial_links, commande
 use Rattle.hyd_spec_reports.specs.Headline.{Agrees}
 use Rattle.hyd_spec_towns.specs.Village.{village_with, mill, farm, main_link, feed_link, drop_link}
 use Rattle.hyd_spec_towns.specs.Shallow.{shallow, period_0, period_1, found_0, found_1}
-use Rattle.hyd_spec_towns.proofs.VillageTight.{each_two}
+use Rattle.hyd_lemmas.proofs.Each.{each_two}
 use Rattle.hyd_spec_towns.proofs.VillageFlows.{straight, at_setting, obeys}
 use Rattle.hyd_spec_towns.proofs.VillageLengths.{has_length, next_level}
 

@@ -9,7 +9,7 @@ use Rattle.hyd_spec_reports.specs.Headline.{Agrees}
 use Rattle.hyd_spec_towns.specs.Village.{village, mill, farm, tower, level_control, main_link, feed_link, drop_link}
 use Rattle.hyd_spec_towns.specs.VillageRun.{found_0, found_1, found_2, found_3, found_4}
 use Rattle.hyd_spec_towns.specs.VillageHistory.{period_0, period_1, period_2, period_3, period_4}
-use Rattle.hyd_spec_towns.proofs.VillageTight.{each_two}
+use Rattle.hyd_lemmas.proofs.Each.{each_two}
 
 pub first_agrees : Agrees village 1000 (initial_links village) period_0 found_0
 first_agrees = record {

@@ -14,7 +14,7 @@ use Rattle.hyd_spec_certificates.specs.Record.{Record, Vectors, vector_of}
 use Rattle.hyd_spec_certificates.specs.Valid.{IsProblem, AreCertificates}
 use Rattle.hyd_spec_reports.specs.Stops.{EarlierHaveCertificates}
 use Rattle.hyd_spec_towns.specs.Village.{Choice, village_with}
-use Rattle.hyd_spec_laws.proofs.Trials.{le-yes, le-from, both-first, both-second, all_pass, each_passes}
+use Rattle.hyd_lemmas.proofs.Trials.{le-yes, le-from, both-first, both-second, all_pass, each_passes}
 
 -- ---- heads and junctions
 

@@ -5,7 +5,7 @@ use Rattle.hyd_spec_certificates.specs.Decided.{Watch, SomeMayReach, SomeMustRea
 use Rattle.hyd_spec_towns.specs.Village.{village, usual, tower}
 use Rattle.hyd_spec_towns.specs.VillageRun.{standing_0, standing_1, standing_2, standing_3, grid_0, grid_1, grid_2, grid_3, row_0, row_1, row_2, row_3}
 use Rattle.hyd_spec_towns.proofs.VillageSeconds.{clock_length, matter, matter_test, no_rule, earliest_end, latest_end}
-use Rattle.hyd_spec_laws.proofs.Trials.{from}
+use Rattle.hyd_lemmas.proofs.Trials.{from}
 
 -- the clock allows eight seconds from 0 and from 8 on, five from 11, two from 14
 clock_0 : IsClockLength village 0 8

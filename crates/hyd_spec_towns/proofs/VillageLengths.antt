@@ -18,7 +18,7 @@ use Rattle.hyd_spec.specs.History.{AreNextStocks, ComesAfter}
 use Rattle.hyd_spec_towns.specs.Village.{Choice, village_with, village, usual, tower, level_control}
 use Rattle.hyd_spec_towns.specs.VillageHistory.{period_0, period_1, period_2, period_3, period_4}
 use Rattle.hyd_spec_towns.proofs.VillageSeconds.{only_control, not_before, is_empty_list, some_change}
-use Rattle.hyd_spec_laws.proofs.Trials.{none_below, from, or-left, or-right, and-true}
+use Rattle.hyd_lemmas.proofs.Trials.{none_below, from, or-left, or-right, and-true}
 
 -- ---- by levels
 

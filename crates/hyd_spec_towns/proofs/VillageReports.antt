@@ -18,7 +18,7 @@ use Rattle.hyd_spec_reports.specs.Report.{Prints, IsJunctionLine, IsReservoirLin
 use Rattle.hyd_spec_towns.specs.Village.{Choice, village_with, village, usual}
 use Rattle.hyd_spec_towns.specs.VillageRun.{standing_0, standing_1, standing_2, standing_3, standing_4, grid_0, grid_1, grid_2, grid_3, grid_4, row_0, row_1, row_2, row_3, row_4, lines_0, lines_1, lines_2, lines_3, lines_4}
 use Rattle.hyd_spec_towns.proofs.VillageEnds.{first_ends, second_ends, third_ends, fourth_ends}
-use Rattle.hyd_spec_laws.proofs.Trials.{le-yes, both-first, both-second}
+use Rattle.hyd_lemmas.proofs.Trials.{le-yes, both-first, both-second}
 
 -- ---- printed numbers
 
@@ -114,7 +114,7 @@ module _ (choice : Choice) (grid : Grid) (standing : Standing) (row : Record) wh
 
   pub link_line : (l : ℕ) (link : Link) (place : GridLink) (box flow : Interval) (word : StatusWord) → slice_get grid.links l ≡ Some place
       → slice_get (flow_boxes grid row) l ≡ Some box → rounds (pos 1000) box flow ≡ true
-      → status_of false link.kind (state_of_link (links_at (village_with choice) standing) l) (difference place (heads_below grid row) (heads_above grid row)) ≡ word
+      → status_of false [] link.kind (state_of_link (links_at (village_with choice) standing) l) (difference place (heads_below grid row) (heads_above grid row)) ≡ word
       → IsLinkLine (village_with choice) grid standing row l link (LinkLine l flow word)
   link_line l link place box flow word at boxed e is = record {
     place = place;

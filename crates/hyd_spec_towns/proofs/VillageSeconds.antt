@@ -13,7 +13,7 @@ use Rattle.hyd_spec.specs.Rules.{Change}
 use Rattle.hyd_spec_certificates.specs.Truth.{is_unknown}
 use Rattle.hyd_spec_certificates.specs.Decided.{Watch, watches, SomeMayReach, SomeMustReach, stocks_of_tank, inflow_of_tank, IsClockLength, IsEarliestEnd, IsLatestEnd, rule_truths, decided_changes, RulesMatter, NoRuleMatters}
 use Rattle.hyd_spec_towns.specs.Village.{Choice, village_with, level_control}
-use Rattle.hyd_spec_laws.proofs.Trials.{none_below, from, or-left, or-right, and-true, any_of}
+use Rattle.hyd_lemmas.proofs.Trials.{none_below, from, or-left, or-right, and-true, any_of}
 
 -- ---- by the clock
 

@@ -19,7 +19,7 @@ use Rattle.hyd_spec_towns.proofs.VillageCertificates.{no_certificate, before_low
 use Rattle.hyd_spec_towns.proofs.VillageRecords.{in_range}
 use Rattle.hyd_spec_towns.proofs.VillageSeconds.{clock_length, matter, matter_test, no_rule, earliest_end, latest_end}
 use Rattle.hyd_spec_towns.proofs.VillageTight.{first_tight, two_heads}
-use Rattle.hyd_spec_laws.proofs.Trials.{from}
+use Rattle.hyd_lemmas.proofs.Trials.{from}
 
 -- ---- demands and vectors
 

@@ -19,6 +19,7 @@ use Rattle.hyd_spec_towns.specs.Village.{village}
 use Rattle.hyd_spec_towns.specs.VillageRun.{grid_0, grid_1, grid_2, grid_3, grid_4, row_0, row_1, row_2, row_3, row_4}
 use Rattle.hyd_spec_towns.specs.VillageParts.{village_grid, grid_mill, grid_farm}
 use Rattle.hyd_spec_towns.proofs.VillageCertificates.{passing, passes_test, is_certificate, certificate}
+use Rattle.hyd_lemmas.proofs.Each.{each_two}
 
 -- ---- laws
 
@@ -108,11 +109,6 @@ two_heads [] e = absurd (omega (arith, e))
 two_heads (x ∷ []) e = absurd (omega (arith, e))
 two_heads (x ∷ y ∷ []) e = record { first = x; second = y; is = refl }
 two_heads (x ∷ y ∷ z ∷ v) e = absurd (omega (arith, e))
-
-pub each_two : (X : Type 0) (P : ℕ → X → Type 0) (x y : X) → P 0 x → P 1 y → Each (x ∷ y ∷ []) P
-each_two X P x y p q zero z e = let same : x ≡ z = cc in subst (P 0) same p
-each_two X P x y p q (suc zero) z e = let same : y ≡ z = cc in subst (P 1) same q
-each_two X P x y p q (suc (suc k)) z e = absurd (cc)
 
 module _ (demand : ℤ) (feed drop : Law) (head : Interval) (rising : IsRising feed) (dropping : IsRising drop) (problem : Problem) (side : Side) (a b : ℤ) where
   abbrev grid : Grid

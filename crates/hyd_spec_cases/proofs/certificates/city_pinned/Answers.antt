@@ -8,7 +8,7 @@ use Rattle.hyd_spec_certificates.specs.declared.Problem.TheVariants.{Pinned}
 use Rattle.hyd_spec_certificates.specs.declared.Side.TheVariants.{Upper, Lower}
 use Rattle.hyd_spec_certificates.specs.Certificate.{IsInBox, Passes}
 use Rattle.hyd_spec_certificates.specs.NetOutflow.{net_low, net_high}
-use Rattle.hyd_spec_cases.proofs.Each.{each_two}
+use Rattle.hyd_lemmas.proofs.Each.{each_two}
 use Rattle.hyd_spec_cases.specs.City.{city, first, second}
 
 pub returns-clause-upper_passes : goal.returns-clause-upper_passes

@@ -3,7 +3,7 @@ use Rattle.hyd_spec_cases.proofs.forms.texts.Goals as goal
 use Rattle.std.proofs.lemmas.Int.{ints}
 use Rattle.std.specs.Prelude.{true, nat_le}
 use Rattle.std.proofs.lemmas.Bool.{leb-true}
-use Rattle.hyd_spec_cases.proofs.Each.{all_by}
+use Rattle.hyd_lemmas.proofs.Each.{all_by}
 use Rattle.hyd_spec_input.specs.FirstForm.{is_id_byte, text_lines}
 use Rattle.hyd_spec_cases.specs.Forms.{example, example_words, widest, widest_words}
 use Rattle.hyd_num.specs.Numeral.{is_numeral, nano_of, magnitude_of}
