@@ -1,5 +1,5 @@
 -- Every history of a network of the first form agrees with the record of its one period.
-use Rattle.std.proofs.Common.{◌≡◌, ℕ, zero, suc, ◌≤◌, ℤ, Bool, MatchBool, List, [], ◌∷◌, ◌++◌, refl, sym, ap, subst, ◌∙◌, arith}
+use Rattle.std.proofs.Common.{◌≡◌, ℕ, zero, suc, ◌≤◌, ℤ, Bool, MatchBool, List, [], ◌∷◌, ◌++◌, map, ◌+◌, refl, sym, ap, subst, ◌∙◌, arith}
 use Rattle.std.specs.Prelude.{Option, Some, None, slice_get}
 use Rattle.std.specs.List.{AllByRecursion, AllZip}
 use Rattle.std.specs.Option.{IfSome}
@@ -24,7 +24,9 @@ use Rattle.hyd_spec_certificates.specs.Record.{Record, Standing, initial_standin
 use Rattle.hyd_spec_certificates.specs.Decided.{links_at, heads_below, heads_above, by_rules, by_clock}
 use Rattle.hyd_spec_certificates.specs.Valid.{IsGridAt}
 use Rattle.hyd_spec_reports.specs.ReportLine.{ReportLine, LinkLine}
-use Rattle.hyd_spec_reports.specs.Report.{IsReport, AreEndLines, at_end as ends_last, by_rules as ends_by_rules, by_clock as ends_by_clock, AreStateLines, IsLinkLine, IsTankLine, status_of}
+use Rattle.hyd_spec.specs.declared.Change.{Change}
+use Rattle.hyd_spec_reports.specs.declared.Event.{Event}
+use Rattle.hyd_spec_reports.specs.Report.{IsReport, AreEndLines, EndBrings, event_line, change_line, at_end as ends_last, by_rules as ends_by_rules, by_clock as ends_by_clock, AreStateLines, IsLinkLine, IsTankLine, status_of}
 use Rattle.hyd_spec_reports.specs.Claims.{LineHolds, StatusHolds}
 use Rattle.hyd_spec_input.specs.FirstForm.{IsFirstNetwork}
 use Rattle.hyd_spec_reports.specs.Headline.{Agrees, AllAgree, EveryHistoryAgrees}
@@ -182,9 +184,14 @@ no_tank_line network S commanded period grid row e k tank each at line =
 -- the lines are those of a report time
 no_end_lines : (network : Project) (grid : Grid) (standing : Standing) (row : Record) (lines : List ReportLine) → standing.time ≡ network.times.duration
     → AreEndLines network grid standing row lines → lines ≡ []
-no_end_lines network grid standing row lines last (ends_last e) = refl
-no_end_lines network grid standing row lines last (ends_by_rules (by_rules matter closed)) = absurd (matter.not_last last)
-no_end_lines network grid standing row lines last (ends_by_clock (by_clock matter latest)) = absurd (matter.not_last last)
+no_end_lines network grid standing row lines last ends = by ends.events ends.changes ends.brings ends.lines_are
+  where
+    by : (events : List Event) (changes : List Change) → EndBrings network grid standing row events changes
+        → lines ≡ map (event_line (standing.time + row.length)) events ++ map (change_line (standing.time + row.length)) changes
+        → lines ≡ []
+    by _ _ (ends_last e) are = are
+    by _ _ (ends_by_rules (by_rules matter closed)) are = absurd (matter.not_last last)
+    by _ _ (ends_by_clock (by_clock matter latest)) are = absurd (matter.not_last last)
 
 pub only_state_lines : (network : Project) → IsFirstNetwork network → (grid : Grid) (row : Record) (lines : List ReportLine)
     → IsReport network grid (initial_standing network) row lines

@@ -27,12 +27,11 @@ pub record IsLeast (P : ℕ → Type 0) (e : ℕ) : Type 0 where
 
 -- ---- by the clock
 
--- A period that begins at `time` ends at e at the latest: a hydraulic step later, at the end of the run, where a step of the
--- patterns begins, at a report time, or where a control acts by time or clock. The end of the run lies after `time` in
--- every period but the last.
+-- The clock ends a period that begins at `time` at e or before; e is one of these instants after its start: a hydraulic step
+-- later, the end of the run, where a step of the patterns begins, a report time, or where a control acts by time or clock.
 pub data EndsByClock (network : Project) (time e : ℕ) : Type 0 where
-  step : e ≡ time + network.times.hydraulic → EndsByClock network time e
-  duration : e ≡ network.times.duration → EndsByClock network time e
+  step : time < e → e ≡ time + network.times.hydraulic → EndsByClock network time e
+  duration : time < e → e ≡ network.times.duration → EndsByClock network time e
   pattern : time < e → (e + network.times.pattern_start) % network.times.pattern ≡ 0 → EndsByClock network time e
   report : time < e → network.times.report_start ≤ e
       → (e - network.times.report_start) % network.times.report ≡ 0 → EndsByClock network time e

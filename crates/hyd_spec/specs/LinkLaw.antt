@@ -1,6 +1,6 @@
 -- The exact law of a link in its state, between tanks that may be full or empty.
--- Source: EPANET 2.2 User Manual, chapter 3 (pipes, pumps, valves; tanks) and appendix C ([TANKS], overflow); the reverse flow of
--- a flow-control valve, and the greatest flow by a curve of straight lines, are this program's.
+-- Source: EPANET 2.2 User Manual, chapter 3 (pipes, pumps, valves; tanks) and appendix C ([TANKS], overflow); the reverse flow
+-- of a flow-control valve, and the greatest flow by a curve of straight lines, are this program's.
 use Rattle.std.specs.Prelude.{ℕ, ◌^◌, ℤ, pos, neg_ℤ, Bool, true, false, ◌&&◌, ◌||◌, not, List, slice_get, if◌then◌else◌}
 use Rattle.std.specs.Option.{option_map_or}
 use Rattle.hyd_net.specs.ListView.{ListView}

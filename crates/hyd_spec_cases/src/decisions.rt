@@ -4,7 +4,7 @@
 ghost use Rattle.std.specs.Prelude.{◌≡◌, pos, neg_ℤ, [], ◌∷◌, map, length, ℤ};
 ghost use Rattle.hyd_num.specs.declared.decimals.Span.{Span};
 ghost use Rattle.hyd_spec.specs.Types.{Project, Decimal, Rule, And, Or, Less, NotMore, More, NotLess, Head, Level, Flow, Amount};
-ghost use Rattle.hyd_spec_certificates.specs.Truth.{Yes, No, Unknown};
+ghost use Rattle.hyd_spec_certificates.specs.Verdict.{Yes, No, Unknown};
 ghost use Rattle.hyd_spec_certificates.specs.Decided.{flow_boxes, inflow_boxes, carried_at, clause_truth, rule_truth, heads_below, heads_above};
 ghost use Rattle.hyd_spec_cases.specs.Cylinders.{cylinder};
 ghost use Rattle.hyd_spec_cases.specs.Sample.{sample};

@@ -6,8 +6,9 @@ pub mod Certificate
 pub mod Climbing
 pub mod Boxes
 pub mod Stocks
-pub mod Truth
+pub mod Verdict
 pub mod Record
+pub mod FirstSeconds
 pub mod Decided
 pub mod Valid
 pub mod Narrow

@@ -1,13 +1,12 @@
 -- Stock intervals: what a tank's level interval and volume interval become under an interval of inflow, and when the tank
 -- reaches a target. Levels are in head ticks, volumes in volume ticks, inflows in flow ticks.
 -- Source: EPANET 2.2 User Manual, chapter 3 (tanks; curves), over intervals.
-use Rattle.std.specs.Prelude.{◌≡◌, ℕ, ◌≤◌, ℤ, pos, ◌+ℤ◌, ◌-ℤ◌, Bool, true, false, IsTrue, ◌⊎◌, List, Option, Some, None, if◌then◌else◌}
+use Rattle.std.specs.Prelude.{◌≡◌, ℕ, ◌≤◌, ℤ, pos, ◌+ℤ◌, ◌-ℤ◌, Bool, true, false, List, Option, Some, None, if◌then◌else◌}
 use Rattle.std.specs.Int.{int_max, int_min}
 use Rattle.hyd_spec.specs.Types.{Tank, VolumePoint}
 use Rattle.hyd_spec.specs.declared.TankState.{TankState}
 use Rattle.hyd_spec.specs.declared.TankState.TheVariants.{Full, Between, Empty}
 use Rattle.hyd_num.specs.Rational.{Rational, floor, ceiling, whole}
-use Rattle.hyd_spec.specs.Length.{IsLeast}
 use Rattle.hyd_spec_certificates.specs.Interval.{Interval, exactly}
 use Rattle.hyd_spec.specs.Tank.{Stock, Walls, Cylinder, Curve, Bounds, level_bounds, content_bounds, exact_content, is_at_maximum, is_at_minimum, level_at, has_reached, tank_state}
 
@@ -132,7 +131,3 @@ may_reach walls tank stocks inflow target false seconds = has_reached 1 walls ta
 abbrev pub must_reach : Walls → Tank → Stocks → Interval → ℤ → Bool → ℕ → Bool
 must_reach walls tank stocks inflow target true seconds = has_reached 1 walls tank (least_stock stocks) inflow.lo true target seconds
 must_reach walls tank stocks inflow target false seconds = has_reached 1 walls tank (greatest_stock stocks) inflow.hi false target seconds
-
--- The first second, of those from 1 to a cap, at which a test holds; the cap where there is none before it.
-abbrev pub IsFirstSecond : (ℕ → Bool) → ℕ → ℕ → Type 0
-IsFirstSecond test cap second = IsLeast (λ s. (s ≡ cap) ⊎ ((1 ≤ s) × IsTrue (test s))) second

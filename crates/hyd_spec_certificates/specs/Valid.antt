@@ -16,7 +16,7 @@ use Rattle.hyd_spec_certificates.specs.Certificate.{IsCertificate}
 use Rattle.hyd_spec_certificates.specs.Record.{Record, Standing, vector_of, initial_standing}
 use Rattle.hyd_spec.specs.Tank.{walls_of}
 use Rattle.hyd_spec_certificates.specs.Stocks.{Stocks, next_stocks, state_of}
-use Rattle.hyd_spec_certificates.specs.Truth.{is_yes, is_unknown}
+use Rattle.hyd_spec_certificates.specs.Verdict.{is_yes, is_unknown}
 use Rattle.hyd_spec_certificates.specs.Decided.{links_at, stocks_of_tank, inflow_of_tank, nowhere, control_truth, rule_truths, EndsBy, ByRules, WithoutRules}
 
 -- ---- the vectors

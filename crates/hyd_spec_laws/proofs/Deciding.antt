@@ -12,14 +12,15 @@ use Rattle.hyd_spec_certificates.specs.Interval.{Interval}
 use Rattle.hyd_spec.specs.Scale.{at_scale}
 use Rattle.hyd_spec.specs.Tank.{Walls, Cylinder, Curve, Stock, content_of, exact_content, carried_level, reaches, is_bound, has_reached}
 use Rattle.hyd_spec.specs.Rules.{compares}
-use Rattle.hyd_spec_certificates.specs.Stocks.{Stocks, least_stock, greatest_stock, may_reach, must_reach, IsFirstSecond}
-use Rattle.hyd_spec_certificates.specs.Truth.{Truth, Yes, No, Unknown, at_both_ends, either, both, some_holds, all_hold}
+use Rattle.hyd_spec_certificates.specs.Stocks.{Stocks, least_stock, greatest_stock, may_reach, must_reach}
+use Rattle.hyd_spec_certificates.specs.FirstSeconds.{IsFirstSecond}
+use Rattle.hyd_spec_certificates.specs.Verdict.{Verdict, Yes, No, Unknown, at_both_ends, either, both, some_holds, all_hold}
 use Rattle.hyd_spec_certificates.specs.Decided.{control_truth}
 use Rattle.hyd_spec_laws.specs.Laws.{LiesIn, IsVessel, StockLies, AreInside, IsInside, HasStock, IsAtMost, IsOneWay, Tells, TellEach}
 use Rattle.hyd_spec_laws.proofs.EachLaw.{exchanged}
 use Rattle.hyd_spec_laws.proofs.Outflows.{le-yes}
 use Rattle.hyd_net.specs.Curves.{volume_at}
-use Rattle.hyd_spec_laws.proofs.TwoScales.{Leads}
+use Rattle.hyd_spec_laws.proofs.RisingLines.{Leads}
 use Rattle.hyd_spec_laws.proofs.Placing.{above-yes, below-yes, above-from, below-from, one_times, le-from, passes-up, passes-down}
 use Rattle.hyd_spec_laws.proofs.Levelling.{exact-some, content-leads, carried-some, carried-leads, content-low, content-high, content-up}
 
@@ -271,7 +272,7 @@ seconds_nest walls tank stocks wider inflow more target rising cap earliest late
 
 -- ---- rules
 
-either-tells : (s t : Truth) (a b : Bool) → Tells s a → Tells t b → Tells (either s t) (a || b)
+either-tells : (s t : Verdict) (a b : Bool) → Tells s a → Tells t b → Tells (either s t) (a || b)
 either-tells Yes t a b p q = subst (λ (x : Bool). (x || b) ≡ true) (sym p) refl
 either-tells No Yes a b p q = subst (λ (x : Bool). (x || b) ≡ true) (sym p) q
 either-tells No No a b p q = subst (λ (x : Bool). (x || b) ≡ false) (sym p) q
@@ -281,7 +282,7 @@ either-tells Unknown Yes false b p q = q
 either-tells Unknown No a b p q = tt
 either-tells Unknown Unknown a b p q = tt
 
-both-tells : (s t : Truth) (a b : Bool) → Tells s a → Tells t b → Tells (both s t) (a && b)
+both-tells : (s t : Verdict) (a b : Bool) → Tells s a → Tells t b → Tells (both s t) (a && b)
 both-tells No t a b p q = subst (λ (x : Bool). (x && b) ≡ false) (sym p) refl
 both-tells Yes Yes a b p q = subst (λ (x : Bool). (x && b) ≡ true) (sym p) q
 both-tells Yes No a b p q = subst (λ (x : Bool). (x && b) ≡ false) (sym p) q
@@ -291,25 +292,25 @@ both-tells Unknown No false b p q = refl
 both-tells Unknown Yes a b p q = tt
 both-tells Unknown Unknown a b p q = tt
 
-pub some_tells : (truths : List Truth) (tests : List Bool) → TellEach truths tests → Tells (some_holds truths) (list_any (λ (b : Bool). b) tests)
+pub some_tells : (truths : List Verdict) (tests : List Bool) → TellEach truths tests → Tells (some_holds truths) (list_any (λ (b : Bool). b) tests)
 some_tells [] [] all = refl
 some_tells [] (b ∷ tests) all = absurd all
 some_tells (t ∷ truths) [] all = absurd all
 some_tells (t ∷ truths) (b ∷ tests) all = either-tells t (some_holds truths) b (list_any (λ (b : Bool). b) tests) all.0 (some_tells truths tests all.1)
 
-pub all_tells : (truths : List Truth) (tests : List Bool) → TellEach truths tests → Tells (all_hold truths) (list_all (λ (b : Bool). b) tests)
+pub all_tells : (truths : List Verdict) (tests : List Bool) → TellEach truths tests → Tells (all_hold truths) (list_all (λ (b : Bool). b) tests)
 all_tells [] [] all = refl
 all_tells [] (b ∷ tests) all = absurd all
 all_tells (t ∷ truths) [] all = absurd all
 all_tells (t ∷ truths) (b ∷ tests) all = both-tells t (all_hold truths) b (list_all (λ (b : Bool). b) tests) all.0 (all_tells truths tests all.1)
 
 -- a rule tells by the truths of its clauses
-group_tells : (truth : Clause → Truth) (test : Clause → Bool) (group : List Clause) → AllByRecursion (λ (c : Clause). Tells (truth c) (test c)) group
+group_tells : (truth : Clause → Verdict) (test : Clause → Bool) (group : List Clause) → AllByRecursion (λ (c : Clause). Tells (truth c) (test c)) group
     → Tells (some_holds (map truth group)) (list_any test group)
 group_tells truth test [] all = refl
 group_tells truth test (c ∷ group) all = either-tells (truth c) (some_holds (map truth group)) (test c) (list_any test group) all.0 (group_tells truth test group all.1)
 
-pub rule_tells : (truth : Clause → Truth) (test : Clause → Bool) (groups : List (List Clause)) → AllByRecursion (AllByRecursion (λ (c : Clause). Tells (truth c) (test c))) groups
+pub rule_tells : (truth : Clause → Verdict) (test : Clause → Bool) (groups : List (List Clause)) → AllByRecursion (AllByRecursion (λ (c : Clause). Tells (truth c) (test c))) groups
     → Tells (all_hold (map (λ group. some_holds (map truth group)) groups)) (list_all (list_any test) groups)
 rule_tells truth test [] all = refl
 rule_tells truth test (group ∷ groups) all =

@@ -15,7 +15,7 @@ use Rattle.hyd_spec_certificates.specs.Stocks.{Stocks, least_stock, greatest_sto
 use Rattle.hyd_spec_laws.specs.Laws.{LiesIn, LiesAround, IsVessel, HoldWater, StockLies, AreInside, IsInside, IsWithin, HasStock}
 use Rattle.hyd_spec_laws.proofs.EachLaw.{exchanged}
 use Rattle.hyd_spec_laws.proofs.Outflows.{le-yes}
-use Rattle.hyd_spec_laws.proofs.TwoScales.{Leads, AreClimbing, Follows, from-rises, some-den}
+use Rattle.hyd_spec_laws.proofs.RisingLines.{Leads, AreClimbing, Follows, from-rises, some-den}
 use Rattle.hyd_spec_laws.proofs.Placing.{one_times, le-from, Fits, FitsAt, placed-is, lower-least, lower-most, upper-least, upper-most, next-low, next-high, placed-low, placed-high, lower-rises, upper-rises, placed-rises, placed-most, placed-least, placed-some}
 
 -- ---- levels by a volume curve

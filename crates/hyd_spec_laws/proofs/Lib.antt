@@ -11,7 +11,7 @@ pub mod Comparison
 pub mod Pinning
 pub mod Boxed
 pub mod Grids
-pub mod TwoScales
+pub mod RisingLines
 pub mod Placing
 pub mod Levelling
 pub mod Deciding

@@ -13,7 +13,7 @@ use Rattle.hyd_spec_certificates.specs.Stocks.{lower_end, upper_end}
 use Rattle.hyd_lemmas.proofs.Integers.{floor_low, ceiling_high, floor_greatest, ceiling_least, max_left, max_is, max_rises, min_left, min_is, min_rises}
 use Rattle.hyd_spec_laws.proofs.EachLaw.{exchanged}
 use Rattle.hyd_spec_laws.proofs.Outflows.{le-yes, le-no}
-use Rattle.hyd_spec_laws.proofs.TwoScales.{Leads, moved, through}
+use Rattle.hyd_spec_laws.proofs.RisingLines.{Leads, moved, through}
 
 pub one_times : (z : ℤ) → pos 1 *ℤ z ≡ z
 one_times z = omega (arith, ints)

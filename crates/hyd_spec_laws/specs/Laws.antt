@@ -17,7 +17,7 @@ use Rattle.hyd_spec_certificates.specs.Grid.{Grid, IsGrid}
 use Rattle.hyd_spec.specs.Assignment.{Assignment, IsAssignment, head_at}
 use Rattle.hyd_spec.specs.declared.TankState.{TankState}
 use Rattle.hyd_spec.specs.Scale.{at_scale}
-use Rattle.hyd_spec_certificates.specs.Truth.{Truth, Yes, No, Unknown}
+use Rattle.hyd_spec_certificates.specs.Verdict.{Verdict, Yes, No, Unknown}
 use Rattle.hyd_spec_certificates.specs.Enclosing.{DemandLaw, Fixed, Driven}
 use Rattle.hyd_spec.specs.Enclosure.{IsEnclosure}
 use Rattle.hyd_spec.specs.Law.{Relation, Loss, Law, Shut, QuadraticLaw, LinearLaw, Lifted, ForwardOnly, ReverseOnly, Capped, Bent, Held}
@@ -178,13 +178,13 @@ IsOneWay Equal = ⊥
 IsOneWay Unequal = ⊥
 
 -- A truth tells a test: yes that it holds, no that it doesn't.
-abbrev pub Tells : Truth → Bool → Type 0
+abbrev pub Tells : Verdict → Bool → Type 0
 Tells Yes test = test ≡ true
 Tells No test = test ≡ false
 Tells Unknown test = ⊤
 
 -- Truths tell tests, one after another.
-abbrev pub TellEach : List Truth → List Bool → Type 0
+abbrev pub TellEach : List Verdict → List Bool → Type 0
 TellEach truths tests = AllZip Tells truths tests
 
 -- ---- outflows

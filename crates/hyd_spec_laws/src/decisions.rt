@@ -9,7 +9,7 @@ ghost use Rattle.hyd_spec_certificates.specs.Interval.{Interval};
 ghost use Rattle.hyd_spec.specs.Tank.{Walls, Stock, reaches, has_reached};
 ghost use Rattle.hyd_spec.specs.Rules.{compares};
 ghost use Rattle.hyd_spec_certificates.specs.Stocks.{Stocks, may_reach, must_reach};
-ghost use Rattle.hyd_spec_certificates.specs.Truth.{Truth, at_both_ends, some_holds, all_hold};
+ghost use Rattle.hyd_spec_certificates.specs.Verdict.{Verdict, at_both_ends, some_holds, all_hold};
 ghost use Rattle.hyd_spec_certificates.specs.Decided.{control_truth};
 ghost use Rattle.hyd_spec_laws.specs.Laws.{LiesIn, StockLies, IsVessel, IsAtMost, IsOneWay, Tells};
 
@@ -38,7 +38,7 @@ pub fn events()
 /// Where the truth of each clause tells whether it holds, the truth of a rule tells whether the
 /// rule does.
 pub fn rules()
-    ensures { (truth : Clause → Truth) (test : Clause → Bool) (groups : List (List Clause))
+    ensures { (truth : Clause → Verdict) (test : Clause → Bool) (groups : List (List Clause))
         → AllByRecursion (AllByRecursion (λ (c : Clause). Tells (truth c) (test c))) groups
         → Tells (all_hold (map (λ group. some_holds (map truth group)) groups)) (list_all (list_any test) groups) }
 {}

@@ -8,7 +8,8 @@ ghost use Rattle.hyd_spec.specs.declared.TankState.{TankState};
 ghost use Rattle.hyd_spec.specs.Lists.{Each};
 ghost use Rattle.hyd_spec_certificates.specs.Interval.{Interval};
 ghost use Rattle.hyd_spec.specs.Tank.{Walls, walls_of, Stock, level_bounds, carried_level, has_reached, IsNextStock, tank_state};
-ghost use Rattle.hyd_spec_certificates.specs.Stocks.{Stocks, carried_levels, next_stocks, state_of, may_reach, must_reach, IsFirstSecond};
+ghost use Rattle.hyd_spec_certificates.specs.Stocks.{Stocks, carried_levels, next_stocks, state_of, may_reach, must_reach};
+ghost use Rattle.hyd_spec_certificates.specs.FirstSeconds.{IsFirstSecond};
 ghost use Rattle.hyd_spec_laws.specs.Laws.{LiesIn, LiesAround, StockLies, IsVessel, IsInside, AreInside, IsWithin};
 
 /// The tanks of a sound network hold water, and their bounds are in order.

@@ -1,6 +1,6 @@
 -- The text of a certificate: a header, the records in order, and an end line. Each line ends by a line feed.
 -- Source: this program's format.
-use Rattle.std.specs.Prelude.{◌≡◌, ℕ, ◌<◌, ◌^◌, ℤ, Bool, ◌||◌, ◌⊎◌, is_some, List, [], ◌∷◌, ◌++◌, length, map, All, codes, if◌then◌else◌}
+use Rattle.std.specs.Prelude.{◌≡◌, ℕ, ◌+◌, ◌<◌, ◌^◌, ◌==◌, ℤ, Bool, ◌||◌, ◌⊎◌, is_some, List, [], ◌∷◌, ◌++◌, length, map, All, codes, if◌then◌else◌}
 use Rattle.std.specs.Fmt.{decimal, signed_decimal}
 use Rattle.std.specs.List.{list_any}
 use Rattle.hyd_spec.specs.Types.{Project, Tank}
@@ -53,6 +53,11 @@ record_text row =
 abbrev pub end_line : ℕ → Bool → List ℕ
 end_line periods finished =
     line (codes "END" ∷ (decimal periods ∷ ((if finished then codes "FINISHED" else codes "STOPPED") ∷ [])))
+
+-- The number of line feeds of a text.
+abbrev pub line_feeds : List ℕ → ℕ
+line_feeds [] = 0
+line_feeds (code ∷ rest) = (if code == 10 then 1 else 0) + line_feeds rest
 
 -- A header of a version for so many junctions and tanks, the records, and the end line.
 abbrev pub certificate_text : ℕ → ℕ → ℕ → List Record → ℕ → Bool → List ℕ
