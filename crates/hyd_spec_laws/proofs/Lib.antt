@@ -21,4 +21,5 @@ pub mod OneAnswer
 pub mod OneStanding
 pub mod OneReport
 pub mod OneLength
+pub mod OneCapacity
 pub mod OneRun
