@@ -25,5 +25,6 @@ pub mod OneAnswer
 pub mod OneStanding
 pub mod OneReport
 pub mod OneLength
+pub mod OneCapacity
 pub mod OneRun
 pub mod Vessels
