@@ -11,6 +11,8 @@ pub mod Comparison
 pub mod Pinning
 pub mod Boxed
 pub mod Grids
+pub mod RisingLines
+pub mod Placing
 pub mod Levelling
 pub mod Deciding
 pub mod Worked
@@ -23,7 +25,6 @@ pub mod OneAnswer
 pub mod OneStanding
 pub mod OneReport
 pub mod OneLength
+pub mod OneCapacity
 pub mod OneRun
-pub mod RisingLines
-pub mod Placing
 pub mod Vessels
