@@ -12,6 +12,8 @@ pub mod Comparison
 pub mod Pinning
 pub mod Boxed
 pub mod Grids
+pub mod RisingLines
+pub mod Placing
 pub mod Levelling
 pub mod Deciding
 pub mod Worked
@@ -24,7 +26,6 @@ pub mod OneAnswer
 pub mod OneStanding
 pub mod OneReport
 pub mod OneLength
+pub mod OneCapacity
 pub mod OneRun
-pub mod RisingLines
-pub mod Placing
 pub mod Vessels
