@@ -1,5 +1,4 @@
 pub mod Roots
-pub mod StraightLines
 pub mod CurveKnots
 pub mod StatusWords
 pub mod LossLaws
@@ -12,6 +11,7 @@ pub mod Comparison
 pub mod Pinning
 pub mod Boxed
 pub mod Grids
+pub mod Leading
 pub mod RisingLines
 pub mod Placing
 pub mod Levelling
