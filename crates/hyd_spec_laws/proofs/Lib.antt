@@ -15,6 +15,7 @@ pub mod Worked
 pub mod Rising
 pub mod NetRising
 pub mod RunRecords
+pub mod Appending
 pub mod Pieces
 pub mod CertificateLines
 pub mod OneAnswer
