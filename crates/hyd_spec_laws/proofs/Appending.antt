@@ -1,5 +1,5 @@
 -- Histories, runs and certificates grow by a period at their end, and a front of each is one.
-use Rattle.std.proofs.Common.{◌≡◌, ◌≢◌, ℕ, suc, ◌+◌, ◌<◌, ◌≤◌, List, [], ◌∷◌, ◌++◌, refl, sym, subst, arith}
+use Rattle.std.proofs.Common.{◌≡◌, ◌≢◌, ℕ, ◌+◌, ◌<◌, ◌≤◌, List, [], ◌∷◌, ◌++◌, subst, arith}
 use Rattle.hyd_spec.specs.Types.{Project}
 use Rattle.hyd_spec.specs.Length.{Period, EndsByClock, step, duration, pattern, report, control_time, control_clock, MayEnd, by_clock, by_level, by_rules, HasItsLength, at_end, before_end}
 use Rattle.hyd_spec.specs.History.{IsPeriod, ComesAfter, GoesOn, IsHistory}

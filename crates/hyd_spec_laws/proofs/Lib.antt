@@ -7,7 +7,9 @@ pub mod Sums
 pub mod Outflows
 pub mod Comparison
 pub mod Pinning
+pub mod HeldComparison
 pub mod Boxed
+pub mod HeldFlows
 pub mod Grids
 pub mod Levelling
 pub mod Deciding
