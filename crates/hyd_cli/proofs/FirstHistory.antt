@@ -4,7 +4,8 @@ use Rattle.std.specs.Prelude.{Option, Some, None, slice_get}
 use Rattle.std.specs.List.{AllByRecursion, AllZip}
 use Rattle.std.specs.Option.{IfSome}
 use Rattle.hyd_num.specs.Numeral.{nano_of}
-use Rattle.hyd_spec.specs.Types.{Project, Junction, Tank, Link, LinkKind, LinkState, OpenValve, Capacity, Tcv, Linear, Quadratic, Throttle}
+use Rattle.hyd_net.specs.ListView.{ListView}
+use Rattle.hyd_spec.specs.Types.{Project, Junction, Tank, Link, HeadPoint, LinkKind, LinkState, OpenValve, Capacity, Tcv, Linear, Quadratic, Throttle}
 use Rattle.hyd_spec.specs.declared.TankState.{TankState}
 use Rattle.hyd_spec_certificates.specs.declared.Problem.TheVariants.{Main}
 use Rattle.hyd_spec_certificates.specs.declared.Side.TheVariants.{Upper, Lower}
@@ -15,7 +16,7 @@ use Rattle.hyd_spec.specs.Law.{QuadraticLaw}
 use Rattle.hyd_spec.specs.Start.{patterned, controlled, started}
 use Rattle.hyd_spec.specs.Rules.{state_of_link}
 use Rattle.hyd_spec.specs.Length.{Period, HasItsLength, at_end, before_end}
-use Rattle.hyd_spec.specs.History.{Begins, IsPeriod, initial_links, initial_levels, tank_states, commanded_after}
+use Rattle.hyd_spec.specs.History.{Begins, IsPeriod, initial_links, initial_levels, initial_volumes, tank_states, commanded_after}
 use Rattle.hyd_spec_certificates.specs.Grid.{Grid, GridLink, GridJunction, IsGrid, IsJunctionOf}
 use Rattle.hyd_spec_certificates.specs.Boxes.{difference}
 use Rattle.hyd_spec_certificates.specs.Certificate.{IsCertificate}
@@ -93,7 +94,7 @@ lie_without : (network : Project) (S : ℕ) → network.tanks.list ≡ [] → Le
 lie_without network S e = rw e tt
 
 starts_so : (network : Project) → IsFirstNetwork network → (S : ℕ) (period : Period)
-    → Begins network S 0 (initial_levels network S) (initial_links network) period → StartsSo network S period
+    → Begins network S 0 (initial_levels network S) (initial_volumes network S) (initial_links network) period → StartsSo network S period
 starts_so network first S period begins =
     let plain = first.has_parts.plain in
     record {
@@ -137,13 +138,13 @@ no_length network S period duration time (before_end later least) = absurd (late
 
 -- ---- its lines
 
-active : (us : Bool) (kind : LinkKind) (states : List LinkState) (setting : ℤ) (law : OpenValve) (d : Interval)
-    → kind ≡ Tcv Linear → states ≡ Throttle setting law ∷ [] → status_of us kind (state_of_link states 0) d ≡ Active
-active us kind states setting law d k s = rw (k, s) refl
+active : (us : Bool) (bends : List (ListView HeadPoint)) (kind : LinkKind) (states : List LinkState) (setting : ℤ) (law : OpenValve) (d : Interval)
+    → kind ≡ Tcv Linear → states ≡ Throttle setting law ∷ [] → status_of us bends kind (state_of_link states 0) d ≡ Active
+active us bends kind states setting law d k s = rw (k, s) refl
 
-active_holds : (us : Bool) (kind : LinkKind) (setting : ℤ) (law : OpenValve) (S : ℕ) (x : ℤ) → kind ≡ Tcv Linear
-    → StatusHolds us Active kind (Throttle setting law) S x
-active_holds us kind setting law S x k = rw k tt
+active_holds : (us : Bool) (bends : List (ListView HeadPoint)) (kind : LinkKind) (setting : ℤ) (law : OpenValve) (S : ℕ) (x : ℤ) → kind ≡ Tcv Linear
+    → StatusHolds us bends Active kind (Throttle setting law) S x
+active_holds us bends kind setting law S x k = rw k tt
 
 -- the line of the one link
 link_holds : (network : Project) → IsFirstNetwork network → (S : ℕ) (commanded : List LinkState) (period : Period) (grid : Grid) (row : Record)
@@ -159,14 +160,14 @@ link_holds network first S commanded period grid row over so zero link each at l
     let law = Quadratic parts.link_is.capacity in
     let setting = nano_of first.chosen.setting in
     let states : links_at network start ≡ Throttle setting law ∷ [] = first_states network first setting law parts.link_is.start in
-    let word = active (is_us network) link.kind (links_at network start) setting law (difference line.place (heads_below grid row) (heads_above grid row)) kind states in
+    let word = active (is_us network) network.bends.list link.kind (links_at network start) setting law (difference line.place (heads_below grid row) (heads_above grid row)) kind states in
     subst (LineHolds network S commanded period) (sym (line.is_line ∙ ap (LinkLine 0 line.flow) word)) (record {
       link = link;
       is_link = at;
       state = Throttle setting law;
       is_state = ap (λ (ls : List LinkState). slice_get ls 0) (so.links ∙ states);
       flow_lies = flow_holds network S commanded period grid start row over 0 line.box line.flow line.box_is line.flow_is;
-      status_holds = active_holds (is_us network) link.kind setting law S _ kind;
+      status_holds = active_holds (is_us network) network.bends.list link.kind setting law S _ kind;
     })
 link_holds network first S commanded period grid row over so (suc l) link each at line =
     let parts = first.has_parts in
@@ -222,7 +223,7 @@ lines_hold network first S commanded period grid row lines over so report =
 -- ---- every history
 
 first_agrees : (network : Project) → IsFirstNetwork network → (S : ℕ) → 1 ≤ S → (period : Period) (grid : Grid) (upper lower : ℤ) (lines : List ReportLine)
-    → Begins network S 0 (initial_levels network S) (initial_links network) period → IsPeriod network S period
+    → Begins network S 0 (initial_levels network S) (initial_volumes network S) (initial_links network) period → IsPeriod network S period
     → IsGridAt network (initial_standing network) grid → IsCertificate grid Main Upper (upper ∷ []) → IsCertificate grid Main Lower (lower ∷ [])
     → IsReport network grid (initial_standing network) (first_row upper lower) lines
     → Agrees network S (initial_links network) period (first_found network grid upper lower lines)

@@ -59,12 +59,12 @@ fn first_runs()
         → IsTightHead network Upper upper → IsTightHead network Lower lower
         → (lines : List ReportLine) → ((grid : Grid) → IsGridAt network (initial_standing network) grid
         → IsReport network grid (initial_standing network) (first_row upper lower) lines)
-        → (written printed : List ℕ) → written ≡ certificate_text 1 0 (first_row upper lower ∷ []) 1 true
+        → (written printed : List ℕ) → written ≡ certificate_text 1 1 0 (first_row upper lower ∷ []) 1 true
         → printed ≡ report_text network lines (done_line 1)
         → RunWrites network 200 (record { width = pos (10 ^ 11); tight = true }) Finished written printed }
     ensures stopped { (network : Project) → IsFirstNetwork network → (side : Side)
         → HasNoCertificate network (initial_standing network) Main side
-        → (written printed : List ℕ) → written ≡ certificate_text 1 0 [] 0 false
+        → (written printed : List ℕ) → written ≡ certificate_text 1 1 0 [] 0 false
         → printed ≡ report_text network [] (stop_line network 0 (NoCertificate 0 Main side 0))
         → RunWrites network 200 (record { width = pos (10 ^ 11); tight = true }) (Stopped (NoCertificate 0 Main side 0)) written printed }
 {}

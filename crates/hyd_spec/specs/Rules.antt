@@ -8,7 +8,7 @@ use Rattle.std.specs.Option.{option_map_or, option_and_then}
 use Rattle.hyd_spec.specs.Types.{Project, Rule, RuleClause, Joined, And, Or, Clause, What, Head, Pressure, Level, Flow, Setting, Status, Time, Clock, Relation, Less, NotMore, More, NotLess, Equal, Unequal, Value, Amount, ValueOpen, ValueClosed, ValueActive, Action, LinkState, Open, Closed, Speed, Throttle, Limit, Change, ByRule}
 use Rattle.hyd_spec.specs.Lists.{map_from, present}
 use Rattle.hyd_num.specs.Rational.{Rational, whole, total_of, is_less, is_at_most}
-use Rattle.hyd_spec.specs.Scale.{at_scale}
+use Rattle.hyd_spec.specs.Scale.{at_scale, is_same_number}
 use Rattle.hyd_spec.specs.Network.{is_tank, tank_number}
 use Rattle.hyd_spec.specs.Quantity.{is_us, pressure_value}
 use Rattle.hyd_spec.specs.Start.{day, clock_at}
@@ -37,18 +37,18 @@ setting_of (Speed speed) = speed
 setting_of (Throttle setting law) = setting
 setting_of (Limit setting ticks) = setting
 
--- Two numbers are equal.
-abbrev pub is_same_number : ℤ → ℤ → Bool
-is_same_number a b = int_le a b && int_le b a
-
 -- Two commanded states of one link are the same.
 abbrev pub is_same_state : LinkState → LinkState → Bool
 is_same_state Open Open = true
+is_same_state Open other = false
 is_same_state Closed Closed = true
+is_same_state Closed other = false
 is_same_state (Speed a) (Speed b) = is_same_number a b
+is_same_state (Speed a) other = false
 is_same_state (Throttle a law) (Throttle b other) = is_same_number a b
+is_same_state (Throttle a law) other = false
 is_same_state (Limit a ticks) (Limit b other) = is_same_number a b
-is_same_state a b = false
+is_same_state (Limit a ticks) other = false
 
 -- The state of a link; one that isn't there is closed.
 abbrev pub state_of_link : List LinkState → ℕ → LinkState

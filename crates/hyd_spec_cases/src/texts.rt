@@ -14,9 +14,9 @@ ghost use Rattle.hyd_spec_reports.specs.ReportLine.{state_words, line_text, Cont
 
 /// The text of a certificate: without records, of one record with two heads, and of two records with a tank.
 pub fn certificates()
-    ensures empty { certificate_text 3 0 ([]) 0 false
+    ensures empty { certificate_text 1 3 0 ([]) 0 false
         ≡ codes "HYDCERT 1 3 0\nEND 0 STOPPED\n" }
-    ensures heads { certificate_text 2 0 ((record {
+    ensures heads { certificate_text 1 2 0 ((record {
       number = 0;
       time = 0;
       length = 0;
@@ -28,7 +28,7 @@ pub fn certificates()
       pinned = [];
     }) ∷ []) 1 true
         ≡ codes "HYDCERT 1 2 0\nPERIOD 0 0 0\nMU 5\nMU -1000000000000000000\nML 0\nML -7\nEND 1 FINISHED\n" }
-    ensures tank { certificate_text 1 1 ((record {
+    ensures tank { certificate_text 1 1 1 ((record {
       number = 0;
       time = 0;
       length = 3600;

@@ -15,7 +15,7 @@ use Rattle.hyd_spec.specs.Lists.{map_from, present}
 use Rattle.hyd_num.specs.Rational.{whole, floor, ceiling}
 use Rattle.hyd_spec_certificates.specs.Interval.{Interval, exactly}
 use Rattle.hyd_spec.specs.Network.{tank_node}
-use Rattle.hyd_spec.specs.Tank.{reaches}
+use Rattle.hyd_spec.specs.Tank.{Walls, walls_of, reaches}
 use Rattle.hyd_spec.specs.LinkLaw.{is_full, is_empty}
 use Rattle.hyd_spec.specs.Start.{started}
 use Rattle.hyd_spec.specs.Rules.{Readings, clause_holds, groups_of, rule_changes, measured}
@@ -23,7 +23,7 @@ use Rattle.hyd_spec.specs.Length.{IsLeast, EndsByClock}
 use Rattle.hyd_spec_certificates.specs.Grid.{Grid, all_heads}
 use Rattle.hyd_spec_certificates.specs.Boxes.{flow_box, inflow_box}
 use Rattle.hyd_spec_certificates.specs.Record.{Record, Standing}
-use Rattle.hyd_spec_certificates.specs.Levels.{carried_levels, may_reach, must_reach}
+use Rattle.hyd_spec_certificates.specs.Stocks.{Stocks, carried_levels, may_reach, must_reach}
 use Rattle.hyd_spec_certificates.specs.Verdict.{Verdict, Yes, No, Unknown, at_both_ends, is_yes, is_unknown, some_holds, all_hold}
 
 -- ---- intervals of a period
@@ -52,6 +52,10 @@ nowhere = exactly (pos 0)
 -- The level interval (head ticks) of tank number k at the start.
 abbrev pub level_of_tank : Standing → ℕ → Interval
 level_of_tank standing k = slice_index_or standing.levels k nowhere
+
+-- The stocks of tank number k at the start.
+abbrev pub stocks_of_tank : Standing → ℕ → Stocks
+stocks_of_tank standing k = record { level = level_of_tank standing k; volume = slice_index_or standing.volumes k nowhere }
 
 -- The inflow interval (flow ticks) of tank number k.
 abbrev pub inflow_of_tank : Project → Grid → Record → ℕ → Interval
@@ -105,16 +109,16 @@ watches network standing =
     tank_watches 0 network.tanks.list standing.tanks
     ++ present (map (watch_of standing.levels) network.controls.list)
 
--- A watched level reaches its target some seconds after the start, by a test of its tank, of the intervals of its
--- level and inflow, of the target and its direction, and of the seconds.
-pub record SomeReaches (test : Tank → Interval → Interval → ℤ → Bool → ℕ → Bool)
+-- A watched level reaches its target some seconds after the start, by a test of its tank's walls, of the tank, of its stocks
+-- and inflow, of the target and its direction, and of the seconds.
+pub record SomeReaches (test : Walls → Tank → Stocks → Interval → ℤ → Bool → ℕ → Bool)
     (network : Project) (grid : Grid) (standing : Standing) (row : Record) (seconds : ℕ) : Type 0 where
   pub watch : Watch
   pub is_watched : Contains (watches network standing) watch
   pub tank : Tank
   pub is_tank : slice_get network.tanks.list watch.tank ≡ Some tank
-  pub reached : IsTrue (test tank (level_of_tank standing watch.tank) (inflow_of_tank network grid row watch.tank)
-      watch.target watch.rising seconds)
+  pub reached : IsTrue (test (walls_of network tank) tank (stocks_of_tank standing watch.tank)
+      (inflow_of_tank network grid row watch.tank) watch.target watch.rising seconds)
 
 -- A watched level may have reached its target some seconds after the start.
 abbrev pub SomeMayReach : Project → Grid → Standing → Record → ℕ → Type 0
@@ -154,7 +158,8 @@ greatest_magnitude x = unsigned_abs (int_max x.hi (neg_ℤ x.lo))
 -- The carried level intervals some seconds after the start.
 abbrev pub carried_at : Project → Grid → Standing → Record → ℕ → List Interval
 carried_at network grid standing row seconds =
-    map_from (λ k tank. carried_levels tank (level_of_tank standing k) (inflow_of_tank network grid row k) seconds) 0 network.tanks.list
+    map_from (λ k tank. carried_levels (walls_of network tank) tank (stocks_of_tank standing k) (inflow_of_tank network grid row k) seconds)
+    0 network.tanks.list
 
 -- What the rules look at, from below.
 abbrev pub readings_below : Project → Grid → Standing → Record → ℕ → Readings

@@ -6,7 +6,7 @@ pub mod Certificate
 pub mod Climbing
 pub mod HeldBoxes
 pub mod Boxes
-pub mod Levels
+pub mod Stocks
 pub mod Verdict
 pub mod Record
 pub mod FirstSeconds

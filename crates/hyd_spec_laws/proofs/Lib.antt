@@ -1,4 +1,6 @@
 pub mod Roots
+pub mod StraightLines
+pub mod CurveKnots
 pub mod LossLaws
 pub mod LinkLaws
 pub mod EachLaw
@@ -11,6 +13,8 @@ pub mod HeldComparison
 pub mod Boxed
 pub mod HeldFlows
 pub mod Grids
+pub mod RisingLines
+pub mod Placing
 pub mod Levelling
 pub mod Deciding
 pub mod Worked
@@ -26,3 +30,4 @@ pub mod OneReport
 pub mod OneLength
 pub mod OneCapacity
 pub mod OneRun
+pub mod Vessels

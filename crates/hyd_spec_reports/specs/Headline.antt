@@ -18,7 +18,7 @@ use Rattle.hyd_spec_certificates.specs.Record.{Record, Standing, initial_standin
 use Rattle.hyd_spec_certificates.specs.Decided.{links_at}
 use Rattle.hyd_spec_certificates.specs.Valid.{IsValid, IsProblem}
 use Rattle.hyd_spec_certificates.specs.Narrow.{IsNarrow}
-use Rattle.hyd_spec_reports.specs.CertificateText.{IsCertificateText, IsRow, header_line, record_text, end_line, line_feeds}
+use Rattle.hyd_spec_reports.specs.CertificateText.{IsCertificateText, IsRow, version_of, header_line, record_text, end_line, line_feeds}
 use Rattle.hyd_spec_reports.specs.declared.StopCause.{StopCause}
 use Rattle.hyd_spec_reports.specs.declared.StopCause.TheVariants.{Demand as DemandOutOfRange, RoundsSpent}
 use Rattle.hyd_spec_reports.specs.declared.CertRefused.{CertRefused}
@@ -136,8 +136,8 @@ pub record RunWrites (network : Project) (rounds : ℕ) (sharpness : Sharpness) 
   pub is_run : IsRun network founds left
   pub sharp : AllByRecursion (IsSharpFound network sharpness) founds
   pub ends_so : EndsSo network left rounds outcome
-  pub certificate : IsCertificateText written (junction_count network) (tank_count network) (rows_of founds)
-      (length founds) (is_finished outcome)
+  pub certificate : IsCertificateText written (version_of network) (junction_count network) (tank_count network)
+      (rows_of founds) (length founds) (is_finished outcome)
   pub report : printed ≡ report_text network (lines_of founds) (last_line network left (length founds) outcome)
   pub every_history : EveryHistoryAgrees network founds
 
@@ -154,7 +154,7 @@ outcome_number (Stopped cause) = 6
 -- The certificate as far as some records go, with its end line where the run's end is known.
 abbrev pub certificate_so_far : Project → List Found → Option Outcome → List ℕ
 certificate_so_far network founds last =
-    header_line (junction_count network) (tank_count network)
+    header_line (version_of network) (junction_count network) (tank_count network)
     ++ (joined (map record_text (rows_of founds))
     ++ option_map_or (λ outcome. end_line (length founds) (is_finished outcome)) last [])
 
@@ -190,8 +190,8 @@ pub record CheckAccepts (network : Project) (text printed : List ℕ) : Type 0 w
   pub founds : List Found
   pub left : Standing
   pub is_run : IsRun network founds left
-  pub certificate : IsCertificateText text (junction_count network) (tank_count network) (rows_of founds)
-      (length founds) left.finished
+  pub certificate : IsCertificateText text (version_of network) (junction_count network) (tank_count network)
+      (rows_of founds) (length founds) left.finished
   pub report : printed ≡ report_text network (lines_of founds) (accepted_line (length founds) left.finished)
   pub every_history : EveryHistoryAgrees network founds
 
@@ -207,7 +207,7 @@ pub record CheckRefuses (network : Project) (text printed : List ℕ) (cause : C
   pub refused : IsRefused network left row cause
   pub rows_fit : All (IsRow (junction_count network) (tank_count network)) (rows_of founds ++ (row ∷ []))
   pub unread : List ℕ
-  pub is_text : text ≡ header_line (junction_count network) (tank_count network)
+  pub is_text : text ≡ header_line (version_of network) (junction_count network) (tank_count network)
       ++ (joined (map record_text (rows_of founds ++ (row ∷ []))) ++ unread)
   pub report : printed ≡ report_text network (lines_of founds) (refused_line network cause)
   pub every_history : EveryHistoryAgrees network founds
@@ -220,7 +220,7 @@ pub record CheckRefusesEnd (network : Project) (text printed : List ℕ) : Type 
   pub is_run : IsRun network founds left
   pub periods : ℕ
   pub finished : Bool
-  pub certificate : IsCertificateText text (junction_count network) (tank_count network)
+  pub certificate : IsCertificateText text (version_of network) (junction_count network) (tank_count network)
       (rows_of founds) periods finished
   pub other_end : ((periods ≡ length founds) × (finished ≡ left.finished)) → ⊥
   pub report : printed ≡ report_text network (lines_of founds) (refused_end_line (line_feeds text))

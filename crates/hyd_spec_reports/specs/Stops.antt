@@ -15,7 +15,7 @@ use Rattle.hyd_spec.specs.Quantity.{demand_of}
 use Rattle.hyd_spec_certificates.specs.Grid.{Grid}
 use Rattle.hyd_spec_certificates.specs.Certificate.{box_limit, IsCertificate, AreRounds, IsTight}
 use Rattle.hyd_spec_certificates.specs.Record.{Record, Standing, vector_of}
-use Rattle.hyd_spec_certificates.specs.Levels.{state_of}
+use Rattle.hyd_spec_certificates.specs.Stocks.{state_of}
 use Rattle.hyd_spec_certificates.specs.Verdict.{is_unknown}
 use Rattle.hyd_spec_certificates.specs.Decided.{OpenRule, EndsBy, RuleIsOpen, EventIsOpen, nowhere, control_truth}
 use Rattle.hyd_spec_certificates.specs.Valid.{IsProblem, IsGridAt, DemandsAreInRange, demand_limit, LeavesLinks, levels_next}
