@@ -16,7 +16,8 @@ use Rattle.hyd_spec_certificates.specs.Certificate.{IsCertificate, IsTight}
 use Rattle.hyd_spec_reports.specs.CertificateText.{IsVector, IsRow, certificate_text}
 use Rattle.hyd_spec_certificates.specs.Record.{Record, Vectors, initial_standing, vector_of}
 use Rattle.hyd_spec_certificates.specs.Valid.{IsProblem, IsGridAt, DemandsAreInRange, demand_limit, finishes}
-use Rattle.hyd_spec_reports.specs.Stops.{HasNoCertificate, NoCertificate}
+use Rattle.hyd_spec_reports.specs.Stops.{HasNoCertificate}
+use Rattle.hyd_spec_reports.specs.declared.StopCause.TheVariants.{NoCertificate}
 use Rattle.hyd_spec_reports.specs.ReportLine.{ReportLine, report_text, done_line, stop_line}
 use Rattle.hyd_spec_reports.specs.Report.{IsReport}
 use Rattle.hyd_spec_input.specs.FirstForm.{IsFirstNetwork}
@@ -170,8 +171,8 @@ writes_finished network first upper lower above below lines reports written prin
 pub writes_stopped : (network : Project) → IsFirstNetwork network → (side : Side)
     → HasNoCertificate network (initial_standing network) Main side
     → (written printed : List ℕ) → written ≡ certificate_text 1 0 [] 0 false
-    → printed ≡ report_text network [] (stop_line network 0 0 (NoCertificate Main side 0))
-    → RunWrites network 200 (record { width = pos (10 ^ 11); tight = true }) (Stopped (NoCertificate Main side 0)) written printed
+    → printed ≡ report_text network [] (stop_line network 0 (NoCertificate 0 Main side 0))
+    → RunWrites network 200 (record { width = pos (10 ^ 11); tight = true }) (Stopped (NoCertificate 0 Main side 0)) written printed
 writes_stopped network first side lacks written printed written_is printed_is =
     let one = one_junction network first in
     record {
@@ -179,7 +180,7 @@ writes_stopped network first side lacks written printed written_is printed_is =
       left = initial_standing network;
       is_run = none;
       sharp = tt;
-      ends_so = (refl, (omega (arith, one), lacks));
+      ends_so = (refl, record { period_is = refl; holds = (omega (arith, one), lacks) });
       certificate = record {
         junctions_fit = few_junctions network first;
         tanks_fit = few_tanks network first;

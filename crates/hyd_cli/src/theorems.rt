@@ -15,7 +15,8 @@ ghost use Rattle.hyd_spec_certificates.specs.Certificate.{IsCertificate, IsTight
 ghost use Rattle.hyd_spec_reports.specs.CertificateText.{certificate_text};
 ghost use Rattle.hyd_spec_certificates.specs.Record.{initial_standing};
 ghost use Rattle.hyd_spec_certificates.specs.Valid.{IsGridAt};
-ghost use Rattle.hyd_spec_reports.specs.Stops.{HasNoCertificate, NoCertificate};
+ghost use Rattle.hyd_spec_reports.specs.Stops.{HasNoCertificate};
+ghost use Rattle.hyd_spec_reports.specs.declared.StopCause.TheVariants.{NoCertificate};
 ghost use Rattle.hyd_spec_reports.specs.ReportLine.{ReportLine, report_text, done_line, stop_line};
 ghost use Rattle.hyd_spec_reports.specs.Report.{Prints, IsReport};
 ghost use Rattle.hyd_spec_reports.specs.Claims.{LiesBetween, at_part};
@@ -64,8 +65,8 @@ fn first_runs()
     ensures stopped { (network : Project) → IsFirstNetwork network → (side : Side)
         → HasNoCertificate network (initial_standing network) Main side
         → (written printed : List ℕ) → written ≡ certificate_text 1 0 [] 0 false
-        → printed ≡ report_text network [] (stop_line network 0 0 (NoCertificate Main side 0))
-        → RunWrites network 200 (record { width = pos (10 ^ 11); tight = true }) (Stopped (NoCertificate Main side 0)) written printed }
+        → printed ≡ report_text network [] (stop_line network 0 (NoCertificate 0 Main side 0))
+        → RunWrites network 200 (record { width = pos (10 ^ 11); tight = true }) (Stopped (NoCertificate 0 Main side 0)) written printed }
 {}
 
 /// A network of the first form is sound.

@@ -5,3 +5,4 @@ pub mod City
 pub mod Single
 pub mod Forms
 pub mod Tanks
+pub mod Cylinders

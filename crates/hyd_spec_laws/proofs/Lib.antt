@@ -1,4 +1,6 @@
 pub mod Roots
+pub mod StraightLines
+pub mod CurveKnots
 pub mod LossLaws
 pub mod LinkLaws
 pub mod EachLaw
@@ -22,3 +24,5 @@ pub mod OneStanding
 pub mod OneReport
 pub mod OneLength
 pub mod OneRun
+pub mod RisingLines
+pub mod Placing

@@ -38,11 +38,12 @@ module _ (network : Project) (grid : Grid) (standing : Standing) (row : Record) 
   one_standing a b (continues c) (continues d) =
       let commanded = one_command row.length a.commanded b.commanded c.leaves_links d.leaves_links in
       let levels = c.levels ∙ sym d.levels in
+      let volumes = c.volumes ∙ sym d.volumes in
       let tanks = some_of TankState a.tanks b.tanks (sym c.tanks ∙ subst (λ (ls : List Interval). AreStates network ls b.tanks) (sym levels) d.tanks) in
       let number = c.number ∙ sym d.number in
       let time = c.time ∙ sym d.time in
       let finished = c.unfinished ∙ sym d.unfinished in
-      λ i. record { number = number i; time = time i; levels = levels i; tanks = tanks i; commanded = commanded i; finished = finished i }
+      λ i. record { number = number i; time = time i; levels = levels i; volumes = volumes i; tanks = tanks i; commanded = commanded i; finished = finished i }
   one_standing a b (continues c) (finishes f) = absurd (c.not_last f.is_last)
   one_standing a b (finishes f) (continues c) = absurd (c.not_last f.is_last)
   one_standing a b (finishes f) (finishes g) = f.next_is ∙ sym g.next_is

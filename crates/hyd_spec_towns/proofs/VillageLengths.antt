@@ -121,7 +121,7 @@ module _ (choice : Choice) (period : Period) where
 -- ---- the periods
 
 pub first_lasts : HasItsLength village 1000 period_0
-first_lasts = has_length usual period_0 (omega arith) (by_clock (step refl)) (omega arith) (omega arith) (λ m later e. omega arith) refl refl
+first_lasts = has_length usual period_0 (omega arith) (by_clock (step (omega arith) refl)) (omega arith) (omega arith) (λ m later e. omega arith) refl refl
 
 pub second_lasts : HasItsLength village 1000 period_1
 second_lasts = has_length usual period_1 (omega arith) (by_level 3 (omega arith) refl (at_control (level_control (pos 20080000000000)) 0 true (pos 20080000000000) tower (0, lit< tt, refl) refl refl refl refl))
@@ -132,7 +132,7 @@ third_lasts = has_length usual period_2 (omega arith) (by_rules (record { later 
     (omega arith) (omega arith) (λ m later e. omega arith) refl refl
 
 pub fourth_lasts : HasItsLength village 1000 period_3
-fourth_lasts = has_length usual period_3 (omega arith) (by_clock (duration refl)) (omega arith) (omega arith) (λ m later e. omega arith) refl refl
+fourth_lasts = has_length usual period_3 (omega arith) (by_clock (duration (omega arith) refl)) (omega arith) (omega arith) (λ m later e. omega arith) refl refl
 
 pub fifth_lasts : HasItsLength village 1000 period_4
 fifth_lasts = at_end refl refl

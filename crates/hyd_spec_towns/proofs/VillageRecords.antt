@@ -5,7 +5,7 @@ use Rattle.std.proofs.lemmas.List.Elements.{All-nil, All-cons}
 use Rattle.hyd_spec.specs.Types.{Junction}
 use Rattle.hyd_spec_certificates.specs.Interval.{Interval}
 use Rattle.hyd_spec.specs.Quantity.{demand_of}
-use Rattle.hyd_spec_certificates.specs.Truth.{is_unknown}
+use Rattle.hyd_spec_certificates.specs.Verdict.{is_unknown}
 use Rattle.hyd_spec_certificates.specs.Decided.{nowhere, control_truth}
 use Rattle.hyd_spec_certificates.specs.Valid.{DemandsAreInRange, demand_limit, ControlsAreDecided, by_rules, by_clock, continues, finishes, IsValid, IsGridAt, AreCertificates, LeavesLinks, levels_next, AreStates}
 use Rattle.hyd_spec_certificates.specs.Grid.{Grid}

@@ -8,8 +8,8 @@ use Rattle.hyd_spec.specs.Length.{EndsByClock, step, duration, pattern, report, 
 use Rattle.hyd_spec_certificates.specs.Grid.{Grid}
 use Rattle.hyd_spec_certificates.specs.Record.{Record, Standing}
 use Rattle.hyd_spec_certificates.specs.Levels.{may_reach, must_reach}
-use Rattle.hyd_spec.specs.Rules.{Change}
-use Rattle.hyd_spec_certificates.specs.Truth.{is_unknown}
+use Rattle.hyd_spec.specs.declared.Change.{Change}
+use Rattle.hyd_spec_certificates.specs.Verdict.{is_unknown}
 use Rattle.hyd_spec_certificates.specs.Decided.{Watch, watches, SomeMayReach, SomeMustReach, level_of_tank, inflow_of_tank, IsClockLength, IsEarliestEnd, IsLatestEnd, rule_truths, decided_changes, RulesMatter, NoRuleMatters}
 use Rattle.hyd_spec_towns.specs.Village.{Choice, village_with, level_control}
 use Rattle.hyd_lemmas.proofs.Trials.{none_below, from, or-left, or-right, and-true, any_of}
@@ -27,8 +27,8 @@ module _ (choice : Choice) where
 
   pub not_before : (time end k : ℕ) → end ≤ time + 8 → end ≤ 16 → ((m : ℕ) → time < m → m % 8 ≡ 0 → end ≤ m)
       → EndsByClock (village_with choice) time k → end ≤ k
-  not_before time end k after last boundary (step e) = omega (arith, after, e)
-  not_before time end k after last boundary (duration e) = omega (arith, last, e)
+  not_before time end k after last boundary (step later e) = omega (arith, after, e)
+  not_before time end k after last boundary (duration later e) = omega (arith, last, e)
   not_before time end k after last boundary (pattern later e) = boundary k later (let m : k % 8 ≡ 0 = omega (arith, e) in m)
   not_before time end k after last boundary (report later begun e) = boundary k later (let m : k % 8 ≡ 0 = omega (arith, e) in m)
   not_before time end k after last boundary (control_time each is at later) = let same = only_control each is in absurd (cc)
