@@ -54,9 +54,18 @@ fn lines_of_options(rt: HostRuntime) -> Result<(), Fail> {
         (b"PATTERN IIIIIIIIIIIIIIIIIIIIIIIIIIIIIII", "Ok(Pattern(1))"),
         (b"PATTERN IIIIIIIIIIIIIIIIIIIIIIIIIIIIIIII", "Err(Limit(3))"),
         (b"PATTERN", "Err(Syntax)"),
-        (b"DEMAND MULTIPLIER 1.5", "Ok(Multiplier(Decimal { nano: 1500000000 }))"),
-        (b"DEMAND MULTIPLIER 0", "Ok(Multiplier(Decimal { nano: 0 }))"),
-        (b"DEMAND MULTIPLIER 1000000", "Ok(Multiplier(Decimal { nano: 1000000000000000 }))"),
+        (
+            b"DEMAND MULTIPLIER 1.5",
+            "Ok(Multiplier(Decimal { nano: 1500000000 }))",
+        ),
+        (
+            b"DEMAND MULTIPLIER 0",
+            "Ok(Multiplier(Decimal { nano: 0 }))",
+        ),
+        (
+            b"DEMAND MULTIPLIER 1000000",
+            "Ok(Multiplier(Decimal { nano: 1000000000000000 }))",
+        ),
         (b"DEMAND MULTIPLIER 1000000.000000001", "Err(Range)"),
         (b"DEMAND MULTIPLIER -1e-9", "Err(Range)"),
         (b"DEMAND MULTIPLIER x", "Err(Number)"),
@@ -66,11 +75,20 @@ fn lines_of_options(rt: HostRuntime) -> Result<(), Fail> {
         (b"DEMAND MODEL PDD", "Err(Syntax)"),
         (b"DEMAND", "Err(Syntax)"),
         (b"DEMAND X 1", "Err(Syntax)"),
-        (b"MINIMUM PRESSURE 0.1", "Ok(MinimumPressure(Decimal { nano: 100000000 }))"),
-        (b"MINIMUM PRESSURE -0", "Ok(MinimumPressure(Decimal { nano: 0 }))"),
+        (
+            b"MINIMUM PRESSURE 0.1",
+            "Ok(MinimumPressure(Decimal { nano: 100000000 }))",
+        ),
+        (
+            b"MINIMUM PRESSURE -0",
+            "Ok(MinimumPressure(Decimal { nano: 0 }))",
+        ),
         (b"MINIMUM PRESSURE -1", "Err(Range)"),
         (b"MINIMUM 1", "Err(Syntax)"),
-        (b"REQUIRED PRESSURE 1e12", "Ok(RequiredPressure(Decimal { nano: 1000000000000000000000 }))"),
+        (
+            b"REQUIRED PRESSURE 1e12",
+            "Ok(RequiredPressure(Decimal { nano: 1000000000000000000000 }))",
+        ),
         (b"REQUIRED PRESSURE 1e13", "Err(Number)"),
         (b"REQUIRED PRESSURE 1 2", "Err(Syntax)"),
         (b"PRESSURE EXPONENT .5", "Ok(Unused)"),
@@ -279,20 +297,47 @@ fn control(alloc: Global, words: &[u8]) -> Result<String, Fail> {
 fn lines_of_controls(rt: HostRuntime) -> Result<(), Fail> {
     let alloc = rt.alloc();
     let table: [(&[u8], &str); 27] = [
-        (b"LINK P OPEN IF NODE T BELOW 3", "Ok(ControlLine { object: Link, link: 1, to: Open, when: Level { object: Node, node: 5, above: false, level: Decimal { nano: 3000000000 } } })"),
-        (b"pipe P closed if tank T above 1.5", "Ok(ControlLine { object: Pipe, link: 1, to: Closed, when: Level { object: Tank, node: 5, above: true, level: Decimal { nano: 1500000000 } } })"),
-        (b"PUMP U 1.1 IF JUNCTION J ABOVE -2", "Ok(ControlLine { object: Pump, link: 1, to: Number(Decimal { nano: 1100000000 }), when: Level { object: Junction, node: 5, above: true, level: Decimal { nano: -2000000000 } } })"),
-        (b"VALVE V 0 IF RESERVOIR R BELOW 1e3", "Ok(ControlLine { object: Valve, link: 1, to: Number(Decimal { nano: 0 }), when: Level { object: Reservoir, node: 5, above: false, level: Decimal { nano: 1000000000000 } } })"),
-        (b"LINK P OPEN AT TIME 4:30", "Ok(ControlLine { object: Link, link: 1, to: Open, when: Time(16200) })"),
-        (b"LINK P OPEN AT TIME 2 DAYS", "Ok(ControlLine { object: Link, link: 1, to: Open, when: Time(172800) })"),
-        (b"LINK P CLOSED AT CLOCKTIME 7:30 PM", "Ok(ControlLine { object: Link, link: 1, to: Closed, when: Clock(70200) })"),
+        (
+            b"LINK P OPEN IF NODE T BELOW 3",
+            "Ok(ControlLine { object: Link, link: 1, to: Open, when: Level { object: Node, node: 5, above: false, level: Decimal { nano: 3000000000 } } })",
+        ),
+        (
+            b"pipe P closed if tank T above 1.5",
+            "Ok(ControlLine { object: Pipe, link: 1, to: Closed, when: Level { object: Tank, node: 5, above: true, level: Decimal { nano: 1500000000 } } })",
+        ),
+        (
+            b"PUMP U 1.1 IF JUNCTION J ABOVE -2",
+            "Ok(ControlLine { object: Pump, link: 1, to: Number(Decimal { nano: 1100000000 }), when: Level { object: Junction, node: 5, above: true, level: Decimal { nano: -2000000000 } } })",
+        ),
+        (
+            b"VALVE V 0 IF RESERVOIR R BELOW 1e3",
+            "Ok(ControlLine { object: Valve, link: 1, to: Number(Decimal { nano: 0 }), when: Level { object: Reservoir, node: 5, above: false, level: Decimal { nano: 1000000000000 } } })",
+        ),
+        (
+            b"LINK P OPEN AT TIME 4:30",
+            "Ok(ControlLine { object: Link, link: 1, to: Open, when: Time(16200) })",
+        ),
+        (
+            b"LINK P OPEN AT TIME 2 DAYS",
+            "Ok(ControlLine { object: Link, link: 1, to: Open, when: Time(172800) })",
+        ),
+        (
+            b"LINK P CLOSED AT CLOCKTIME 7:30 PM",
+            "Ok(ControlLine { object: Link, link: 1, to: Closed, when: Clock(70200) })",
+        ),
         (b"LINK P CLOSED AT CLOCKTIME 25", "Err(Range)"),
         (b"LINK P OPEN IF NODE T BELOW", "Err(Syntax)"),
         (b"LINK P OPEN IF NODE T BELOW 3 x", "Err(Syntax)"),
         (b"LINK P OPEN IF NODE T UNDER 3", "Err(Syntax)"),
         (b"LINK P OPEN IF LINK T BELOW 3", "Err(Syntax)"),
-        (b"LINK P OPEN IF NODE IIIIIIIIIIIIIIIIIIIIIIIIIIIIIIII BELOW 3", "Err(Limit(3))"),
-        (b"LINK IIIIIIIIIIIIIIIIIIIIIIIIIIIIIIII OPEN IF NODE T BELOW 3", "Err(Limit(3))"),
+        (
+            b"LINK P OPEN IF NODE IIIIIIIIIIIIIIIIIIIIIIIIIIIIIIII BELOW 3",
+            "Err(Limit(3))",
+        ),
+        (
+            b"LINK IIIIIIIIIIIIIIIIIIIIIIIIIIIIIIII OPEN IF NODE T BELOW 3",
+            "Err(Limit(3))",
+        ),
         (b"NODE P OPEN IF NODE T BELOW 3", "Err(Syntax)"),
         (b"LINK P AJAR IF NODE T BELOW 3", "Err(Number)"),
         (b"LINK P 1e13 IF NODE T BELOW 3", "Err(Number)"),
@@ -333,26 +378,59 @@ fn lines_of_rules_before_then(rt: HostRuntime) -> Result<(), Fail> {
         (b"RULE", "Err(Syntax)"),
         (b"RULE 1 2", "Err(Syntax)"),
         (b"rule IIIIIIIIIIIIIIIIIIIIIIIIIIIIIIII", "Err(Limit(3))"),
-        (b"IF TANK T LEVEL > 1", "Ok(If(ClauseLine { object: Node(Tank, 2), what: Level, relation: More, value: Number(Decimal { nano: 1000000000 }) }))"),
-        (b"AND SYSTEM TIME >= 2", "Ok(And(ClauseLine { object: System, what: Time, relation: AtLeast, value: Seconds(7200) }))"),
-        (b"OR SYSTEM CLOCKTIME = 3:30 PM", "Ok(Or(ClauseLine { object: System, what: Clock, relation: Equal, value: Seconds(55800) }))"),
-        (b"IF SYSTEM TIME <> 1 DAY", "Ok(If(ClauseLine { object: System, what: Time, relation: Unequal, value: Seconds(86400) }))"),
-        (b"IF LINK P STATUS IS OPEN", "Ok(If(ClauseLine { object: Link(Link, 2), what: Status, relation: Equal, value: Open }))"),
-        (b"IF PIPE P STATUS NOT CLOSED", "Ok(If(ClauseLine { object: Link(Pipe, 2), what: Status, relation: Unequal, value: Closed }))"),
-        (b"IF VALVE V STATUS <> ACTIVE", "Ok(If(ClauseLine { object: Link(Valve, 2), what: Status, relation: Unequal, value: Active }))"),
+        (
+            b"IF TANK T LEVEL > 1",
+            "Ok(If(ClauseLine { object: Node(Tank, 2), what: Level, relation: More, value: Number(Decimal { nano: 1000000000 }) }))",
+        ),
+        (
+            b"AND SYSTEM TIME >= 2",
+            "Ok(And(ClauseLine { object: System, what: Time, relation: AtLeast, value: Seconds(7200) }))",
+        ),
+        (
+            b"OR SYSTEM CLOCKTIME = 3:30 PM",
+            "Ok(Or(ClauseLine { object: System, what: Clock, relation: Equal, value: Seconds(55800) }))",
+        ),
+        (
+            b"IF SYSTEM TIME <> 1 DAY",
+            "Ok(If(ClauseLine { object: System, what: Time, relation: Unequal, value: Seconds(86400) }))",
+        ),
+        (
+            b"IF LINK P STATUS IS OPEN",
+            "Ok(If(ClauseLine { object: Link(Link, 2), what: Status, relation: Equal, value: Open }))",
+        ),
+        (
+            b"IF PIPE P STATUS NOT CLOSED",
+            "Ok(If(ClauseLine { object: Link(Pipe, 2), what: Status, relation: Unequal, value: Closed }))",
+        ),
+        (
+            b"IF VALVE V STATUS <> ACTIVE",
+            "Ok(If(ClauseLine { object: Link(Valve, 2), what: Status, relation: Unequal, value: Active }))",
+        ),
         (b"IF PUMP U STATUS = 1", "Err(Syntax)"),
         (b"IF PUMP U STATUS > OPEN", "Err(Syntax)"),
-        (b"IF PUMP U SETTING <= 0.5", "Ok(If(ClauseLine { object: Link(Pump, 2), what: Setting, relation: AtMost, value: Number(Decimal { nano: 500000000 }) }))"),
+        (
+            b"IF PUMP U SETTING <= 0.5",
+            "Ok(If(ClauseLine { object: Link(Pump, 2), what: Setting, relation: AtMost, value: Number(Decimal { nano: 500000000 }) }))",
+        ),
         (b"IF LINK U SETTING < 1", "Err(Syntax)"),
-        (b"IF NODE J PRESSURE BELOW 4", "Ok(If(ClauseLine { object: Node(Node, 2), what: Pressure, relation: Less, value: Number(Decimal { nano: 4000000000 }) }))"),
+        (
+            b"IF NODE J PRESSURE BELOW 4",
+            "Ok(If(ClauseLine { object: Node(Node, 2), what: Pressure, relation: Less, value: Number(Decimal { nano: 4000000000 }) }))",
+        ),
         (b"IF RESERVOIR R PRESSURE BELOW 4", "Err(Syntax)"),
         (b"IF JUNCTION J LEVEL BELOW 4", "Err(Syntax)"),
         (b"IF NODE T LEVEL BELOW 4", "Err(Syntax)"),
-        (b"IF RESERVOIR R HEAD ABOVE 4", "Ok(If(ClauseLine { object: Node(Reservoir, 2), what: Head, relation: More, value: Number(Decimal { nano: 4000000000 }) }))"),
+        (
+            b"IF RESERVOIR R HEAD ABOVE 4",
+            "Ok(If(ClauseLine { object: Node(Reservoir, 2), what: Head, relation: More, value: Number(Decimal { nano: 4000000000 }) }))",
+        ),
         (b"IF NODE J HEAD = 4", "Err(Unsupported(10))"),
         (b"IF NODE J HEAD IS x", "Err(Unsupported(10))"),
         (b"IF LINK P FLOW NOT 4", "Err(Unsupported(10))"),
-        (b"IF LINK P FLOW >= -4", "Ok(If(ClauseLine { object: Link(Link, 2), what: Flow, relation: AtLeast, value: Number(Decimal { nano: -4000000000 }) }))"),
+        (
+            b"IF LINK P FLOW >= -4",
+            "Ok(If(ClauseLine { object: Link(Link, 2), what: Flow, relation: AtLeast, value: Number(Decimal { nano: -4000000000 }) }))",
+        ),
         (b"IF NODE J DEMAND > 4", "Err(Unsupported(10))"),
         (b"IF LINK P FILLTIME > 4", "Err(Unsupported(10))"),
         (b"IF SYSTEM DRAINTIME > 4", "Err(Unsupported(10))"),
@@ -368,16 +446,28 @@ fn lines_of_rules_before_then(rt: HostRuntime) -> Result<(), Fail> {
         (b"IF NODE", "Err(Syntax)"),
         (b"IF", "Err(Syntax)"),
         (b"IF TOWN T LEVEL > 1", "Err(Syntax)"),
-        (b"IF NODE IIIIIIIIIIIIIIIIIIIIIIIIIIIIIIII HEAD > 1", "Err(Limit(3))"),
+        (
+            b"IF NODE IIIIIIIIIIIIIIIIIIIIIIIIIIIIIIII HEAD > 1",
+            "Err(Limit(3))",
+        ),
         (b"IF NODE J HEAD > 1e13", "Err(Number)"),
         (b"PRIORITY 3", "Ok(Priority(Decimal { nano: 3000000000 }))"),
         (b"PRIORITY x", "Err(Number)"),
-        (b"PRIORITY -1.5", "Ok(Priority(Decimal { nano: -1500000000 }))"),
+        (
+            b"PRIORITY -1.5",
+            "Ok(Priority(Decimal { nano: -1500000000 }))",
+        ),
         (b"PRIORITY", "Err(Syntax)"),
         (b"PRIORITY 1 2", "Err(Syntax)"),
         (b"WHEN TANK T LEVEL > 1", "Err(Syntax)"),
-        (b"THEN LINK P STATUS IS OPEN", "Ok(Then(ActionLine { object: Link, link: 2, to: Open }))"),
-        (b"AND LINK P STATUS IS OPEN", "Ok(And(ClauseLine { object: Link(Link, 2), what: Status, relation: Equal, value: Open }))"),
+        (
+            b"THEN LINK P STATUS IS OPEN",
+            "Ok(Then(ActionLine { object: Link, link: 2, to: Open }))",
+        ),
+        (
+            b"AND LINK P STATUS IS OPEN",
+            "Ok(And(ClauseLine { object: Link(Link, 2), what: Status, relation: Equal, value: Open }))",
+        ),
     ];
     for (words, expected) in table {
         assert_eq!(rt; clause_or_name(alloc, words)?.as_str(), expected);
@@ -401,12 +491,27 @@ fn action(alloc: Global, words: &[u8]) -> Result<String, Fail> {
 fn lines_of_rules_after_then(rt: HostRuntime) -> Result<(), Fail> {
     let alloc = rt.alloc();
     let table: [(&[u8], &str); 19] = [
-        (b"THEN VALVE V SETTING IS 5", "Ok(Then(ActionLine { object: Valve, link: 2, to: Number(Decimal { nano: 5000000000 }) }))"),
-        (b"THEN PUMP U SETTING = 1.5", "Ok(Then(ActionLine { object: Pump, link: 2, to: Number(Decimal { nano: 1500000000 }) }))"),
-        (b"ELSE PUMP U STATUS IS OPEN", "Ok(Else(ActionLine { object: Pump, link: 2, to: Open }))"),
-        (b"AND PIPE P STATUS = CLOSED", "Ok(Further(ActionLine { object: Pipe, link: 2, to: Closed }))"),
+        (
+            b"THEN VALVE V SETTING IS 5",
+            "Ok(Then(ActionLine { object: Valve, link: 2, to: Number(Decimal { nano: 5000000000 }) }))",
+        ),
+        (
+            b"THEN PUMP U SETTING = 1.5",
+            "Ok(Then(ActionLine { object: Pump, link: 2, to: Number(Decimal { nano: 1500000000 }) }))",
+        ),
+        (
+            b"ELSE PUMP U STATUS IS OPEN",
+            "Ok(Else(ActionLine { object: Pump, link: 2, to: Open }))",
+        ),
+        (
+            b"AND PIPE P STATUS = CLOSED",
+            "Ok(Further(ActionLine { object: Pipe, link: 2, to: Closed }))",
+        ),
         (b"AND TANK T LEVEL > 1", "Err(Syntax)"),
-        (b"OR TANK T LEVEL > 1", "Ok(Or(ClauseLine { object: Node(Tank, 2), what: Level, relation: More, value: Number(Decimal { nano: 1000000000 }) }))"),
+        (
+            b"OR TANK T LEVEL > 1",
+            "Ok(Or(ClauseLine { object: Node(Tank, 2), what: Level, relation: More, value: Number(Decimal { nano: 1000000000 }) }))",
+        ),
         (b"THEN PIPE P SETTING IS 5", "Err(Syntax)"),
         (b"THEN LINK P SETTING IS 5", "Err(Syntax)"),
         (b"THEN LINK P STATUS IS 5", "Err(Syntax)"),
@@ -418,8 +523,14 @@ fn lines_of_rules_after_then(rt: HostRuntime) -> Result<(), Fail> {
         (b"THEN LINK P STATUS IS", "Err(Syntax)"),
         (b"THEN LINK P STATUS IS OPEN x", "Err(Syntax)"),
         (b"THEN LINK P", "Err(Syntax)"),
-        (b"ELSE LINK IIIIIIIIIIIIIIIIIIIIIIIIIIIIIIII STATUS IS OPEN", "Err(Limit(3))"),
-        (b"THEN VALVE V SETTING IS -2", "Ok(Then(ActionLine { object: Valve, link: 2, to: Number(Decimal { nano: -2000000000 }) }))"),
+        (
+            b"ELSE LINK IIIIIIIIIIIIIIIIIIIIIIIIIIIIIIII STATUS IS OPEN",
+            "Err(Limit(3))",
+        ),
+        (
+            b"THEN VALVE V SETTING IS -2",
+            "Ok(Then(ActionLine { object: Valve, link: 2, to: Number(Decimal { nano: -2000000000 }) }))",
+        ),
     ];
     for (words, expected) in table {
         assert_eq!(rt; action(alloc, words)?.as_str(), expected);
