@@ -2,12 +2,12 @@
 use Rattle.std.proofs.Common.{◌≡◌, ℕ, zero, suc, ℤ, List, [], ◌∷◌, length, refl, sym, subst, arith}
 use Rattle.std.proofs.lemmas.Int.{ints}
 use Rattle.std.proofs.lemmas.List.Elements.{All-nil, All-cons, All-head}
-use Rattle.hyd_spec.specs.declared.Problem.TheVariants.{Main}
-use Rattle.hyd_spec.specs.declared.Side.{Side}
-use Rattle.hyd_spec.specs.declared.Side.TheVariants.{Upper, Lower}
+use Rattle.hyd_spec_certificates.specs.declared.Problem.TheVariants.{Main}
+use Rattle.hyd_spec_certificates.specs.declared.Side.{Side}
+use Rattle.hyd_spec_certificates.specs.declared.Side.TheVariants.{Upper, Lower}
 use Rattle.hyd_spec.specs.Lists.{Each}
 use Rattle.hyd_spec.specs.Assignment.{head_at}
-use Rattle.hyd_spec.specs.Certificate.{IsInBox, IsBeyond, Passes, IsCertificate, IsTight}
+use Rattle.hyd_spec_certificates.specs.Certificate.{IsInBox, IsBeyond, Passes, IsCertificate, IsTight}
 use Rattle.hyd_cli.specs.declared.valve.SingleValve.{SingleValve}
 use Rattle.hyd_cli.specs.SingleValve.{HeadPasses, IsNearest, NonePasses}
 use Rattle.hyd_cli.proofs.FirstGrid.{valve_grid, valve_junction}

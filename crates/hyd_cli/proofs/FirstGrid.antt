@@ -6,15 +6,16 @@ use Rattle.hyd_spec.specs.Types.{Project, Junction, Capacity}
 use Rattle.hyd_spec.specs.Law.{QuadraticLaw}
 use Rattle.hyd_spec.specs.Scale.{cut}
 use Rattle.hyd_spec.specs.Quantity.{demand_of, reservoir_head}
-use Rattle.hyd_spec.specs.Enclosing.{DemandLaw, Fixed}
-use Rattle.hyd_spec.specs.Grid.{Grid, GridJunction, IsJunctionOf, IsDemandLaw, IsDriven, grid_links, tank_intervals}
+use Rattle.hyd_spec_certificates.specs.Enclosing.{DemandLaw, Fixed}
+use Rattle.hyd_spec_certificates.specs.Grid.{Grid, GridJunction, IsJunctionOf, IsDemandLaw, IsDriven, grid_links, tank_intervals}
 use Rattle.hyd_spec.specs.Outflow.{is_pressure_driven}
-use Rattle.hyd_spec.specs.Record.{initial_standing}
-use Rattle.hyd_spec.specs.Decided.{links_at}
-use Rattle.hyd_spec.specs.Valid.{IsGridAt}
-use Rattle.hyd_spec.specs.FirstForm.{IsPlain, IsFirstNetwork}
+use Rattle.hyd_spec_certificates.specs.Record.{initial_standing}
+use Rattle.hyd_spec_certificates.specs.Decided.{links_at}
+use Rattle.hyd_spec_certificates.specs.Valid.{IsGridAt}
+use Rattle.hyd_spec_input.specs.FirstForm.{IsPlain, IsFirstNetwork}
 use Rattle.hyd_cli.specs.declared.valve.SingleValve.{SingleValve}
 use Rattle.hyd_cli.specs.SingleValve.{IsValveOf}
+use Rattle.hyd_lemmas.proofs.Trials.{same_either_way}
 
 -- one junction with a fixed demand and no emitter, one reservoir, no tank, and one quadratic link from the reservoir to the
 -- junction
@@ -52,10 +53,6 @@ demand_is network junction base plain list =
     rw (list, plain.options.default_pattern, plain.options.multiplier) (plus_nothing _ ∙ cut_whole base)
 
 -- it doesn't depend on the pressure
-same_either_way : (b : Bool) → (if b then false else false) ≡ false
-same_either_way true = refl
-same_either_way false = refl
-
 undriven : (network : Project) (demand : ℤ) → network.options.pda ≡ false → is_pressure_driven network demand ≡ false
 undriven network demand e = rw e (same_either_way (int_le demand (pos 0)))
 

@@ -6,30 +6,30 @@ use Rattle.std.specs.Option.{IfSome}
 use Rattle.hyd_num.specs.Numeral.{nano_of}
 use Rattle.hyd_spec.specs.Types.{Project, Junction, Tank, Link, LinkKind, LinkState, OpenValve, Capacity, Tcv, Linear, Quadratic, Throttle}
 use Rattle.hyd_spec.specs.declared.TankState.{TankState}
-use Rattle.hyd_spec.specs.declared.Problem.TheVariants.{Main}
-use Rattle.hyd_spec.specs.declared.Side.TheVariants.{Upper, Lower}
-use Rattle.hyd_spec.specs.declared.StatusWord.TheVariants.{Active}
-use Rattle.hyd_spec.specs.Interval.{Interval}
+use Rattle.hyd_spec_certificates.specs.declared.Problem.TheVariants.{Main}
+use Rattle.hyd_spec_certificates.specs.declared.Side.TheVariants.{Upper, Lower}
+use Rattle.hyd_spec_reports.specs.declared.StatusWord.TheVariants.{Active}
+use Rattle.hyd_spec_certificates.specs.Interval.{Interval}
 use Rattle.hyd_spec.specs.Quantity.{is_us}
 use Rattle.hyd_spec.specs.Law.{QuadraticLaw}
 use Rattle.hyd_spec.specs.Start.{patterned, controlled, started}
 use Rattle.hyd_spec.specs.Rules.{state_of_link}
 use Rattle.hyd_spec.specs.Length.{Period, HasItsLength, at_end, before_end}
 use Rattle.hyd_spec.specs.History.{Begins, IsPeriod, initial_links, initial_levels, tank_states, commanded_after}
-use Rattle.hyd_spec.specs.Grid.{Grid, GridLink, GridJunction, IsGrid, IsJunctionOf}
-use Rattle.hyd_spec.specs.Boxes.{difference}
-use Rattle.hyd_spec.specs.Certificate.{IsCertificate}
-use Rattle.hyd_spec.specs.Record.{Record, Standing, initial_standing}
-use Rattle.hyd_spec.specs.Decided.{links_at, heads_below, heads_above, by_rules, by_clock}
-use Rattle.hyd_spec.specs.Valid.{IsGridAt}
-use Rattle.hyd_spec.specs.ReportLine.{ReportLine, LinkLine}
-use Rattle.hyd_spec.specs.Report.{IsReport, AreEndLines, at_end as ends_last, by_rules as ends_by_rules, by_clock as ends_by_clock, AreStateLines, IsLinkLine, IsTankLine, status_of}
-use Rattle.hyd_spec.specs.Claims.{LineHolds, StatusHolds}
-use Rattle.hyd_spec.specs.FirstForm.{IsFirstNetwork}
-use Rattle.hyd_spec.specs.Headline.{Agrees, AllAgree, EveryHistoryAgrees}
-use Rattle.hyd_laws.specs.Laws.{LevelsLie, IsSoundGrid, IsSoundLaw, IsSoundCapacity}
-use Rattle.hyd_laws.proofs.EachLaw.{IsSoundCapacity-made}
-use Rattle.hyd_laws.proofs.Comparison.{below_main, above_main}
+use Rattle.hyd_spec_certificates.specs.Grid.{Grid, GridLink, GridJunction, IsGrid, IsJunctionOf}
+use Rattle.hyd_spec_certificates.specs.Boxes.{difference}
+use Rattle.hyd_spec_certificates.specs.Certificate.{IsCertificate}
+use Rattle.hyd_spec_certificates.specs.Record.{Record, Standing, initial_standing}
+use Rattle.hyd_spec_certificates.specs.Decided.{links_at, heads_below, heads_above, by_rules, by_clock}
+use Rattle.hyd_spec_certificates.specs.Valid.{IsGridAt}
+use Rattle.hyd_spec_reports.specs.ReportLine.{ReportLine, LinkLine}
+use Rattle.hyd_spec_reports.specs.Report.{IsReport, AreEndLines, at_end as ends_last, by_rules as ends_by_rules, by_clock as ends_by_clock, AreStateLines, IsLinkLine, IsTankLine, status_of}
+use Rattle.hyd_spec_reports.specs.Claims.{LineHolds, StatusHolds}
+use Rattle.hyd_spec_input.specs.FirstForm.{IsFirstNetwork}
+use Rattle.hyd_spec_reports.specs.Headline.{Agrees, AllAgree, EveryHistoryAgrees}
+use Rattle.hyd_spec_laws.specs.Laws.{LevelsLie, IsSoundGrid, IsSoundLaw, IsSoundCapacity}
+use Rattle.hyd_spec_laws.proofs.EachLaw.{IsSoundCapacity-made}
+use Rattle.hyd_spec_laws.proofs.Comparison.{below_main, above_main}
 use Rattle.hyd_cli.specs.FirstRun.{first_row, first_found}
 use Rattle.hyd_cli.proofs.FirstReport.{reported_at_once, no_controls}
 use Rattle.hyd_cli.proofs.LinesHold.{IsCovered, flow_holds, state_lines_hold}

@@ -4,17 +4,17 @@ use Rattle.std.proofs.lemmas.Int.{ints}
 use Rattle.hyd_num.specs.Rational.{Rational}
 use Rattle.hyd_num.specs.Decimals.{head_quantity, pressure_quantity, flow_quantity}
 use Rattle.hyd_spec.specs.Types.{Project, Cmd}
-use Rattle.hyd_spec.specs.declared.StatusWord.TheVariants.{Active}
+use Rattle.hyd_spec_reports.specs.declared.StatusWord.TheVariants.{Active}
 use Rattle.hyd_spec.specs.Law.{QuadraticLaw}
-use Rattle.hyd_spec.specs.Interval.{Interval}
+use Rattle.hyd_spec_certificates.specs.Interval.{Interval}
 use Rattle.hyd_spec.specs.Quantity.{is_us}
-use Rattle.hyd_spec.specs.Enclosing.{quadratic_low, quadratic_high}
-use Rattle.hyd_spec.specs.Record.{initial_standing}
+use Rattle.hyd_spec_certificates.specs.Enclosing.{quadratic_low, quadratic_high}
+use Rattle.hyd_spec_certificates.specs.Record.{initial_standing}
 use Rattle.hyd_spec.specs.Rules.{state_of_link}
-use Rattle.hyd_spec.specs.Decided.{links_at}
-use Rattle.hyd_spec.specs.Report.{Prints, is_report_time, control_lines, status_of, LineEach, IsJunctionLine, IsReservoirLine, IsTankLine, IsLinkLine, AreStateLines, at_end, IsReport}
-use Rattle.hyd_spec.specs.ReportLine.{ReportLine, TimeLine, JunctionLine, ReservoirLine, LinkLine}
-use Rattle.hyd_spec.specs.FirstForm.{IsPlain, IsFirstNetwork}
+use Rattle.hyd_spec_certificates.specs.Decided.{links_at}
+use Rattle.hyd_spec_reports.specs.Report.{Prints, is_report_time, control_lines, status_of, LineEach, IsJunctionLine, IsReservoirLine, IsTankLine, IsLinkLine, AreStateLines, at_end, IsReport}
+use Rattle.hyd_spec_reports.specs.ReportLine.{ReportLine, TimeLine, JunctionLine, ReservoirLine, LinkLine}
+use Rattle.hyd_spec_input.specs.FirstForm.{IsPlain, IsFirstNetwork}
 use Rattle.hyd_cli.specs.declared.valve.SingleValve.{SingleValve}
 use Rattle.hyd_cli.specs.FirstRun.{first_row}
 use Rattle.hyd_cli.proofs.FirstGrid.{valve_grid, valve_junction}

@@ -5,22 +5,22 @@ use Rattle.std.proofs.lemmas.List.Elements.{All-nil, All-cons}
 use Rattle.hyd_num.specs.Numeral.{nano_of}
 use Rattle.hyd_num.specs.Quantity.{flow_ticks}
 use Rattle.hyd_spec.specs.Types.{Project, Junction, Cmd}
-use Rattle.hyd_spec.specs.declared.Problem.{Problem}
-use Rattle.hyd_spec.specs.declared.Problem.TheVariants.{Main, Pinned}
-use Rattle.hyd_spec.specs.declared.Side.{Side}
-use Rattle.hyd_spec.specs.declared.Side.TheVariants.{Upper, Lower}
+use Rattle.hyd_spec_certificates.specs.declared.Problem.{Problem}
+use Rattle.hyd_spec_certificates.specs.declared.Problem.TheVariants.{Main, Pinned}
+use Rattle.hyd_spec_certificates.specs.declared.Side.{Side}
+use Rattle.hyd_spec_certificates.specs.declared.Side.TheVariants.{Upper, Lower}
 use Rattle.hyd_spec.specs.Network.{junction_count, tank_count}
 use Rattle.hyd_spec.specs.Quantity.{demand_of}
-use Rattle.hyd_spec.specs.Grid.{Grid}
-use Rattle.hyd_spec.specs.Certificate.{IsCertificate, IsTight}
-use Rattle.hyd_spec.specs.CertificateText.{IsVector, IsRow, certificate_text}
-use Rattle.hyd_spec.specs.Record.{Record, Vectors, initial_standing, vector_of}
-use Rattle.hyd_spec.specs.Valid.{IsProblem, IsGridAt, DemandsAreInRange, demand_limit, finishes}
-use Rattle.hyd_spec.specs.Stops.{HasNoCertificate, NoCertificate}
-use Rattle.hyd_spec.specs.ReportLine.{ReportLine, report_text, done_line, stop_line}
-use Rattle.hyd_spec.specs.Report.{IsReport}
-use Rattle.hyd_spec.specs.FirstForm.{IsFirstNetwork}
-use Rattle.hyd_spec.specs.Headline.{IsFound, IsRun, none, more, Sharpness, IsTightThroughout, IsSharpFound, Finished, Stopped, RunWrites}
+use Rattle.hyd_spec_certificates.specs.Grid.{Grid}
+use Rattle.hyd_spec_certificates.specs.Certificate.{IsCertificate, IsTight}
+use Rattle.hyd_spec_reports.specs.CertificateText.{IsVector, IsRow, certificate_text}
+use Rattle.hyd_spec_certificates.specs.Record.{Record, Vectors, initial_standing, vector_of}
+use Rattle.hyd_spec_certificates.specs.Valid.{IsProblem, IsGridAt, DemandsAreInRange, demand_limit, finishes}
+use Rattle.hyd_spec_reports.specs.Stops.{HasNoCertificate, NoCertificate}
+use Rattle.hyd_spec_reports.specs.ReportLine.{ReportLine, report_text, done_line, stop_line}
+use Rattle.hyd_spec_reports.specs.Report.{IsReport}
+use Rattle.hyd_spec_input.specs.FirstForm.{IsFirstNetwork}
+use Rattle.hyd_spec_reports.specs.Headline.{IsFound, IsRun, none, more, Sharpness, IsTightThroughout, IsSharpFound, Finished, Stopped, RunWrites}
 use Rattle.hyd_cli.specs.FirstRun.{first_row, first_found, last_standing}
 use Rattle.hyd_cli.specs.Solution.{IsTightHead}
 use Rattle.hyd_cli.proofs.FirstGrid.{demand_is, has_grid}

@@ -3,16 +3,16 @@
 use Rattle.std.proofs.Common.{◌≤◌, ℤ, List, [], ◌∷◌, All, unsigned_abs, sym, subst, arith}
 use Rattle.std.proofs.lemmas.List.Elements.{All-nil, All-cons}
 use Rattle.hyd_spec.specs.Types.{Project, Junction}
-use Rattle.hyd_spec.specs.declared.Problem.TheVariants.{Main, Pinned}
-use Rattle.hyd_spec.specs.declared.Side.{Side}
-use Rattle.hyd_spec.specs.declared.Side.TheVariants.{Upper, Lower}
+use Rattle.hyd_spec_certificates.specs.declared.Problem.TheVariants.{Main, Pinned}
+use Rattle.hyd_spec_certificates.specs.declared.Side.{Side}
+use Rattle.hyd_spec_certificates.specs.declared.Side.TheVariants.{Upper, Lower}
 use Rattle.hyd_spec.specs.Quantity.{demand_of}
-use Rattle.hyd_spec.specs.Grid.{Grid}
-use Rattle.hyd_spec.specs.Certificate.{IsCertificate, IsTight}
-use Rattle.hyd_spec.specs.Record.{initial_standing}
-use Rattle.hyd_spec.specs.Valid.{IsGridAt, DemandsAreInRange, demand_limit}
-use Rattle.hyd_spec.specs.Stops.{HasNoCertificate, EarlierHaveCertificates}
-use Rattle.hyd_spec.specs.FirstForm.{IsFirstNetwork}
+use Rattle.hyd_spec_certificates.specs.Grid.{Grid}
+use Rattle.hyd_spec_certificates.specs.Certificate.{IsCertificate, IsTight}
+use Rattle.hyd_spec_certificates.specs.Record.{initial_standing}
+use Rattle.hyd_spec_certificates.specs.Valid.{IsGridAt, DemandsAreInRange, demand_limit}
+use Rattle.hyd_spec_reports.specs.Stops.{HasNoCertificate, EarlierHaveCertificates}
+use Rattle.hyd_spec_input.specs.FirstForm.{IsFirstNetwork}
 use Rattle.hyd_cli.specs.declared.valve.SingleValve.{SingleValve}
 use Rattle.hyd_cli.specs.SingleValve.{IsValveOf, IsNearest, NonePasses}
 use Rattle.hyd_cli.specs.Solution.{IsTightHead}

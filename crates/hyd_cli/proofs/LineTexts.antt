@@ -4,10 +4,10 @@ use Rattle.std.proofs.lemmas.Int.{ints}
 use Rattle.hyd_num.specs.Rational.{Rational}
 use Rattle.hyd_num.specs.Decimals.{head_quantity, pressure_quantity, flow_quantity, IsRoundedDown, IsRoundedUp}
 use Rattle.hyd_spec.specs.Types.{Cmd}
-use Rattle.hyd_spec.specs.Interval.{Interval}
-use Rattle.hyd_spec.specs.Report.{Prints}
+use Rattle.hyd_spec_certificates.specs.Interval.{Interval}
+use Rattle.hyd_spec_reports.specs.Report.{Prints}
 use Rattle.hyd_spec.specs.Lists.{joined}
-use Rattle.hyd_spec.specs.CertificateText.{line}
+use Rattle.hyd_spec_reports.specs.CertificateText.{line}
 use Rattle.hyd_num.specs.Decimals.{decimal_text}
 use Rattle.hyd_cli.specs.Lines.{AppendsJunction, AppendsReservoir, AppendsValve}
 use Rattle.hyd_cli.specs.Printing.{AreEnds}

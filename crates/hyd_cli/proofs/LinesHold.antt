@@ -7,24 +7,24 @@ use Rattle.std.proofs.lemmas.Option.{slice_get-get_or, slice_get_within}
 use Rattle.hyd_num.proofs.Integers.{times_minus}
 use Rattle.hyd_num.specs.Decimals.{head_quantity, pressure_quantity, flow_quantity}
 use Rattle.hyd_spec.specs.Types.{Project, Reservoir, Tank, Link, LinkState}
-use Rattle.hyd_spec.specs.declared.Problem.TheVariants.{Main}
-use Rattle.hyd_spec.specs.declared.Side.TheVariants.{Upper, Lower}
-use Rattle.hyd_spec.specs.Interval.{Interval, exactly}
+use Rattle.hyd_spec_certificates.specs.declared.Problem.TheVariants.{Main}
+use Rattle.hyd_spec_certificates.specs.declared.Side.TheVariants.{Upper, Lower}
+use Rattle.hyd_spec_certificates.specs.Interval.{Interval, exactly}
 use Rattle.hyd_spec.specs.Scale.{at_scale}
 use Rattle.hyd_spec.specs.Quantity.{is_us, reservoir_head}
 use Rattle.hyd_spec.specs.Assignment.{head_at, flow_at}
 use Rattle.hyd_spec.specs.Length.{Period}
-use Rattle.hyd_spec.specs.Grid.{Grid, GridLink, GridJunction, IsJunctionOf}
-use Rattle.hyd_spec.specs.Boxes.{flow_box, out_box}
-use Rattle.hyd_spec.specs.Certificate.{IsCertificate}
-use Rattle.hyd_spec.specs.Record.{Record, Standing}
-use Rattle.hyd_spec.specs.Decided.{heads_below, heads_above, flow_boxes}
-use Rattle.hyd_spec.specs.ReportLine.{ReportLine}
-use Rattle.hyd_spec.specs.Report.{Prints, LineEach, IsJunctionLine, IsReservoirLine, IsTankLine, IsLinkLine, AreStateLines}
-use Rattle.hyd_spec.specs.Claims.{LineHolds, FlowLies}
-use Rattle.hyd_laws.specs.Laws.{LiesIn, IsCompared}
-use Rattle.hyd_laws.proofs.Comparison.{below_main, above_main, place_at}
-use Rattle.hyd_laws.proofs.Boxed.{heads_between, flow_lies, outflow_lies}
+use Rattle.hyd_spec_certificates.specs.Grid.{Grid, GridLink, GridJunction, IsJunctionOf}
+use Rattle.hyd_spec_certificates.specs.Boxes.{flow_box, out_box}
+use Rattle.hyd_spec_certificates.specs.Certificate.{IsCertificate}
+use Rattle.hyd_spec_certificates.specs.Record.{Record, Standing}
+use Rattle.hyd_spec_certificates.specs.Decided.{heads_below, heads_above, flow_boxes}
+use Rattle.hyd_spec_reports.specs.ReportLine.{ReportLine}
+use Rattle.hyd_spec_reports.specs.Report.{Prints, LineEach, IsJunctionLine, IsReservoirLine, IsTankLine, IsLinkLine, AreStateLines}
+use Rattle.hyd_spec_reports.specs.Claims.{LineHolds, FlowLies}
+use Rattle.hyd_spec_laws.specs.Laws.{LiesIn, IsCompared}
+use Rattle.hyd_spec_laws.proofs.Comparison.{below_main, above_main, place_at}
+use Rattle.hyd_spec_laws.proofs.Boxed.{heads_between, flow_lies, outflow_lies}
 use Rattle.hyd_cli.proofs.PrintedValues.{prints_hold, head_proportional, pressure_proportional, flow_proportional}
 
 -- ---- lists

@@ -1,14 +1,14 @@
 -- The two runs of a network of the first form, as their texts give them.
 use Rattle.std.proofs.Common.{◌≡◌, ℕ, ℤ, pos, List, refl, lit<}
 use Rattle.hyd_spec.specs.Types.{Project}
-use Rattle.hyd_spec.specs.declared.Problem.TheVariants.{Main}
-use Rattle.hyd_spec.specs.declared.Side.{Side}
-use Rattle.hyd_spec.specs.declared.Side.TheVariants.{Upper, Lower}
-use Rattle.hyd_spec.specs.Certificate.{IsInBox}
-use Rattle.hyd_spec.specs.Record.{initial_standing}
-use Rattle.hyd_spec.specs.Stops.{HasNoCertificate, NoCertificate}
-use Rattle.hyd_spec.specs.Headline.{Finished, Stopped}
-use Rattle.hyd_spec.specs.FirstForm.{IsFirstNetwork}
+use Rattle.hyd_spec_certificates.specs.declared.Problem.TheVariants.{Main}
+use Rattle.hyd_spec_certificates.specs.declared.Side.{Side}
+use Rattle.hyd_spec_certificates.specs.declared.Side.TheVariants.{Upper, Lower}
+use Rattle.hyd_spec_certificates.specs.Certificate.{IsInBox}
+use Rattle.hyd_spec_certificates.specs.Record.{initial_standing}
+use Rattle.hyd_spec_reports.specs.Stops.{HasNoCertificate, NoCertificate}
+use Rattle.hyd_spec_reports.specs.Headline.{Finished, Stopped}
+use Rattle.hyd_spec_input.specs.FirstForm.{IsFirstNetwork}
 use Rattle.hyd_cli.specs.declared.status.Status.TheVariants.{Done, Undecided}
 use Rattle.hyd_cli.specs.Run.{IsRunOf}
 use Rattle.hyd_cli.specs.Solution.{IsTightHead}

@@ -10,7 +10,7 @@ use Rattle.hyd_num.specs.Quantity.{head_ticks, flow_ticks}
 use Rattle.hyd_num.specs.Chain.{IsMade}
 use Rattle.hyd_num.specs.declared.capacities.Origin.{Origin}
 use Rattle.hyd_spec.specs.Types.{Project, Junction, Reservoir, Tank, Link, LinkKind, LinkState, Capacity, Valve, Tcv, Linear, Quadratic, Throttle, Pattern, Control, Rule, Demand, Decimal, Cmd}
-use Rattle.hyd_spec.specs.FirstForm.{IsId, IsFirstNetwork, IsPlain}
+use Rattle.hyd_spec_input.specs.FirstForm.{IsId, IsFirstNetwork, IsPlain}
 use Rattle.hyd_net.specs.Ids.{AreDistinct, IsId as IsShortId}
 use Rattle.hyd_net.specs.Ranges.{Lies, IsHead, IsFlow}
 use Rattle.hyd_net.specs.States.{CanHave}
@@ -75,6 +75,10 @@ within_limits network first =
       links = rw parts.links (lit≤ tt);
       patterns = rw plain.no_patterns (lit≤ tt);
       multipliers = rw plain.no_patterns (lit≤ tt);
+      shapes = rw plain.no_shapes (lit≤ tt);
+      shape_points = rw plain.no_shapes (lit≤ tt);
+      bends = rw plain.no_bends (lit≤ tt);
+      bend_points = rw plain.no_bends (lit≤ tt);
       demands = rw (parts.junctions, parts.junction_is.demand_is) (lit≤ tt);
       controls = rw plain.no_controls (lit≤ tt);
       rules = rw plain.no_rules (lit≤ tt);
@@ -160,9 +164,9 @@ has_quantities network first =
       junctions = all_one Junction (IsJunction network.options.unit network.patterns.list) network.junctions.list parts.junction parts.junctions (has_junction network first);
       reservoirs = all_one Reservoir (IsReservoir network.patterns.list) network.reservoirs.list (record { head = head_ticks false (nano_of first.chosen.head); pattern = None })
           parts.reservoirs (has_reservoir network first);
-      tanks = all_none Tank IsTank network.tanks.list parts.plain.no_tanks;
-      links = all_one Link (λ (l : Link). HasSizes network.options.unit network.patterns.list l.kind) network.links.list parts.link parts.links
-          (subst (HasSizes network.options.unit network.patterns.list) (sym parts.link_is.kind) tt);
+      tanks = all_none Tank (IsTank network.shapes.list) network.tanks.list parts.plain.no_tanks;
+      links = all_one Link (λ (l : Link). HasSizes network.options.unit network.patterns.list network.bends.list l.kind) network.links.list parts.link parts.links
+          (subst (HasSizes network.options.unit network.patterns.list network.bends.list) (sym parts.link_is.kind) tt);
     }
 
 has_times : (network : Project) → IsPlain network → AreTimes network.times

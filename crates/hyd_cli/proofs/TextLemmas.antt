@@ -4,25 +4,25 @@ use Rattle.std.specs.Fmt.{decimal, signed_decimal, digits}
 use Rattle.std.proofs.Common.{true, pos, ◌-ℤ◌, ◌+ℤ◌, Some, map, subst}
 use Rattle.std.specs.Prelude.{slice_get}
 use Rattle.std.specs.List.{AllZip}
-use Rattle.hyd_spec.specs.Enclosing.{quadratic_low, quadratic_high}
-use Rattle.hyd_spec.specs.Grid.{Grid, IsJunctionOf}
-use Rattle.hyd_spec.specs.Record.{initial_standing}
-use Rattle.hyd_spec.specs.Valid.{IsGridAt}
-use Rattle.hyd_spec.specs.Report.{IsReport}
-use Rattle.hyd_spec.specs.FirstForm.{IsFirstNetwork}
+use Rattle.hyd_spec_certificates.specs.Enclosing.{quadratic_low, quadratic_high}
+use Rattle.hyd_spec_certificates.specs.Grid.{Grid, IsJunctionOf}
+use Rattle.hyd_spec_certificates.specs.Record.{initial_standing}
+use Rattle.hyd_spec_certificates.specs.Valid.{IsGridAt}
+use Rattle.hyd_spec_reports.specs.Report.{IsReport}
+use Rattle.hyd_spec_input.specs.FirstForm.{IsFirstNetwork}
 use Rattle.hyd_cli.specs.declared.valve.SingleValve.{SingleValve}
 use Rattle.hyd_cli.specs.SingleValve.{IsValveOf}
 use Rattle.hyd_cli.proofs.FirstGrid.{valve_grid, valve_junction, grid_is}
 use Rattle.hyd_cli.proofs.FirstReport.{Printed, first_lines, report_is}
 use Rattle.hyd_spec.specs.Types.{Project}
-use Rattle.hyd_spec.specs.declared.Side.{Side}
-use Rattle.hyd_spec.specs.Interval.{Interval}
+use Rattle.hyd_spec_certificates.specs.declared.Side.{Side}
+use Rattle.hyd_spec_certificates.specs.Interval.{Interval}
 use Rattle.hyd_spec.specs.Lists.{joined}
-use Rattle.hyd_spec.specs.CertificateText.{line, header_line, period_line, end_line}
+use Rattle.hyd_spec_reports.specs.CertificateText.{line, header_line, period_line, end_line}
 use Rattle.hyd_cli.specs.FirstRun.{first_row}
-use Rattle.hyd_spec.specs.ReportLine.{node_id, side_word, clock_text, line_text, report_text, done_line}
-use Rattle.hyd_spec.specs.declared.StatusWord.TheVariants.{Active}
-use Rattle.hyd_spec.specs.ReportLine.{TimeLine, JunctionLine, ReservoirLine, LinkLine, reservoir_id, link_id, junction_words, reservoir_words, link_words}
+use Rattle.hyd_spec_reports.specs.ReportLine.{node_id, side_word, clock_text, line_text, report_text, done_line}
+use Rattle.hyd_spec_reports.specs.declared.StatusWord.TheVariants.{Active}
+use Rattle.hyd_spec_reports.specs.ReportLine.{TimeLine, JunctionLine, ReservoirLine, LinkLine, reservoir_id, link_id, junction_words, reservoir_words, link_words}
 use Rattle.hyd_cli.specs.Texts.{finished_certificate, stopped_certificate, stopped_report, IsFinishedReport}
 use Rattle.hyd_cli.specs.Lines.{AppendsJunction, AppendsReservoir, AppendsValve}
 

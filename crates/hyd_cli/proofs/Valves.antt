@@ -10,10 +10,10 @@ use Rattle.hyd_num.specs.Quantity.{billionths}
 use Rattle.hyd_num.specs.Chain.{IsValvePair}
 use Rattle.hyd_spec.specs.Types.{Valve}
 use Rattle.hyd_spec.specs.Loss.{ValveLossAtMost, ValveLossAtLeast}
-use Rattle.hyd_resist.specs.Refusal.{IsRefused}
-use Rattle.hyd_resist.proofs.Enclosing.{denominator_above}
-use Rattle.hyd_resist.proofs.FeetLost.{valve-at_most, valve-at_least}
-use Rattle.hyd_resist.proofs.Sharpness.{pair-sharp}
+use Rattle.hyd_num.specs.Refusal.{IsRefused}
+use Rattle.hyd_lemmas.proofs.Enclosing.{denominator_above}
+use Rattle.hyd_lemmas.proofs.FeetLost.{valve-at_most, valve-at_least}
+use Rattle.hyd_lemmas.proofs.Sharpness.{pair-sharp}
 
 up_at_least : (z : ℤ) (n : ℕ) → pos n ≤ℤ z → n ≤ up z
 up_at_least (pos m) n h = omega (arith, ints)

@@ -1,10 +1,10 @@
 -- The run of a network of the first form: its one record, and what is known of its one period.
 use Rattle.std.specs.Prelude.{ℤ, true, List, [], ◌∷◌}
 use Rattle.hyd_spec.specs.Types.{Project}
-use Rattle.hyd_spec.specs.Grid.{Grid}
-use Rattle.hyd_spec.specs.Record.{Record, Standing, initial_standing}
-use Rattle.hyd_spec.specs.ReportLine.{ReportLine}
-use Rattle.hyd_spec.specs.Headline.{Found}
+use Rattle.hyd_spec_certificates.specs.Grid.{Grid}
+use Rattle.hyd_spec_certificates.specs.Record.{Record, Standing, initial_standing}
+use Rattle.hyd_spec_reports.specs.ReportLine.{ReportLine}
+use Rattle.hyd_spec_reports.specs.Headline.{Found}
 
 -- the record of the period at time 0, which is the last one, with these heads of its junction
 abbrev pub first_row : ℤ → ℤ → Record

@@ -2,11 +2,11 @@
 use Rattle.std.specs.Prelude.{◌≡◌, ℤ, pos, false, ◌+ℤ◌, ◌-ℤ◌, ℕ, List, ◌++◌}
 use Rattle.hyd_num.specs.Decimals.{head_quantity, pressure_quantity, flow_quantity}
 use Rattle.hyd_spec.specs.Types.{Cmd}
-use Rattle.hyd_spec.specs.declared.StatusWord.TheVariants.{Active}
-use Rattle.hyd_spec.specs.Interval.{Interval}
-use Rattle.hyd_spec.specs.CertificateText.{line}
-use Rattle.hyd_spec.specs.ReportLine.{junction_words, reservoir_words, link_words}
-use Rattle.hyd_spec.specs.Report.{Prints}
+use Rattle.hyd_spec_reports.specs.declared.StatusWord.TheVariants.{Active}
+use Rattle.hyd_spec_certificates.specs.Interval.{Interval}
+use Rattle.hyd_spec_reports.specs.CertificateText.{line}
+use Rattle.hyd_spec_reports.specs.ReportLine.{junction_words, reservoir_words, link_words}
+use Rattle.hyd_spec_reports.specs.Report.{Prints}
 
 -- A junction's line was appended: its head interval, its pressures and its outflows (head ticks, flow ticks).
 pub record AppendsJunction (old new id : List ℕ) (lower upper elevation demand : ℤ) : Type 0 where

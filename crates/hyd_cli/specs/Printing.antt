@@ -3,8 +3,8 @@ use Rattle.std.specs.Prelude.{◌≡◌, ℤ, false, take}
 use Rattle.hyd_num.specs.Rational.{Rational}
 use Rattle.hyd_num.specs.Decimals.{head_quantity, pressure_quantity, flow_quantity, decimal_text}
 use Rattle.hyd_spec.specs.Types.{Cmd}
-use Rattle.hyd_spec.specs.Interval.{Interval}
-use Rattle.hyd_spec.specs.Report.{Prints}
+use Rattle.hyd_spec_certificates.specs.Interval.{Interval}
+use Rattle.hyd_spec_reports.specs.Report.{Prints}
 use Rattle.hyd_cli.specs.declared.printed.Quantity.{Quantity}
 use Rattle.hyd_cli.specs.declared.printed.Quantity.TheVariants.{Head, Pressure, Flow}
 use Rattle.hyd_cli.specs.declared.printed.Ends.{Ends}

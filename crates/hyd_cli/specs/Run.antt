@@ -1,7 +1,7 @@
 -- What a run of a network writes and prints.
 use Rattle.std.specs.Prelude.{◌≡◌, ℕ, List, pos, ◌^◌, true}
 use Rattle.hyd_spec.specs.Types.{Project}
-use Rattle.hyd_spec.specs.Headline.{Outcome, Sharpness, RunWrites, outcome_number}
+use Rattle.hyd_spec_reports.specs.Headline.{Outcome, Sharpness, RunWrites, outcome_number}
 use Rattle.hyd_cli.specs.Statuses.{number_of}
 use Rattle.hyd_cli.specs.declared.status.Status.{Status}
 

@@ -2,10 +2,10 @@
 -- these is the nearest to the end of the box from which it is sought.
 use Rattle.std.specs.Prelude.{◌≡◌, ℕ, ◌+◌, ◌*◌, ℤ, pos, neg_ℤ, ◌+ℤ◌, ◌-ℤ◌, ◌≤ℤ◌, [], ◌∷◌, map}
 use Rattle.hyd_spec.specs.Types.{Project, Throttle, Quadratic}
-use Rattle.hyd_spec.specs.declared.Side.{Side}
-use Rattle.hyd_spec.specs.declared.Side.TheVariants.{Upper, Lower}
-use Rattle.hyd_spec.specs.Enclosing.{quadratic_low, quadratic_high}
-use Rattle.hyd_spec.specs.Certificate.{box_limit, IsInBox, IsBeyond}
+use Rattle.hyd_spec_certificates.specs.declared.Side.{Side}
+use Rattle.hyd_spec_certificates.specs.declared.Side.TheVariants.{Upper, Lower}
+use Rattle.hyd_spec_certificates.specs.Enclosing.{quadratic_low, quadratic_high}
+use Rattle.hyd_spec_certificates.specs.Certificate.{box_limit, IsInBox, IsBeyond}
 use Rattle.hyd_cli.specs.declared.valve.SingleValve.{SingleValve}
 
 -- The parts of the network, read off.
@@ -15,22 +15,22 @@ pub record IsValveOf (network : Project) (valve : SingleValve) : Type 0 where
   pub setting : ℤ
   pub capacity : map (λ link. link.start) network.links.list ≡ Throttle setting (Quadratic valve.capacity) ∷ []
 
--- At most the surplus of the junction at a head (flow ticks): its demand, less what the valve brings to it.
-abbrev pub surplus_low : SingleValve → ℤ → ℤ
-surplus_low valve h = valve.demand -ℤ quadratic_high valve.capacity (valve.head -ℤ h)
+-- At most the net outflow of the junction at a head (flow ticks): its demand, less what the valve brings to it.
+abbrev pub net_outflow_low : SingleValve → ℤ → ℤ
+net_outflow_low valve h = valve.demand -ℤ quadratic_high valve.capacity (valve.head -ℤ h)
 
 -- At least it.
-abbrev pub surplus_high : SingleValve → ℤ → ℤ
-surplus_high valve h = valve.demand -ℤ quadratic_low valve.capacity (valve.head -ℤ h)
+abbrev pub net_outflow_high : SingleValve → ℤ → ℤ
+net_outflow_high valve h = valve.demand -ℤ quadratic_low valve.capacity (valve.head -ℤ h)
 
--- What a surplus, or a deficit, has to exceed: what one link, the demand, the emitter and the balance may miss.
+-- What a net outflow, or inflow, has to exceed: what one link, the demand, the emitter and the balance may miss.
 abbrev pub margin : ℕ
 margin = (1 + 3) * 10
 
--- The head is a certificate of a side: its surplus, or its deficit, is above the margin.
+-- The head is a certificate of a side: its net outflow, or net inflow, is above the margin.
 abbrev pub HeadPasses : SingleValve → Side → ℤ → Type 0
-HeadPasses valve Upper h = pos (margin + 1) ≤ℤ surplus_low valve h
-HeadPasses valve Lower h = surplus_high valve h ≤ℤ neg_ℤ (pos (margin + 1))
+HeadPasses valve Upper h = pos (margin + 1) ≤ℤ net_outflow_low valve h
+HeadPasses valve Lower h = net_outflow_high valve h ≤ℤ neg_ℤ (pos (margin + 1))
 
 -- So many head ticks from where the heads of a side begin: up from the floor of the box, or down from its ceiling.
 abbrev pub head_after : Side → ℕ → ℤ

@@ -1,14 +1,14 @@
 -- What the heads that were found are: the tight vectors of the network at the start of its run, or none on a side.
 use Rattle.std.specs.Prelude.{ℤ, [], ◌∷◌, ⊤}
 use Rattle.hyd_spec.specs.Types.{Project}
-use Rattle.hyd_spec.specs.declared.Problem.TheVariants.{Main}
-use Rattle.hyd_spec.specs.declared.Side.{Side}
-use Rattle.hyd_spec.specs.declared.Side.TheVariants.{Upper, Lower}
-use Rattle.hyd_spec.specs.Grid.{Grid}
-use Rattle.hyd_spec.specs.Certificate.{IsTight}
-use Rattle.hyd_spec.specs.Record.{initial_standing}
-use Rattle.hyd_spec.specs.Valid.{IsGridAt}
-use Rattle.hyd_spec.specs.Stops.{HasNoCertificate}
+use Rattle.hyd_spec_certificates.specs.declared.Problem.TheVariants.{Main}
+use Rattle.hyd_spec_certificates.specs.declared.Side.{Side}
+use Rattle.hyd_spec_certificates.specs.declared.Side.TheVariants.{Upper, Lower}
+use Rattle.hyd_spec_certificates.specs.Grid.{Grid}
+use Rattle.hyd_spec_certificates.specs.Certificate.{IsTight}
+use Rattle.hyd_spec_certificates.specs.Record.{initial_standing}
+use Rattle.hyd_spec_certificates.specs.Valid.{IsGridAt}
+use Rattle.hyd_spec_reports.specs.Stops.{HasNoCertificate}
 use Rattle.hyd_cli.specs.declared.solve.Solution.{Solution}
 use Rattle.hyd_cli.specs.declared.solve.Solution.TheVariants.{Heads, NoCertificate}
 

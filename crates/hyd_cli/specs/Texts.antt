@@ -1,15 +1,15 @@
 -- The certificate and the report of a first run.
 use Rattle.std.specs.Prelude.{◌≡◌, ℕ, ℤ, true, false, List, [], ◌∷◌}
 use Rattle.hyd_spec.specs.Types.{Project}
-use Rattle.hyd_spec.specs.declared.Problem.TheVariants.{Main}
-use Rattle.hyd_spec.specs.declared.Side.{Side}
-use Rattle.hyd_spec.specs.Grid.{Grid}
-use Rattle.hyd_spec.specs.Record.{initial_standing}
-use Rattle.hyd_spec.specs.Valid.{IsGridAt}
-use Rattle.hyd_spec.specs.CertificateText.{certificate_text}
-use Rattle.hyd_spec.specs.Stops.{NoCertificate}
-use Rattle.hyd_spec.specs.Report.{IsReport}
-use Rattle.hyd_spec.specs.ReportLine.{ReportLine, report_text, done_line, stop_line}
+use Rattle.hyd_spec_certificates.specs.declared.Problem.TheVariants.{Main}
+use Rattle.hyd_spec_certificates.specs.declared.Side.{Side}
+use Rattle.hyd_spec_certificates.specs.Grid.{Grid}
+use Rattle.hyd_spec_certificates.specs.Record.{initial_standing}
+use Rattle.hyd_spec_certificates.specs.Valid.{IsGridAt}
+use Rattle.hyd_spec_reports.specs.CertificateText.{certificate_text}
+use Rattle.hyd_spec_reports.specs.Stops.{NoCertificate}
+use Rattle.hyd_spec_reports.specs.Report.{IsReport}
+use Rattle.hyd_spec_reports.specs.ReportLine.{ReportLine, report_text, done_line, stop_line}
 use Rattle.hyd_cli.specs.FirstRun.{first_row}
 
 -- the certificate of the run that found these heads

@@ -3,7 +3,7 @@
 ghost use Rattle.std.specs.Prelude.{◌≡◌, ◌≢◌, ◌⊎◌, ◌<◌, ℕ, List, Option, Some, None, IsTrue, IfOk, IfErr, IfSome, IfNone, OnOk, OnErr, length, map, string_bytes};
 ghost use Rattle.hyd_io.specs.Told.{IsTold, file_at};
 ghost use Rattle.hyd_spec.specs.Types.{Project};
-ghost use Rattle.hyd_spec.specs.FirstForm.{IsFirstNetwork, Words, HasForm, HasNoForm};
+ghost use Rattle.hyd_spec_input.specs.FirstForm.{IsFirstNetwork, Words, HasForm, HasNoForm};
 ghost use Rattle.hyd_cli.specs.Command.{Names, command};
 ghost use Rattle.hyd_cli.specs.Statuses.{IsEnd};
 ghost use Rattle.hyd_cli.specs.Answers.{seen, status_of, IsUntouched, ChangesOnly, HasCause, Leaves, AnswersUsage, AnswersRefused, AnswersNetwork, AnswersRun};

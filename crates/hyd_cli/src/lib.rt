@@ -20,6 +20,3 @@ mod words;
 pub use command::tool;
 pub use solve::Solution;
 pub use status::Status;
-
-#[cfg(test)]
-mod tests;

@@ -5,7 +5,7 @@ ghost use Rattle.std.specs.Prelude.{◌≡◌, ◌≢◌, ◌≤◌, ◌*◌, �
 ghost use Rattle.hyd_num.specs.Quantity as quantity;
 ghost use Rattle.hyd_num.specs.declared.units.FlowUnit.TheVariants.{Cmd};
 ghost use Rattle.hyd_spec.specs.Types.{Throttle, Quadratic};
-ghost use Rattle.hyd_spec.specs.FirstForm.{IsPlain, IsJunction, IsValve};
+ghost use Rattle.hyd_spec_input.specs.FirstForm.{IsPlain, IsJunction, IsValve};
 ghost use Rattle.hyd_cli.specs.Network.{IsOnly};
 
 use hyd_net::{
@@ -175,6 +175,8 @@ pub(crate) fn plain(
         tanks: List::new(alloc),
         links,
         patterns: List::new(alloc),
+        shapes: List::new(alloc),
+        bends: List::new(alloc),
         controls: List::new(alloc),
         rules: List::new(alloc),
     }

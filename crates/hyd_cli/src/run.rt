@@ -1,11 +1,11 @@
 //! What a run writes and prints.
 
 ghost use Rattle.std.specs.Prelude.{IfOk};
-ghost use Rattle.hyd_spec.specs.FirstForm.{IsFirstNetwork};
-ghost use Rattle.hyd_spec.specs.declared.Problem.TheVariants.{Main};
-ghost use Rattle.hyd_spec.specs.declared.Side.TheVariants.{Upper, Lower};
-ghost use Rattle.hyd_spec.specs.Record.{initial_standing};
-ghost use Rattle.hyd_spec.specs.Stops.{HasNoCertificate};
+ghost use Rattle.hyd_spec_input.specs.FirstForm.{IsFirstNetwork};
+ghost use Rattle.hyd_spec_certificates.specs.declared.Problem.TheVariants.{Main};
+ghost use Rattle.hyd_spec_certificates.specs.declared.Side.TheVariants.{Upper, Lower};
+ghost use Rattle.hyd_spec_certificates.specs.Record.{initial_standing};
+ghost use Rattle.hyd_spec_reports.specs.Stops.{HasNoCertificate};
 ghost use Rattle.hyd_cli.specs.Solution.{IsTightHead};
 ghost use Rattle.hyd_cli.specs.Run.{IsRunOf};
 
@@ -13,7 +13,7 @@ use crate::solve::{Solution, single_valve, solve};
 use crate::status::Status;
 use crate::texts::{certificate_of_heads, empty_certificate, report_of_heads, report_of_stop};
 use hyd_net::{OutOfMemory, Project};
-use hyd_spec::Side;
+use hyd_spec_certificates::Side;
 use std::alloc::Global;
 
 /// What a run writes and prints, and its status.

@@ -2,16 +2,16 @@
 #![tactic(auto)]
 
 ghost use Rattle.std.specs.Prelude.{◌≡◌, ℕ, ℤ, ◌+◌, ◌*◌, ◌^◌, ◌<◌, ◌≤◌, ◌↔◌, ◌≤ℤ◌, pos, neg_ℤ, [], ◌∷◌, map, unsigned_abs, IsTrue, MatchOption};
-ghost use Rattle.hyd_spec.specs.Certificate.{IsInBox};
-ghost use Rattle.hyd_spec.specs.FirstForm.{IsFirstNetwork};
-ghost use Rattle.hyd_cli.specs.SingleValve.{IsValveOf, surplus_low, surplus_high, HeadPasses, head_after, IsNearest, NonePasses};
+ghost use Rattle.hyd_spec_certificates.specs.Certificate.{IsInBox};
+ghost use Rattle.hyd_spec_input.specs.FirstForm.{IsFirstNetwork};
+ghost use Rattle.hyd_cli.specs.SingleValve.{IsValveOf, net_outflow_low, net_outflow_high, HeadPasses, head_after, IsNearest, NonePasses};
 ghost use Rattle.hyd_cli.specs.Solution.{AreTightHeads, LacksOnSide};
 
 use crate::law::{quadratic_high, quadratic_low};
 use crate::valve::SingleValve;
 use hyd_net::{LinkState, OpenValve, Project};
 use hyd_num::Capacity;
-use hyd_spec::Side;
+use hyd_spec_certificates::Side;
 
 /// What a search for certificates at the start of the run finds.
 #[derive(Debug, Clone, Copy, PartialEq, Eq, Drop)]
@@ -138,23 +138,23 @@ fn passes(valve: &SingleValve, side: Side, head: i64) -> bool
     ensures { IsTrue result ↔ HeadPasses valve.now side head }
 {
     match side {
-        Side::Upper => surplus_low(valve, head) > MARGIN,
-        Side::Lower => surplus_high(valve, head) < -MARGIN,
+        Side::Upper => net_outflow_low(valve, head) > MARGIN,
+        Side::Lower => net_outflow_high(valve, head) < -MARGIN,
     }
 }
 
-// The least surplus of the junction at a head.
-fn surplus_low(valve: &SingleValve, head: i64) -> i128
+// The least net outflow of the junction at a head.
+fn net_outflow_low(valve: &SingleValve, head: i64) -> i128
     requires { IsInBox head }
-    ensures { result ≡ surplus_low valve.now head }
+    ensures { result ≡ net_outflow_low valve.now head }
 {
     i128::from(valve.demand) - quadratic_high(&valve.capacity, valve.head - head)
 }
 
-// The greatest surplus of the junction at a head.
-fn surplus_high(valve: &SingleValve, head: i64) -> i128
+// The greatest net outflow of the junction at a head.
+fn net_outflow_high(valve: &SingleValve, head: i64) -> i128
     requires { IsInBox head }
-    ensures { result ≡ surplus_high valve.now head }
+    ensures { result ≡ net_outflow_high valve.now head }
 {
     i128::from(valve.demand) - quadratic_low(&valve.capacity, valve.head - head)
 }

@@ -2,10 +2,10 @@
 #![tactic(auto)]
 
 ghost use Rattle.std.specs.Prelude.{◌≡◌, ◌≤◌, ◌^◌, ◌-ℤ◌, ◌+ℤ◌, [], ◌∷◌, map, pos, unsigned_abs, string_bytes, IfOk};
-ghost use Rattle.hyd_spec.specs.ReportLine.{side_word};
-ghost use Rattle.hyd_spec.specs.Enclosing.{quadratic_low, quadratic_high};
-ghost use Rattle.hyd_spec.specs.FirstForm.{IsFirstNetwork};
-ghost use Rattle.hyd_spec.specs.Certificate.{IsInBox};
+ghost use Rattle.hyd_spec_reports.specs.ReportLine.{side_word};
+ghost use Rattle.hyd_spec_certificates.specs.Enclosing.{quadratic_low, quadratic_high};
+ghost use Rattle.hyd_spec_input.specs.FirstForm.{IsFirstNetwork};
+ghost use Rattle.hyd_spec_certificates.specs.Certificate.{IsInBox};
 ghost use Rattle.hyd_cli.specs.SingleValve.{IsValveOf};
 ghost use Rattle.hyd_cli.specs.Texts.{finished_certificate, stopped_certificate, IsFinishedReport, stopped_report};
 
@@ -14,7 +14,7 @@ use crate::lines::{TOLERANCE, push_junction, push_reservoir, push_valve};
 use crate::printed::push_all;
 use crate::valve::SingleValve;
 use hyd_net::Project;
-use hyd_spec::Side;
+use hyd_spec_certificates::Side;
 use std::alloc::{AllocError, Global};
 
 /// The certificate of the run that found the tight heads.

@@ -1,6 +1,7 @@
--- The four counts of a desk, and what raises them.
+-- The counts of a desk, and what raises them.
 use Rattle.std.specs.Prelude.{◌≡◌, ℕ, ◌+◌, ◌-◌, ◌^◌, ◌≤◌, min}
 use Rattle.hyd_io.specs.declared.desk.Faults.{Faults}
+use Rattle.hyd_io.specs.declared.desk.Openings.{Openings}
 use Rattle.hyd_io.specs.declared.input.InFault.{InFault}
 use Rattle.hyd_io.specs.declared.input.InFault.TheVariants.{OutOfMemory, Fault as ReadFault, TooLong}
 
@@ -30,6 +31,14 @@ with_print_fault counts = record counts { print = next_count counts.print }
 -- one stall more
 abbrev pub with_stall : Faults → Faults
 with_stall counts = record counts { stall = next_count counts.stall }
+
+-- one call of `open` more
+abbrev pub with_opened : Openings → Openings
+with_opened openings = record openings { opened = next_count openings.opened }
+
+-- one call of `create` more
+abbrev pub with_created : Openings → Openings
+with_created openings = record openings { created = next_count openings.created }
 
 -- what the counts say of an error of `read_all`: a fault is one read fault more, and the
 -- others leave all counts as they were

@@ -3,6 +3,7 @@ use Rattle.std.specs.Prelude.{◌≡◌, ℕ, List, [], length, Bool, true, fals
 use Rattle.std.specs.List.{list_any}
 use Rattle.std.specs.BTreeMap.{BTreeMap, get_by_text}
 use Rattle.hyd_io.specs.declared.desk.Faults.{Faults}
+use Rattle.hyd_io.specs.declared.desk.Openings.{Openings}
 use Rattle.hyd_io.specs.Told.{Files}
 use Rattle.hyd_io.specs.Counts.{next_count}
 
@@ -12,7 +13,8 @@ file_bytes files name = option_map (λ file. file.items) (get_by_text files name
 
 -- A desk in memory: its files, what is left to read, the name created last, whether it may be
 -- written, what was printed, the numbers of the calls that are to fail and of those that are to
--- take nothing, how many calls, writes and prints there were, and the counts of its faults.
+-- take nothing, how many calls, writes and prints there were, the counts of its faults, and how often it opened and
+-- created.
 pub record Memory : Type 0 where
   pub files : Files
   pub unread : List ℕ
@@ -25,6 +27,7 @@ pub record Memory : Type 0 where
   pub writes : ℕ
   pub prints : ℕ
   pub counts : Faults
+  pub openings : Openings
 
 -- a desk with no files on which nothing was done
 abbrev pub empty_memory : Memory
@@ -40,6 +43,7 @@ empty_memory = record {
   writes = 0;
   prints = 0;
   counts = record { read = 0; write = 0; print = 0; stall = 0 };
+  openings = record { opened = 0; created = 0 };
 }
 
 -- whether the list names the call of that number

@@ -17,4 +17,5 @@ memory desk = record {
   writes = desk.writes;
   prints = desk.prints;
   counts = desk.counts;
+  openings = desk.openings;
 }

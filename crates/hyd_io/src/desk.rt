@@ -1,10 +1,11 @@
 //! What a program can do outside itself: read one file, create and write one file, and print.
 
-ghost use Rattle.std.specs.Prelude.{◌≡◌, ◌≢◌, ℕ, ◌<◌, ◌≤◌, Bool, true, false, List, [], ◌++◌, length, take, Option, Some, IsTrue, IfOk, OnOk, OnErr, is_some, is_err};
+ghost use Rattle.std.specs.Prelude.{◌≡◌, ◌≢◌, ℕ, ◌<◌, ◌≤◌, Bool, true, false, List, [], ◌++◌, length, take, Option, Some, option_map, IsTrue, IfOk, OnOk, OnErr, is_some, is_err};
 ghost use Rattle.hyd_io.specs.declared.desk.Faults.{Faults};
+ghost use Rattle.hyd_io.specs.declared.desk.Openings.{Openings};
 ghost use Rattle.hyd_io.specs.Told.{Files, where_told, append_known, prepend_known, file_at, with_empty, content_of};
 ghost use Rattle.std.specs.Result.{result_ok};
-ghost use Rattle.hyd_io.specs.Counts.{NeverFall, next_count, with_read_fault, with_write_fault, with_print_fault, with_stall};
+ghost use Rattle.hyd_io.specs.Counts.{NeverFall, next_count, with_read_fault, with_write_fault, with_print_fault, with_stall, with_opened, with_created};
 
 use thiserror::Error;
 
@@ -27,10 +28,21 @@ pub struct Faults {
     pub stall: u64,
 }
 
+/// How often a desk was asked to open and to create a file, calls that failed among them. Each count
+/// stays at 2^64 - 1 once it is there.
+#[derive(Clone, Copy, Debug, PartialEq, Eq)]
+pub struct Openings {
+    /// Calls of `open`.
+    pub opened: u64,
+    /// Calls of `create`.
+    pub created: u64,
+}
+
 /// A desk: files by name, one of them being read and one being written, and standard output.
 ///
 /// Contracts see what the desk tells of these. A desk on real files tells no bytes, and its clauses
-/// on bytes then claim nothing; its counts, and whether `write` may be called, are always told.
+/// on bytes then claim nothing; its counts, how often it opened and created, and whether `write` may
+/// be called, are always told.
 pub trait Desk {
     // The files by name.
     ghost files: { Self → Option Files };
@@ -46,6 +58,8 @@ pub trait Desk {
     ghost ready: { Self → Bool };
     // How many calls failed or took nothing.
     ghost counts: { Self → Faults };
+    // How often `open` and `create` were called.
+    ghost openings: { Self → Openings };
     // Whether a name may be opened, and whether it may be created. No call changes these.
     ghost may_open: { List ℕ → Bool };
 
@@ -53,8 +67,8 @@ pub trait Desk {
     // What one kind of desk says besides of a call: of the desk before and after, and whether the
     // call failed.
     ghost open_also: { Self → List ℕ → Bool → Self → Type 0 } = { λ _ _ _ _. Unit {0} };
-
-    ghost read_also: { Self → Bool → Self → Type 0 } = { λ _ _ _. Unit {0} };
+    // Of a read the bytes that it gave, `None` where it failed.
+    ghost read_also: { Self → Option (List ℕ) → Self → Type 0 } = { λ _ _ _. Unit {0} };
 
     ghost create_also: { Self → Bool → Self → Type 0 } = { λ _ _ _. Unit {0} };
     // Of a write or print also its piece, and how many bytes it took, `None` where it failed.
@@ -76,6 +90,7 @@ pub trait Desk {
         ensures printed_stays { printed self.new ≡ printed self.old }
         ensures target_stays { target self.new ≡ target self.old }
         ensures ready_stays { ready self.new ≡ ready self.old }
+        ensures opens_once { openings self.new ≡ with_opened (openings self.old) }
         ensures besides { open_also self.old name.now (is_err result) self.new };
 
     /// Takes the front of what is left to read into the front of `buffer`, and returns how many
@@ -94,7 +109,8 @@ pub trait Desk {
         ensures printed_stays { printed self.new ≡ printed self.old }
         ensures target_stays { target self.new ≡ target self.old }
         ensures ready_stays { ready self.new ≡ ready self.old }
-        ensures besides { read_also self.old (is_err result) self.new };
+        ensures openings_stay { openings self.new ≡ openings self.old }
+        ensures besides { read_also self.old (option_map (λ n. take n buffer.new) (result_ok result)) self.new };
 
     /// Makes an empty file of that name, in place of one that is there, and directs `write` to it.
     /// Fails only where the write faults rose. After a failed call `write` may not be called, and
@@ -116,6 +132,7 @@ pub trait Desk {
         ensures never_fall { NeverFall (counts self.old) (counts self.new) }
         ensures rest_stays { rest self.new ≡ rest self.old }
         ensures printed_stays { printed self.new ≡ printed self.old }
+        ensures creates_once { openings self.new ≡ with_created (openings self.old) }
         ensures besides { create_also self.old (is_err result) self.new };
 
     /// Appends a front of `piece` to the file created last, and returns its length. It is 0 for a
@@ -140,6 +157,7 @@ pub trait Desk {
         ensures printed_stays { printed self.new ≡ printed self.old }
         ensures target_stays { target self.new ≡ target self.old }
         ensures ready_stays { ready self.new ≡ ready self.old }
+        ensures openings_stay { openings self.new ≡ openings self.old }
         ensures besides { write_also self.old piece.now (result_ok result) self.new };
 
     /// Prints a front of `piece`, and returns its length. It is 0 for a nonempty piece only where
@@ -160,6 +178,7 @@ pub trait Desk {
         ensures written_stays { written self.new ≡ written self.old }
         ensures target_stays { target self.new ≡ target self.old }
         ensures ready_stays { ready self.new ≡ ready self.old }
+        ensures openings_stay { openings self.new ≡ openings self.old }
         ensures besides { print_also self.old piece.now (result_ok result) self.new };
 
     // What was written is what the file created last holds.

@@ -1,26 +1,29 @@
 //! The desk on real files and standard output.
 
-ghost use Rattle.std.specs.Prelude.{◌≡◌, true, not, None, refl};
+ghost use Rattle.std.specs.Prelude.{◌≡◌, true, None, refl};
 
-use crate::desk::{Desk, Failed, Faults, stalls_after};
+use crate::desk::{Desk, Failed, Faults, Openings, stalls_after};
 use std::fs;
 use std::io::{Read, Write};
 use std::marker::Model;
 use std::rt::Files;
 
 /// A desk on the files and the standard output of a runtime. It tells no bytes, since no contract
-/// can say what a file holds; contracts see whether a file is open to be read, whether one was
-/// created, and how many calls failed or took nothing. Any name may be opened and created.
+/// can say which file a name opens, what it holds, or what was printed. Contracts see whether a file
+/// is open to be read, whether one was created, how many calls failed or took nothing, how often it
+/// opened and created, and, where a file tells its own bytes, what is left in the one and held by the
+/// other. Any name may be opened and created.
 #[derive(Drop)]
 pub struct FileDesk<R: Files + Print + Drop> {
     rt: R,
     input: Option<R::File>,
     output: Option<R::File>,
     counts: Faults,
+    openings: Openings,
 }
 
 impl<R: Files + Print + Drop> Model for FileDesk<R> {
-    ghost use Rattle.std.specs.Prelude.{is_some};
+    ghost use Rattle.std.specs.Prelude.{is_some, option_and_then};
     ghost use Rattle.hyd_io.specs.Standing.{Standing};
 
     ghost Value = { Standing };
@@ -29,6 +32,9 @@ impl<R: Files + Print + Drop> Model for FileDesk<R> {
       reading = is_some desk.input;
       ready = is_some desk.output;
       counts = desk.counts;
+      openings = desk.openings;
+      unread = option_and_then (λ file. R.File.remaining file) desk.input;
+      content = option_and_then (λ file. R.File.contents file) desk.output;
     } };
 }
 
@@ -49,11 +55,17 @@ impl<R: Files + Print + Drop> FileDesk<R> {
                 print: 0,
                 stall: 0,
             },
+            openings: Openings {
+                opened: 0,
+                created: 0,
+            },
         }
     }
 }
 
 impl<R: Files + Print + Drop> Desk for FileDesk<R> {
+    ghost use Rattle.hyd_io.specs.Standing.{KeepsInput, OpensFile, ReadsFile, WritesFile, PrintsAside};
+
     ghost files = { λ _. None };
 
     ghost rest = { λ _. None };
@@ -68,25 +80,26 @@ impl<R: Files + Print + Drop> Desk for FileDesk<R> {
 
     ghost counts = { λ desk. desk.counts };
 
+    ghost openings = { λ desk. desk.openings };
+
     ghost may_open = { λ _. true };
 
     ghost may_create = { λ _. true };
 
-    // A file is then open to be read exactly where the call didn't fail.
-    ghost open_also = { λ _ _ failed new. new.reading ≡ not failed };
+    ghost open_also = { λ old _ failed new. OpensFile old failed new };
 
-    // The other calls leave open what is open.
-    ghost read_also = { λ old _ new. new.reading ≡ old.reading };
+    ghost read_also = { λ old given new. ReadsFile old given new };
 
-    ghost create_also = { λ old _ new. new.reading ≡ old.reading };
+    ghost create_also = { λ old _ new. KeepsInput old new };
 
-    ghost write_also = { λ old _ _ new. new.reading ≡ old.reading };
+    ghost write_also = { λ old piece taken new. WritesFile old piece taken new };
 
-    ghost print_also = { λ old _ _ new. new.reading ≡ old.reading };
+    ghost print_also = { λ old _ _ new. PrintsAside old new };
 
     ghost is_content = { λ _. refl };
 
     fn open(&mut self, name: &str) -> Result<(), Failed> {
+        self.openings.opened = self.openings.opened.saturating_add(1);
         match fs::open(&self.rt, name) {
             Ok(file) => {
                 self.input = Some(file);
@@ -114,6 +127,7 @@ impl<R: Files + Print + Drop> Desk for FileDesk<R> {
     }
 
     fn create(&mut self, name: &str) -> Result<(), Failed> {
+        self.openings.created = self.openings.created.saturating_add(1);
         match fs::create(&self.rt, name) {
             Ok(file) => {
                 self.output = Some(file);
@@ -154,34 +168,5 @@ impl<R: Files + Print + Drop> Desk for FileDesk<R> {
                 Err(Failed)
             }
         }
-    }
-}
-
-#[cfg(test)]
-mod tests {
-    use super::*;
-    use crate::input::read_all;
-    use crate::output::{Channel, Pen};
-    use std::test::Fail;
-
-    #[test]
-    fn keeps_what_was_written_last(rt: HostRuntime) -> Result<(), Fail> {
-        let name = "hyd_io_file_desk.tmp";
-        let mut desk = FileDesk::new(rt.clone()?);
-        let long = vec![in rt.alloc(); 7u8; 20000]?;
-        for content in [long.as_slice(), b"one line\n".as_slice()] {
-            desk.create(name)?;
-            let mut pen = Pen::new(Channel::Cert);
-            pen.put(&mut desk, content)?;
-            pen.flush(&mut desk)?;
-            desk.open(name)?;
-            let bytes = read_all(rt.alloc(), &mut desk, 20000)?;
-            assert_eq!(rt; bytes.as_slice(), content);
-        }
-        fs::remove_file(&rt, name)?;
-        assert_eq!(rt; desk.counts.read, 0);
-        assert!(rt; desk.open("hyd_io_no_such_file.tmp").is_err());
-        assert_eq!(rt; desk.counts.read, 1);
-        Ok(())
     }
 }

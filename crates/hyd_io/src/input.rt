@@ -57,6 +57,7 @@ pub fn read_all<D: Desk>(alloc: Global, desk: &mut D, limit: usize) -> Result<Ve
     ensures printed_stays { D.printed desk.new ≡ D.printed desk.old }
     ensures target_stays { D.target desk.new ≡ D.target desk.old }
     ensures ready_stays { D.ready desk.new ≡ D.ready desk.old }
+    ensures openings_stay { D.openings desk.new ≡ D.openings desk.old }
 {
     let mut bytes = Vec::new(alloc);
     let mut block = [0u8; BLOCK];
@@ -88,6 +89,7 @@ fn read_block<D: Desk>(desk: &mut D, block: &mut [u8; BLOCK], room: usize) -> Re
     ensures printed_stays { D.printed desk.new ≡ D.printed desk.old }
     ensures target_stays { D.target desk.new ≡ D.target desk.old }
     ensures ready_stays { D.ready desk.new ≡ D.ready desk.old }
+    ensures openings_stay { D.openings desk.new ≡ D.openings desk.old }
 {
     let ask = room.min(BLOCK - 1) + 1;
     match desk.read(&mut block[..ask]) {

@@ -8,11 +8,8 @@ pub mod input;
 pub mod memory;
 pub mod output;
 
-pub use desk::{Desk, Failed, Faults};
+pub use desk::{Desk, Failed, Faults, Openings};
 pub use files::FileDesk;
 pub use input::{InFault, read_all};
 pub use memory::MemDesk;
 pub use output::{Channel, OutFault, Pen};
-
-#[cfg(test)]
-mod tests;

@@ -1,12 +1,12 @@
 //! A desk in memory, for tests: it tells all, and its calls can be made to fail or to take nothing.
 
-ghost use Rattle.std.specs.Prelude.{◌≡◌, ◌≢◌, ℕ, ◌<◌, ◌≤◌, List, [], ◌∷◌, ◌++◌, length, true, bytes_eq, if◌then◌else◌, Some, None, option_map, option_and_then, IsErr, IfOk, OnOk, OnErr, string_bytes, refl};
+ghost use Rattle.std.specs.Prelude.{◌≡◌, ◌≢◌, ℕ, ◌<◌, ◌≤◌, List, [], ◌∷◌, ◌++◌, length, true, bytes_eq, if◌then◌else◌, Some, None, option_map, option_and_then, IsErr, IfOk, OnOk, OnErr, string_bytes, is_none, refl};
 ghost use Rattle.std.specs.Map.{update};
 ghost use Rattle.hyd_io.specs.Told.{append_known};
 ghost use Rattle.hyd_io.specs.Counts.{next_count};
 ghost use Rattle.hyd_io.specs.Memory.{file_bytes, is_listed, empty_memory};
 
-use crate::desk::{Desk, Failed, Faults, stalls_after};
+use crate::desk::{Desk, Failed, Faults, Openings, stalls_after};
 use crate::output::gather;
 use std::alloc::{AllocError, Global};
 use std::collections::BTreeMap;
@@ -33,6 +33,7 @@ pub struct MemDesk {
     writes: u64,
     prints: u64,
     counts: Faults,
+    openings: Openings,
     ghost within: { at ≤ length opened.items },
 }
 
@@ -61,6 +62,10 @@ impl MemDesk {
                 write: 0,
                 print: 0,
                 stall: 0,
+            },
+            openings: Openings {
+                opened: 0,
+                created: 0,
             },
         }
     }
@@ -96,6 +101,13 @@ impl MemDesk {
         ensures { result ≡ (memory self.now).prints }
     {
         self.prints
+    }
+
+    /// How often `open` and `create` were called so far.
+    pub fn openings(&self) -> Openings
+        ensures { result ≡ (memory self.now).openings }
+    {
+        self.openings
     }
 
     /// Adds a file, in place of one of that name, or leaves all as it was.
@@ -152,13 +164,15 @@ impl Desk for MemDesk {
 
     ghost counts = { λ desk. (memory desk).counts };
 
+    ghost openings = { λ desk. (memory desk).openings };
+
     ghost may_open = { λ _. true };
 
     ghost may_create = { λ _. true };
 
     ghost open_also = { λ old name failed new. OpensToo (memory old) name failed (memory new) };
 
-    ghost read_also = { λ old failed new. ReadsToo (memory old) failed (memory new) };
+    ghost read_also = { λ old given new. ReadsToo (memory old) (is_none given) (memory new) };
 
     ghost create_also = { λ old failed new. CreatesToo (memory old) failed (memory new) };
 
@@ -170,6 +184,7 @@ impl Desk for MemDesk {
 
     fn open(&mut self, name: &str) -> Result<(), Failed> {
         let fails = begin(&mut self.calls, &self.failing);
+        self.openings.opened = self.openings.opened.saturating_add(1);
         self.at = 0;
         self.opened.clear();
         match copy_of_file(self.alloc, &self.files, name, fails) {
@@ -196,6 +211,7 @@ impl Desk for MemDesk {
 
     fn create(&mut self, name: &str) -> Result<(), Failed> {
         let fails = begin(&mut self.calls, &self.failing);
+        self.openings.created = self.openings.created.saturating_add(1);
         match make_empty(self.alloc, &mut self.files, name, fails) {
             Ok(target) => {
                 self.target = Some(target);

@@ -103,6 +103,7 @@ impl Pen {
         ensures rest_stays { D.rest desk.new ≡ D.rest desk.old }
         ensures target_stays { D.target desk.new ≡ D.target desk.old }
         ensures ready_stays { D.ready desk.new ≡ D.ready desk.old }
+        ensures openings_stay { D.openings desk.new ≡ D.openings desk.old }
     {
         if let Some(fault) = self.fault {
             return Err(fault);
@@ -149,6 +150,7 @@ impl Pen {
         ensures rest_stays { D.rest desk.new ≡ D.rest desk.old }
         ensures target_stays { D.target desk.new ≡ D.target desk.old }
         ensures ready_stays { D.ready desk.new ≡ D.ready desk.old }
+        ensures openings_stay { D.openings desk.new ≡ D.openings desk.old }
     {
         if let Some(fault) = self.fault {
             return Err(fault);
@@ -192,6 +194,7 @@ fn put_through<D: Desk>(
     ensures rest_stays { D.rest desk.new ≡ D.rest desk.old }
     ensures target_stays { D.target desk.new ≡ D.target desk.old }
     ensures ready_stays { D.ready desk.new ≡ D.ready desk.old }
+    ensures openings_stay { D.openings desk.new ≡ D.openings desk.old }
 {
     let mut rest = piece;
     while !rest.is_empty() {
@@ -241,6 +244,7 @@ fn put_when_full<D: Desk>(
     ensures rest_stays { D.rest desk.new ≡ D.rest desk.old }
     ensures target_stays { D.target desk.new ≡ D.target desk.old }
     ensures ready_stays { D.ready desk.new ≡ D.ready desk.old }
+    ensures openings_stay { D.openings desk.new ≡ D.openings desk.old }
 {
     if used < SIZE {
         return Ok(used);
@@ -271,6 +275,7 @@ fn put_all<D: Desk>(to: Channel, desk: &mut D, bytes: &[u8]) -> Result<(), OutFa
     ensures rest_stays { D.rest desk.new ≡ D.rest desk.old }
     ensures target_stays { D.target desk.new ≡ D.target desk.old }
     ensures ready_stays { D.ready desk.new ≡ D.ready desk.old }
+    ensures openings_stay { D.openings desk.new ≡ D.openings desk.old }
 {
     let mut left = bytes;
     while !left.is_empty() {
@@ -303,6 +308,7 @@ fn put_front<D: Desk>(to: Channel, desk: &mut D, piece: &[u8]) -> Result<usize, 
     ensures rest_stays { D.rest desk.new ≡ D.rest desk.old }
     ensures target_stays { D.target desk.new ≡ D.target desk.old }
     ensures ready_stays { D.ready desk.new ≡ D.ready desk.old }
+    ensures openings_stay { D.openings desk.new ≡ D.openings desk.old }
 {
     let taken = match to {
         Channel::Cert => desk.write(piece),

@@ -6,7 +6,7 @@ use Rattle.hyd_net.specs.Ids.{IsId}
 use Rattle.hyd_net.specs.Ranges.{Lies, LiesWithin, IsHead, Numbers}
 use Rattle.hyd_net.specs.States.{CanBeSet}
 use Rattle.hyd_net.specs.declared.links.LinkKind.{LinkKind}
-use Rattle.hyd_net.specs.declared.links.LinkKind.TheVariants.{Pipe, CheckPipe, Pump, Tcv, Fcv}
+use Rattle.hyd_net.specs.declared.links.LinkKind.TheVariants.{Pipe, CheckPipe, Pump, CurvePump, Tcv, Fcv, Gpv}
 use Rattle.hyd_net.specs.declared.links.LinkState.{LinkState}
 use Rattle.hyd_net.specs.declared.links.Link.{Link}
 use Rattle.hyd_net.specs.declared.controls.When.{When}
@@ -55,8 +55,10 @@ abbrev pub HasSetting : LinkKind → Type 0
 HasSetting (Pipe cap) = ⊥
 HasSetting (CheckPipe cap) = ⊥
 HasSetting (Pump cap shutoff head pattern) = ⊤
+HasSetting (CurvePump bend pattern) = ⊤
 HasSetting (Tcv valve) = ⊤
 HasSetting (Fcv valve) = ⊤
+HasSetting (Gpv bend) = ⊤
 
 -- what a clause speaks of is there
 abbrev pub SpeaksOf : Project → What → Type 0

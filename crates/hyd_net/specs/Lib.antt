@@ -1,4 +1,5 @@
 pub mod Commands
+pub mod Curves
 pub mod Ids
 pub mod Lending
 pub mod ListView

@@ -15,9 +15,9 @@ use Rattle.hyd_net.specs.declared.links.OpenValve.TheVariants.{Quadratic, Linear
 use Rattle.hyd_net.specs.declared.links.ShutoffHead.{ShutoffHead}
 use Rattle.hyd_net.specs.declared.links.ShutoffHead.TheVariants.{FourThirds, Given}
 use Rattle.hyd_net.specs.declared.links.LinkKind.{LinkKind}
-use Rattle.hyd_net.specs.declared.links.LinkKind.TheVariants.{Pipe, CheckPipe, Pump, Tcv, Fcv}
+use Rattle.hyd_net.specs.declared.links.LinkKind.TheVariants.{Pipe, CheckPipe, Pump, CurvePump, Tcv, Fcv, Gpv}
 use Rattle.hyd_net.specs.declared.links.LinkState.{LinkState}
-use Rattle.hyd_net.specs.declared.links.LinkState.TheVariants.{Throttle, Limit}
+use Rattle.hyd_net.specs.declared.links.LinkState.TheVariants.{Open, Closed, Speed, Throttle, Limit}
 use Rattle.hyd_net.specs.declared.links.Link.{Link}
 use Rattle.hyd_net.specs.declared.rules.What.{What}
 use Rattle.hyd_net.specs.declared.rules.What.TheVariants.{Head, Pressure, Level, Flow, Setting, Status, Time, Clock}
@@ -79,13 +79,15 @@ abbrev pub IsValveMade : OpenValve → Type 0
 IsValveMade (Quadratic cap) = IsMade cap
 IsValveMade Linear = ⊤
 
--- what a link is, is made of its numbers
+-- what a link is, is made of its numbers; the points of a curve by straight lines are ticks, and nothing is rounded beside them
 abbrev pub IsKindMade : FlowUnit → LinkKind → Type 0
 IsKindMade unit (Pipe cap) = IsMade cap
 IsKindMade unit (CheckPipe cap) = IsMade cap
 IsKindMade unit (Pump cap shutoff head pattern) = IsMade cap × IsShutoffMade unit head shutoff
+IsKindMade unit (CurvePump bend pattern) = ⊤
 IsKindMade unit (Tcv valve) = IsValveMade valve
 IsKindMade unit (Fcv valve) = IsValveMade valve
+IsKindMade unit (Gpv bend) = ⊤
 
 -- the loss coefficient of an origin is a setting in billionths
 abbrev pub HasCoefficient : ℤ → Origin → Type 0
@@ -99,9 +101,11 @@ HasLaw nano Linear = nano ≡ pos 0
 
 -- what a state is made of: a throttle's law is that of its coefficient, a limit's ticks are its flow, cut
 abbrev pub IsStateMade : FlowUnit → LinkState → Type 0
+IsStateMade unit Open = ⊤
+IsStateMade unit Closed = ⊤
+IsStateMade unit (Speed nano) = ⊤
 IsStateMade unit (Throttle nano law) = HasLaw nano law × IsValve unit law × IsValveMade law
 IsStateMade unit (Limit nano ticks) = ticks ≡ flow_ticks unit nano
-IsStateMade unit _ = ⊤
 
 -- ---- one diameter for each valve
 
@@ -115,16 +119,23 @@ abbrev pub IsLawAcross : ℤ → OpenValve → Type 0
 IsLawAcross across (Quadratic cap) = IsOriginAcross across cap.origin
 IsLawAcross across Linear = ⊤
 
--- a valve has this diameter
+-- a valve has this diameter; the law of a general purpose valve has none
 abbrev pub IsKindAcross : ℤ → LinkKind → Type 0
+IsKindAcross across (Pipe cap) = ⊤
+IsKindAcross across (CheckPipe cap) = ⊤
+IsKindAcross across (Pump cap shutoff head pattern) = ⊤
+IsKindAcross across (CurvePump bend pattern) = ⊤
 IsKindAcross across (Tcv valve) = IsLawAcross across valve
 IsKindAcross across (Fcv valve) = IsLawAcross across valve
-IsKindAcross across _ = ⊤
+IsKindAcross across (Gpv bend) = ⊤
 
 -- a throttled valve's law has this diameter
 abbrev pub IsStateAcross : ℤ → LinkState → Type 0
+IsStateAcross across Open = ⊤
+IsStateAcross across Closed = ⊤
+IsStateAcross across (Speed nano) = ⊤
 IsStateAcross across (Throttle nano law) = IsLawAcross across law
-IsStateAcross across _ = ⊤
+IsStateAcross across (Limit nano ticks) = ⊤
 
 -- the fully open valve and each of its settings, from the start, by a control or by a rule, have this diameter
 pub record IsAcross (p : Project) (number : ℕ) (across : ℤ) : Type 0 where

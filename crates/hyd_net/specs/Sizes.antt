@@ -1,13 +1,17 @@
 -- The ranges of a network's quantities, in ticks or in the file's units.
 -- Source: EPANET 2.2 User Manual, appendix C; the ranges are this program's.
-use Rattle.std.specs.Prelude.{◌≡◌, ℕ, ◌*◌, ◌^◌, Bool, true, List, length, Option, IfSome, ℤ, pos, ◌+ℤ◌, ◌-ℤ◌, ◌*ℤ◌, ◌≤ℤ◌, ⊤}
-use Rattle.std.specs.List.{All}
+use Rattle.std.specs.Prelude.{◌≡◌, ℕ, ◌-◌, ◌*◌, ◌^◌, Bool, true, List, length, Option, is_some, IfSome, ℤ, pos, ◌+ℤ◌, ◌-ℤ◌, ◌*ℤ◌, ◌≤ℤ◌, ⊤, if◌then◌else◌}
+use Rattle.std.specs.List.{All, HoldsAt}
 use Rattle.hyd_num.specs.Quantity.{is_us_unit, head_ticks, flow_ticks, pressure_numerator, pressure_denominator}
 use Rattle.hyd_num.specs.declared.units.FlowUnit.{FlowUnit}
 use Rattle.hyd_num.specs.declared.decimals.Decimal.{Decimal}
 use Rattle.hyd_num.specs.declared.capacities.Origin.{Origin}
 use Rattle.hyd_num.specs.declared.capacities.Origin.TheVariants.{Pipe as PipeOrigin, Valve as ValveOrigin, Pump as PumpOrigin, Emitter as EmitterOrigin}
 use Rattle.hyd_net.specs.Ranges.{Lies, LiesWithin, IsHead, IsFlow, IsUpTo, IsNumberUpTo, IsPositiveUpTo, Numbers}
+use Rattle.hyd_net.specs.ListView.{ListView}
+use Rattle.hyd_net.specs.Curves.{volume_at, IsVolumeCurve, IsPumpCurve, IsLossCurve}
+use Rattle.hyd_net.specs.declared.curves.VolumePoint.{VolumePoint}
+use Rattle.hyd_net.specs.declared.curves.HeadPoint.{HeadPoint}
 use Rattle.hyd_net.specs.declared.options.Options.{Options}
 use Rattle.hyd_net.specs.declared.nodes.Demand.{Demand}
 use Rattle.hyd_net.specs.declared.nodes.Junction.{Junction}
@@ -18,7 +22,7 @@ use Rattle.hyd_net.specs.declared.links.OpenValve.TheVariants.{Quadratic, Linear
 use Rattle.hyd_net.specs.declared.links.ShutoffHead.{ShutoffHead}
 use Rattle.hyd_net.specs.declared.links.ShutoffHead.TheVariants.{FourThirds, Given}
 use Rattle.hyd_net.specs.declared.links.LinkKind.{LinkKind}
-use Rattle.hyd_net.specs.declared.links.LinkKind.TheVariants.{Pipe, CheckPipe, Pump, Tcv, Fcv}
+use Rattle.hyd_net.specs.declared.links.LinkKind.TheVariants.{Pipe, CheckPipe, Pump, CurvePump, Tcv, Fcv, Gpv}
 use Rattle.hyd_net.specs.declared.patterns.Pattern.{Pattern}
 use Rattle.hyd_net.specs.declared.project.Project.{Project}
 
@@ -70,15 +74,23 @@ pub record IsReservoir (patterns : List Pattern) (reservoir : Reservoir) : Type 
   pub head : IsHead reservoir.head
   pub pattern : HasPattern (λ multiplier. LiesWithin (10 ^ 17 * 10 ^ 9) (reservoir.head *ℤ multiplier)) patterns reservoir.pattern
 
+-- a tank's volume curve goes from its minimum or below to its maximum or above, between which at least 10^6 volume ticks lie
+pub record IsShapeOf (tank : Tank) (shape : List VolumePoint) : Type 0 where
+  pub curve : IsVolumeCurve shape
+  pub from_minimum : HoldsAt (λ (p : VolumePoint). p.level ≤ℤ tank.minimum) shape 0
+  pub to_maximum : HoldsAt (λ (p : VolumePoint). tank.maximum ≤ℤ p.level) shape (length shape - 1)
+  pub apart : pos (10 ^ 6) ≤ℤ (volume_at shape tank.maximum -ℤ volume_at shape tank.minimum)
+
 -- levels are at least 0 and in order, the least and the greatest at least 0.01 foot apart; the bottom is a head, and so is the greatest
--- level above it; the diameter is 0.1 to 1,000 feet or metres
-pub record IsTank (tank : Tank) : Type 0 where
+-- level above it; the diameter is 0.1 to 1,000 feet or metres, or 0 to 1,000 where there is a volume curve
+pub record IsTank (shapes : List (ListView VolumePoint)) (tank : Tank) : Type 0 where
   pub bottom : IsHead tank.bottom
   pub lowest : pos 0 ≤ℤ tank.minimum
   pub initial : Lies tank.minimum tank.maximum tank.initial
   pub apart : pos 30480000000 ≤ℤ (tank.maximum -ℤ tank.minimum)
   pub top : IsHead (tank.bottom +ℤ tank.maximum)
-  pub diameter : Lies (pos (10 ^ 8)) (pos (1000 * 10 ^ 9)) tank.diameter.nano
+  pub diameter : Lies (pos (if is_some tank.shape then 0 else 10 ^ 8)) (pos (1000 * 10 ^ 9)) tank.diameter.nano
+  pub shape : IfSome tank.shape (Numbers (λ (shape : ListView VolumePoint). IsShapeOf tank shape.list) shapes)
 
 -- ---- links
 
@@ -140,13 +152,19 @@ abbrev pub IsPumpOrigin : FlowUnit → ShutoffHead → Origin → Type 0
 IsPumpOrigin unit head (PumpOrigin flow drop thirds own) = IsPumpNumbers unit flow drop own × IsCurve unit head drop thirds
 IsPumpOrigin unit head _ = ⊥
 
+-- the curve by straight lines of this number is there and has this property
+abbrev pub HasBend : (List HeadPoint → Type 0) → List (ListView HeadPoint) → ℕ → Type 0
+HasBend P bends bend = Numbers (λ (b : ListView HeadPoint). P b.list) bends bend
+
 -- what a link is made of; the multipliers of a pump's pattern are speeds of 0 to 10
-abbrev pub HasSizes : FlowUnit → List Pattern → LinkKind → Type 0
-HasSizes unit patterns (Pipe cap) = IsPipe unit cap.origin
-HasSizes unit patterns (CheckPipe cap) = IsPipe unit cap.origin
-HasSizes unit patterns (Pump cap shutoff head pattern) = IsPumpOrigin unit head cap.origin × HasPattern (IsUpTo 10) patterns pattern
-HasSizes unit patterns (Tcv valve) = IsValve unit valve
-HasSizes unit patterns (Fcv valve) = IsValve unit valve
+abbrev pub HasSizes : FlowUnit → List Pattern → List (ListView HeadPoint) → LinkKind → Type 0
+HasSizes unit patterns bends (Pipe cap) = IsPipe unit cap.origin
+HasSizes unit patterns bends (CheckPipe cap) = IsPipe unit cap.origin
+HasSizes unit patterns bends (Pump cap shutoff head pattern) = IsPumpOrigin unit head cap.origin × HasPattern (IsUpTo 10) patterns pattern
+HasSizes unit patterns bends (CurvePump bend pattern) = HasBend IsPumpCurve bends bend × HasPattern (IsUpTo 10) patterns pattern
+HasSizes unit patterns bends (Tcv valve) = IsValve unit valve
+HasSizes unit patterns bends (Fcv valve) = IsValve unit valve
+HasSizes unit patterns bends (Gpv bend) = HasBend IsLossCurve bends bend
 
 -- ---- all of them
 
@@ -155,5 +173,5 @@ pub record HasQuantities (p : Project) : Type 0 where
   pub options : HasOptions p.options p.patterns.list
   pub junctions : All (IsJunction p.options.unit p.patterns.list) p.junctions.list
   pub reservoirs : All (IsReservoir p.patterns.list) p.reservoirs.list
-  pub tanks : All IsTank p.tanks.list
-  pub links : All (λ l. HasSizes p.options.unit p.patterns.list l.kind) p.links.list
+  pub tanks : All (IsTank p.shapes.list) p.tanks.list
+  pub links : All (λ l. HasSizes p.options.unit p.patterns.list p.bends.list l.kind) p.links.list

@@ -8,6 +8,9 @@ use Rattle.hyd_net.specs.States.{CanHave}
 use Rattle.hyd_net.specs.Sizes.{HasQuantities}
 use Rattle.hyd_net.specs.Made.{IsAllMade}
 use Rattle.hyd_net.specs.Commands.{node_count, IsControl, IsRule}
+use Rattle.hyd_net.specs.ListView.{ListView}
+use Rattle.hyd_net.specs.declared.curves.VolumePoint.{VolumePoint}
+use Rattle.hyd_net.specs.declared.curves.HeadPoint.{HeadPoint}
 use Rattle.hyd_net.specs.declared.nodes.Junction.{Junction}
 use Rattle.hyd_net.specs.declared.links.Link.{Link}
 use Rattle.hyd_net.specs.declared.patterns.Pattern.{Pattern}
@@ -44,6 +47,10 @@ pub record IsWithinLimits (p : Project) : Type 0 where
   pub links : length p.links.list ≤ 20000
   pub patterns : length p.patterns.list ≤ 1000
   pub multipliers : sum_by (λ (q : Pattern). length q.multipliers.list) p.patterns.list ≤ 1000000
+  pub shapes : length p.shapes.list ≤ 1000
+  pub shape_points : sum_by (λ (shape : ListView VolumePoint). length shape.list) p.shapes.list ≤ 100000
+  pub bends : length p.bends.list ≤ 1000
+  pub bend_points : sum_by (λ (bend : ListView HeadPoint). length bend.list) p.bends.list ≤ 100000
   pub demands : sum_by demand_rows p.junctions.list ≤ 100000
   pub controls : length p.controls.list ≤ 10000
   pub rules : length p.rules.list ≤ 10000

@@ -14,7 +14,7 @@ use Rattle.hyd_net.specs.declared.links.OpenValve.TheVariants.{Quadratic, Linear
 use Rattle.hyd_net.specs.declared.links.ShutoffHead.{ShutoffHead}
 use Rattle.hyd_net.specs.declared.links.ShutoffHead.TheVariants.{Given}
 use Rattle.hyd_net.specs.declared.links.LinkKind.{LinkKind}
-use Rattle.hyd_net.specs.declared.links.LinkKind.TheVariants.{Pipe, CheckPipe, Pump, Tcv, Fcv}
+use Rattle.hyd_net.specs.declared.links.LinkKind.TheVariants.{Pipe, CheckPipe, Pump, CurvePump, Tcv, Fcv, Gpv}
 use Rattle.hyd_net.specs.declared.links.LinkState.{LinkState}
 use Rattle.hyd_net.specs.declared.links.LinkState.TheVariants.{Open, Closed, Speed, Throttle, Limit}
 use Rattle.hyd_net.specs.declared.links.Link.{Link}
@@ -64,8 +64,10 @@ abbrev pub plain_kind : LinkKind → LinkKind
 plain_kind (Pipe c) = Pipe (plain_capacity c)
 plain_kind (CheckPipe c) = CheckPipe (plain_capacity c)
 plain_kind (Pump c shutoff head pattern) = Pump (plain_capacity c) shutoff no_head pattern
+plain_kind (CurvePump bend pattern) = CurvePump bend pattern
 plain_kind (Tcv valve) = Tcv (plain_valve valve)
 plain_kind (Fcv valve) = Fcv (plain_valve valve)
+plain_kind (Gpv bend) = Gpv bend
 
 -- a link's state without its numbers
 abbrev pub plain_state : LinkState → LinkState
@@ -137,6 +139,8 @@ plain_project p =
       tanks = plain_list plain_tank p.tanks;
       links = plain_list plain_link p.links;
       patterns = plain_list plain_pattern p.patterns;
+      shapes = plain_list bare_list p.shapes;
+      bends = plain_list bare_list p.bends;
       controls = plain_list plain_control p.controls;
       rules = plain_list plain_rule p.rules;
     }

@@ -6,6 +6,7 @@ ghost use Rattle.std.specs.Option.{option_map};
 ghost use Rattle.hyd_net.specs.Views.{bare_list, plain_list, plain_capacity, plain_valve, plain_state, plain_kind, plain_link, plain_tank, plain_junction, plain_pattern, plain_control, plain_value, plain_clause, plain_rule_clause, plain_action, plain_rule, plain_project};
 
 use crate::controls::Control;
+use crate::curves::{HeadPoint, VolumePoint};
 use crate::links::{Link, LinkKind, LinkState, OpenValve};
 use crate::list::List;
 use crate::nodes::{Demand, Junction, Reservoir, Tank};
@@ -55,7 +56,7 @@ fn same_span(a: Span, b: Span) -> bool
     a == b
 }
 
-fn same_pattern(a: Option<u32>, b: Option<u32>) -> bool
+fn same_named(a: Option<u32>, b: Option<u32>) -> bool
     ensures { IsTrue result ↔ (a ≡ b) }
 {
     a == b
@@ -111,9 +112,20 @@ impl Alike for LinkKind {
                     pattern: q,
                     ..
                 },
-            ) => x.same(y) && same_span(*s, *t) && same_pattern(*p, *q),
+            ) => x.same(y) && same_span(*s, *t) && same_named(*p, *q),
+            (
+                LinkKind::CurvePump {
+                    bend: x,
+                    pattern: p,
+                },
+                LinkKind::CurvePump {
+                    bend: y,
+                    pattern: q,
+                },
+            ) => x == y && same_named(*p, *q),
             (LinkKind::Tcv { valve: x }, LinkKind::Tcv { valve: y }) => x.same(y),
             (LinkKind::Fcv { valve: x }, LinkKind::Fcv { valve: y }) => x.same(y),
+            (LinkKind::Gpv { bend: x }, LinkKind::Gpv { bend: y }) => x == y,
             _ => false,
         }
     }
@@ -189,6 +201,38 @@ fn same_bytes(a: &List<u8>, b: &List<u8>) -> bool
     a.as_slice() == b.as_slice()
 }
 
+impl Alike for VolumePoint {
+    ghost plain = { λ p. p };
+
+    fn same(&self, other: &VolumePoint) -> bool {
+        *self == *other
+    }
+}
+
+impl Alike for HeadPoint {
+    ghost plain = { λ p. p };
+
+    fn same(&self, other: &HeadPoint) -> bool {
+        *self == *other
+    }
+}
+
+impl Alike for List<VolumePoint> {
+    ghost plain = { bare_list };
+
+    fn same(&self, other: &List<VolumePoint>) -> bool {
+        same_items(self.as_slice(), other.as_slice())
+    }
+}
+
+impl Alike for List<HeadPoint> {
+    ghost plain = { bare_list };
+
+    fn same(&self, other: &List<HeadPoint>) -> bool {
+        same_items(self.as_slice(), other.as_slice())
+    }
+}
+
 impl Alike for Junction {
     ghost plain = { plain_junction };
 
@@ -208,6 +252,8 @@ impl Alike for Tank {
             && self.minimum == other.minimum
             && self.maximum == other.maximum
             && self.area == other.area
+            && same_named(self.shape, other.shape)
+            && self.overflow == other.overflow
     }
 }
 
@@ -297,7 +343,7 @@ fn same_options(a: &Options, b: &Options) -> bool
         && same_number(a.p0, b.p0)
         && same_number(a.pf, b.pf)
         && same_number(a.multiplier, b.multiplier)
-        && same_pattern(a.default_pattern, b.default_pattern)
+        && same_named(a.default_pattern, b.default_pattern)
 }
 
 fn same_times(a: &Times, b: &Times) -> bool
@@ -326,6 +372,13 @@ fn same_nodes(a: &Project, b: &Project) -> bool
         && same_list(&a.tanks, &b.tanks)
 }
 
+fn same_curves(a: &Project, b: &Project) -> bool
+    ensures { IsTrue result ↔ ((plain_list bare_list a.now.shapes ≡ plain_list bare_list b.now.shapes)
+        × (plain_list bare_list a.now.bends ≡ plain_list bare_list b.now.bends)) }
+{
+    same_list(&a.shapes, &b.shapes) && same_list(&a.bends, &b.bends)
+}
+
 /// Whether all fields of two projects are equal, the numbers of the file aside from which a
 /// capacity, a shutoff head, a tank's area and the amount of a clause were made.
 pub fn same(a: &Project, b: &Project) -> bool
@@ -335,6 +388,7 @@ pub fn same(a: &Project, b: &Project) -> bool
         && same_nodes(a, b)
         && same_list(&a.links, &b.links)
         && same_list(&a.patterns, &b.patterns)
+        && same_curves(a, b)
         && same_list(&a.controls, &b.controls)
         && same_list(&a.rules, &b.rules)
 }

@@ -5,6 +5,7 @@
 mod cause;
 mod comparison;
 mod controls;
+mod curves;
 mod links;
 mod list;
 mod names;
@@ -13,12 +14,11 @@ mod options;
 mod patterns;
 mod project;
 mod rules;
-#[cfg(test)]
-mod tests;
 
 pub use cause::Cause;
 pub use comparison::same;
 pub use controls::{Control, When};
+pub use curves::{HeadPoint, VolumePoint};
 pub use links::{Link, LinkKind, LinkState, OpenValve, ShutoffHead};
 pub use list::List;
 pub use names::Names;

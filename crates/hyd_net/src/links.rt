@@ -34,6 +34,13 @@ pub enum LinkKind {
         /// The number of the pattern of its speeds.
         pattern: Option<u32>,
     },
+    /// A pump whose curve is one by straight lines.
+    CurvePump {
+        /// The number of its curve among the project's bends.
+        bend: u32,
+        /// The number of the pattern of its speeds.
+        pattern: Option<u32>,
+    },
     /// A throttle control valve, and its law where it is fully open.
     Tcv {
         valve: OpenValve,
@@ -42,6 +49,11 @@ pub enum LinkKind {
     Fcv {
         valve: OpenValve,
     },
+    /// A general purpose valve, whose losses are a curve by straight lines.
+    Gpv {
+        /// The number of its curve among the project's bends.
+        bend: u32,
+    },
 }
 
 /// The state in which a link is set. `nano` is a setting of the file in billionths.
@@ -49,7 +61,7 @@ pub enum LinkKind {
 pub enum LinkState {
     Open,
     Closed,
-    /// A pump at this speed in billionths. Speed 0 is `Closed`.
+    /// A pump of either kind at this speed in billionths. Speed 0 is `Closed`.
     Speed(i64),
     /// A throttle control valve with this loss coefficient, and the law of the open valve with it.
     Throttle { nano: i64, law: OpenValve },

@@ -28,15 +28,19 @@ pub struct Reservoir {
     pub pattern: Option<u32>,
 }
 
-/// A cylindrical tank: levels are above its bottom.
+/// A tank: levels are above its bottom. It is cylindrical where it has no volume curve.
 #[derive(Debug, Clone, Copy, PartialEq, Eq, Drop)]
 pub struct Tank {
     pub bottom: i64,
     pub initial: i64,
     pub minimum: i64,
     pub maximum: i64,
-    /// The area in 10^-9 square metres, cut.
+    /// The area in 10^-9 square metres, cut. It means nothing where there is a volume curve.
     pub area: i64,
     /// The file's diameter in feet or metres, from which the area is made.
     pub diameter: Decimal,
+    /// The number of its volume curve among the project's shapes.
+    pub shape: Option<u32>,
+    /// Whether it takes inflow where it is full, which is spilled.
+    pub overflow: bool,
 }

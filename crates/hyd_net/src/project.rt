@@ -2,6 +2,7 @@
 #![tactic(auto)]
 
 use crate::controls::Control;
+use crate::curves::{HeadPoint, VolumePoint};
 use crate::links::Link;
 use crate::list::List;
 use crate::names::Names;
@@ -23,6 +24,10 @@ pub struct Project {
     pub tanks: List<Tank>,
     pub links: List<Link>,
     pub patterns: List<Pattern>,
+    /// The volume curves that tanks name.
+    pub shapes: List<List<VolumePoint>>,
+    /// The curves by straight lines that pumps and general purpose valves name.
+    pub bends: List<List<HeadPoint>>,
     pub controls: List<Control>,
     pub rules: List<Rule>,
 }

@@ -8,3 +8,4 @@ pub mod Cut
 pub mod Roots
 pub mod Decimals
 pub mod Rational
+pub mod Refusal

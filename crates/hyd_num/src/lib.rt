@@ -27,6 +27,3 @@ pub use quotients::{mul_div_ceil, mul_div_floor};
 pub use roots::isqrt;
 pub use scaled_roots::{sqrt_down, sqrt_up};
 pub use units::FlowUnit;
-
-#[cfg(test)]
-mod tests;

@@ -1,16 +1,4 @@
-pub mod Fractions
-pub mod Enclosing
-pub mod Losses
-pub mod FeetLost
-pub mod SquaredFlows
-pub mod Enclosures
-pub mod Grains
 pub mod Exponents
 pub mod PressurePairs
-pub mod Widths
-pub mod Sharpness
-pub mod Factors
-pub mod Products
-pub mod RootWidths
 pub mod PipePairs
-pub mod OnePair
+pub mod Refusals

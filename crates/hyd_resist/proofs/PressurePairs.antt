@@ -12,7 +12,7 @@ use Rattle.hyd_num.specs.Scaled.{numerator, denominator, IsDown, IsUp}
 use Rattle.hyd_num.specs.Pairs.{IsRatio}
 use Rattle.hyd_num.specs.Chain.{IsPairOf, IsSquareOver, IsPressurePair}
 use Rattle.hyd_resist.specs.Ranges.{ArePressures}
-use Rattle.hyd_resist.proofs.Enclosing.{denominator_above}
+use Rattle.hyd_lemmas.proofs.Enclosing.{denominator_above}
 
 pub pressure_pair : (demand : ℤ) (minimum required : Decimal) (us : Bool) (n m : ℕ) (flows head r : Pair)
     → n ≡ up demand → m ≡ up (required.nano -ℤ minimum.nano) → IsRatio n 1 flows → IsPairOf (pressure_fraction us m) head → IsSquareOver flows head r

@@ -6,8 +6,6 @@ mod manning;
 mod parts;
 mod range;
 mod squares;
-#[cfg(test)]
-mod tests;
 
 pub use manning::{pipe_capacity, valve_capacity};
 pub use range::CapRange;

@@ -7,7 +7,7 @@ ghost use Rattle.hyd_num.specs.Pairs.{pair_reach};
 ghost use Rattle.hyd_num.specs.Chain.{IsMinorPair, IsFrictionPair, IsMade};
 ghost use Rattle.hyd_spec.specs.Enclosure.{IsEnclosure, IsSharp};
 ghost use Rattle.hyd_resist.specs.Ranges.{IsLength, IsDiameter, IsRoughness, IsMinorCoefficient, IsCoefficient};
-ghost use Rattle.hyd_resist.specs.Refusal.{IsRefused};
+ghost use Rattle.hyd_num.specs.Refusal.{IsRefused};
 
 use crate::parts::{diameter_in_feet, length_in_feet, plain, unit_over};
 use crate::range::{CapRange, capacity};

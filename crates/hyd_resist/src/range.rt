@@ -6,7 +6,7 @@ ghost use Rattle.std.specs.Bool.{OnTrue, OnFalse};
 ghost use Rattle.hyd_num.specs.Scaled.{numerator, denominator};
 ghost use Rattle.hyd_num.specs.Chain.{StandsFor, IsMade};
 ghost use Rattle.hyd_spec.specs.Enclosure.{IsEnclosure, IsSharp};
-ghost use Rattle.hyd_resist.specs.Refusal.{IsRefused};
+ghost use Rattle.hyd_num.specs.Refusal.{IsRefused};
 
 use hyd_num::{Capacity, Origin, Pair, Scaled};
 use thiserror::Error;

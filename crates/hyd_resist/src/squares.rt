@@ -8,7 +8,7 @@ ghost use Rattle.hyd_num.specs.Quantity.{billionths, flow_fraction, pressure_fra
 ghost use Rattle.hyd_num.specs.Chain.{IsPairOf, IsSquareOver, IsMade};
 ghost use Rattle.hyd_spec.specs.Enclosure.{IsEnclosure, IsSharp};
 ghost use Rattle.hyd_resist.specs.Ranges.{IsCoefficient, IsCurveFlow, ArePressures};
-ghost use Rattle.hyd_resist.specs.Refusal.{IsRefused};
+ghost use Rattle.hyd_num.specs.Refusal.{IsRefused};
 
 use crate::parts::{BILLION, nano};
 use crate::range::{CapRange, capacity, capacity_inside};

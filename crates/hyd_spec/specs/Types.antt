@@ -13,9 +13,11 @@ pub use Rattle.hyd_net.specs.declared.nodes.Demand.{Demand}
 pub use Rattle.hyd_net.specs.declared.nodes.Junction.{Junction}
 pub use Rattle.hyd_net.specs.declared.nodes.Reservoir.{Reservoir}
 pub use Rattle.hyd_net.specs.declared.nodes.Tank.{Tank}
+pub use Rattle.hyd_net.specs.declared.curves.VolumePoint.{VolumePoint}
+pub use Rattle.hyd_net.specs.declared.curves.HeadPoint.{HeadPoint}
 pub use Rattle.hyd_net.specs.declared.links.Link.{Link}
 pub use Rattle.hyd_net.specs.declared.links.LinkKind.{LinkKind}
-pub use Rattle.hyd_net.specs.declared.links.LinkKind.TheVariants.{Pipe as PipeLink, CheckPipe, Pump as PumpLink, Tcv, Fcv}
+pub use Rattle.hyd_net.specs.declared.links.LinkKind.TheVariants.{Pipe as PipeLink, CheckPipe, Pump as PumpLink, CurvePump, Tcv, Fcv, Gpv}
 pub use Rattle.hyd_net.specs.declared.links.LinkState.{LinkState}
 pub use Rattle.hyd_net.specs.declared.links.LinkState.TheVariants.{Open, Closed, Speed, Throttle, Limit}
 pub use Rattle.hyd_net.specs.declared.links.OpenValve.{OpenValve}
@@ -40,9 +42,3 @@ pub use Rattle.hyd_net.specs.declared.rules.Value.TheVariants.{Amount, Open as V
 pub use Rattle.hyd_net.specs.declared.rules.Action.{Action}
 pub use Rattle.hyd_spec.specs.declared.TankState.{TankState}
 pub use Rattle.hyd_spec.specs.declared.TankState.TheVariants.{Empty, Between, Full}
-pub use Rattle.hyd_spec.specs.declared.Problem.{Problem}
-pub use Rattle.hyd_spec.specs.declared.Problem.TheVariants.{Main, Pinned}
-pub use Rattle.hyd_spec.specs.declared.Side.{Side}
-pub use Rattle.hyd_spec.specs.declared.Side.TheVariants.{Upper, Lower}
-pub use Rattle.hyd_spec.specs.declared.StatusWord.{StatusWord}
-pub use Rattle.hyd_spec.specs.declared.StatusWord.TheVariants.{Open as WordOpen, Closed as WordClosed, Active as WordActive, Unsure as WordUnsure}

@@ -8,8 +8,6 @@
 mod conversion;
 mod numeral;
 mod printing;
-#[cfg(test)]
-mod tests;
 
 pub use conversion::{flow_ticks, head_ticks, pressure_ticks};
 pub use numeral::BUFFER_SIZE;

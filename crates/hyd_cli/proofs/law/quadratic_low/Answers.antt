@@ -1,6 +1,6 @@
 use Rattle.std.proofs.Common.{◌≡◌, pos, neg_ℤ, arith}
 use Rattle.std.proofs.lemmas.Int.{ints}
-use Rattle.hyd_spec.specs.Enclosing.{quadratic_low}
+use Rattle.hyd_spec_certificates.specs.Enclosing.{quadratic_low}
 use Rattle.hyd_cli.proofs.Quadratic.{upper_least, low_forward, low_reverse}
 use Rattle.hyd_cli.proofs.law.quadratic_low.Goals as goal
 

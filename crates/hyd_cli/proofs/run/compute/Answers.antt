@@ -1,8 +1,8 @@
 -- Tight heads fit 64 bits, since they lie in the box.
 use Rattle.std.proofs.Common.{◌≡◌, sym, subst, to_z, of_z, w64, arith}
 use Rattle.std.proofs.lemmas.Int.{ints}
-use Rattle.hyd_spec.specs.declared.Side.TheVariants.{Upper, Lower}
-use Rattle.hyd_spec.specs.Certificate.{IsInBox}
+use Rattle.hyd_spec_certificates.specs.declared.Side.TheVariants.{Upper, Lower}
+use Rattle.hyd_spec_certificates.specs.Certificate.{IsInBox}
 use Rattle.hyd_cli.specs.Solution.{IsTightHead}
 use Rattle.hyd_cli.proofs.RunLemmas.{tight_in_box}
 use Rattle.hyd_cli.proofs.run.compute.Goals as goal

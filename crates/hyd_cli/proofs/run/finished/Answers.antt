@@ -1,7 +1,7 @@
 -- The texts are those of a run that finished.
 use Rattle.std.proofs.Common.{◌≡◌, ◌∙◌, ap, sym, subst, to_z, of_z, to_z-of_z, w64, FitsSigned, string_bytes}
-use Rattle.hyd_spec.specs.declared.Side.TheVariants.{Upper, Lower}
-use Rattle.hyd_spec.specs.Certificate.{IsInBox}
+use Rattle.hyd_spec_certificates.specs.declared.Side.TheVariants.{Upper, Lower}
+use Rattle.hyd_spec_certificates.specs.Certificate.{IsInBox}
 use Rattle.hyd_cli.specs.Texts.{finished_certificate, IsFinishedReport}
 use Rattle.hyd_cli.proofs.RunLemmas.{tight_in_box, finished_run}
 use Rattle.hyd_cli.proofs.run.finished.Goals as goal

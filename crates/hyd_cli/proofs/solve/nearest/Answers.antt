@@ -1,6 +1,6 @@
 use Rattle.std.proofs.Common.{◌≡◌, ◌∙◌, sym, subst, w64, to_z, of_z, arith}
 use Rattle.std.proofs.lemmas.Int.{ints}
-use Rattle.hyd_spec.specs.Certificate.{IsInBox}
+use Rattle.hyd_spec_certificates.specs.Certificate.{IsInBox}
 use Rattle.hyd_cli.specs.SingleValve.{head_after, IsNearest}
 use Rattle.hyd_cli.proofs.Heads.{is_nearest, none_passes}
 use Rattle.hyd_cli.proofs.solve.nearest.Goals as goal

@@ -1,6 +1,6 @@
 use Rattle.std.proofs.Common.{◌≡◌, sym, subst, w64, to_z, of_z, arith}
 use Rattle.std.proofs.lemmas.Int.{ints}
-use Rattle.hyd_spec.specs.declared.Side.TheVariants.{Upper, Lower}
+use Rattle.hyd_spec_certificates.specs.declared.Side.TheVariants.{Upper, Lower}
 use Rattle.hyd_cli.specs.SingleValve.{IsNearest}
 use Rattle.hyd_cli.specs.Solution.{IsTightHead}
 use Rattle.hyd_cli.proofs.FirstSolution.{tight_head, before_upper, before_lower, lacks_certificate}

@@ -1,7 +1,7 @@
 -- The head difference fits, and so does the flow with its tolerance.
 use Rattle.std.proofs.Common.{◌≡◌, ◌-ℤ◌, ◌∙◌, ap, w64, to_z, of_z, arith}
 use Rattle.std.proofs.lemmas.Int.{ints}
-use Rattle.hyd_spec.specs.Enclosing.{quadratic_high}
+use Rattle.hyd_spec_certificates.specs.Enclosing.{quadratic_high}
 use Rattle.hyd_cli.proofs.texts.greatest_flow.Goals as goal
 
 pub returns-clause-value : goal.returns-clause-value

@@ -3,7 +3,7 @@ use Rattle.std.proofs.Common.{◌≡◌, ℕ, pos, ◌-ℤ◌, ◌+ℤ◌, List,
 use Rattle.std.specs.Int.{w128}
 use Rattle.std.proofs.lemmas.Int.{ints}
 use Rattle.hyd_cli.specs.Lines.{AppendsJunction, AppendsReservoir, AppendsValve}
-use Rattle.hyd_spec.specs.Enclosing.{quadratic_low, quadratic_high}
+use Rattle.hyd_spec_certificates.specs.Enclosing.{quadratic_low, quadratic_high}
 use Rattle.hyd_spec.specs.Lists.{joined}
 use Rattle.hyd_cli.proofs.TextLemmas.{first_report}
 use Rattle.hyd_cli.proofs.texts.report_of_heads.Goals as goal

@@ -13,6 +13,7 @@ invariant-loop-bytes g l = record {
   printed_stays : g.D.Desk.printed l.desk ≡ g.D.Desk.printed l.fn.desk;
   target_stays : g.D.Desk.target l.desk ≡ g.D.Desk.target l.fn.desk;
   ready_stays : g.D.Desk.ready l.desk ≡ g.D.Desk.ready l.fn.desk;
+  openings_stay : g.D.Desk.openings l.desk ≡ g.D.Desk.openings l.fn.desk;
 }
 
 abbrev pub decreases-loop-bytes : goal.decreases-loop-bytes

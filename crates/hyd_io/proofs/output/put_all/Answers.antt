@@ -14,4 +14,5 @@ loop-left-preserved g c = record {
   rest_stays = search rules;
   target_stays = search rules;
   ready_stays = search rules;
+  openings_stay = search rules;
 }

@@ -16,6 +16,7 @@ invariant-loop-left g l = record {
   rest_stays : g.D.Desk.rest l.desk ≡ g.D.Desk.rest l.fn.desk;
   target_stays : g.D.Desk.target l.desk ≡ g.D.Desk.target l.fn.desk;
   ready_stays : g.D.Desk.ready l.desk ≡ g.D.Desk.ready l.fn.desk;
+  openings_stay : g.D.Desk.openings l.desk ≡ g.D.Desk.openings l.fn.desk;
 }
 
 abbrev pub decreases-loop-left : goal.decreases-loop-left

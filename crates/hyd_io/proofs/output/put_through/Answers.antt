@@ -21,4 +21,5 @@ loop-rest-preserved g c = record {
   rest_stays = search rules;
   target_stays = search rules;
   ready_stays = search rules;
+  openings_stay = search rules;
 }

@@ -1,7 +1,7 @@
 use Rattle.std.proofs.Common.{refl}
-use Rattle.hyd_resist.proofs.Enclosures.{IsEnclosure-made}
-use Rattle.hyd_resist.proofs.Sharpness.{pair-sharp}
-use Rattle.hyd_resist.proofs.OnePair.{not_refused}
+use Rattle.hyd_lemmas.proofs.Enclosures.{IsEnclosure-made}
+use Rattle.hyd_lemmas.proofs.Sharpness.{pair-sharp}
+use Rattle.hyd_resist.proofs.Refusals.{not_refused}
 use Rattle.hyd_resist.proofs.range.capacity_inside.Goals as goal
 
 pub returns-clause-made : goal.returns-clause-made

@@ -1,0 +1,146 @@
+//! The desk on real files, tried on the system: which file a name opens, that a file keeps what was
+//! written, and that what is printed goes out. It prints a file that lies in a folder, and ends with
+//! status 0 where all is as it should be.
+#![tactic(auto)]
+
+use hyd_io::{Channel, Desk, Failed, FileDesk, InFault, OutFault, Pen, read_all};
+use std::alloc::{AllocError, Global};
+use std::process::ExitCode;
+use std::rt::Files;
+
+/// A file that lies there: a name of more than 31 bytes, in a folder.
+const GIVEN: &str = "folder/a_text_whose_name_is_longer_than_31_bytes.txt";
+
+/// Files that are made.
+const MADE: [&str; 3] = [
+    "made.tmp",
+    "folder/made.tmp",
+    "another_file_whose_name_is_longer_than_31_bytes.tmp",
+];
+
+/// How many bytes each of them gets by one call: more than any buffer holds.
+const LENGTH: usize = 120_000;
+
+/// What went wrong.
+enum Wrong {
+    /// There was no memory.
+    OutOfMemory,
+    /// A call failed or took nothing.
+    Fault,
+    /// A file didn't hold what it should, or one was there that shouldn't be.
+    Content,
+}
+
+impl From<AllocError> for Wrong {
+    fn from(_error: AllocError) -> Wrong {
+        Wrong::OutOfMemory
+    }
+}
+
+impl From<Failed> for Wrong {
+    fn from(_failed: Failed) -> Wrong {
+        Wrong::Fault
+    }
+}
+
+impl From<OutFault> for Wrong {
+    fn from(_fault: OutFault) -> Wrong {
+        Wrong::Fault
+    }
+}
+
+impl From<InFault> for Wrong {
+    fn from(fault: InFault) -> Wrong {
+        match fault {
+            InFault::OutOfMemory => Wrong::OutOfMemory,
+            InFault::Fault => Wrong::Fault,
+            InFault::TooLong => Wrong::Content,
+        }
+    }
+}
+
+/// Tries the desk on the files and the standard output of the host.
+fn main(rt: HostRuntime) -> ExitCode {
+    let alloc = rt.alloc();
+    let mut desk = FileDesk::new(rt);
+    match try_all(alloc, &mut desk) {
+        Ok(()) => ExitCode::SUCCESS,
+        Err(Wrong::OutOfMemory) => ExitCode::from(1),
+        Err(Wrong::Fault) => ExitCode::from(2),
+        Err(Wrong::Content) => ExitCode::from(3),
+    }
+}
+
+/// Prints the file that lies there, makes the others, and reads them back.
+fn try_all<R: Files + Print + Drop>(alloc: Global, desk: &mut FileDesk<R>) -> Result<(), Wrong> {
+    print_given(alloc, desk)?;
+    for (place, name) in MADE.iter().enumerate() {
+        make(desk, name, varied(alloc, place)?.as_slice())?;
+    }
+    for (place, name) in MADE.iter().enumerate() {
+        expect(alloc, desk, name, varied(alloc, place)?.as_slice())?;
+    }
+    match desk.open("no_such_file.tmp") {
+        Ok(()) => Err(Wrong::Content),
+        Err(_) => Ok(()),
+    }
+}
+
+/// Prints the whole file that lies there, by one call if it takes it all.
+fn print_given<R: Files + Print + Drop>(
+    alloc: Global,
+    desk: &mut FileDesk<R>,
+) -> Result<(), Wrong> {
+    desk.open(GIVEN)?;
+    let text = read_all(alloc, desk, LENGTH)?;
+    let printed = desk.print(text.as_slice())?;
+    let mut pen = Pen::new(Channel::Report);
+    pen.put(desk, &text[printed..])?;
+    pen.flush(desk)?;
+    Ok(())
+}
+
+/// Makes a file of these bytes, by one call if it takes them all.
+fn make<R: Files + Print + Drop>(
+    desk: &mut FileDesk<R>,
+    name: &str,
+    bytes: &[u8],
+) -> Result<(), Wrong> {
+    desk.create(name)?;
+    let written = desk.write(bytes)?;
+    let mut pen = Pen::new(Channel::Cert);
+    pen.put(desk, &bytes[written..])?;
+    pen.flush(desk)?;
+    Ok(())
+}
+
+/// Reads a file, a first part of it by one call, and compares it with the bytes.
+fn expect<R: Files + Print + Drop>(
+    alloc: Global,
+    desk: &mut FileDesk<R>,
+    name: &str,
+    bytes: &[u8],
+) -> Result<(), Wrong> {
+    desk.open(name)?;
+    let mut front = vec![in alloc; 0u8; LENGTH + 1]?;
+    let n = desk.read(front.as_mut_slice())?;
+    front.truncate(n);
+    let rest = read_all(alloc, desk, LENGTH)?;
+    front.extend_from_slice(rest.as_slice())?;
+    if front.as_slice() == bytes {
+        Ok(())
+    } else {
+        Err(Wrong::Content)
+    }
+}
+
+/// Bytes of all values in no order, others for each place.
+fn varied(alloc: Global, place: usize) -> Result<Vec<u8>, AllocError> {
+    let mut bytes = Vec::new(alloc);
+    let mut state = (place as u64).wrapping_add(1);
+    for _ in 0..LENGTH {
+        state = state.wrapping_mul(1_103_515_245).wrapping_add(12_345);
+        bytes.push(((state >> 16) % 256) as u8)?;
+    }
+    Ok(bytes)
+}

@@ -1,5 +1,0 @@
-use Rattle.std.proofs.Common.{refl}
-use Rattle.hyd_examples.proofs.decisions.carried.Goals as goal
-
-pub returns : goal.returns
-returns c = λ network tank junctions reservoirs tanks minimum maximum area. rw (tanks, junctions, reservoirs, area, maximum, minimum) refl

@@ -1,5 +1,0 @@
-use Rattle.hyd_laws.proofs.Levelling.{state_holds}
-use Rattle.hyd_laws.proofs.tanks.states.Goals as goal
-
-pub returns : goal.returns
-returns c = state_holds

@@ -1,0 +1,16 @@
+pub mod Integers
+pub mod Trials
+pub mod Each
+pub mod Fractions
+pub mod Enclosing
+pub mod Losses
+pub mod FeetLost
+pub mod SquaredFlows
+pub mod Enclosures
+pub mod Grains
+pub mod Widths
+pub mod Factors
+pub mod Products
+pub mod RootWidths
+pub mod Sharpness
+pub mod OnePair

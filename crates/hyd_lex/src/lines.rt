@@ -1,0 +1,177 @@
+//! The reader of lines.
+#![tactic(auto)]
+
+ghost use Rattle.std.specs.Prelude.{◌≡◌, ◌+◌, ◌-◌, ◌<◌, ◌≤◌, ◌^◌, [], ◌∷◌, length, take, drop, slice_get, slice_range, IfSome, IfNone, IfOk, IfErr};
+ghost use Rattle.std.specs.Str.Lines.{strip_carriage_return};
+ghost use Rattle.hyd_lex.specs.Bytes as form;
+ghost use Rattle.hyd_lex.specs.Bytes.{words_in, text_of};
+ghost use Rattle.hyd_lex.specs.Lines.{items_of, item_of, row_of, LiesIn};
+ghost use Rattle.hyd_lex.specs.Lines as lines_form;
+
+use crate::bytes::{body, first_line, is_plain, word};
+use crate::fault::{LexCause, LexFault};
+use crate::headings::heading_kind;
+use crate::line::Line;
+use crate::section::{Kind, Region};
+use std::marker::Model;
+
+// The most bytes of a line.
+const LONGEST: usize = 1_024;
+
+/// The reader of a text's lines. It stands for the text and for what is still to come: the rows of its sections that
+/// are read, and the fault that ends them, where there is one.
+#[derive(Drop)]
+pub struct Lines<'a> {
+    text: &'a [u8],
+    at: usize,
+    number: u32,
+    region: Region,
+}
+
+impl<'a> Model for Lines<'a> {
+    ghost use Rattle.std.specs.Prelude.{◌≤◌, ◌^◌, ◌+◌, length, drop};
+    ghost use Rattle.hyd_lex.specs.Lines.{Reading, items};
+    ghost use Rattle.hyd_lex.specs.Bytes.{text_lines};
+
+    ghost Value = { Reading };
+
+    ghost view = { λ s. record { text = s.text.now; rest = items s.region (s.number + 1) (text_lines (drop s.at s.text.now)) } };
+
+    ghost invariant = { λ s. (length s.text.now ≤ 2 ^ 26) × (s.at ≤ length s.text.now) × (s.number ≤ s.at) };
+}
+
+// What a line with a word that is no heading is.
+fn row_kind(region: Region, body: &[u8]) -> Kind
+    ensures { result ≡ lines_form.row_kind region body.now }
+{
+    match region {
+        Region::BeforeHeadings => Kind::Wrong(LexCause::NoSection),
+        Region::Read(section) => {
+            if is_plain(body) {
+                Kind::Row(section)
+            } else {
+                Kind::Wrong(LexCause::NotAscii)
+            }
+        }
+        Region::PassedOver => Kind::Nothing,
+        Region::Ended => Kind::Nothing,
+    }
+}
+
+// What a line is by its body, which is what stands before its comment.
+fn body_kind(region: Region, body: &[u8]) -> Kind
+    ensures { result ≡ lines_form.body_kind region body.now (words_in body.now) }
+{
+    let Some(first) = word(body, 0) else {
+        return Kind::Nothing;
+    };
+    if first.is_empty() || first[0] != b'[' {
+        return row_kind(region, body);
+    }
+    if !is_plain(body) {
+        return Kind::Wrong(LexCause::NotAscii);
+    }
+    if word(body, 1).is_some() {
+        return Kind::Wrong(LexCause::UnknownSection);
+    }
+    heading_kind(first)
+}
+
+// What a line is in a region that is read.
+fn line_kind(region: Region, line: &[u8]) -> Kind
+    ensures { result ≡ lines_form.line_kind region line.now }
+{
+    if line.len() > LONGEST {
+        return Kind::Wrong(LexCause::LongLine);
+    }
+    body_kind(region, body(line))
+}
+
+/// What a line is in a region.
+#[tactic(auto, unfolding(crate::specs::Lines::kind_of))]
+fn kind_of(region: Region, line: &[u8]) -> Kind
+    ensures { result ≡ lines_form.kind_of region line.now }
+{
+    match region {
+        Region::Ended => Kind::Nothing,
+        _ => line_kind(region, line),
+    }
+}
+
+/// The region after a line of a kind.
+fn region_after(region: Region, kind: Kind) -> Region
+    ensures { result ≡ lines_form.region_after region kind }
+{
+    match kind {
+        Kind::Nothing => region,
+        Kind::Wrong(_) => Region::Ended,
+        Kind::Row(_) => region,
+        Kind::Opens(next) => next,
+    }
+}
+
+impl<'a> Lines<'a> {
+    /// The reader at the start of a text of at most 64 MiB.
+    #[tactic(auto, unfolding(crate::specs::Lines::items_of))]
+    pub fn new(text: &'a [u8]) -> Lines<'a>
+        requires { length text.now ≤ 2 ^ 26 }
+        ensures text { result.text ≡ text.now }
+        ensures rest { result.rest ≡ items_of text.now }
+        ensures few { length result.rest ≤ length text.now }
+    {
+        Lines {
+            text,
+            at: 0,
+            number: 0,
+            region: Region::BeforeHeadings,
+        }
+    }
+
+    /// The next line that has a word in a section that is read. A fault comes exactly at the first line that breaks a
+    /// rule of lines; `None` exactly after the last line to give, and after a fault. Blank lines, headings and the
+    /// lines of sections that are passed over aren't given.
+    pub fn next(&mut self) -> Option<Result<Line, LexFault>>
+        ensures text { self.new.text ≡ self.old.text }
+        ensures none { IfNone result ((self.old.rest ≡ []) × (self.new.rest ≡ [])) }
+        ensures some { IfSome result (λ item. self.old.rest ≡ item_of self.old.text item ∷ self.new.rest) }
+        ensures fault { IfSome result (λ item. IfErr item (λ _. self.new.rest ≡ [])) }
+        ensures lies { IfSome result (λ item. IfOk item (LiesIn self.old.text)) }
+    {
+        while self.at < self.text.len() {
+            let from = self.at;
+            let (line, used) = first_line(&self.text[from..]);
+            self.number += 1;
+            self.at += used;
+            let kind = kind_of(self.region, line);
+            self.region = region_after(self.region, kind);
+            match kind {
+                Kind::Nothing => {}
+                Kind::Wrong(cause) => {
+                    return Some(Err(LexFault {
+                        line: self.number,
+                        cause,
+                    }));
+                }
+                Kind::Row(section) => {
+                    return Some(Ok(Line {
+                        number: self.number,
+                        section,
+                        from: from as u32,
+                        to: (from + body(line).len()) as u32,
+                    }));
+                }
+                Kind::Opens(_) => {}
+            }
+        }
+        None
+    }
+
+    /// The word of a line by its number, counted from 0. `None` comes exactly where the line has no such word. The line
+    /// is read anew for each word.
+    pub fn word(&self, line: &Line, number: u32) -> Option<&'a [u8]>
+        requires { LiesIn self.now.text line.now }
+        ensures { text_of result ≡ slice_get (row_of self.now.text line.now).words number }
+    {
+        word(&self.text[line.from as usize..line.to as usize], number)
+    }
+}

@@ -1,0 +1,11 @@
+use Rattle.std.proofs.Common.{refl}
+use Rattle.hyd_spec_cases.proofs.cities.laws.Goals as goal
+
+pub returns-clause-between : goal.returns-clause-between
+returns-clause-between c = λ network parts shutoff head pattern unit junctions reservoirs is. rw (junctions, reservoirs, unit, is) refl
+
+pub returns-clause-full : goal.returns-clause-full
+returns-clause-full c = λ network parts shutoff head pattern unit junctions reservoirs is. rw (junctions, reservoirs, unit, is) refl
+
+pub returns-clause-empty : goal.returns-clause-empty
+returns-clause-empty c = λ network parts shutoff head pattern unit junctions reservoirs is. rw (junctions, reservoirs, unit, is) refl

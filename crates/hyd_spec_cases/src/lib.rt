@@ -1,0 +1,23 @@
+//! The definitions of the network and of its numbers, each compared on small cases with an
+//! independent calculation in exact whole numbers and fractions. Each function's contract is a
+//! table of computed values, or says which texts and vectors a definition takes. No function
+//! here has a body.
+#![tactic(auto)]
+
+pub mod capacities;
+pub mod certificates;
+pub mod cities;
+pub mod decisions;
+pub mod enclosing;
+pub mod forms;
+pub mod levels;
+pub mod links;
+pub mod losses;
+pub mod net_outflows;
+pub mod numbers;
+pub mod outcomes;
+pub mod parts;
+pub mod quantities;
+pub mod rules;
+pub mod starts;
+pub mod texts;

@@ -1,0 +1,266 @@
+-- Decided matters: what certificates leave no doubt about. A matter is decided where it has one answer for all
+-- points of the intervals.
+-- Source: this program's; the matters are those of EPANET 2.2 User Manual, chapter 3 (tanks, controls, time steps).
+use Rattle.std.specs.Prelude.{◌≡◌, ◌≢◌, ℕ, suc, ◌+◌, ◌%◌, ◌<◌, ◌≤◌, ℤ, pos, neg_ℤ, Bool, true, false, IsTrue, IsFalse, ◌⊎◌, List, [], ◌∷◌, ◌++◌, Option, Some, None, map, slice_get, slice_index_or, if◌then◌else◌, int_le, unsigned_abs, Contains, position}
+use Rattle.std.specs.Int.{int_max}
+use Rattle.std.specs.List.{list_any}
+use Rattle.hyd_spec.specs.Types.{Project, Tank, LinkState, Control, When, AtLevel, Rule, RuleClause, Clause}
+use Rattle.hyd_spec.specs.declared.TankState.{TankState}
+use Rattle.hyd_spec_certificates.specs.declared.Problem.TheVariants.{Main}
+use Rattle.hyd_spec_certificates.specs.declared.Side.TheVariants.{Upper, Lower}
+use Rattle.hyd_spec.specs.Lists.{map_from, present}
+use Rattle.hyd_num.specs.Rational.{whole, floor, ceiling}
+use Rattle.hyd_spec_certificates.specs.Interval.{Interval, exactly}
+use Rattle.hyd_spec.specs.Network.{tank_node}
+use Rattle.hyd_spec.specs.Tank.{reaches}
+use Rattle.hyd_spec.specs.LinkLaw.{is_full, is_empty}
+use Rattle.hyd_spec.specs.Start.{started}
+use Rattle.hyd_spec.specs.Rules.{Readings, Change, clause_holds, groups_of, rule_changes, measured}
+use Rattle.hyd_spec.specs.Length.{IsLeast, EndsByClock}
+use Rattle.hyd_spec_certificates.specs.Grid.{Grid, all_heads}
+use Rattle.hyd_spec_certificates.specs.Boxes.{flow_box, inflow_box}
+use Rattle.hyd_spec_certificates.specs.Record.{Record, Standing}
+use Rattle.hyd_spec_certificates.specs.Levels.{carried_levels, may_reach, must_reach}
+use Rattle.hyd_spec_certificates.specs.Truth.{Truth, at_both_ends, is_yes, is_unknown, some_holds, all_hold}
+
+-- ---- intervals of a period
+
+-- Heads of all nodes below (head ticks), from the LOWER vector with all tanks alike.
+abbrev pub heads_below : Grid → Record → List ℤ
+heads_below grid row = all_heads grid Main Lower row.main.lower
+
+-- Heads of all nodes above (head ticks), from the UPPER vector with all tanks alike.
+abbrev pub heads_above : Grid → Record → List ℤ
+heads_above grid row = all_heads grid Main Upper row.main.upper
+
+-- The flow box of each link (flow ticks).
+abbrev pub flow_boxes : Grid → Record → List Interval
+flow_boxes grid row = map (λ link. flow_box link (heads_below grid row) (heads_above grid row)) grid.links
+
+-- The inflow box of each tank, from the vectors with it pinned.
+abbrev pub inflow_boxes : Project → Grid → Record → List Interval
+inflow_boxes network grid row =
+    map_from (λ k vectors. inflow_box grid k (tank_node network k) vectors.lower vectors.upper) 0 row.pinned
+
+-- What stands for the interval of a tank that isn't there.
+abbrev pub nowhere : Interval
+nowhere = exactly (pos 0)
+
+-- The level interval (head ticks) of tank number k at the start.
+abbrev pub level_of_tank : Standing → ℕ → Interval
+level_of_tank standing k = slice_index_or standing.levels k nowhere
+
+-- The inflow interval (flow ticks) of tank number k.
+abbrev pub inflow_of_tank : Project → Grid → Record → ℕ → Interval
+inflow_of_tank network grid row k = slice_index_or (inflow_boxes network grid row) k nowhere
+
+-- ---- level controls
+
+-- A level control on a level interval.
+abbrev pub control_truth : Interval → Bool → ℤ → Truth
+control_truth level above ticks = at_both_ends (reaches 1 above ticks (whole level.lo)) (reaches 1 above ticks (whole level.hi))
+
+-- Whether a level control acts at the level intervals of a standing, where it is decided.
+abbrev pub acts_on : List Interval → ℕ → Bool → ℤ → Bool
+acts_on levels tank above ticks = is_yes (control_truth (slice_index_or levels tank nowhere) above ticks)
+
+-- The link states of the period that begins at a standing.
+abbrev pub links_at : Project → Standing → List LinkState
+links_at network standing = started network standing.time (acts_on standing.levels) standing.commanded
+
+-- ---- events
+
+-- A level (head ticks) that is watched: a tank that isn't full for its maximum, one that isn't empty for its minimum, and the
+-- tank of a level control that doesn't hold for the control's level.
+pub record Watch : Type 0 where
+  pub tank : ℕ
+  pub target : ℤ
+  pub rising : Bool
+
+-- The bounds that tanks in these states are watched for, from tank number k on.
+abbrev pub tank_watches : ℕ → List Tank → List TankState → List Watch
+tank_watches k [] states = []
+tank_watches k (tank ∷ tanks) [] = []
+tank_watches k (tank ∷ tanks) (state ∷ states) =
+    (if is_full state then [] else record { tank = k; target = tank.maximum; rising = true } ∷ [])
+    ++ ((if is_empty state then [] else record { tank = k; target = tank.minimum; rising = false } ∷ [])
+    ++ tank_watches (suc k) tanks states)
+
+-- A level control that doesn't hold at the start (each is decided there).
+abbrev pub watch_of : List Interval → Control → Option Watch
+watch_of levels control = by_when control.when
+  where
+    by_when : When → Option Watch
+    by_when (AtLevel tank above ticks) =
+        if acts_on levels tank above ticks then None
+        else Some (record { tank = tank; target = ticks; rising = above })
+    by_when when = None
+
+-- All levels that are watched during the period: bounds of tanks, then levels of controls.
+abbrev pub watches : Project → Standing → List Watch
+watches network standing =
+    tank_watches 0 network.tanks.list standing.tanks
+    ++ present (map (watch_of standing.levels) network.controls.list)
+
+-- A watched level reaches its target some seconds after the start, by a test of its tank, of the intervals of its
+-- level and inflow, of the target and its direction, and of the seconds.
+pub record SomeReaches (test : Tank → Interval → Interval → ℤ → Bool → ℕ → Bool)
+    (network : Project) (grid : Grid) (standing : Standing) (row : Record) (seconds : ℕ) : Type 0 where
+  pub watch : Watch
+  pub is_watched : Contains (watches network standing) watch
+  pub tank : Tank
+  pub is_tank : slice_get network.tanks.list watch.tank ≡ Some tank
+  pub reached : IsTrue (test tank (level_of_tank standing watch.tank) (inflow_of_tank network grid row watch.tank)
+      watch.target watch.rising seconds)
+
+-- A watched level may have reached its target some seconds after the start.
+abbrev pub SomeMayReach : Project → Grid → Standing → Record → ℕ → Type 0
+SomeMayReach network grid standing row seconds = SomeReaches may_reach network grid standing row seconds
+
+-- A watched level must have reached its target some seconds after the start.
+abbrev pub SomeMustReach : Project → Grid → Standing → Record → ℕ → Type 0
+SomeMustReach network grid standing row seconds = SomeReaches must_reach network grid standing row seconds
+
+-- The length that the clock allows a period.
+abbrev pub IsClockLength : Project → ℕ → ℕ → Type 0
+IsClockLength network time cap = IsLeast (EndsByClock network time) (time + cap)
+
+-- The earliest second after the start at which the clock or an event may end the period.
+abbrev pub IsEarliestEnd : Project → Grid → Standing → Record → ℕ → Type 0
+IsEarliestEnd network grid standing row second =
+    IsLeast (λ s. IsClockLength network standing.time s ⊎ ((1 ≤ s) × SomeMayReach network grid standing row s)) second
+
+-- The first second after the start by which the clock or an event must have ended the period: its latest end.
+abbrev pub IsLatestEnd : Project → Grid → Standing → Record → ℕ → Type 0
+IsLatestEnd network grid standing row second =
+    IsLeast (λ s. IsClockLength network standing.time s ⊎ ((1 ≤ s) × SomeMustReach network grid standing row s)) second
+
+-- ---- rules
+
+-- The least magnitude of the numbers of an interval.
+abbrev pub least_magnitude : Interval → ℕ
+least_magnitude x =
+    if int_le (pos 0) x.lo then unsigned_abs x.lo
+    else if int_le x.hi (pos 0) then unsigned_abs x.hi
+    else 0
+
+-- The greatest magnitude of the numbers of an interval.
+abbrev pub greatest_magnitude : Interval → ℕ
+greatest_magnitude x = unsigned_abs (int_max x.hi (neg_ℤ x.lo))
+
+-- The carried level intervals some seconds after the start.
+abbrev pub carried_at : Project → Grid → Standing → Record → ℕ → List Interval
+carried_at network grid standing row seconds =
+    map_from (λ k tank. carried_levels tank (level_of_tank standing k) (inflow_of_tank network grid row k) seconds) 0 network.tanks.list
+
+-- What the rules look at, from below.
+abbrev pub readings_below : Project → Grid → Standing → Record → ℕ → Readings
+readings_below network grid standing row seconds = record {
+  heads = heads_below grid row;
+  levels = map (λ level. whole level.lo) (carried_at network grid standing row seconds);
+  flows = map least_magnitude (flow_boxes grid row);
+  links = links_at network standing;
+}
+
+-- What the rules look at, from above.
+abbrev pub readings_above : Project → Grid → Standing → Record → ℕ → Readings
+readings_above network grid standing row seconds = record {
+  heads = heads_above grid row;
+  levels = map (λ level. whole level.hi) (carried_at network grid standing row seconds);
+  flows = map greatest_magnitude (flow_boxes grid row);
+  links = links_at network standing;
+}
+
+-- A clause at an instant, `seconds` after the start. Comparisons go one way, so that both ends decide.
+abbrev pub clause_truth : Project → Grid → Standing → Record → ℕ → Clause → Truth
+clause_truth network grid standing row seconds clause =
+    at_both_ends
+    (clause_holds network 1 (standing.time + seconds) (readings_below network grid standing row seconds) clause)
+    (clause_holds network 1 (standing.time + seconds) (readings_above network grid standing row seconds) clause)
+
+-- The truth of a rule some seconds after the start, by three-valued logic over its groups.
+abbrev pub rule_truth : Project → Grid → Standing → Record → ℕ → Rule → Truth
+rule_truth network grid standing row seconds rule =
+    all_hold (map (λ group. some_holds (map (clause_truth network grid standing row seconds) group)) (groups_of rule))
+
+-- The truths of all rules, in order.
+abbrev pub rule_truths : Project → Grid → Standing → Record → ℕ → List Truth
+rule_truths network grid standing row seconds =
+    map (rule_truth network grid standing row seconds) network.rules.list
+
+-- What the rules change at an instant at which all of them are decided.
+abbrev pub decided_changes : Project → Grid → Standing → Record → ℕ → List Change
+decided_changes network grid standing row seconds =
+    rule_changes network (map is_yes (rule_truths network grid standing row seconds)) (links_at network standing)
+
+-- The rules are tried some seconds after the start: at a multiple of the rule step.
+pub record IsTried (network : Project) (standing : Standing) (seconds : ℕ) : Type 0 where
+  pub later : 0 < seconds
+  pub is_multiple : (standing.time + seconds) % network.times.rule ≡ 0
+
+-- The rules matter there: one is open, or they change a link.
+pub record RulesMatter (network : Project) (grid : Grid) (standing : Standing) (row : Record) (seconds : ℕ) : Type 0 where
+  pub tried : IsTried network standing seconds
+  pub matters : IsTrue (list_any is_unknown (rule_truths network grid standing row seconds))
+      ⊎ (decided_changes network grid standing row seconds ≢ [])
+
+-- ---- the end of a period
+
+-- A rule that is open: the first open rule, its first clause that is open by itself, and what that clause
+-- measures from below and above, in head or flow ticks, of a flow its magnitude.
+pub record OpenRule : Type 0 where
+  pub rule : ℕ
+  pub clause : ℕ
+  pub lo : ℤ
+  pub hi : ℤ
+
+-- Some seconds after the start this is the open rule.
+pub record IsOpenRule (network : Project) (grid : Grid) (standing : Standing) (row : Record) (seconds : ℕ) (open_rule : OpenRule) : Type 0 where
+  pub first_rule : position is_unknown (rule_truths network grid standing row seconds) ≡ Some open_rule.rule
+  pub rule : Rule
+  pub is_rule : slice_get network.rules.list open_rule.rule ≡ Some rule
+  pub first_clause : position (λ each. is_unknown (clause_truth network grid standing row seconds each.clause)) rule.clauses.list
+      ≡ Some open_rule.clause
+  pub each : RuleClause
+  pub is_clause : slice_get rule.clauses.list open_rule.clause ≡ Some each
+  pub below : open_rule.lo ≡ floor (measured network 1 (readings_below network grid standing row seconds) each.clause.what)
+  pub above : open_rule.hi ≡ ceiling (measured network 1 (readings_above network grid standing row seconds) each.clause.what)
+
+-- How a period that doesn't begin at the end of the run ends: after so many seconds, by the rules or without them;
+-- or it is open by a rule, or between two seconds.
+pub data End : Type 0 where
+  ByRules : ℕ → End
+  WithoutRules : ℕ → End
+  RuleIsOpen : OpenRule → End
+  EventIsOpen : ℕ → ℕ → End
+
+-- The first instant at which the rules matter, up to the earliest end, of a period that doesn't begin at the end of the run.
+pub record IsFirstMatter (network : Project) (grid : Grid) (standing : Standing) (row : Record) (seconds : ℕ) : Type 0 where
+  pub not_last : standing.time ≢ network.times.duration
+  pub earliest : ℕ
+  pub is_earliest : IsEarliestEnd network grid standing row earliest
+  pub in_time : seconds ≤ earliest
+  pub first : IsLeast (RulesMatter network grid standing row) seconds
+
+-- The rules matter at no instant up to the earliest end, in such a period.
+pub record NoRuleMatters (network : Project) (grid : Grid) (standing : Standing) (row : Record) (earliest : ℕ) : Type 0 where
+  pub not_last : standing.time ≢ network.times.duration
+  pub is_earliest : IsEarliestEnd network grid standing row earliest
+  pub none : (seconds : ℕ) → RulesMatter network grid standing row seconds → earliest < seconds
+
+-- The certificates of the record decide the end so. Where a rule is open at the first instant at which the rules
+-- matter, the end is open by it; where they only change links there, it goes to that instant; where they
+-- matter at no instant up to the earliest end, it is decided exactly where the latest end is the same.
+pub data EndsBy (network : Project) (grid : Grid) (standing : Standing) (row : Record) : End → Type 0 where
+  by_rules : {seconds : ℕ} → IsFirstMatter network grid standing row seconds
+      → IsFalse (list_any is_unknown (rule_truths network grid standing row seconds))
+      → EndsBy network grid standing row (ByRules seconds)
+  rule_is_open : {seconds : ℕ} {open_rule : OpenRule} → IsFirstMatter network grid standing row seconds
+      → IsOpenRule network grid standing row seconds open_rule
+      → EndsBy network grid standing row (RuleIsOpen open_rule)
+  by_clock : {second : ℕ} → NoRuleMatters network grid standing row second
+      → IsLatestEnd network grid standing row second
+      → EndsBy network grid standing row (WithoutRules second)
+  event_is_open : {earliest latest : ℕ} → NoRuleMatters network grid standing row earliest
+      → IsLatestEnd network grid standing row latest → earliest ≢ latest
+      → EndsBy network grid standing row (EventIsOpen earliest latest)

@@ -1,0 +1,13 @@
+pub mod Interval
+pub mod Enclosing
+pub mod Grid
+pub mod NetOutflow
+pub mod Certificate
+pub mod Climbing
+pub mod Boxes
+pub mod Levels
+pub mod Truth
+pub mod Record
+pub mod Decided
+pub mod Valid
+pub mod Narrow

@@ -1,0 +1,32 @@
+//! Definitions alone: intervals, what a certificate claims, which matters it decides, and when a record of one is
+//! valid. No function here has a body.
+#![tactic(auto)]
+
+/// Which heads the tanks have in a comparison.
+#[derive(Debug, Clone, Copy, PartialEq, Eq, Drop)]
+pub enum Problem {
+    /// Each tank at the end of its level interval that lies on the side of the vector.
+    Main,
+    /// The tank of this number at the other end, all others as in `Main`.
+    Pinned(u32),
+}
+
+/// On which side of the heads of every assignment a vector lies (supersolutions and subsolutions of
+/// Ortega and Rheinboldt 1970).
+#[derive(Debug, Clone, Copy, PartialEq, Eq, Drop)]
+pub enum Side {
+    /// Above: on balance water flows out of every junction.
+    Upper,
+    /// Below: on balance water flows into every junction.
+    Lower,
+}
+
+/// A junction, by its number, that is held at a head: of it is asked that it stands at that head, and not that its
+/// balance passes (Dirichlet condition at one node of the network).
+#[derive(Debug, Clone, Copy, PartialEq, Eq, Drop)]
+pub struct HeldJunction {
+    /// Its number among the junctions, counted from 0.
+    pub junction: u32,
+    /// The head that it is held at, in head ticks.
+    pub head: i64,
+}

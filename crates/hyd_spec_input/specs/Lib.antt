@@ -1,0 +1,16 @@
+pub mod FirstForm
+pub mod Columns
+pub mod Keywords
+pub mod Moments
+pub mod NetworkRows
+pub mod DataRows
+pub mod OptionRows
+pub mod ControlRows
+pub mod RuleRows
+pub mod Tables
+pub mod ByItself
+pub mod InForce
+pub mod Curves
+pub mod WithOthers
+pub mod Capacities
+pub mod Faults

@@ -1,0 +1,201 @@
+-- What is decided by the ends of intervals is so at every point between them.
+use Rattle.std.proofs.Common.{◌≡◌, ℕ, ◌*◌, ◌^◌, ◌<◌, ℤ, pos, ◌+ℤ◌, ◌*ℤ◌, ◌≤ℤ◌, ◌<ℤ◌, refl, sym, subst, arith, Bool, true, false, ◌&&◌, ◌||◌, List, [], ◌∷◌, inl, inr}
+use Rattle.std.specs.Prelude.{int_lt, unsigned_abs, map}
+use Rattle.std.specs.List.{AllByRecursion, list_any, list_all}
+use Rattle.std.proofs.Math.IntN.{*ℤ_comm}
+use Rattle.std.proofs.lemmas.Int.{ints}
+use Rattle.std.proofs.lemmas.Bool.{cases_Bool}
+use Rattle.hyd_num.proofs.Integers.{times_rises, times_reflects}
+use Rattle.hyd_num.specs.Rational.{Rational, is_at_most, is_less, whole}
+use Rattle.hyd_spec.specs.Types.{Tank, Clause, Relation, Less, NotMore, More, NotLess, Equal, Unequal}
+use Rattle.hyd_spec_certificates.specs.Interval.{Interval}
+use Rattle.hyd_spec.specs.Scale.{at_scale}
+use Rattle.hyd_spec.specs.Tank.{exact_level, reaches}
+use Rattle.hyd_spec.specs.Rules.{compares}
+use Rattle.hyd_spec_certificates.specs.Levels.{may_reach, must_reach}
+use Rattle.hyd_spec_certificates.specs.Truth.{Truth, Yes, No, Unknown, at_both_ends, either, both, some_holds, all_hold}
+use Rattle.hyd_spec_certificates.specs.Decided.{control_truth}
+use Rattle.hyd_spec_laws.specs.Laws.{LiesIn, IsAtMost, IsOneWay, Tells, TellEach}
+use Rattle.hyd_spec_laws.proofs.EachLaw.{exchanged}
+use Rattle.hyd_spec_laws.proofs.Outflows.{le-yes}
+use Rattle.hyd_spec_laws.proofs.Levelling.{above-yes, below-yes, one_times, scaled_low, scaled_high, le-from}
+
+-- ---- values
+
+-- at most, along a value between
+at_most_along : (x y z : Rational) → 0 < y.den → IsAtMost x y → IsAtMost y z → IsAtMost x z
+at_most_along x y z above a b = record {
+  crossed =
+      let p = times_rises z.den (pos y.den *ℤ x.num) (pos x.den *ℤ y.num) (omega (arith, ints, a.crossed, *ℤ_comm x.num (pos y.den), *ℤ_comm y.num (pos x.den))) in
+      let q = times_rises x.den (pos z.den *ℤ y.num) (pos y.den *ℤ z.num) (omega (arith, ints, b.crossed, *ℤ_comm y.num (pos z.den), *ℤ_comm z.num (pos y.den))) in
+      let r : (pos z.den *ℤ x.num) ≤ℤ (pos x.den *ℤ z.num) = times_reflects y.den (pos z.den *ℤ x.num) (pos x.den *ℤ z.num) above
+      (omega (arith, ints, p, q, exchanged y.den z.den x.num, exchanged z.den x.den y.num, exchanged y.den x.den z.num)) in
+      omega (arith, ints, r, *ℤ_comm x.num (pos z.den), *ℤ_comm z.num (pos x.den));
+}
+
+most-yes : (x y : Rational) → is_at_most x y ≡ true → IsAtMost x y
+most-yes x y e = record { crossed = le-yes (x.num *ℤ pos y.den) (y.num *ℤ pos x.den) e }
+
+most-from : (x y : Rational) → IsAtMost x y → is_at_most x y ≡ true
+most-from x y h = le-from (x.num *ℤ pos y.den) (y.num *ℤ pos x.den) h.crossed
+
+most-no : (x y : Rational) → is_at_most x y ≡ false → IsAtMost x y → ⊥
+most-no x y e h = let a = most-from x y h in absurd (cc)
+
+lt-yes : (a b : ℤ) → int_lt a b ≡ true → a <ℤ b
+lt-yes a b e = grind (arith, ints)
+
+lt-no : (a b : ℤ) → int_lt a b ≡ false → b ≤ℤ a
+lt-no a b e = grind (arith, ints)
+
+-- less is not at least
+less-yes : (x y : Rational) → is_less x y ≡ true → IsAtMost y x → ⊥
+less-yes x y e h = let a = lt-yes (x.num *ℤ pos y.den) (y.num *ℤ pos x.den) e in let b = h.crossed in absurd (omega (arith, ints, a, b))
+
+less-from : (x y : Rational) → (IsAtMost y x → ⊥) → is_less x y ≡ true
+less-from x y h = elim (cases_Bool (is_less x y)) [
+  | inl held ↦ held
+  | inr fails ↦ absurd (h (record { crossed = lt-no (x.num *ℤ pos y.den) (y.num *ℤ pos x.den) fails }))
+]
+
+-- ---- ends of intervals
+
+-- what holds at a greater value wherever at a lesser one, and the other way round
+rising : (l m h : Bool) → (l ≡ true → m ≡ true) → (m ≡ true → h ≡ true) → Tells (at_both_ends l h) m
+rising true m true p q = p refl
+rising true m false p q = tt
+rising false m true p q = tt
+rising false true false p q = let w = q refl in cc
+rising false false false p q = refl
+
+falling : (l m h : Bool) → (h ≡ true → m ≡ true) → (m ≡ true → l ≡ true) → Tells (at_both_ends l h) m
+falling true m true p q = p refl
+falling true m false p q = tt
+falling false m true p q = tt
+falling false true false p q = let w = q refl in cc
+falling false false false p q = refl
+
+-- a comparison that both ends decide is decided so between them
+pub compare_tells : (relation : Relation) (lo x hi amount : Rational) → IsOneWay relation → 0 < lo.den → 0 < x.den → 0 < hi.den → IsAtMost lo x → IsAtMost x hi
+    → Tells (at_both_ends (compares relation lo amount) (compares relation hi amount)) (compares relation x amount)
+compare_tells NotMore lo x hi amount way pl px ph below above = falling (is_at_most lo amount) (is_at_most x amount) (is_at_most hi amount)
+    (λ e. most-from x amount (at_most_along x hi amount ph above (most-yes hi amount e)))
+    (λ e. most-from lo amount (at_most_along lo x amount px below (most-yes x amount e)))
+compare_tells NotLess lo x hi amount way pl px ph below above = rising (is_at_most amount lo) (is_at_most amount x) (is_at_most amount hi)
+    (λ e. most-from amount x (at_most_along amount lo x pl (most-yes amount lo e) below))
+    (λ e. most-from amount hi (at_most_along amount x hi px (most-yes amount x e) above))
+compare_tells Less lo x hi amount way pl px ph below above = falling (is_less lo amount) (is_less x amount) (is_less hi amount)
+    (λ e. less-from x amount (λ h. less-yes hi amount e (at_most_along amount x hi px h above)))
+    (λ e. less-from lo amount (λ h. less-yes x amount e (at_most_along amount lo x pl h below)))
+compare_tells More lo x hi amount way pl px ph below above = rising (is_less amount lo) (is_less amount x) (is_less amount hi)
+    (λ e. less-from amount x (λ h. less-yes amount lo e (at_most_along lo x amount px below h)))
+    (λ e. less-from amount hi (λ h. less-yes amount x e (at_most_along x hi amount ph above h)))
+compare_tells Equal lo x hi amount way pl px ph below above = absurd way
+compare_tells Unequal lo x hi amount way pl px ph below above = absurd way
+
+-- ---- levels
+
+above-from : (S : ℕ) (t : ℤ) (x : Rational) → (pos x.den *ℤ (pos S *ℤ t)) ≤ℤ x.num → is_at_most (whole (at_scale S t)) x ≡ true
+above-from S t x h = le-from ((pos S *ℤ t) *ℤ pos x.den) (x.num *ℤ pos 1) (omega (arith, ints, h, *ℤ_comm (pos S *ℤ t) (pos x.den)))
+
+below-from : (S : ℕ) (t : ℤ) (x : Rational) → x.num ≤ℤ (pos x.den *ℤ (pos S *ℤ t)) → is_at_most x (whole (at_scale S t)) ≡ true
+below-from S t x h = le-from (x.num *ℤ pos 1) ((pos S *ℤ t) *ℤ pos x.den) (omega (arith, ints, h, *ℤ_comm (pos S *ℤ t) (pos x.den)))
+
+-- a level y in ticks and x in S-th parts, over one denominator
+reach-under : (S B : ℕ) (t y x : ℤ) → (pos S *ℤ y) ≤ℤ x → reaches 1 true t (record { num = y; den = B }) ≡ true → reaches S true t (record { num = x; den = B }) ≡ true
+reach-under S B t y x le e = above-from S t (record { num = x; den = B })
+    (let a = subst (λ (z : ℤ). (pos B *ℤ z) ≤ℤ y) (one_times t) (above-yes 1 t (record { num = y; den = B }) e) in
+    let b = times_rises S (pos B *ℤ t) y a in omega (arith, ints, b, le, exchanged S B t))
+
+reach-over : (S B : ℕ) (t y x : ℤ) → 0 < S → x ≤ℤ (pos S *ℤ y) → reaches S true t (record { num = x; den = B }) ≡ true → reaches 1 true t (record { num = y; den = B }) ≡ true
+reach-over S B t y x some le e = above-from 1 t (record { num = y; den = B })
+    (let a = above-yes S t (record { num = x; den = B }) e in
+    subst (λ (z : ℤ). (pos B *ℤ z) ≤ℤ y) (sym (one_times t)) (times_reflects S (pos B *ℤ t) y some (omega (arith, ints, a, le, exchanged S B t))))
+
+sink-over : (S B : ℕ) (t y x : ℤ) → x ≤ℤ (pos S *ℤ y) → reaches 1 false t (record { num = y; den = B }) ≡ true → reaches S false t (record { num = x; den = B }) ≡ true
+sink-over S B t y x le e = below-from S t (record { num = x; den = B })
+    (let a = subst (λ (z : ℤ). y ≤ℤ (pos B *ℤ z)) (one_times t) (below-yes 1 t (record { num = y; den = B }) e) in
+    let b = times_rises S y (pos B *ℤ t) a in omega (arith, ints, b, le, exchanged S B t))
+
+sink-under : (S B : ℕ) (t y x : ℤ) → 0 < S → (pos S *ℤ y) ≤ℤ x → reaches S false t (record { num = x; den = B }) ≡ true → reaches 1 false t (record { num = y; den = B }) ≡ true
+sink-under S B t y x some le e = below-from 1 t (record { num = y; den = B })
+    (let a = below-yes S t (record { num = x; den = B }) e in
+    subst (λ (z : ℤ). y ≤ℤ (pos B *ℤ z)) (sym (one_times t)) (times_reflects S y (pos B *ℤ t) some (omega (arith, ints, a, le, exchanged S B t))))
+
+-- a level control that both ends decide is decided so for each level between
+pub control_tells : (S : ℕ) (level : Interval) (above : Bool) (ticks z : ℤ) → 0 < S → LiesIn S level z
+    → Tells (control_truth level above ticks) (reaches S above ticks (whole z))
+control_tells S level true ticks z some at = rising (reaches 1 true ticks (whole level.lo)) (reaches S true ticks (whole z)) (reaches 1 true ticks (whole level.hi))
+    (reach-under S 1 ticks level.lo z at.low) (reach-over S 1 ticks level.hi z some at.high)
+control_tells S level false ticks z some at = falling (reaches 1 false ticks (whole level.lo)) (reaches S false ticks (whole z)) (reaches 1 false ticks (whole level.hi))
+    (sink-over S 1 ticks level.hi z at.high) (sink-under S 1 ticks level.lo z some at.low)
+
+-- what may not have come hasn't, and what must have has
+pub reached_may : (S : ℕ) (tank : Tank) (level inflow : Interval) (target : ℤ) (rising : Bool) (seconds : ℕ) (z q : ℤ) → 0 < S → LiesIn S level z → LiesIn S inflow q
+    → reaches S rising target (exact_level tank z q seconds) ≡ true → may_reach tank level inflow target rising seconds ≡ true
+reached_may S tank level inflow target true seconds z q some at flow e =
+    reach-over S (86400 * unsigned_abs tank.area) target ((pos (86400 * unsigned_abs tank.area) *ℤ level.hi) +ℤ (pos (seconds * 10 ^ 15) *ℤ inflow.hi))
+    ((pos (86400 * unsigned_abs tank.area) *ℤ z) +ℤ (pos (seconds * 10 ^ 15) *ℤ q)) some
+    (scaled_high S (86400 * unsigned_abs tank.area) (seconds * 10 ^ 15) level.hi inflow.hi z q at.high flow.high) e
+reached_may S tank level inflow target false seconds z q some at flow e =
+    sink-under S (86400 * unsigned_abs tank.area) target ((pos (86400 * unsigned_abs tank.area) *ℤ level.lo) +ℤ (pos (seconds * 10 ^ 15) *ℤ inflow.lo))
+    ((pos (86400 * unsigned_abs tank.area) *ℤ z) +ℤ (pos (seconds * 10 ^ 15) *ℤ q)) some
+    (scaled_low S (86400 * unsigned_abs tank.area) (seconds * 10 ^ 15) level.lo inflow.lo z q at.low flow.low) e
+
+pub must_reached : (S : ℕ) (tank : Tank) (level inflow : Interval) (target : ℤ) (rising : Bool) (seconds : ℕ) (z q : ℤ) → LiesIn S level z → LiesIn S inflow q
+    → must_reach tank level inflow target rising seconds ≡ true → reaches S rising target (exact_level tank z q seconds) ≡ true
+must_reached S tank level inflow target true seconds z q at flow e =
+    reach-under S (86400 * unsigned_abs tank.area) target ((pos (86400 * unsigned_abs tank.area) *ℤ level.lo) +ℤ (pos (seconds * 10 ^ 15) *ℤ inflow.lo))
+    ((pos (86400 * unsigned_abs tank.area) *ℤ z) +ℤ (pos (seconds * 10 ^ 15) *ℤ q))
+    (scaled_low S (86400 * unsigned_abs tank.area) (seconds * 10 ^ 15) level.lo inflow.lo z q at.low flow.low) e
+must_reached S tank level inflow target false seconds z q at flow e =
+    sink-over S (86400 * unsigned_abs tank.area) target ((pos (86400 * unsigned_abs tank.area) *ℤ level.hi) +ℤ (pos (seconds * 10 ^ 15) *ℤ inflow.hi))
+    ((pos (86400 * unsigned_abs tank.area) *ℤ z) +ℤ (pos (seconds * 10 ^ 15) *ℤ q))
+    (scaled_high S (86400 * unsigned_abs tank.area) (seconds * 10 ^ 15) level.hi inflow.hi z q at.high flow.high) e
+
+-- ---- rules
+
+either-tells : (s t : Truth) (a b : Bool) → Tells s a → Tells t b → Tells (either s t) (a || b)
+either-tells Yes t a b p q = subst (λ (x : Bool). (x || b) ≡ true) (sym p) refl
+either-tells No Yes a b p q = subst (λ (x : Bool). (x || b) ≡ true) (sym p) q
+either-tells No No a b p q = subst (λ (x : Bool). (x || b) ≡ false) (sym p) q
+either-tells No Unknown a b p q = tt
+either-tells Unknown Yes true b p q = refl
+either-tells Unknown Yes false b p q = q
+either-tells Unknown No a b p q = tt
+either-tells Unknown Unknown a b p q = tt
+
+both-tells : (s t : Truth) (a b : Bool) → Tells s a → Tells t b → Tells (both s t) (a && b)
+both-tells No t a b p q = subst (λ (x : Bool). (x && b) ≡ false) (sym p) refl
+both-tells Yes Yes a b p q = subst (λ (x : Bool). (x && b) ≡ true) (sym p) q
+both-tells Yes No a b p q = subst (λ (x : Bool). (x && b) ≡ false) (sym p) q
+both-tells Yes Unknown a b p q = tt
+both-tells Unknown No true b p q = q
+both-tells Unknown No false b p q = refl
+both-tells Unknown Yes a b p q = tt
+both-tells Unknown Unknown a b p q = tt
+
+pub some_tells : (truths : List Truth) (tests : List Bool) → TellEach truths tests → Tells (some_holds truths) (list_any (λ (b : Bool). b) tests)
+some_tells [] [] all = refl
+some_tells [] (b ∷ tests) all = absurd all
+some_tells (t ∷ truths) [] all = absurd all
+some_tells (t ∷ truths) (b ∷ tests) all = either-tells t (some_holds truths) b (list_any (λ (b : Bool). b) tests) all.0 (some_tells truths tests all.1)
+
+pub all_tells : (truths : List Truth) (tests : List Bool) → TellEach truths tests → Tells (all_hold truths) (list_all (λ (b : Bool). b) tests)
+all_tells [] [] all = refl
+all_tells [] (b ∷ tests) all = absurd all
+all_tells (t ∷ truths) [] all = absurd all
+all_tells (t ∷ truths) (b ∷ tests) all = both-tells t (all_hold truths) b (list_all (λ (b : Bool). b) tests) all.0 (all_tells truths tests all.1)
+
+-- a rule tells by the truths of its clauses
+group_tells : (truth : Clause → Truth) (test : Clause → Bool) (group : List Clause) → AllByRecursion (λ (c : Clause). Tells (truth c) (test c)) group
+    → Tells (some_holds (map truth group)) (list_any test group)
+group_tells truth test [] all = refl
+group_tells truth test (c ∷ group) all = either-tells (truth c) (some_holds (map truth group)) (test c) (list_any test group) all.0 (group_tells truth test group all.1)
+
+pub rule_tells : (truth : Clause → Truth) (test : Clause → Bool) (groups : List (List Clause)) → AllByRecursion (AllByRecursion (λ (c : Clause). Tells (truth c) (test c))) groups
+    → Tells (all_hold (map (λ group. some_holds (map truth group)) groups)) (list_all (list_any test) groups)
+rule_tells truth test [] all = refl
+rule_tells truth test (group ∷ groups) all =
+    both-tells (some_holds (map truth group)) (all_hold (map (λ group. some_holds (map truth group)) groups)) (list_any test group) (list_all (list_any test) groups)
+    (group_tells truth test group all.0) (rule_tells truth test groups all.1)

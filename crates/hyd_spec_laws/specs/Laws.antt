@@ -1,0 +1,158 @@
+-- What the comparison of heads uses of the laws of links, demands and emitters.
+use Rattle.std.specs.Prelude.{ℕ, ◌<◌, ◌≤◌, ℤ, ◌-ℤ◌, ◌≤ℤ◌, unsigned_abs, ⊤, List, All, ◌≡◌, ◌*ℤ◌, Bool, true, false, pos}
+use Rattle.std.specs.List.{AllByRecursion, AllZip}
+use Rattle.std.specs.Option.{IfSome}
+use Rattle.hyd_num.specs.Quantity.{billionths}
+use Rattle.hyd_num.specs.Rational.{Rational}
+use Rattle.hyd_num.specs.Chain.{IsMade}
+use Rattle.hyd_net.specs.Made.{IsKindMade, IsStateMade}
+use Rattle.hyd_spec.specs.Types.{Project, LinkState, Tank, Relation as Comparison, Less, NotMore, More, NotLess, Equal, Unequal, Origin, Pipe, Valve, Pump, Emitter, PressureDemand, Capacity}
+use Rattle.hyd_spec_certificates.specs.Interval.{Interval}
+use Rattle.hyd_spec_certificates.specs.Grid.{Grid, IsGrid}
+use Rattle.hyd_spec.specs.Assignment.{Assignment, IsAssignment, head_at}
+use Rattle.hyd_spec.specs.declared.TankState.{TankState}
+use Rattle.hyd_spec.specs.Scale.{at_scale}
+use Rattle.hyd_spec_certificates.specs.Truth.{Truth, Yes, No, Unknown}
+use Rattle.hyd_spec_certificates.specs.Enclosing.{DemandLaw, Fixed, Driven}
+use Rattle.hyd_spec.specs.Enclosure.{IsEnclosure}
+use Rattle.hyd_spec.specs.Law.{Relation, Loss, Law, Shut, QuadraticLaw, LinearLaw, Lifted, ForwardOnly, ReverseOnly, Capped}
+
+-- ---- losses
+
+-- A loss: a lesser flow loses no more, a greater one no less; a flow that loses at most some head is at most one that loses at
+-- least that head; and each flow loses at least 0.
+pub record IsLossLaw (at_most at_least : Loss) : Type 0 where
+  pub falls : (S p q y : ℕ) → 0 < S → p ≤ q → at_most S q y → at_most S p y
+  pub rises : (S p q y : ℕ) → 0 < S → p ≤ q → at_least S p y → at_least S q y
+  pub consistent : (S p q y : ℕ) → 0 < S → at_most S p y → at_least S q y → p ≤ q
+  pub without_head : (S q : ℕ) → 0 < S → at_least S q 0
+
+-- The numbers behind a capacity that have to be above 0 for that.
+abbrev pub HasPositiveNumbers : Origin → Type 0
+HasPositiveNumbers (Pipe length diameter roughness minor us) =
+    (0 < billionths length) × ((0 < billionths diameter) × (0 < billionths roughness))
+HasPositiveNumbers (Valve diameter k us) = (0 < billionths diameter) × (0 < billionths k)
+HasPositiveNumbers (Pump flow drop thirds unit) = 0 < unsigned_abs drop.nano
+HasPositiveNumbers (Emitter coefficient unit) = ⊤
+HasPositiveNumbers (PressureDemand demand minimum required us) = 0 < unsigned_abs (required.nano -ℤ minimum.nano)
+
+-- A capacity that encloses the loss of such numbers.
+pub record IsSoundCapacity (capacity : Capacity) : Type 0 where
+  pub enclosure : IsEnclosure capacity
+  pub numbers : HasPositiveNumbers capacity.origin
+
+-- ---- laws
+
+-- An exact law, as its two relations, with its enclosing functions. Neither function falls; at a head difference of at least d
+-- ticks the exact flow is at least the low flow at d, at one of at most d ticks at most the high flow at d; what the exact flow
+-- is at least is at most what it is at most, and both relations go on, the one downward, the other upward.
+pub record IsLaw (at_least at_most : Relation) (low high : ℤ → ℤ) : Type 0 where
+  pub low_rises : (c d : ℤ) → c ≤ℤ d → low c ≤ℤ low d
+  pub high_rises : (c d : ℤ) → c ≤ℤ d → high c ≤ℤ high d
+  pub ordered : (d : ℤ) → low d ≤ℤ high d
+  pub encloses_below : (S : ℕ) (d x : ℤ) → 0 < S → at_scale S d ≤ℤ x → at_least S x (at_scale S (low d))
+  pub encloses_above : (S : ℕ) (d x : ℤ) → 0 < S → x ≤ℤ at_scale S d → at_most S x (at_scale S (high d))
+  pub consistent : (S : ℕ) (x a b : ℤ) → 0 < S → at_least S x a → at_most S x b → a ≤ℤ b
+  pub downward : (S : ℕ) (x a b : ℤ) → 0 < S → b ≤ℤ a → at_least S x a → at_least S x b
+  pub upward : (S : ℕ) (x a b : ℤ) → 0 < S → a ≤ℤ b → at_most S x a → at_most S x b
+
+-- Each capacity in a law is sound, and each lift has a denominator above 0.
+abbrev pub IsSoundLaw : Law → Type 0
+IsSoundLaw Shut = ⊤
+IsSoundLaw (QuadraticLaw capacity) = IsSoundCapacity capacity
+IsSoundLaw LinearLaw = ⊤
+IsSoundLaw (Lifted lift law) = (0 < lift.den) × IsSoundLaw law
+IsSoundLaw (ForwardOnly law) = IsSoundLaw law
+IsSoundLaw (ReverseOnly law) = IsSoundLaw law
+IsSoundLaw (Capped setting law) = IsSoundLaw law
+
+-- ---- grids
+
+-- Each law of a link is sound, and so is the capacity of each emitter.
+pub record IsSoundGrid (grid : Grid) : Type 0 where
+  pub links : AllByRecursion (λ link. IsSoundLaw link.law) grid.links
+  pub emitters : AllByRecursion (λ junction. IfSome junction.emitter IsSoundCapacity) grid.junctions
+
+-- The capacities of emitters, of links and of the states that links are in are made of the file's numbers.
+pub record AreCapacitiesMade (network : Project) (links : List LinkState) : Type 0 where
+  pub emitters : All (λ j. IfSome j.emitter IsMade) network.junctions.list
+  pub kinds : All (λ l. IsKindMade network.options.unit l.kind) network.links.list
+  pub states : All (IsStateMade network.options.unit) links
+
+-- A number of S-th parts of a tick lies in an interval of ticks.
+pub record LiesIn (S : ℕ) (interval : Interval) (z : ℤ) : Type 0 where
+  pub low : at_scale S interval.lo ≤ℤ z
+  pub high : z ≤ℤ at_scale S interval.hi
+
+-- Each tank's level lies in its interval.
+abbrev pub LevelsLie : ℕ → List Interval → List ℤ → Type 0
+LevelsLie S intervals levels = AllZip (LiesIn S) intervals levels
+
+-- An assignment of a period, and the grid of that period: the laws are sound, and each tank's level lies in its interval.
+pub record IsCompared (network : Project) (S time : ℕ) (intervals : List Interval) (levels : List ℤ) (tanks : List TankState)
+    (links : List LinkState) (assignment : Assignment) (grid : Grid) : Type 0 where
+  pub some : 0 < S
+  pub is_grid : IsGrid network time intervals tanks links grid
+  pub sound : IsSoundGrid grid
+  pub lie : LevelsLie S intervals levels
+  pub assigned : IsAssignment network S time levels tanks links assignment
+
+-- At each node a head of the third list, in S-th parts of a tick, lies between those of the others.
+abbrev pub LieBetween : ℕ → List ℤ → List ℤ → List ℤ → Type 0
+LieBetween S below above heads =
+    (m : ℕ) → LiesIn S (record { lo = head_at below m; hi = head_at above m }) (head_at heads m)
+
+-- ---- tanks
+
+-- A tank with an area, whose minimum is at most its maximum.
+pub record IsVessel (tank : Tank) : Type 0 where
+  pub area : 0 < unsigned_abs tank.area
+  pub ordered : tank.minimum ≤ℤ tank.maximum
+
+-- An interval lies inside another.
+pub record IsInside (x y : Interval) : Type 0 where
+  pub low : y.lo ≤ℤ x.lo
+  pub high : x.hi ≤ℤ y.hi
+
+-- ---- decided matters
+
+-- A value is at most another.
+pub record IsAtMost (x y : Rational) : Type 0 where
+  pub crossed : (x.num *ℤ pos y.den) ≤ℤ (y.num *ℤ pos x.den)
+
+-- A relation that a value keeps in one direction.
+abbrev pub IsOneWay : Comparison → Type 0
+IsOneWay Less = ⊤
+IsOneWay NotMore = ⊤
+IsOneWay More = ⊤
+IsOneWay NotLess = ⊤
+IsOneWay Equal = ⊥
+IsOneWay Unequal = ⊥
+
+-- A truth tells a test: yes that it holds, no that it doesn't.
+abbrev pub Tells : Truth → Bool → Type 0
+Tells Yes test = test ≡ true
+Tells No test = test ≡ false
+Tells Unknown test = ⊤
+
+-- Truths tell tests, one after another.
+abbrev pub TellEach : List Truth → List Bool → Type 0
+TellEach truths tests = AllZip Tells truths tests
+
+-- ---- outflows
+
+-- The enclosing functions of an outflow: neither falls as the pressure rises, and the lower is at most the higher.
+pub record AreRising (low high : ℤ → ℤ) : Type 0 where
+  pub low_rises : (c d : ℤ) → c ≤ℤ d → low c ≤ℤ low d
+  pub high_rises : (c d : ℤ) → c ≤ℤ d → high c ≤ℤ high d
+  pub ordered : (d : ℤ) → low d ≤ℤ high d
+
+-- A demand that is driven by pressure is at least 0, and its pressures have denominators above 0.
+abbrev pub IsSoundDemand : DemandLaw → Type 0
+IsSoundDemand (Fixed demand) = ⊤
+IsSoundDemand (Driven demand capacity minimum required) = (pos 0 ≤ℤ demand) × ((0 < minimum.den) × (0 < required.den))
+
+-- A grid of which every law is sound: of links, emitters and demands. Sweeps ask for no more.
+pub record IsSteady (grid : Grid) : Type 0 where
+  pub sound : IsSoundGrid grid
+  pub demands : AllByRecursion (λ junction. IsSoundDemand junction.demand) grid.junctions

@@ -1,0 +1,69 @@
+//! The comparison of certificates with the heads of assignments.
+#![tactic(auto)]
+
+ghost use Rattle.std.specs.Prelude.{◌≡◌, ℕ, ℤ, List, ◌<ℤ◌, ◌+ℤ◌, Some, slice_get};
+ghost use Rattle.hyd_spec.specs.Types.{Project, LinkState};
+ghost use Rattle.hyd_spec.specs.declared.TankState.{TankState};
+ghost use Rattle.hyd_spec_certificates.specs.declared.Side.TheVariants.{Upper, Lower};
+ghost use Rattle.hyd_spec_certificates.specs.declared.Problem.TheVariants.{Main, Pinned};
+ghost use Rattle.hyd_spec.specs.Lists.{Each};
+ghost use Rattle.hyd_spec_certificates.specs.Interval.{Interval};
+ghost use Rattle.hyd_spec.specs.Scale.{at_scale};
+ghost use Rattle.hyd_spec.specs.Assignment.{Assignment, head_at, flow_at, node_heads};
+ghost use Rattle.hyd_spec_certificates.specs.Grid.{Grid, GridLink, GridJunction, IsGrid, all_heads};
+ghost use Rattle.hyd_spec.specs.Network.{tank_node};
+ghost use Rattle.hyd_spec.specs.Tank.{tank_inflow};
+ghost use Rattle.hyd_spec_certificates.specs.Boxes.{flow_box, out_box, inflow_box};
+ghost use Rattle.hyd_spec_certificates.specs.Certificate.{IsCertificate};
+ghost use Rattle.hyd_spec_laws.specs.Laws.{IsCompared, LiesIn, LieBetween, IsSoundGrid, AreCapacitiesMade};
+
+/// At every scale a certificate with all tanks alike lies strictly on its side of the heads of
+/// each assignment whose tank levels lie in the intervals (supersolutions and subsolutions of
+/// Ortega and Rheinboldt 1970).
+pub fn comparison()
+    ensures above { (network : Project) (S time : ℕ) (intervals : List Interval) (levels : List ℤ)
+        (tanks : List TankState) (links : List LinkState) (assignment : Assignment) (grid : Grid) (u : List ℤ)
+        → IsCompared network S time intervals levels tanks links assignment grid → IsCertificate grid Main Upper u
+        → Each assignment.heads (λ j h. h <ℤ at_scale S (head_at u j)) }
+    ensures below { (network : Project) (S time : ℕ) (intervals : List Interval) (levels : List ℤ)
+        (tanks : List TankState) (links : List LinkState) (assignment : Assignment) (grid : Grid) (u : List ℤ)
+        → IsCompared network S time intervals levels tanks links assignment grid → IsCertificate grid Main Lower u
+        → Each assignment.heads (λ j h. at_scale S (head_at u j) <ℤ h) }
+{}
+
+/// The grid of a period has sound laws where the capacities are made of the file's numbers.
+pub fn sound_grids()
+    ensures sound { (network : Project) (time : ℕ) (intervals : List Interval) (tanks : List TankState)
+        (links : List LinkState) (grid : Grid) → IsGrid network time intervals tanks links grid
+        → AreCapacitiesMade network links → IsSoundGrid grid }
+{}
+
+/// The heads, flows and outflows of each such assignment lie in the boxes of the certificates.
+pub fn boxes()
+    ensures heads { (network : Project) (S time : ℕ) (intervals : List Interval) (levels : List ℤ)
+        (tanks : List TankState) (links : List LinkState) (assignment : Assignment) (grid : Grid)
+        (below above : List ℤ) → IsCompared network S time intervals levels tanks links assignment grid
+        → IsCertificate grid Main Lower below → IsCertificate grid Main Upper above
+        → LieBetween S (all_heads grid Main Lower below) (all_heads grid Main Upper above) (node_heads network S time levels assignment.heads) }
+    ensures flows { (network : Project) (S time : ℕ) (intervals : List Interval) (levels : List ℤ)
+        (tanks : List TankState) (links : List LinkState) (assignment : Assignment) (grid : Grid)
+        (below above : List ℤ) → IsCompared network S time intervals levels tanks links assignment grid
+        → LieBetween S below above (node_heads network S time levels assignment.heads)
+        → (l : ℕ) (link : GridLink) → slice_get grid.links l ≡ Some link
+        → LiesIn S (flow_box link below above) (flow_at assignment.flows l) }
+    ensures outflows { (network : Project) (S time : ℕ) (intervals : List Interval) (levels : List ℤ)
+        (tanks : List TankState) (links : List LinkState) (assignment : Assignment) (grid : Grid)
+        (below above : List ℤ) → IsCompared network S time intervals levels tanks links assignment grid
+        → IsCertificate grid Main Lower below → IsCertificate grid Main Upper above
+        → (j : ℕ) (here : GridJunction) → slice_get grid.junctions j ≡ Some here
+        → LiesIn S (out_box here (head_at below j) (head_at above j)) (flow_at assignment.demands j +ℤ flow_at assignment.emitters j) }
+{}
+
+/// The inflow of a tank lies in the box of the certificates that pin it.
+pub fn inflows()
+    ensures inflow { (network : Project) (S time : ℕ) (intervals : List Interval) (levels : List ℤ)
+        (tanks : List TankState) (links : List LinkState) (assignment : Assignment) (grid : Grid)
+        (k : ℕ) (below above : List ℤ) → IsCompared network S time intervals levels tanks links assignment grid
+        → IsCertificate grid (Pinned k) Lower below → IsCertificate grid (Pinned k) Upper above
+        → LiesIn S (inflow_box grid k (tank_node network k) below above) (tank_inflow network k assignment.flows) }
+{}

@@ -1,0 +1,55 @@
+//! What a record decides is one, in every network: the tight vectors of a grid, the end of the period, the standing that it
+//! leads on to, and the lines of its report. So, where no demand depends on the pressure, a tight run that the relations
+//! accept is the only tight one of as many periods.
+#![tactic(auto)]
+
+ghost use Rattle.std.specs.Prelude.{◌≡◌, ℕ, ℤ, false, List, length};
+ghost use Rattle.std.specs.List.{AllByRecursion};
+ghost use Rattle.hyd_spec.specs.Types.{Project};
+ghost use Rattle.hyd_spec_certificates.specs.declared.Problem.{Problem};
+ghost use Rattle.hyd_spec_certificates.specs.declared.Side.{Side};
+ghost use Rattle.hyd_spec_certificates.specs.Grid.{Grid};
+ghost use Rattle.hyd_spec_certificates.specs.Certificate.{IsTight};
+ghost use Rattle.hyd_spec_certificates.specs.Record.{Record, Standing};
+ghost use Rattle.hyd_spec_certificates.specs.Decided.{End, EndsBy};
+ghost use Rattle.hyd_spec_certificates.specs.Valid.{LeadsOn};
+ghost use Rattle.hyd_spec_reports.specs.ReportLine.{ReportLine};
+ghost use Rattle.hyd_spec_reports.specs.Report.{IsReport};
+ghost use Rattle.hyd_spec_reports.specs.Headline.{Found, IsRun, IsTightThroughout};
+
+/// A period ends in one way.
+pub fn ends()
+    ensures { (network : Project) (grid : Grid) (standing : Standing) (row : Record) (a b : End)
+        → EndsBy network grid standing row a → EndsBy network grid standing row b → a ≡ b }
+{}
+
+/// A record leads on to one standing.
+pub fn standings()
+    ensures { (network : Project) (grid : Grid) (standing : Standing) (row : Record) (a b : Standing)
+        → LeadsOn network grid standing row a → LeadsOn network grid standing row b → a ≡ b }
+{}
+
+/// A grid has one tight vector of a problem and side.
+pub fn vectors()
+    ensures { (grid : Grid) (problem : Problem) (side : Side) (u v : List ℤ)
+        → IsTight grid problem side u → IsTight grid problem side v → u ≡ v }
+{}
+
+/// A record has one report.
+pub fn reports()
+    ensures { (network : Project) (grid : Grid) (standing : Standing) (row : Record) (a b : List ReportLine)
+        → IsReport network grid standing row a → IsReport network grid standing row b → a ≡ b }
+{}
+
+/// A record that leads on has one length.
+pub fn lengths()
+    ensures { (network : Project) (grid : Grid) (standing : Standing) (row : Record) (other : ℕ) (a b : Standing)
+        → LeadsOn network grid standing row a → LeadsOn network grid standing (record row { length = other }) b → row.length ≡ other }
+{}
+
+/// Where no demand depends on the pressure, two tight runs of as many periods are the same.
+pub fn runs()
+    ensures { (network : Project) → network.options.pda ≡ false → (a b : List Found) (last other : Standing)
+        → IsRun network a last → IsRun network b other → AllByRecursion (IsTightThroughout network) a
+        → AllByRecursion (IsTightThroughout network) b → length a ≡ length b → a ≡ b }
+{}

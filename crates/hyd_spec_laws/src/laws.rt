@@ -1,0 +1,34 @@
+//! Laws of losses and of the laws of links.
+#![tactic(auto)]
+
+ghost use Rattle.std.specs.Prelude.{ℕ, ◌<◌, Option};
+ghost use Rattle.hyd_num.specs.Roots.{IsSquareRootDown, IsSquareRootUp};
+ghost use Rattle.hyd_spec.specs.Types.{Origin, Capacity};
+ghost use Rattle.hyd_spec.specs.Law.{Law, loss_at_most, loss_at_least, flow_at_least, flow_at_most};
+ghost use Rattle.hyd_spec_certificates.specs.Enclosing.{low, high, root_down, root_up, DemandLaw, demand_low, demand_high, emitter_low, emitter_high};
+ghost use Rattle.hyd_spec_laws.specs.Laws.{IsLossLaw, HasPositiveNumbers, IsLaw, IsSoundLaw, AreRising, IsSoundDemand};
+
+/// What is lost in pipes, valves, pumps, emitters and by demands that depend on the pressure
+/// rises with the flow: one that loses at most a head is at most one that loses at least it.
+pub fn losses()
+    ensures each { (origin : Origin) → HasPositiveNumbers origin → IsLossLaw (loss_at_most origin) (loss_at_least origin) }
+{}
+
+/// Each sound law of a link is a law, and its enclosing functions enclose it.
+pub fn link_laws()
+    ensures each { (law : Law) → IsSoundLaw law → IsLaw (flow_at_least law) (flow_at_most law) (low law) (high law) }
+{}
+
+/// The whole roots of the enclosing functions are the greatest number whose square is at most a
+/// fraction, and the least whose square is at least it.
+pub fn roots()
+    ensures down { (p q : ℕ) → 0 < q → IsSquareRootDown p q (root_down p q) }
+    ensures up { (p q : ℕ) → 0 < q → IsSquareRootUp p q (root_up p q) }
+{}
+
+/// The enclosing functions of demands and emitters never fall as the pressure rises, and the lower
+/// is at most the higher.
+pub fn outflows()
+    ensures demands { (law : DemandLaw) → IsSoundDemand law → AreRising (demand_low law) (demand_high law) }
+    ensures emitters { (emitter : Option Capacity) → AreRising (emitter_low emitter) (emitter_high emitter) }
+{}

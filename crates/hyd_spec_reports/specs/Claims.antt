@@ -1,0 +1,183 @@
+-- What a line of the report claims of a period of a history.
+-- Source: this program's; the quantities are those that EPANET prints (2.2 User Manual, chapter on viewing results).
+use Rattle.std.specs.Prelude.{◌≡◌, ℕ, ◌+◌, ◌*◌, ◌^◌, ℤ, pos, ◌+ℤ◌, ◌-ℤ◌, ◌<ℤ◌, ◌≤ℤ◌, ◌*ℤ◌, IsTrue, Bool, true, false, List, Some, slice_get, ⊤, Contains, ◌≢◌, ◌%◌, IsFalse}
+use Rattle.hyd_num.specs.Rational.{Rational, is_at_most, whole}
+use Rattle.hyd_num.specs.Decimals.{head_quantity, pressure_quantity, flow_quantity}
+use Rattle.hyd_spec.specs.Types.{Project, Junction, Reservoir, Tank, Link, LinkKind, CheckPipe, PumpLink, Fcv, OpenValve, LinkState, Open, Closed, Speed, Throttle, Limit, Control, AtLevel}
+use Rattle.hyd_spec.specs.declared.TankState.{TankState}
+use Rattle.hyd_spec.specs.declared.TankState.TheVariants.{Full, Empty}
+use Rattle.hyd_spec_reports.specs.declared.StatusWord.{StatusWord}
+use Rattle.hyd_spec_reports.specs.declared.StatusWord.TheVariants.{Open as WordOpen, Closed as WordClosed, Active as WordActive, Unsure as WordUnsure}
+use Rattle.hyd_spec_certificates.specs.Interval.{Interval}
+use Rattle.hyd_spec.specs.Scale.{at_scale}
+use Rattle.hyd_spec.specs.Quantity.{is_us, lift_of, reservoir_head}
+use Rattle.hyd_spec.specs.Law.{flow_at_least}
+use Rattle.hyd_spec.specs.LinkLaw.{valve_law}
+use Rattle.hyd_spec.specs.Assignment.{node_heads, head_at, flow_at}
+use Rattle.hyd_spec.specs.Tank.{tank_inflow, reaches}
+use Rattle.hyd_spec.specs.Start.{acts_at}
+use Rattle.hyd_spec.specs.Rules.{Change, rule_changes}
+use Rattle.hyd_spec.specs.Length.{Period, level_at_start, exact_after, values_at}
+use Rattle.hyd_spec_reports.specs.Report.{start_changes}
+use Rattle.hyd_spec_reports.specs.ReportLine.{ReportLine, ControlLine, TimeLine, JunctionLine, ReservoirLine, TankLine, LinkLine, FilledLine, EmptiedLine, ReachedLine, RuleLine}
+
+-- ---- values between printed ends
+
+-- A value in the file's units lies between two printed ends (ten-thousandths).
+pub record LiesBetween (ends : Interval) (x : Rational) : Type 0 where
+  pub at_least : IsTrue (is_at_most (record { num = ends.lo; den = 10 ^ 4 }) x)
+  pub at_most : IsTrue (is_at_most x (record { num = ends.hi; den = 10 ^ 4 }))
+
+-- A quantity of a number of S-th parts of a tick.
+abbrev pub at_part : ℕ → (ℤ → Rational) → ℤ → Rational
+at_part S quantity parts = record { num = (quantity parts).num; den = (quantity parts).den * S }
+
+-- A head or level (S-th parts of a head tick) lies between the printed ends, in feet or metres.
+abbrev pub HeadLies : Project → ℕ → Interval → ℤ → Type 0
+HeadLies network S ends h = LiesBetween ends (at_part S (head_quantity (is_us network)) h)
+
+-- A pressure (S-th parts of a head tick) lies between the printed ends, in psi or metres.
+abbrev pub PressureLies : Project → ℕ → Interval → ℤ → Type 0
+PressureLies network S ends p = LiesBetween ends (at_part S (pressure_quantity (is_us network)) p)
+
+-- A flow (S-th parts of a flow tick) lies between the printed ends, in the file's flow unit.
+abbrev pub FlowLies : Project → ℕ → Interval → ℤ → Type 0
+FlowLies network S ends q = LiesBetween ends (at_part S (flow_quantity network.options.unit) q)
+
+-- ---- nodes
+
+-- Junction number j: its head, its pressure and its outflow (demand and emitter together) lie between the printed
+-- ends.
+pub record JunctionLies (network : Project) (S : ℕ) (period : Period) (j : ℕ) (head pressure outflow : Interval) : Type 0 where
+  pub junction : Junction
+  pub is_junction : slice_get network.junctions.list j ≡ Some junction
+  pub head_lies : HeadLies network S head (head_at period.assignment.heads j)
+  pub pressure_lies : PressureLies network S pressure (head_at period.assignment.heads j -ℤ at_scale S junction.elevation)
+  pub outflow_lies : FlowLies network S outflow (flow_at period.assignment.demands j +ℤ flow_at period.assignment.emitters j)
+
+-- Reservoir number r: its head at the start of the period lies between the printed ends.
+pub record ReservoirLies (network : Project) (S : ℕ) (period : Period) (r : ℕ) (head : Interval) : Type 0 where
+  pub reservoir : Reservoir
+  pub is_reservoir : slice_get network.reservoirs.list r ≡ Some reservoir
+  pub head_lies : HeadLies network S head (at_scale S (reservoir_head network period.time reservoir))
+
+-- Tank number k: its head, its level and its inflow lie between the printed ends, and its state is the printed one.
+pub record TankLies (network : Project) (S : ℕ) (period : Period) (k : ℕ) (head level inflow : Interval) (state : TankState) : Type 0 where
+  pub tank : Tank
+  pub is_tank : slice_get network.tanks.list k ≡ Some tank
+  pub head_lies : HeadLies network S head (at_scale S tank.bottom +ℤ level_at_start period k)
+  pub level_lies : HeadLies network S level (level_at_start period k)
+  pub inflow_lies : FlowLies network S inflow (tank_inflow network k period.assignment.flows)
+  pub state_is : slice_get period.tanks k ≡ Some state
+
+-- ---- links
+
+-- The head difference along a link.
+abbrev pub difference_along : Project → ℕ → Period → Link → ℤ
+difference_along network S period link =
+    let heads = node_heads network S period.time period.levels period.assignment.heads in
+    head_at heads link.from -ℤ head_at heads link.to
+
+-- The driving difference of a running pump: the head difference and its lift (S-th parts of a head tick), multiplied by
+-- the lift's denominator, which leaves its sign.
+abbrev pub drive_of : ℕ → Rational → ℤ → ℤ
+drive_of S lift x = (pos lift.den *ℤ x) +ℤ (pos S *ℤ lift.num)
+
+-- A driving difference is above 0 where the word is OPEN, at most 0 where it is CLOSED.
+abbrev pub DriveIs : StatusWord → ℤ → Type 0
+DriveIs WordOpen drive = pos 0 <ℤ drive
+DriveIs WordClosed drive = drive ≤ℤ pos 0
+DriveIs WordActive drive = ⊥
+DriveIs WordUnsure drive = ⊤
+
+-- The open valve's exact flow is at least the setting where the word is ACTIVE, below it where it is OPEN.
+abbrev pub SettingIs : StatusWord → OpenValve → ℕ → ℤ → ℤ → Type 0
+SettingIs WordActive valve S x setting = flow_at_least (valve_law valve) S x (at_scale S setting)
+SettingIs WordOpen valve S x setting = flow_at_least (valve_law valve) S x (at_scale S setting) → ⊥
+SettingIs WordClosed valve S x setting = ⊥
+SettingIs WordUnsure valve S x setting = ⊤
+
+-- The commanded state: closed where the word is CLOSED, throttled where it is ACTIVE, open where it is OPEN.
+abbrev pub StateIs : StatusWord → LinkState → Type 0
+StateIs WordClosed Closed = ⊤
+StateIs WordActive (Throttle setting law) = ⊤
+StateIs WordOpen Open = ⊤
+StateIs WordUnsure state = ⊤
+StateIs word state = ⊥
+
+-- What a status word says of a link in its state, at the head difference x.
+abbrev pub StatusHolds : Bool → StatusWord → LinkKind → LinkState → ℕ → ℤ → Type 0
+StatusHolds us word (CheckPipe capacity) Open S x = DriveIs word x
+StatusHolds us word (PumpLink capacity shutoff head pattern) (Speed speed) S x = DriveIs word (drive_of S (lift_of us head speed) x)
+StatusHolds us word (Fcv valve) (Limit setting ticks) S x = SettingIs word valve S x ticks
+StatusHolds us word kind state S x = StateIs word state
+
+-- Link number l: its flow lies between the printed ends, and its status word holds.
+pub record LinkLies (network : Project) (S : ℕ) (period : Period) (l : ℕ) (flow : Interval) (word : StatusWord) : Type 0 where
+  pub link : Link
+  pub is_link : slice_get network.links.list l ≡ Some link
+  pub state : LinkState
+  pub is_state : slice_get period.links l ≡ Some state
+  pub flow_lies : FlowLies network S flow (flow_at period.assignment.flows l)
+  pub status_holds : StatusHolds (is_us network) word link.kind state S (difference_along network S period link)
+
+-- ---- events, controls, rules
+
+-- At the second of the period's end the tank's exact level is at or beyond a target.
+pub record ReachesAtEnd (network : Project) (S : ℕ) (period : Period) (time k : ℕ) (above : Bool) (target : ℤ) : Type 0 where
+  pub at_end : time ≡ period.time + period.length
+  pub tank : Tank
+  pub is_tank : slice_get network.tanks.list k ≡ Some tank
+  pub reached : IsTrue (reaches S above target (exact_after network period k tank period.length))
+
+-- The tank, which wasn't full at the start, reaches its maximum.
+pub record Fills (network : Project) (S : ℕ) (period : Period) (time k : ℕ) : Type 0 where
+  pub tank : Tank
+  pub is_tank : slice_get network.tanks.list k ≡ Some tank
+  pub before : slice_get period.tanks k ≢ Some Full
+  pub reaches_it : ReachesAtEnd network S period time k true tank.maximum
+
+-- The tank, which wasn't empty at the start, reaches its minimum.
+pub record Empties (network : Project) (S : ℕ) (period : Period) (time k : ℕ) : Type 0 where
+  pub tank : Tank
+  pub is_tank : slice_get network.tanks.list k ≡ Some tank
+  pub before : slice_get period.tanks k ≢ Some Empty
+  pub reaches_it : ReachesAtEnd network S period time k false tank.minimum
+
+-- The tank reaches the level of a control, which didn't hold at the start.
+pub record ReachesControl (network : Project) (S : ℕ) (period : Period) (time k number : ℕ) : Type 0 where
+  pub control : Control
+  pub is_control : slice_get network.controls.list number ≡ Some control
+  pub above : Bool
+  pub ticks : ℤ
+  pub is_level : control.when ≡ AtLevel k above ticks
+  pub before : IsFalse (reaches S above ticks (whole (level_at_start period k)))
+  pub reaches_it : ReachesAtEnd network S period time k above ticks
+
+-- At the start of the period, from the states commanded before, the control changes the link to the state.
+pub record IsStartChange (network : Project) (S : ℕ) (commanded : List LinkState) (period : Period) (time : ℕ) (change : Change) : Type 0 where
+  pub at_start : time ≡ period.time
+  pub is_change : Contains (start_changes network period.time (acts_at S period.levels) commanded) change
+
+-- At the end of the period, an instant at which the rules are tried, the rule changes the link to the state.
+pub record IsEndChange (network : Project) (S : ℕ) (period : Period) (time : ℕ) (change : Change) : Type 0 where
+  pub at_end : time ≡ period.time + period.length
+  pub is_tried : time % network.times.rule ≡ 0
+  pub is_change : Contains (rule_changes network (values_at network S period time) period.links) change
+
+-- ---- a line
+
+-- The line holds of a period of a history at scale S, before which the links were commanded so.
+abbrev pub LineHolds : Project → ℕ → List LinkState → Period → ReportLine → Type 0
+LineHolds network S commanded period (ControlLine time number link state) =
+    IsStartChange network S commanded period time (record { by = number; link = link; to = state })
+LineHolds network S commanded period (TimeLine time) = period.time ≡ time
+LineHolds network S commanded period (JunctionLine j head pressure outflow) = JunctionLies network S period j head pressure outflow
+LineHolds network S commanded period (ReservoirLine r head) = ReservoirLies network S period r head
+LineHolds network S commanded period (TankLine k head level inflow state) = TankLies network S period k head level inflow state
+LineHolds network S commanded period (LinkLine l flow word) = LinkLies network S period l flow word
+LineHolds network S commanded period (FilledLine time k) = Fills network S period time k
+LineHolds network S commanded period (EmptiedLine time k) = Empties network S period time k
+LineHolds network S commanded period (ReachedLine time k number) = ReachesControl network S period time k number
+LineHolds network S commanded period (RuleLine time rule link state) =
+    IsEndChange network S period time (record { by = rule; link = link; to = state })

@@ -1,0 +1,6 @@
+pub mod CertificateText
+pub mod Stops
+pub mod ReportLine
+pub mod Report
+pub mod Claims
+pub mod Headline

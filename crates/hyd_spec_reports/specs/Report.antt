@@ -1,0 +1,208 @@
+-- The report of a period: which lines it has and what numbers stand in them. A lower end is the
+-- greatest number of four decimals at most the value, an upper end the least at least it.
+-- Source: this program's format.
+use Rattle.std.specs.Prelude.{◌≡◌, ℕ, suc, ◌+◌, ◌-◌, ◌%◌, ℤ, pos, ◌+ℤ◌, ◌-ℤ◌, Bool, ◌&&◌, not, ◌==◌, nat_le, List, [], ◌∷◌, ◌++◌, Option, Some, None, map, slice_get, slice_set, slice_index_or, if◌then◌else◌, int_le, int_lt, ⊤, MatchBool}
+use Rattle.hyd_num.specs.Rational.{Rational, floor, ceiling}
+use Rattle.hyd_num.specs.Decimals.{head_quantity, pressure_quantity, flow_quantity, IsRoundedDown, IsRoundedUp}
+use Rattle.hyd_spec.specs.Types.{Project, Link, LinkKind, CheckPipe, PumpLink, Fcv, LinkState, Open, Closed, Speed, Throttle, Limit, Tank, Control, When, AtLevel}
+use Rattle.hyd_spec.specs.declared.TankState.{TankState}
+use Rattle.hyd_spec_reports.specs.declared.StatusWord.{StatusWord}
+use Rattle.hyd_spec_reports.specs.declared.StatusWord.TheVariants.{Open as WordOpen, Closed as WordClosed, Active as WordActive, Unsure as WordUnsure}
+use Rattle.hyd_spec.specs.Lists.{map_from, present}
+use Rattle.hyd_spec_certificates.specs.Interval.{Interval, exactly, shifted}
+use Rattle.hyd_spec.specs.Quantity.{is_us, lift_of}
+use Rattle.hyd_spec.specs.Assignment.{head_at}
+use Rattle.hyd_spec.specs.LinkLaw.{valve_law, is_full, is_empty}
+use Rattle.hyd_spec.specs.Start.{patterned, control_acts}
+use Rattle.hyd_spec.specs.Rules.{Change, is_same_state, state_of_link}
+use Rattle.hyd_spec_certificates.specs.Enclosing.{low, high}
+use Rattle.hyd_spec_certificates.specs.Grid.{Grid, GridLink, GridJunction}
+use Rattle.hyd_spec_certificates.specs.Boxes.{difference, out_box}
+use Rattle.hyd_spec_certificates.specs.Record.{Record, Standing}
+use Rattle.hyd_spec_certificates.specs.Truth.{is_yes}
+use Rattle.hyd_spec_certificates.specs.Decided.{heads_below, heads_above, flow_boxes, carried_at, level_of_tank, inflow_of_tank, links_at, acts_on, control_truth, nowhere, decided_changes, EndsBy, ByRules, WithoutRules}
+use Rattle.hyd_spec_reports.specs.ReportLine.{ReportLine, ControlLine, TimeLine, JunctionLine, ReservoirLine, TankLine, LinkLine, FilledLine, EmptiedLine, ReachedLine, RuleLine}
+
+-- ---- printed intervals
+
+-- The ends (ten-thousandths) print an interval of ticks in the units of a quantity.
+pub record Prints (quantity : ℤ → Rational) (ticks ends : Interval) : Type 0 where
+  pub down : IsRoundedDown (quantity ticks.lo) ends.lo
+  pub up : IsRoundedUp (quantity ticks.hi) ends.hi
+
+-- ---- controls at the start
+
+-- What controls change, from number k on, from the states as they are: each control that acts and whose state
+-- differs from the link's at that moment.
+abbrev pub control_changes : Project → ℕ → (ℕ → Bool → ℤ → Bool) → ℕ → List Control → List LinkState → List Change
+control_changes network time acts k [] links = []
+control_changes network time acts k (control ∷ rest) links =
+    if control_acts network time acts control.when
+    then (if is_same_state (state_of_link links control.link) control.to then []
+    else record { by = k; link = control.link; to = control.to } ∷ [])
+    ++ control_changes network time acts (suc k) rest (slice_set links control.link control.to)
+    else control_changes network time acts (suc k) rest links
+
+-- What the controls change at the start of a period, from the states commanded before.
+abbrev pub start_changes : Project → ℕ → (ℕ → Bool → ℤ → Bool) → List LinkState → List Change
+start_changes network time acts commanded =
+    control_changes network time acts 0 network.controls.list (patterned network time commanded)
+
+-- One line for each change by a control at the start of a period, in order of the controls.
+abbrev pub control_lines : Project → Standing → List ReportLine
+control_lines network standing =
+    map (λ change. ControlLine standing.time change.by change.link change.to)
+    (start_changes network standing.time (acts_on standing.levels) standing.commanded)
+
+-- ---- nodes and links at a report time
+
+-- The report start plus a multiple of the report step.
+abbrev pub is_report_time : Project → ℕ → Bool
+is_report_time network time =
+    nat_le network.times.report_start time && ((time - network.times.report_start) % network.times.report == 0)
+
+-- Line after line says something of one of some items, from number k on.
+abbrev pub LineEach : {X : Type 0} → (ℕ → X → ReportLine → Type 0) → ℕ → List X → List ReportLine → Type 0
+LineEach P k [] [] = ⊤
+LineEach P k (x ∷ xs) (l ∷ ls) = P k x l × LineEach P (suc k) xs ls
+LineEach P k [] (l ∷ ls) = ⊥
+LineEach P k (x ∷ xs) [] = ⊥
+
+-- The line of junction number j: its head by the record, its pressure above the elevation, its outflow box.
+pub record IsJunctionLine (network : Project) (grid : Grid) (row : Record) (j : ℕ) (junction : GridJunction) (each : ReportLine) : Type 0 where
+  pub heads : Interval
+  pub heads_are : heads ≡ record { lo = head_at row.main.lower j; hi = head_at row.main.upper j }
+  pub head : Interval
+  pub pressure : Interval
+  pub outflow : Interval
+  pub is_line : each ≡ JunctionLine j head pressure outflow
+  pub head_is : Prints (head_quantity (is_us network)) heads head
+  pub pressure_is : Prints (pressure_quantity (is_us network))
+      (record { lo = heads.lo -ℤ junction.elevation; hi = heads.hi -ℤ junction.elevation }) pressure
+  pub outflow_is : Prints (flow_quantity network.options.unit) (out_box junction heads.lo heads.hi) outflow
+
+-- The line of reservoir number r: its head at the time.
+pub record IsReservoirLine (network : Project) (r : ℕ) (height : ℤ) (each : ReportLine) : Type 0 where
+  pub head : Interval
+  pub is_line : each ≡ ReservoirLine r head
+  pub head_is : Prints (head_quantity (is_us network)) (exactly height) head
+
+-- The line of tank number k: its level interval at the start, its head by it, its inflow and its state.
+pub record IsTankLine (network : Project) (grid : Grid) (standing : Standing) (row : Record) (k : ℕ) (tank : Tank) (each : ReportLine) : Type 0 where
+  pub head : Interval
+  pub level : Interval
+  pub inflow : Interval
+  pub state : TankState
+  pub is_line : each ≡ TankLine k head level inflow state
+  pub head_is : Prints (head_quantity (is_us network)) (shifted tank.bottom (level_of_tank standing k)) head
+  pub level_is : Prints (head_quantity (is_us network)) (level_of_tank standing k) level
+  pub inflow_is : Prints (flow_quantity network.options.unit) (inflow_of_tank network grid row k) inflow
+  pub state_is : slice_get standing.tanks k ≡ Some state
+
+-- The status of a check valve pipe or a running pump, by its driving difference.
+abbrev pub by_drive : Interval → StatusWord
+by_drive drive =
+    if int_lt (pos 0) drive.lo then WordOpen
+    else if int_le drive.hi (pos 0) then WordClosed
+    else WordUnsure
+
+-- The status of a flow-control valve with a setting, by what its open valve passes.
+abbrev pub by_setting : ℤ → Interval → StatusWord
+by_setting setting flow =
+    if int_le setting flow.lo then WordActive
+    else if int_lt flow.hi setting then WordOpen
+    else WordUnsure
+
+-- The status word of a link in its state, by the interval of its head difference. It speaks of the link's own law.
+abbrev pub status_of : Bool → LinkKind → LinkState → Interval → StatusWord
+status_of us kind Closed d = WordClosed
+status_of us (CheckPipe capacity) Open d = by_drive d
+status_of us (PumpLink capacity shutoff head pattern) (Speed speed) d =
+    by_drive (record { lo = d.lo +ℤ floor (lift_of us head speed); hi = d.hi +ℤ ceiling (lift_of us head speed) })
+status_of us (Fcv valve) (Limit setting ticks) d =
+    by_setting ticks (record { lo = low (valve_law valve) d.lo; hi = high (valve_law valve) d.hi })
+status_of us kind (Throttle setting law) d = WordActive
+status_of us kind state d = WordOpen
+
+-- The line of link number l: its flow box and its status word.
+pub record IsLinkLine (network : Project) (grid : Grid) (standing : Standing) (row : Record) (l : ℕ) (link : Link) (each : ReportLine) : Type 0 where
+  pub place : GridLink
+  pub place_is : slice_get grid.links l ≡ Some place
+  pub box : Interval
+  pub box_is : slice_get (flow_boxes grid row) l ≡ Some box
+  pub flow : Interval
+  pub flow_is : Prints (flow_quantity network.options.unit) box flow
+  pub is_line : each ≡ LinkLine l flow
+      (status_of (is_us network) link.kind (state_of_link (links_at network standing) l)
+      (difference place (heads_below grid row) (heads_above grid row)))
+
+-- The lines of a report time: the time, junctions, reservoirs, tanks and links in order.
+pub record AreStateLines (network : Project) (grid : Grid) (standing : Standing) (row : Record) (lines : List ReportLine) : Type 0 where
+  pub junctions : List ReportLine
+  pub reservoirs : List ReportLine
+  pub tanks : List ReportLine
+  pub links : List ReportLine
+  pub junctions_are : LineEach (IsJunctionLine network grid row) 0 grid.junctions junctions
+  pub reservoirs_are : LineEach (IsReservoirLine network) 0 grid.reservoirs reservoirs
+  pub tanks_are : LineEach (IsTankLine network grid standing row) 0 network.tanks.list tanks
+  pub links_are : LineEach (IsLinkLine network grid standing row) 0 network.links.list links
+  pub lines_are : lines ≡ TimeLine standing.time ∷ (junctions ++ (reservoirs ++ (tanks ++ links)))
+
+-- ---- events and rules at the end
+
+-- A tank that wasn't full (empty) and whose whole interval of carried levels stands at its maximum (minimum).
+abbrev pub tank_event : ℕ → ℕ → Tank → TankState → Interval → List ReportLine
+tank_event time k tank state level =
+    if not (is_full state) && int_le tank.maximum level.lo then FilledLine time k ∷ []
+    else if not (is_empty state) && int_le level.hi tank.minimum then EmptiedLine time k ∷ []
+    else []
+
+-- The events of tanks, from tank number k on, at their intervals of carried levels.
+abbrev pub tank_events : ℕ → ℕ → List Tank → List TankState → List Interval → List ReportLine
+tank_events time k (tank ∷ tanks) (state ∷ states) (level ∷ levels) =
+    tank_event time k tank state level ++ tank_events time (suc k) tanks states levels
+tank_events time k tanks states levels = []
+
+-- A level control that didn't hold, and whose level the tank's whole interval of carried levels has reached.
+abbrev pub control_event : ℕ → List Interval → List Interval → ℕ → Control → Option ReportLine
+control_event time before carried number control = by_when control.when
+  where
+    by_when : When → Option ReportLine
+    by_when (AtLevel tank above ticks) =
+        if not (acts_on before tank above ticks) && is_yes (control_truth (slice_index_or carried tank nowhere) above ticks)
+        then Some (ReachedLine time tank number)
+        else None
+    by_when when = None
+
+-- The events at the end of a period: those of tanks in order, then those of level controls in order.
+abbrev pub event_lines : Project → Grid → Standing → Record → List ReportLine
+event_lines network grid standing row =
+    let carried = carried_at network grid standing row row.length in
+    let time = standing.time + row.length in
+    tank_events time 0 network.tanks.list standing.tanks carried
+    ++ present (map_from (control_event time standing.levels carried) 0 network.controls.list)
+
+-- One line for each change by a rule at the end of a period, in order of the links.
+abbrev pub rule_lines : Project → Grid → Standing → Record → List ReportLine
+rule_lines network grid standing row =
+    map (λ change. RuleLine (standing.time + row.length) change.by change.link change.to)
+    (decided_changes network grid standing row row.length)
+
+-- The lines of a period's end. The period at the end of the run has none, one that the clock or an event ends has no
+-- lines of rules.
+pub data AreEndLines (network : Project) (grid : Grid) (standing : Standing) (row : Record) : List ReportLine → Type 0 where
+  at_end : standing.time ≡ network.times.duration → AreEndLines network grid standing row []
+  by_rules : EndsBy network grid standing row (ByRules row.length)
+      → AreEndLines network grid standing row (event_lines network grid standing row ++ rule_lines network grid standing row)
+  by_clock : EndsBy network grid standing row (WithoutRules row.length)
+      → AreEndLines network grid standing row (event_lines network grid standing row)
+
+-- ---- a period's lines
+
+-- The lines of a period: changes by controls, the state where it is a report time, then what its end brings.
+pub record IsReport (network : Project) (grid : Grid) (standing : Standing) (row : Record) (lines : List ReportLine) : Type 0 where
+  pub state : List ReportLine
+  pub state_are : MatchBool (is_report_time network standing.time) (AreStateLines network grid standing row state) (state ≡ [])
+  pub at_end : List ReportLine
+  pub at_end_are : AreEndLines network grid standing row at_end
+  pub lines_are : lines ≡ control_lines network standing ++ (state ++ at_end)

@@ -1,0 +1,195 @@
+-- The lines of a report, with their numbers, and the bytes of each. Printed numbers are whole ten-thousandths of the
+-- file's units, settings billionths, times seconds from the start of the run. Nodes, links, controls and rules
+-- are given by their numbers, counted from 0.
+-- Source: this program's format.
+use Rattle.std.specs.Prelude.{ℕ, ◌+◌, ◌/◌, ◌%◌, List, [], ◌∷◌, ◌++◌, map, codes, slice_index_or, unsigned_abs}
+use Rattle.std.specs.Fmt.{decimal, signed_decimal}
+use Rattle.hyd_num.specs.Decimals.{decimal_text, setting_text, last_digits}
+use Rattle.hyd_spec.specs.Types.{Project, LinkState, Open, Closed, Speed, Throttle, Limit}
+use Rattle.hyd_spec.specs.declared.TankState.{TankState}
+use Rattle.hyd_spec.specs.declared.TankState.TheVariants.{Full, Between, Empty}
+use Rattle.hyd_spec_certificates.specs.declared.Problem.{Problem}
+use Rattle.hyd_spec_certificates.specs.declared.Problem.TheVariants.{Main, Pinned}
+use Rattle.hyd_spec_certificates.specs.declared.Side.{Side}
+use Rattle.hyd_spec_certificates.specs.declared.Side.TheVariants.{Upper, Lower}
+use Rattle.hyd_spec_reports.specs.declared.StatusWord.{StatusWord}
+use Rattle.hyd_spec_reports.specs.declared.StatusWord.TheVariants.{Open as WordOpen, Closed as WordClosed, Active as WordActive, Unsure as WordUnsure}
+use Rattle.hyd_spec.specs.Lists.{joined}
+use Rattle.hyd_spec_certificates.specs.Interval.{Interval}
+use Rattle.hyd_spec.specs.Network.{tank_node, junction_count}
+use Rattle.hyd_spec_reports.specs.CertificateText.{line}
+use Rattle.hyd_spec_reports.specs.Stops.{StopCause, DemandOutOfRange, NoCertificate, RoundsSpent, RuleOpen, EventOpen, TankOpen, ControlOpen}
+
+-- A line of a report, the first and the last one aside.
+pub data ReportLine : Type 0 where
+  -- at a time a control, by its number, gave a link a state
+  ControlLine : ℕ → ℕ → ℕ → LinkState → ReportLine
+  -- a report time
+  TimeLine : ℕ → ReportLine
+  -- a junction, by its number: head, pressure, outflow
+  JunctionLine : ℕ → Interval → Interval → Interval → ReportLine
+  -- a reservoir, by its number: head
+  ReservoirLine : ℕ → Interval → ReportLine
+  -- a tank, by its number: head, level, inflow, state
+  TankLine : ℕ → Interval → Interval → Interval → TankState → ReportLine
+  -- a link, by its number: flow, status
+  LinkLine : ℕ → Interval → StatusWord → ReportLine
+  -- at a time a tank, by its number, became full
+  FilledLine : ℕ → ℕ → ReportLine
+  -- at a time a tank, by its number, became empty
+  EmptiedLine : ℕ → ℕ → ReportLine
+  -- at a time a tank, by its number, reached the level of a control, by its number
+  ReachedLine : ℕ → ℕ → ℕ → ReportLine
+  -- at a time a rule, by its number, gave a link a state
+  RuleLine : ℕ → ℕ → ℕ → LinkState → ReportLine
+
+-- ---- words
+
+-- A time as h:mm:ss.
+abbrev pub clock_text : ℕ → List ℕ
+clock_text time =
+    decimal (time / 3600) ++ (codes ":" ++ (last_digits 2 (time / 60 % 60) ++ (codes ":" ++ last_digits 2 (time % 60))))
+
+-- The ID of a node.
+abbrev pub node_id : Project → ℕ → List ℕ
+node_id network node = slice_index_or network.node_ids node []
+
+-- The ID of tank number `tank`.
+abbrev pub tank_id : Project → ℕ → List ℕ
+tank_id network tank = node_id network (tank_node network tank)
+
+-- The ID of reservoir number `reservoir`.
+abbrev pub reservoir_id : Project → ℕ → List ℕ
+reservoir_id network reservoir = node_id network (junction_count network + reservoir)
+
+-- The ID of a link.
+abbrev pub link_id : Project → ℕ → List ℕ
+link_id network link = slice_index_or network.link_ids link []
+
+-- The ID of a rule.
+abbrev pub rule_id : Project → ℕ → List ℕ
+rule_id network rule = slice_index_or (map (λ r. r.id.list) network.rules.list) rule []
+
+-- A state that a control or a rule gave: every one with a number by its setting.
+abbrev pub state_words : LinkState → List (List ℕ)
+state_words Open = codes "OPEN" ∷ []
+state_words Closed = codes "CLOSED" ∷ []
+state_words (Speed nano) = codes "SETTING" ∷ (setting_text (unsigned_abs nano) ∷ [])
+state_words (Throttle nano law) = codes "SETTING" ∷ (setting_text (unsigned_abs nano) ∷ [])
+state_words (Limit nano ticks) = codes "SETTING" ∷ (setting_text (unsigned_abs nano) ∷ [])
+
+-- The word of a tank's state.
+abbrev pub tank_word : TankState → List ℕ
+tank_word Empty = codes "EMPTY"
+tank_word Between = codes "BETWEEN"
+tank_word Full = codes "FULL"
+
+-- The word of a link's status.
+abbrev pub status_text : StatusWord → List ℕ
+status_text WordOpen = codes "OPEN"
+status_text WordClosed = codes "CLOSED"
+status_text WordActive = codes "ACTIVE"
+status_text WordUnsure = codes "UNSURE"
+
+-- A key word and the two ends of an interval, before further words.
+abbrev pub with_ends : List ℕ → Interval → List (List ℕ) → List (List ℕ)
+with_ends key ends rest = key ∷ (decimal_text ends.lo ∷ (decimal_text ends.hi ∷ rest))
+
+-- ---- lines
+
+-- A link (its ID) and the state that it was given.
+abbrev pub given_words : List ℕ → LinkState → List (List ℕ)
+given_words id state = codes "LINK" ∷ (id ∷ state_words state)
+
+-- What happened to a tank (its ID) at a time.
+abbrev pub event_words : List ℕ → ℕ → List (List ℕ) → List (List ℕ)
+event_words id time what = codes "EVENT" ∷ (clock_text time ∷ (codes "TANK" ∷ (id ∷ what)))
+
+-- A junction's ID, head, pressure and outflow.
+abbrev pub junction_words : List ℕ → Interval → Interval → Interval → List (List ℕ)
+junction_words id head pressure outflow =
+    codes "JUNCTION" ∷ (id ∷
+    with_ends (codes "head") head (with_ends (codes "pressure") pressure (with_ends (codes "outflow") outflow [])))
+
+-- A reservoir's ID and head.
+abbrev pub reservoir_words : List ℕ → Interval → List (List ℕ)
+reservoir_words id head = codes "RESERVOIR" ∷ (id ∷ with_ends (codes "head") head [])
+
+-- A tank's ID, head, level, inflow and state.
+abbrev pub tank_words : List ℕ → Interval → Interval → Interval → TankState → List (List ℕ)
+tank_words id head level inflow state =
+    codes "TANK" ∷ (id ∷ with_ends (codes "head") head (with_ends (codes "level") level (with_ends (codes "inflow") inflow
+    (codes "state" ∷ (tank_word state ∷ [])))))
+
+-- A link's ID, flow and status.
+abbrev pub link_words : List ℕ → Interval → StatusWord → List (List ℕ)
+link_words id flow status = codes "LINK" ∷ (id ∷ with_ends (codes "flow") flow (codes "status" ∷ (status_text status ∷ [])))
+
+-- The words of a line.
+abbrev pub line_words : Project → ReportLine → List (List ℕ)
+line_words network (ControlLine time number link state) =
+    codes "CONTROL" ∷ (decimal (number + 1) ∷ (clock_text time ∷ given_words (link_id network link) state))
+line_words network (TimeLine time) = codes "TIME" ∷ (clock_text time ∷ [])
+line_words network (JunctionLine j head pressure outflow) = junction_words (node_id network j) head pressure outflow
+line_words network (ReservoirLine r head) = reservoir_words (reservoir_id network r) head
+line_words network (TankLine k head level inflow state) = tank_words (tank_id network k) head level inflow state
+line_words network (LinkLine l flow status) = link_words (link_id network l) flow status
+line_words network (FilledLine time tank) = event_words (tank_id network tank) time (codes "FULL" ∷ [])
+line_words network (EmptiedLine time tank) = event_words (tank_id network tank) time (codes "EMPTY" ∷ [])
+line_words network (ReachedLine time tank control) =
+    event_words (tank_id network tank) time (codes "CONTROL" ∷ (decimal (control + 1) ∷ []))
+line_words network (RuleLine time rule link state) =
+    codes "RULE" ∷ (rule_id network rule ∷ (clock_text time ∷ given_words (link_id network link) state))
+
+-- The bytes of a line.
+abbrev pub line_text : Project → ReportLine → List ℕ
+line_text network each = line (line_words network each)
+
+-- ---- the last line
+
+-- The words of a problem, a pinned tank by its ID.
+abbrev pub problem_words : Project → Problem → List (List ℕ)
+problem_words network Main = codes "MAIN" ∷ []
+problem_words network (Pinned tank) = codes "PINNED" ∷ (tank_id network tank ∷ [])
+
+-- The word of a side.
+abbrev pub side_word : Side → List ℕ
+side_word Upper = codes "UPPER"
+side_word Lower = codes "LOWER"
+
+-- The two ends of an interval of ticks.
+abbrev pub tick_words : Interval → List (List ℕ)
+tick_words x = signed_decimal x.lo ∷ (signed_decimal x.hi ∷ [])
+
+-- The words of a stop's cause; clauses and controls are counted from 1 in print.
+abbrev pub cause_words : Project → StopCause → List (List ℕ)
+cause_words network (NoCertificate problem side junction) =
+    codes "NOCERT" ∷ (problem_words network problem ++ (side_word side ∷ (codes "JUNCTION" ∷ (node_id network junction ∷ []))))
+cause_words network (TankOpen tank level) = codes "TANK" ∷ (tank_id network tank ∷ tick_words level)
+cause_words network (RuleOpen rule) =
+    codes "RULE" ∷ (rule_id network rule.rule ∷ (codes "CLAUSE" ∷ (decimal (rule.clause + 1) ∷
+    (signed_decimal rule.lo ∷ (signed_decimal rule.hi ∷ [])))))
+cause_words network (ControlOpen control level) = codes "CONTROL" ∷ (decimal (control + 1) ∷ tick_words level)
+cause_words network (EventOpen earliest latest) = codes "EVENT" ∷ (decimal earliest ∷ (decimal latest ∷ []))
+cause_words network (RoundsSpent problem side rounds) =
+    codes "ROUNDS" ∷ (problem_words network problem ++ (side_word side ∷ (decimal rounds ∷ [])))
+cause_words network (DemandOutOfRange junction demand) =
+    codes "DEMAND" ∷ (node_id network junction ∷ (signed_decimal demand ∷ []))
+
+-- `STOP period p time h:mm:ss` and the cause.
+abbrev pub stop_line : Project → ℕ → ℕ → StopCause → List ℕ
+stop_line network number time cause =
+    line (codes "STOP" ∷ (codes "period" ∷ (decimal number ∷ (codes "time" ∷ (clock_text time ∷ cause_words network cause)))))
+
+-- `DONE n` after a finished run; n counts the records.
+abbrev pub done_line : ℕ → List ℕ
+done_line records = line (codes "DONE" ∷ (decimal records ∷ []))
+
+-- `PARTIAL n` after the certificate of a stopped run was accepted; n counts the records.
+abbrev pub partial_line : ℕ → List ℕ
+partial_line records = line (codes "PARTIAL" ∷ (decimal records ∷ []))
+
+-- The report of some lines and a last one: it begins with the line `HYD 1`.
+abbrev pub report_text : Project → List ReportLine → List ℕ → List ℕ
+report_text network lines last =
+    line (codes "HYD" ∷ (decimal 1 ∷ [])) ++ (joined (map (line_text network) lines) ++ last)

@@ -1,0 +1,174 @@
+-- Stop conditions: why a run can't go on from a standing.
+-- Source: this program's.
+use Rattle.std.specs.Prelude.{◌≡◌, ℕ, ◌+◌, ◌*◌, ◌<◌, ◌≤◌, ℤ, pos, neg_ℤ, Bool, List, Some, None, length, replicate, slice_get, slice_index_or, unsigned_abs, position, is_none, false}
+use Rattle.hyd_spec.specs.Types.{Project, Junction, LinkState, Control, When, AtLevel}
+use Rattle.hyd_spec_certificates.specs.declared.Problem.{Problem}
+use Rattle.hyd_spec_certificates.specs.declared.Problem.TheVariants.{Main, Pinned}
+use Rattle.hyd_spec_certificates.specs.declared.Side.{Side}
+use Rattle.hyd_spec_certificates.specs.declared.Side.TheVariants.{Upper, Lower}
+use Rattle.hyd_spec.specs.Lists.{map_from}
+use Rattle.hyd_spec_certificates.specs.Interval.{Interval}
+use Rattle.hyd_spec.specs.Network.{junction_count}
+use Rattle.hyd_spec.specs.Quantity.{demand_of}
+use Rattle.hyd_spec_certificates.specs.Grid.{Grid}
+use Rattle.hyd_spec_certificates.specs.Certificate.{box_limit, IsCertificate, AreRounds, IsTight}
+use Rattle.hyd_spec_certificates.specs.Record.{Record, Standing, vector_of}
+use Rattle.hyd_spec_certificates.specs.Levels.{state_of}
+use Rattle.hyd_spec_certificates.specs.Truth.{is_unknown}
+use Rattle.hyd_spec_certificates.specs.Decided.{OpenRule, EndsBy, RuleIsOpen, EventIsOpen, nowhere, control_truth}
+use Rattle.hyd_spec_certificates.specs.Valid.{IsProblem, IsGridAt, DemandsAreInRange, demand_limit, LeavesLinks, levels_next}
+
+-- Junctions, tanks, rules, clauses and controls are counted from 0; levels are in head ticks, demands in flow
+-- ticks, times in seconds after the start of the period.
+pub data StopCause : Type 0 where
+  -- a demand is out of range: the first such junction, and its demand
+  DemandOutOfRange : ℕ → ℤ → StopCause
+  -- no vector is a certificate of the problem and side; a junction is named
+  NoCertificate : Problem → Side → ℕ → StopCause
+  -- so many rounds don't lead to a certificate of the problem and side
+  RoundsSpent : Problem → Side → ℕ → StopCause
+  -- the first open rule at an instant
+  RuleOpen : OpenRule → StopCause
+  -- the end is open between two seconds
+  EventOpen : ℕ → ℕ → StopCause
+  -- the first tank whose state at the end is open, and its level interval there
+  TankOpen : ℕ → Interval → StopCause
+  -- the first level control that is open at the end, and its tank's level interval there
+  ControlOpen : ℕ → Interval → StopCause
+
+-- ---- demands
+
+-- The first junction whose demand is out of range, and the demand.
+pub record IsFirstDemand (network : Project) (time j : ℕ) (demand : ℤ) : Type 0 where
+  pub junction : Junction
+  pub is_junction : slice_get network.junctions.list j ≡ Some junction
+  pub is_demand : demand ≡ demand_of network time junction
+  pub out_of_range : demand_limit < unsigned_abs demand
+  pub first : (earlier : ℕ) (before : Junction) → earlier < j → slice_get network.junctions.list earlier ≡ Some before
+      → unsigned_abs (demand_of network time before) ≤ demand_limit
+
+-- ---- the order of problems and sides
+
+-- The turn of a problem and side in a period: MAIN UPPER, MAIN LOWER, then both sides of each tank pinned, in order.
+abbrev pub turn : Problem → Side → ℕ
+turn Main Upper = 0
+turn Main Lower = 1
+turn (Pinned tank) Upper = 2 * tank + 2
+turn (Pinned tank) Lower = 2 * tank + 3
+
+-- Every problem and side whose turn comes before has a certificate on the grid.
+abbrev pub EarlierHaveCertificates : Project → Grid → Problem → Side → Type 0
+EarlierHaveCertificates network grid problem side =
+    (earlier : Problem) (other : Side) → IsProblem network earlier → turn earlier other < turn problem side
+    → (u : List ℤ) × IsCertificate grid earlier other u
+
+-- ---- vectors
+
+-- The vector from which rounds begin: each head at the floor of the box for UPPER, at its ceiling for LOWER.
+abbrev pub beginning : Side → ℕ → List ℤ
+beginning Upper count = replicate count (neg_ℤ (pos box_limit))
+beginning Lower count = replicate count (pos box_limit)
+
+-- At a standing with demands in range no vector is a certificate of the problem and side, the first such.
+pub record HasNoCertificate (network : Project) (standing : Standing) (problem : Problem) (side : Side) : Type 0 where
+  pub in_range : DemandsAreInRange network standing.time
+  pub is_problem : IsProblem network problem
+  pub grid : Grid
+  pub is_grid : IsGridAt network standing grid
+  pub earlier : EarlierHaveCertificates network grid problem side
+  pub none : (u : List ℤ) → IsCertificate grid problem side u → ⊥
+
+-- At a standing with demands in range so many plain rounds from the beginning exist, and their result is no certificate;
+-- every problem and side before has one.
+pub record SpendsRounds (network : Project) (standing : Standing) (problem : Problem) (side : Side) (rounds : ℕ) : Type 0 where
+  pub in_range : DemandsAreInRange network standing.time
+  pub is_problem : IsProblem network problem
+  pub grid : Grid
+  pub is_grid : IsGridAt network standing grid
+  pub earlier : EarlierHaveCertificates network grid problem side
+  pub reached : List ℤ
+  pub by_rounds : AreRounds grid problem side rounds (beginning side (length grid.junctions)) reached
+  pub not_one : IsCertificate grid problem side reached → ⊥
+
+-- ---- matters under the tight vectors
+
+-- A record whose vectors are the tight ones at a standing with demands in range.
+pub record IsTightRow (network : Project) (standing : Standing) (grid : Grid) (row : Record) : Type 0 where
+  pub in_range : DemandsAreInRange network standing.time
+  pub is_grid : IsGridAt network standing grid
+  pub one_each : length row.pinned ≡ length network.tanks.list
+  pub each : (problem : Problem) (side : Side) → IsProblem network problem
+      → IsTight grid problem side (vector_of row problem side)
+
+-- Under the tight vectors the end of the period is open by a rule.
+pub record LeavesRuleOpen (network : Project) (standing : Standing) (open_rule : OpenRule) : Type 0 where
+  pub grid : Grid
+  pub row : Record
+  pub tight : IsTightRow network standing grid row
+  pub is_open : EndsBy network grid standing row (RuleIsOpen open_rule)
+
+-- Under the tight vectors the end of the period is open between two seconds.
+pub record LeavesEventOpen (network : Project) (standing : Standing) (earliest latest : ℕ) : Type 0 where
+  pub grid : Grid
+  pub row : Record
+  pub tight : IsTightRow network standing grid row
+  pub is_open : EndsBy network grid standing row (EventIsOpen earliest latest)
+
+-- Under the tight vectors the end is decided, and these are the level intervals there.
+pub record EndsAtLevels (network : Project) (standing : Standing) (levels : List Interval) : Type 0 where
+  pub grid : Grid
+  pub row : Record
+  pub tight : IsTightRow network standing grid row
+  pub seconds : ℕ
+  pub links : List LinkState
+  pub ends : LeavesLinks network grid standing row seconds links
+  pub levels_are : levels ≡ levels_next network grid standing row seconds
+
+-- For each tank, whether its state is open at the level intervals.
+abbrev pub open_states : Project → List Interval → List Bool
+open_states network levels =
+    map_from (λ k tank. is_none (state_of tank (slice_index_or levels k nowhere))) 0 network.tanks.list
+
+-- The first tank whose state is open at the level intervals of the decided end, and its interval.
+pub record LeavesTankOpen (network : Project) (standing : Standing) (tank : ℕ) (level : Interval) : Type 0 where
+  pub levels : List Interval
+  pub at_levels : EndsAtLevels network standing levels
+  pub first : position (λ is_open. is_open) (open_states network levels) ≡ Some tank
+  pub level_is : slice_get levels tank ≡ Some level
+
+-- The control is a level control that is open at the level intervals.
+abbrev pub is_open_control : List Interval → Control → Bool
+is_open_control levels control = by_when control.when
+  where
+    by_when : When → Bool
+    by_when (AtLevel tank above ticks) = is_unknown (control_truth (slice_index_or levels tank nowhere) above ticks)
+    by_when when = false
+
+-- The first level control that is open there, all tank states being decided, and its tank's interval.
+pub record LeavesControlOpen (network : Project) (standing : Standing) (number : ℕ) (level : Interval) : Type 0 where
+  pub levels : List Interval
+  pub at_levels : EndsAtLevels network standing levels
+  pub tanks_decided : position (λ is_open. is_open) (open_states network levels) ≡ None
+  pub first : position (is_open_control levels) network.controls.list ≡ Some number
+  pub tank : ℕ
+  pub above : Bool
+  pub ticks : ℤ
+  pub control : Control
+  pub is_control : slice_get network.controls.list number ≡ Some control
+  pub is_level : control.when ≡ AtLevel tank above ticks
+  pub level_is : slice_get levels tank ≡ Some level
+
+-- ---- the condition
+
+-- The cause holds at a standing, for this number of rounds. Every problem and side before one that is named has a certificate;
+-- where a matter is named, all have tight vectors and it is the first open one (that so many rounds find them isn't
+-- said). Whether the run is over there is said elsewhere.
+abbrev pub Stops : Project → Standing → ℕ → StopCause → Type 0
+Stops network standing rounds (DemandOutOfRange junction demand) = IsFirstDemand network standing.time junction demand
+Stops network standing rounds (NoCertificate problem side junction) =
+    (junction < junction_count network) × HasNoCertificate network standing problem side
+Stops network standing rounds (RoundsSpent problem side spent) = (spent ≡ rounds) × SpendsRounds network standing problem side rounds
+Stops network standing rounds (RuleOpen open_rule) = LeavesRuleOpen network standing open_rule
+Stops network standing rounds (EventOpen earliest latest) = LeavesEventOpen network standing earliest latest
+Stops network standing rounds (TankOpen tank level) = LeavesTankOpen network standing tank level
+Stops network standing rounds (ControlOpen control level) = LeavesControlOpen network standing control level

@@ -1,0 +1,6 @@
+use Rattle.std.proofs.Common.{refl, arith}
+use Rattle.hyd_spec_towns.proofs.ShallowRun.{has_none}
+use Rattle.hyd_spec_towns.proofs.shallow.stop.Goals as goal
+
+pub returns : goal.returns
+returns c = (refl, (omega arith, has_none))

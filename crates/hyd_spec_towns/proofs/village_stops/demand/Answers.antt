@@ -1,0 +1,11 @@
+use Rattle.std.proofs.Common.{refl}
+use Rattle.std.specs.Fmt.{digits}
+use Rattle.hyd_spec_towns.proofs.VillageStops.{demand_stops}
+use Rattle.hyd_spec_towns.proofs.village_stops.demand.Goals as goal
+
+pub returns-clause-stops : goal.returns-clause-stops
+returns-clause-stops c = demand_stops
+
+pub returns-clause-line : goal.returns-clause-line
+unfolding digits
+returns-clause-line c = refl

@@ -1,0 +1,17 @@
+//! The tests of all crates: each public call on its happy path, and tables of values worked out by an independent program.
+#![tactic(auto)]
+
+#[cfg(test)]
+mod capacities;
+#[cfg(test)]
+mod command;
+#[cfg(test)]
+mod network;
+#[cfg(test)]
+mod numbers;
+#[cfg(test)]
+mod outside;
+#[cfg(test)]
+mod sparse;
+#[cfg(test)]
+mod units;

@@ -1,6 +1,0 @@
-use Rattle.std.proofs.Common.{refl, arith}
-use Rattle.hyd_towns.proofs.ShallowRun.{has_none}
-use Rattle.hyd_towns.proofs.shallow.stop.Goals as goal
-
-pub returns : goal.returns
-returns c = (refl, (omega arith, has_none))

@@ -1,5 +1,0 @@
-use Rattle.hyd_towns.proofs.VillageAgreement.{first_agrees, second_agrees, third_agrees, fourth_agrees, fifth_agrees}
-use Rattle.hyd_towns.proofs.village.agreement.Goals as goal
-
-pub returns : goal.returns
-returns c = (first_agrees, (second_agrees, (third_agrees, (fourth_agrees, (fifth_agrees, tt)))))
