@@ -120,7 +120,7 @@ fn two_nodes(rt: HostRuntime) -> Result<(), Fail> {
 #[test]
 fn chains_and_grids(rt: HostRuntime) -> Result<(), Fail> {
     let alloc = rt.alloc();
-    for (chains, nodes) in [(1, 1), (1, 12), (3, 4), (6, 8), (40, 50)] {
+    for (chains, nodes) in [(1u32, 1u32), (1, 12), (3, 4), (6, 8), (40, 50)] {
         let count = chains.saturating_mul(nodes);
         let mut links = grid(alloc, chains, nodes)?;
         links.push((0, 1))?;
