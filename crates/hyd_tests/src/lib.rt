@@ -15,5 +15,6 @@ mod numbers;
 mod outside;
 #[cfg(test)]
 mod rows;
+mod sparse;
 #[cfg(test)]
 mod units;
