@@ -15,6 +15,7 @@ mod numbers;
 mod outside;
 #[cfg(test)]
 mod rows;
+#[cfg(test)]
 mod sparse;
 #[cfg(test)]
 mod units;
