@@ -9,7 +9,9 @@ pub mod Sums
 pub mod Outflows
 pub mod Comparison
 pub mod Pinning
+pub mod HeldComparison
 pub mod Boxed
+pub mod HeldFlows
 pub mod Grids
 pub mod Leading
 pub mod RisingLines
@@ -20,6 +22,7 @@ pub mod Worked
 pub mod Rising
 pub mod NetRising
 pub mod RunRecords
+pub mod Appending
 pub mod Pieces
 pub mod CertificateLines
 pub mod OneAnswer
