@@ -1,5 +1,5 @@
 -- The grid of a period has sound laws where the capacities are made of the file's numbers.
-use Rattle.std.proofs.Common.{ℕ, ◌*◌, ◌^◌, ◌<◌, ◌≤ℤ◌, sym, ap, subst, arith, List, [], ◌∷◌, get_or, Bool}
+use Rattle.std.proofs.Common.{ℕ, ◌*◌, ◌^◌, ◌<◌, sym, ap, subst, arith, List, [], ◌∷◌, get_or, Bool}
 use Rattle.std.specs.Prelude.{Option, Some, None, if◌then◌else◌}
 use Rattle.std.specs.List.{AllByRecursion, AllZip}
 use Rattle.std.specs.Option.{IfSome, option_map_or}
