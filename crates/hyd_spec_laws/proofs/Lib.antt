@@ -1,6 +1,7 @@
 pub mod Roots
 pub mod StraightLines
 pub mod CurveKnots
+pub mod StatusWords
 pub mod LossLaws
 pub mod LinkLaws
 pub mod EachLaw
@@ -9,7 +10,9 @@ pub mod Sums
 pub mod Outflows
 pub mod Comparison
 pub mod Pinning
+pub mod HeldComparison
 pub mod Boxed
+pub mod HeldFlows
 pub mod Grids
 pub mod RisingLines
 pub mod Placing
@@ -19,6 +22,7 @@ pub mod Worked
 pub mod Rising
 pub mod NetRising
 pub mod RunRecords
+pub mod Appending
 pub mod Pieces
 pub mod CertificateLines
 pub mod OneAnswer

@@ -15,6 +15,7 @@ use Rattle.hyd_spec.specs.Tank.{Walls, Cylinder, Curve, Stock, Bounds, content_b
 use Rattle.hyd_spec_certificates.specs.Stocks.{Stocks}
 use Rattle.hyd_spec_certificates.specs.Grid.{Grid, IsGrid}
 use Rattle.hyd_spec.specs.Assignment.{Assignment, IsAssignment, head_at}
+use Rattle.hyd_spec.specs.Draw.{IsAssignmentDrawing}
 use Rattle.hyd_spec.specs.declared.TankState.{TankState}
 use Rattle.hyd_spec.specs.Scale.{at_scale}
 use Rattle.hyd_spec_certificates.specs.Verdict.{Verdict, Yes, No, Unknown}
@@ -110,6 +111,15 @@ pub record IsCompared (network : Project) (S time : ℕ) (intervals : List Inter
   pub sound : IsSoundGrid grid
   pub lie : LevelsLie S intervals levels
   pub assigned : IsAssignment network S time levels tanks links assignment
+
+-- The same of an assignment in which q S-th parts of a flow tick are drawn at junction number `place` besides.
+pub record IsComparedDrawing (network : Project) (S time : ℕ) (intervals : List Interval) (levels : List ℤ)
+    (tanks : List TankState) (links : List LinkState) (place : ℕ) (q : ℤ) (assignment : Assignment) (grid : Grid) : Type 0 where
+  pub some : 0 < S
+  pub is_grid : IsGrid network time intervals tanks links grid
+  pub sound : IsSoundGrid grid
+  pub lie : LevelsLie S intervals levels
+  pub assigned : IsAssignmentDrawing network S time levels tanks links place q assignment
 
 -- At each node a head of the third list, in S-th parts of a tick, lies between those of the others.
 abbrev pub LieBetween : ℕ → List ℤ → List ℤ → List ℤ → Type 0
