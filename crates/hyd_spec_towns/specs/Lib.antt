@@ -13,3 +13,4 @@ pub mod VillageTexts
 pub mod VillageStops
 pub mod Shallow
 pub mod Rounds
+pub mod Basin
