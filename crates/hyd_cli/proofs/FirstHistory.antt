@@ -1,10 +1,11 @@
 -- Every history of a network of the first form agrees with the record of its one period.
-use Rattle.std.proofs.Common.{◌≡◌, ℕ, zero, suc, ◌≤◌, ℤ, Bool, MatchBool, List, [], ◌∷◌, ◌++◌, refl, sym, ap, subst, ◌∙◌, arith}
+use Rattle.std.proofs.Common.{◌≡◌, ℕ, zero, suc, ◌≤◌, ℤ, Bool, MatchBool, List, [], ◌∷◌, ◌++◌, map, ◌+◌, refl, sym, ap, subst, ◌∙◌, arith}
 use Rattle.std.specs.Prelude.{Option, Some, None, slice_get}
 use Rattle.std.specs.List.{AllByRecursion, AllZip}
 use Rattle.std.specs.Option.{IfSome}
 use Rattle.hyd_num.specs.Numeral.{nano_of}
-use Rattle.hyd_spec.specs.Types.{Project, Junction, Tank, Link, LinkKind, LinkState, OpenValve, Capacity, Tcv, Linear, Quadratic, Throttle}
+use Rattle.hyd_net.specs.ListView.{ListView}
+use Rattle.hyd_spec.specs.Types.{Project, Junction, Tank, Link, HeadPoint, LinkKind, LinkState, OpenValve, Capacity, Tcv, Linear, Quadratic, Throttle}
 use Rattle.hyd_spec.specs.declared.TankState.{TankState}
 use Rattle.hyd_spec_certificates.specs.declared.Problem.TheVariants.{Main}
 use Rattle.hyd_spec_certificates.specs.declared.Side.TheVariants.{Upper, Lower}
@@ -15,7 +16,7 @@ use Rattle.hyd_spec.specs.Law.{QuadraticLaw}
 use Rattle.hyd_spec.specs.Start.{patterned, controlled, started}
 use Rattle.hyd_spec.specs.Rules.{state_of_link}
 use Rattle.hyd_spec.specs.Length.{Period, HasItsLength, at_end, before_end}
-use Rattle.hyd_spec.specs.History.{Begins, IsPeriod, initial_links, initial_levels, tank_states, commanded_after}
+use Rattle.hyd_spec.specs.History.{Begins, IsPeriod, initial_links, initial_levels, initial_volumes, tank_states, commanded_after}
 use Rattle.hyd_spec_certificates.specs.Grid.{Grid, GridLink, GridJunction, IsGrid, IsJunctionOf}
 use Rattle.hyd_spec_certificates.specs.Boxes.{difference}
 use Rattle.hyd_spec_certificates.specs.Certificate.{IsCertificate}
@@ -23,7 +24,9 @@ use Rattle.hyd_spec_certificates.specs.Record.{Record, Standing, initial_standin
 use Rattle.hyd_spec_certificates.specs.Decided.{links_at, heads_below, heads_above, by_rules, by_clock}
 use Rattle.hyd_spec_certificates.specs.Valid.{IsGridAt}
 use Rattle.hyd_spec_reports.specs.ReportLine.{ReportLine, LinkLine}
-use Rattle.hyd_spec_reports.specs.Report.{IsReport, AreEndLines, at_end as ends_last, by_rules as ends_by_rules, by_clock as ends_by_clock, AreStateLines, IsLinkLine, IsTankLine, status_of}
+use Rattle.hyd_spec.specs.declared.Change.{Change}
+use Rattle.hyd_spec_reports.specs.declared.Event.{Event}
+use Rattle.hyd_spec_reports.specs.Report.{IsReport, AreEndLines, EndBrings, event_line, change_line, at_end as ends_last, by_rules as ends_by_rules, by_clock as ends_by_clock, AreStateLines, IsLinkLine, IsTankLine, status_of}
 use Rattle.hyd_spec_reports.specs.Claims.{LineHolds, StatusHolds}
 use Rattle.hyd_spec_input.specs.FirstForm.{IsFirstNetwork}
 use Rattle.hyd_spec_reports.specs.Headline.{Agrees, AllAgree, EveryHistoryAgrees}
@@ -91,7 +94,7 @@ lie_without : (network : Project) (S : ℕ) → network.tanks.list ≡ [] → Le
 lie_without network S e = rw e tt
 
 starts_so : (network : Project) → IsFirstNetwork network → (S : ℕ) (period : Period)
-    → Begins network S 0 (initial_levels network S) (initial_links network) period → StartsSo network S period
+    → Begins network S 0 (initial_levels network S) (initial_volumes network S) (initial_links network) period → StartsSo network S period
 starts_so network first S period begins =
     let plain = first.has_parts.plain in
     record {
@@ -135,13 +138,13 @@ no_length network S period duration time (before_end later least) = absurd (late
 
 -- ---- its lines
 
-active : (us : Bool) (kind : LinkKind) (states : List LinkState) (setting : ℤ) (law : OpenValve) (d : Interval)
-    → kind ≡ Tcv Linear → states ≡ Throttle setting law ∷ [] → status_of us kind (state_of_link states 0) d ≡ Active
-active us kind states setting law d k s = rw (k, s) refl
+active : (us : Bool) (bends : List (ListView HeadPoint)) (kind : LinkKind) (states : List LinkState) (setting : ℤ) (law : OpenValve) (d : Interval)
+    → kind ≡ Tcv Linear → states ≡ Throttle setting law ∷ [] → status_of us bends kind (state_of_link states 0) d ≡ Active
+active us bends kind states setting law d k s = rw (k, s) refl
 
-active_holds : (us : Bool) (kind : LinkKind) (setting : ℤ) (law : OpenValve) (S : ℕ) (x : ℤ) → kind ≡ Tcv Linear
-    → StatusHolds us Active kind (Throttle setting law) S x
-active_holds us kind setting law S x k = rw k tt
+active_holds : (us : Bool) (bends : List (ListView HeadPoint)) (kind : LinkKind) (setting : ℤ) (law : OpenValve) (S : ℕ) (x : ℤ) → kind ≡ Tcv Linear
+    → StatusHolds us bends Active kind (Throttle setting law) S x
+active_holds us bends kind setting law S x k = rw k tt
 
 -- the line of the one link
 link_holds : (network : Project) → IsFirstNetwork network → (S : ℕ) (commanded : List LinkState) (period : Period) (grid : Grid) (row : Record)
@@ -157,14 +160,14 @@ link_holds network first S commanded period grid row over so zero link each at l
     let law = Quadratic parts.link_is.capacity in
     let setting = nano_of first.chosen.setting in
     let states : links_at network start ≡ Throttle setting law ∷ [] = first_states network first setting law parts.link_is.start in
-    let word = active (is_us network) link.kind (links_at network start) setting law (difference line.place (heads_below grid row) (heads_above grid row)) kind states in
+    let word = active (is_us network) network.bends.list link.kind (links_at network start) setting law (difference line.place (heads_below grid row) (heads_above grid row)) kind states in
     subst (LineHolds network S commanded period) (sym (line.is_line ∙ ap (LinkLine 0 line.flow) word)) (record {
       link = link;
       is_link = at;
       state = Throttle setting law;
       is_state = ap (λ (ls : List LinkState). slice_get ls 0) (so.links ∙ states);
       flow_lies = flow_holds network S commanded period grid start row over 0 line.box line.flow line.box_is line.flow_is;
-      status_holds = active_holds (is_us network) link.kind setting law S _ kind;
+      status_holds = active_holds (is_us network) network.bends.list link.kind setting law S _ kind;
     })
 link_holds network first S commanded period grid row over so (suc l) link each at line =
     let parts = first.has_parts in
@@ -181,9 +184,14 @@ no_tank_line network S commanded period grid row e k tank each at line =
 -- the lines are those of a report time
 no_end_lines : (network : Project) (grid : Grid) (standing : Standing) (row : Record) (lines : List ReportLine) → standing.time ≡ network.times.duration
     → AreEndLines network grid standing row lines → lines ≡ []
-no_end_lines network grid standing row lines last (ends_last e) = refl
-no_end_lines network grid standing row lines last (ends_by_rules (by_rules matter closed)) = absurd (matter.not_last last)
-no_end_lines network grid standing row lines last (ends_by_clock (by_clock matter latest)) = absurd (matter.not_last last)
+no_end_lines network grid standing row lines last ends = by ends.events ends.changes ends.brings ends.lines_are
+  where
+    by : (events : List Event) (changes : List Change) → EndBrings network grid standing row events changes
+        → lines ≡ map (event_line (standing.time + row.length)) events ++ map (change_line (standing.time + row.length)) changes
+        → lines ≡ []
+    by _ _ (ends_last e) are = are
+    by _ _ (ends_by_rules (by_rules matter closed)) are = absurd (matter.not_last last)
+    by _ _ (ends_by_clock (by_clock matter latest)) are = absurd (matter.not_last last)
 
 pub only_state_lines : (network : Project) → IsFirstNetwork network → (grid : Grid) (row : Record) (lines : List ReportLine)
     → IsReport network grid (initial_standing network) row lines
@@ -215,7 +223,7 @@ lines_hold network first S commanded period grid row lines over so report =
 -- ---- every history
 
 first_agrees : (network : Project) → IsFirstNetwork network → (S : ℕ) → 1 ≤ S → (period : Period) (grid : Grid) (upper lower : ℤ) (lines : List ReportLine)
-    → Begins network S 0 (initial_levels network S) (initial_links network) period → IsPeriod network S period
+    → Begins network S 0 (initial_levels network S) (initial_volumes network S) (initial_links network) period → IsPeriod network S period
     → IsGridAt network (initial_standing network) grid → IsCertificate grid Main Upper (upper ∷ []) → IsCertificate grid Main Lower (lower ∷ [])
     → IsReport network grid (initial_standing network) (first_row upper lower) lines
     → Agrees network S (initial_links network) period (first_found network grid upper lower lines)

@@ -15,7 +15,8 @@ ghost use Rattle.hyd_spec_certificates.specs.Certificate.{IsCertificate, IsTight
 ghost use Rattle.hyd_spec_reports.specs.CertificateText.{certificate_text};
 ghost use Rattle.hyd_spec_certificates.specs.Record.{initial_standing};
 ghost use Rattle.hyd_spec_certificates.specs.Valid.{IsGridAt};
-ghost use Rattle.hyd_spec_reports.specs.Stops.{HasNoCertificate, NoCertificate};
+ghost use Rattle.hyd_spec_reports.specs.Stops.{HasNoCertificate};
+ghost use Rattle.hyd_spec_reports.specs.declared.StopCause.TheVariants.{NoCertificate};
 ghost use Rattle.hyd_spec_reports.specs.ReportLine.{ReportLine, report_text, done_line, stop_line};
 ghost use Rattle.hyd_spec_reports.specs.Report.{Prints, IsReport};
 ghost use Rattle.hyd_spec_reports.specs.Claims.{LiesBetween, at_part};
@@ -58,14 +59,14 @@ fn first_runs()
         → IsTightHead network Upper upper → IsTightHead network Lower lower
         → (lines : List ReportLine) → ((grid : Grid) → IsGridAt network (initial_standing network) grid
         → IsReport network grid (initial_standing network) (first_row upper lower) lines)
-        → (written printed : List ℕ) → written ≡ certificate_text 1 0 (first_row upper lower ∷ []) 1 true
+        → (written printed : List ℕ) → written ≡ certificate_text 1 1 0 (first_row upper lower ∷ []) 1 true
         → printed ≡ report_text network lines (done_line 1)
         → RunWrites network 200 (record { width = pos (10 ^ 11); tight = true }) Finished written printed }
     ensures stopped { (network : Project) → IsFirstNetwork network → (side : Side)
         → HasNoCertificate network (initial_standing network) Main side
-        → (written printed : List ℕ) → written ≡ certificate_text 1 0 [] 0 false
-        → printed ≡ report_text network [] (stop_line network 0 0 (NoCertificate Main side 0))
-        → RunWrites network 200 (record { width = pos (10 ^ 11); tight = true }) (Stopped (NoCertificate Main side 0)) written printed }
+        → (written printed : List ℕ) → written ≡ certificate_text 1 1 0 [] 0 false
+        → printed ≡ report_text network [] (stop_line network 0 (NoCertificate 0 Main side 0))
+        → RunWrites network 200 (record { width = pos (10 ^ 11); tight = true }) (Stopped (NoCertificate 0 Main side 0)) written printed }
 {}
 
 /// A network of the first form is sound.

@@ -5,3 +5,5 @@ pub mod City
 pub mod Single
 pub mod Forms
 pub mod Tanks
+pub mod Curves
+pub mod Cylinders

@@ -1,15 +1,15 @@
--- Where no demand depends on the pressure, a network has one tight run of each number of periods.
-use Rattle.std.proofs.Common.{◌≡◌, ℕ, suc, ◌<◌, ℤ, pos, Bool, false, MatchBool, List, [], ◌∷◌, length, int_le, refl, sym, ap, subst, ◌∙◌, arith}
+-- A network has one tight run of each number of periods.
+use Rattle.std.proofs.Common.{◌≡◌, ℕ, suc, ◌<◌, ℤ, Bool, true, false, MatchBool, List, [], ◌∷◌, length, refl, sym, ap, subst, ◌∙◌, arith}
 use Rattle.std.specs.Prelude.{slice_index_or}
 use Rattle.std.specs.List.{AllZip, AllByRecursion}
-use Rattle.hyd_spec.specs.Types.{Project, Junction}
+use Rattle.hyd_spec.specs.Types.{Project, Junction, Capacity}
 use Rattle.hyd_spec_certificates.specs.declared.Problem.{Problem}
 use Rattle.hyd_spec_certificates.specs.declared.Problem.TheVariants.{Main, Pinned}
 use Rattle.hyd_spec_certificates.specs.declared.Side.{Side}
 use Rattle.hyd_spec_certificates.specs.declared.Side.TheVariants.{Upper, Lower}
-use Rattle.hyd_spec.specs.Quantity.{demand_of}
+use Rattle.hyd_spec.specs.Quantity.{demand_of, minimum_pressure, required_pressure}
 use Rattle.hyd_spec.specs.Outflow.{is_pressure_driven}
-use Rattle.hyd_spec_certificates.specs.Enclosing.{DemandLaw, Fixed}
+use Rattle.hyd_spec_certificates.specs.Enclosing.{DemandLaw, Fixed, Driven}
 use Rattle.hyd_spec_certificates.specs.Grid.{Grid, GridJunction, IsDriven, IsDemandLaw, IsJunctionOf}
 use Rattle.hyd_spec_certificates.specs.Certificate.{IsTight}
 use Rattle.hyd_spec_certificates.specs.Record.{Record, Vectors, Standing, no_vectors, vector_of}
@@ -17,25 +17,31 @@ use Rattle.hyd_spec_certificates.specs.Valid.{IsProblem, IsGridAt, LeadsOn, IsVa
 use Rattle.hyd_spec_reports.specs.ReportLine.{ReportLine}
 use Rattle.hyd_spec_reports.specs.Report.{IsReport}
 use Rattle.hyd_spec_reports.specs.Headline.{Found, IsFound, IsRunFrom, more, IsTightThroughout}
+use Rattle.hyd_spec_laws.proofs.OneCapacity.{one_capacity}
 use Rattle.hyd_spec_laws.proofs.OneLength.{one_length}
 use Rattle.hyd_spec_laws.proofs.OneStanding.{one_standing, one_vector}
 use Rattle.hyd_spec_laws.proofs.OneReport.{one_report}
-use Rattle.hyd_lemmas.proofs.Trials.{same_either_way}
 
-module _ (network : Project) (fixed : network.options.pda ≡ false) where
+module _ (network : Project) where
   -- ---- grids
 
-  undriven : (demand : ℤ) → is_pressure_driven network demand ≡ false
-  undriven demand = rw fixed (same_either_way (int_le demand (pos 0)))
-
-  fixed_law : (demand : ℤ) (law : DemandLaw) → IsDemandLaw network demand law → law ≡ Fixed demand
-  fixed_law demand law is = subst (λ (b : Bool). MatchBool b (IsDriven network demand law) (law ≡ Fixed demand)) (undriven demand) is
+  -- two laws of one demand: both fixed, or both driven by the one capacity of its numbers
+  one_law : (demand : ℤ) (a b : DemandLaw) → IsDemandLaw network demand a → IsDemandLaw network demand b → a ≡ b
+  one_law demand a b = by (is_pressure_driven network demand)
+    where
+      by : (driven : Bool) → MatchBool driven (IsDriven network demand a) (a ≡ Fixed demand)
+          → MatchBool driven (IsDriven network demand b) (b ≡ Fixed demand) → a ≡ b
+      by true x y =
+          let same = one_capacity x.capacity y.capacity (x.origin ∙ sym y.origin) x.made y.made in
+          let law = λ (c : Capacity). Driven demand c (minimum_pressure network) (required_pressure network) in
+          x.is_law ∙ (ap law same ∙ sym y.is_law)
+      by false x y = x ∙ sym y
 
   same_junction : (time : ℕ) (junction : Junction) (a b : GridJunction) → IsJunctionOf network time junction a → IsJunctionOf network time junction b → a ≡ b
   same_junction time junction a b x y =
       let elevation = x.elevation ∙ sym y.elevation in
       let takes = demand_of network time junction in
-      let demand = fixed_law takes a.demand x.demand ∙ sym (fixed_law takes b.demand y.demand) in
+      let demand = one_law takes a.demand b.demand x.demand y.demand in
       let emitter = x.emitter ∙ sym y.emitter in
       λ i. record { elevation = elevation i; demand = demand i; emitter = emitter i }
 
@@ -49,7 +55,7 @@ module _ (network : Project) (fixed : network.options.pda ≡ false) where
   same_junctions time (j ∷ js) (a ∷ xs) (b ∷ ys) x y =
       let first = same_junction time j a b x.0 y.0 in let rest = same_junctions time js xs ys x.1 y.1 in cc
 
-  one_grid : (standing : Standing) (a b : Grid) → IsGridAt network standing a → IsGridAt network standing b → a ≡ b
+  pub one_grid : (standing : Standing) (a b : Grid) → IsGridAt network standing a → IsGridAt network standing b → a ≡ b
   one_grid standing a b x y =
       let junctions = same_junctions standing.time network.junctions.list a.junctions b.junctions x.junctions y.junctions in
       let reservoirs = x.reservoirs ∙ sym y.reservoirs in

@@ -114,7 +114,7 @@ module _ (choice : Choice) (grid : Grid) (standing : Standing) (row : Record) wh
 
   pub link_line : (l : ℕ) (link : Link) (place : GridLink) (box flow : Interval) (word : StatusWord) → slice_get grid.links l ≡ Some place
       → slice_get (flow_boxes grid row) l ≡ Some box → rounds (pos 1000) box flow ≡ true
-      → status_of false link.kind (state_of_link (links_at (village_with choice) standing) l) (difference place (heads_below grid row) (heads_above grid row)) ≡ word
+      → status_of false [] link.kind (state_of_link (links_at (village_with choice) standing) l) (difference place (heads_below grid row) (heads_above grid row)) ≡ word
       → IsLinkLine (village_with choice) grid standing row l link (LinkLine l flow word)
   link_line l link place box flow word at boxed e is = record {
     place = place;
@@ -163,16 +163,16 @@ fifth_state = record {
 -- ---- reports
 
 pub first_report : IsReport village grid_0 standing_0 row_0 lines_0
-first_report = record { state = lines_0; state_are = first_state; at_end = []; at_end_are = by_clock first_ends; lines_are = refl }
+first_report = record { state = lines_0; state_are = first_state; at_end = []; at_end_are = record { events = _; changes = _; brings = by_clock first_ends; lines_are = refl }; lines_are = refl }
 
 pub second_report : IsReport village grid_1 standing_1 row_1 lines_1
-second_report = record { state = []; state_are = refl; at_end = lines_1; at_end_are = by_clock second_ends; lines_are = refl }
+second_report = record { state = []; state_are = refl; at_end = lines_1; at_end_are = record { events = _; changes = _; brings = by_clock second_ends; lines_are = refl }; lines_are = refl }
 
 pub third_report : IsReport village grid_2 standing_2 row_2 lines_2
-third_report = record { state = []; state_are = refl; at_end = drop 1 lines_2; at_end_are = by_rules third_ends; lines_are = refl }
+third_report = record { state = []; state_are = refl; at_end = drop 1 lines_2; at_end_are = record { events = _; changes = _; brings = by_rules third_ends; lines_are = refl }; lines_are = refl }
 
 pub fourth_report : IsReport village grid_3 standing_3 row_3 lines_3
-fourth_report = record { state = []; state_are = refl; at_end = []; at_end_are = by_clock fourth_ends; lines_are = refl }
+fourth_report = record { state = []; state_are = refl; at_end = []; at_end_are = record { events = _; changes = _; brings = by_clock fourth_ends; lines_are = refl }; lines_are = refl }
 
 pub fifth_report : IsReport village grid_4 standing_4 row_4 lines_4
-fifth_report = record { state = lines_4; state_are = fifth_state; at_end = []; at_end_are = at_end refl; lines_are = refl }
+fifth_report = record { state = lines_4; state_are = fifth_state; at_end = []; at_end_are = record { events = _; changes = _; brings = at_end refl; lines_are = refl }; lines_are = refl }

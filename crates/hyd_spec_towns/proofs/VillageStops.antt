@@ -83,7 +83,7 @@ tight_row choice is = record { in_range = in_range choice 0 (lit≤ tt) (lit≤ 
 
 -- eight seconds by the clock
 clock : (choice : Choice) → IsClockLength (village_with choice) 0 8
-clock choice = clock_length choice 0 8 (step refl) (omega arith) (omega arith) (λ m later e. omega arith)
+clock choice = clock_length choice 0 8 (step (omega arith) refl) (omega arith) (omega arith) (λ m later e. omega arith)
 
 -- the rule
 unsure_rule_matters : RulesMatter (village_with unsure_rule) grid_0 standing_0 row_0 2
@@ -102,7 +102,7 @@ unsure_rule_first = record {
 }
 
 rule_is : IsOpenRule (village_with unsure_rule) grid_0 standing_0 row_0 2 open_rule
-rule_is = record { first_rule = refl; rule = _; is_rule = refl; first_clause = refl; each = _; is_clause = refl; below = refl; above = refl }
+rule_is = record { first_rule = refl; rule = _; is_rule = refl; clause_is = record { first_clause = refl; each = _; is_clause = refl; lo_is = refl; hi_is = refl } }
 
 pub rule_stops : LeavesRuleOpen (village_with unsure_rule) standing_0 open_rule
 rule_stops = record {
