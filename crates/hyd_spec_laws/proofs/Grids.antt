@@ -24,16 +24,16 @@ use Rattle.hyd_spec_laws.specs.Laws.{IsSoundGrid, IsSoundLaw, IsSoundCapacity, A
 use Rattle.hyd_spec_laws.proofs.EachLaw.{IsSoundCapacity-made}
 use Rattle.hyd_spec_laws.proofs.CurveKnots.{pump_knots-in_order, valve_knots-in_order}
 
-valve-sound : (valve : OpenValve) → IsValveMade valve → IsSoundLaw (valve_law valve)
+pub valve-sound : (valve : OpenValve) → IsValveMade valve → IsSoundLaw (valve_law valve)
 valve-sound (Quadratic capacity) made = IsSoundCapacity-made capacity made
 valve-sound Linear made = tt
 
-lift-above : (us : Bool) (head : ShutoffHead) → 0 < 10 ^ 18 * (shutoff_head us head).den
+pub lift-above : (us : Bool) (head : ShutoffHead) → 0 < 10 ^ 18 * (shutoff_head us head).den
 lift-above us (FourThirds head) = omega arith
 lift-above us (Given head) = omega arith
 
 -- the knots of a curve that is there
-bend-sound : (P : List HeadPoint → Type 0) (knots : List HeadPoint → List Knot) (bends : List (ListView HeadPoint)) (bend : ℕ)
+pub bend-sound : (P : List HeadPoint → Type 0) (knots : List HeadPoint → List Knot) (bends : List (ListView HeadPoint)) (bend : ℕ)
     → HasBend P bends bend → ((points : List HeadPoint) → P points → AreInOrder (knots points)) → AreInOrder (knots (points_of bends bend))
 bend-sound P knots bends bend has each =
     let there = ap (λ (o : Option (ListView HeadPoint)). option_map_or (λ (b : ListView HeadPoint). b.list) o []) (slice_get-get_or bends bend no_points has.in_range) in

@@ -225,7 +225,7 @@ from-rises S a (b ∷ (c ∷ rest)) x y follow le =
 -- ---- a finer scale
 
 -- p is the S-fold of q
-record IsFold (S : ℕ) (p q : Rational) : Type 0 where
+pub record IsFold (S : ℕ) (p q : Rational) : Type 0 where
   pub den_same : p.den ≡ q.den
   pub num_fold : p.num ≡ pos S *ℤ q.num
 
@@ -276,6 +276,13 @@ value-den S (a ∷ rest) x = den-above S a rest x
 pub value-rises : (S : ℕ) (knots : List Knot) (x y : ℤ) → AreInOrder knots → x ≤ℤ y → IsBelow (value_at S knots x) (value_at S knots y)
 value-rises S [] x y order le = omega (arith, ints)
 value-rises S (a ∷ rest) x y order le = from-rises S a rest x y (follow_on-is a rest order) le
+
+pub value-fold : (S : ℕ) (knots : List Knot) (d : ℤ) → 0 < S → AreInOrder knots → IsFold S (value_at S knots (pos S *ℤ d)) (value_at 1 knots d)
+value-fold S [] d some order = record { den_same = refl; num_fold = nothing S }
+  where
+    nothing : (S : ℕ) → pos 0 ≡ pos S *ℤ pos 0
+    nothing S = omega (arith, ints)
+value-fold S (a ∷ rest) d some order = from-fold S a rest d some (follow_on-is a rest order)
 
 -- what the value at d is at least in ticks, the value at S d is at least in S-th parts, and so with at most
 pub value-over : (S : ℕ) (knots : List Knot) (d z : ℤ) → 0 < S → AreInOrder knots → IsOver z (value_at 1 knots d) → IsOver (pos S *ℤ z) (value_at S knots (pos S *ℤ d))
