@@ -3,6 +3,7 @@
 #![tactic(auto)]
 
 pub mod clauses;
+pub mod refusals;
 pub mod rounds;
 pub mod run_ends;
 pub mod shallow;
