@@ -18,6 +18,7 @@ pub mod RisingLines
 pub mod Placing
 pub mod Levelling
 pub mod Deciding
+pub mod WatchedEnds
 pub mod Worked
 pub mod Rising
 pub mod NetRising
