@@ -295,3 +295,40 @@ value-under S (a ∷ rest) d z some order under =
     let q = value_from 1 a rest d in
     rw (fold.den_same, fold.num_fold)
     (let l = times_rises S q.num (pos q.den *ℤ z) under in omega (arith, ints, l, swapped S q.den z))
+
+-- ---- the sign of the value
+
+from-product : (n : ℕ) (z : ℤ) → pos 0 <ℤ (pos n *ℤ z) → pos 0 <ℤ z
+from-product n (pos zero) h = absurd (let o : pos n *ℤ pos 0 ≡ pos 0 = omega (arith, ints) in omega (arith, ints, h, o))
+from-product n (pos (suc m)) h = omega (arith, ints)
+from-product n (negsuc m) h = absurd (let l = times_rises n (negsuc m) (pos 0) (omega (arith, ints)) in let o : pos n *ℤ pos 0 ≡ pos 0 = omega (arith, ints) in omega (arith, ints, h, l, o))
+
+-- where the value at d is above 0, that at x, at least S d, is above 0 at scale S
+pub value-positive : (S : ℕ) (knots : List Knot) (d x : ℤ) → 0 < S → AreInOrder knots → (pos S *ℤ d) ≤ℤ x → pos 0 <ℤ (value_at 1 knots d).num
+    → pos 0 <ℤ (value_at S knots x).num
+value-positive S [] d x some order le h = absurd (omega (arith, ints, h))
+value-positive S (a ∷ rest) d x some order le h =
+    let p = value_from S a rest (pos S *ℤ d) in
+    let q = value_from 1 a rest d in
+    let r = value_from S a rest x in
+    let fold = (from-fold S a rest d some (follow_on-is a rest order)).num_fold in
+    let up = from-rises S a rest (pos S *ℤ d) x (follow_on-is a rest order) le in
+    let above = den-above S a rest x in
+    let one : pos S ≤ℤ p.num = (let l = times_rises S (pos 1) q.num (omega (arith, ints, h)) in omega (arith, ints, l, fold, times_one S)) in
+    let more : pos r.den ≤ℤ (pos r.den *ℤ p.num) = (let l = times_rises r.den (pos 1) p.num (omega (arith, ints, one, some)) in omega (arith, ints, l, times_one r.den)) in
+    from-product p.den r.num (omega (arith, ints, up, more, above))
+
+-- and where it is at most 0, that at x, at most S d, is at most 0
+pub value-negative : (S : ℕ) (knots : List Knot) (d x : ℤ) → 0 < S → AreInOrder knots → x ≤ℤ (pos S *ℤ d) → (value_at 1 knots d).num ≤ℤ pos 0
+    → (value_at S knots x).num ≤ℤ pos 0
+value-negative S [] d x some order le h = omega (arith, ints)
+value-negative S (a ∷ rest) d x some order le h =
+    let p = value_from S a rest (pos S *ℤ d) in
+    let q = value_from 1 a rest d in
+    let r = value_from S a rest x in
+    let fold = (from-fold S a rest d some (follow_on-is a rest order)).num_fold in
+    let up = from-rises S a rest x (pos S *ℤ d) (follow_on-is a rest order) le in
+    let none : p.num ≤ℤ pos 0 = (let l = times_rises S q.num (pos 0) h in let o : pos S *ℤ pos 0 ≡ pos 0 = omega (arith, ints) in omega (arith, ints, l, fold, o)) in
+    times_reflects p.den r.num (pos 0) (den-above S a rest (pos S *ℤ d))
+    (let l = times_rises r.den p.num (pos 0) none in let o : pos r.den *ℤ pos 0 ≡ pos 0 = omega (arith, ints) in
+    let n : pos p.den *ℤ pos 0 ≡ pos 0 = omega (arith, ints) in omega (arith, ints, up, l, o, n))
