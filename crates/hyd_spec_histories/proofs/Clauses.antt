@@ -31,7 +31,8 @@ between-at-least S lo x hi b = record {
       rw e (omega (arith, ints, h, *ℤ_comm hi.num (pos (x.den * S)), *ℤ_comm x.num (pos hi.den)));
 }
 
-total-is : (S : ℕ) (t : ℤ) (x : Rational) → total_of x (whole (at_scale S t)) ≡ record { num = x.num +ℤ (pos x.den *ℤ (pos S *ℤ t)); den = x.den }
+total-is : (S : ℕ) (t : ℤ) (x : Rational) → total_of x (whole (at_scale S t))
+    ≡ record { num = x.num +ℤ (pos x.den *ℤ (pos S *ℤ t)); den = x.den }
 total-is S t x =
     let n : (x.num *ℤ pos 1) +ℤ ((pos S *ℤ t) *ℤ pos x.den) ≡ x.num +ℤ (pos x.den *ℤ (pos S *ℤ t)) =
     omega (arith, ints, one_times x.num, *ℤ_comm x.num (pos 1), *ℤ_comm (pos S *ℤ t) (pos x.den)) in
@@ -42,30 +43,49 @@ raised-low : (S a b : ℕ) (t n m : ℤ) → (pos (b * S) *ℤ n) ≤ℤ (pos a 
     → (pos (b * S) *ℤ (n +ℤ (pos a *ℤ (pos 1 *ℤ t)))) ≤ℤ (pos a *ℤ (m +ℤ (pos b *ℤ (pos S *ℤ t))))
 raised-low S a b t n m h =
     rw (times_plus (b * S) n (pos a *ℤ (pos 1 *ℤ t)), times_plus a m (pos b *ℤ (pos S *ℤ t)))
-    (let e : pos (b * S) *ℤ (pos a *ℤ (pos 1 *ℤ t)) ≡ pos a *ℤ (pos b *ℤ (pos S *ℤ t)) = shuffle S a b t in omega (arith, ints, h, e))
+    (let e : pos (b * S) *ℤ (pos a *ℤ (pos 1 *ℤ t)) ≡ pos a *ℤ (pos b *ℤ (pos S *ℤ t)) = shuffle S a b t in
+    omega (arith, ints, h, e))
   where
     commuted : (p q : ℕ) (z : ℤ) → pos (p * q) *ℤ z ≡ pos (q * p) *ℤ z
     commuted p q z = let same : p * q ≡ q * p = omega arith in ap (λ (n : ℕ). pos n *ℤ z) same
 
     shuffle : (S a b : ℕ) (t : ℤ) → pos (b * S) *ℤ (pos a *ℤ (pos 1 *ℤ t)) ≡ pos a *ℤ (pos b *ℤ (pos S *ℤ t))
     shuffle S a b t =
-        rw one_times (omega (arith, ints, times_times (b * S) a t, commuted (b * S) a t, times_times a (b * S) t, ap (λ (z : ℤ). pos a *ℤ z) (times_times b S t)))
+        rw one_times (omega (
+          arith,
+          ints,
+          times_times (b * S) a t,
+          commuted (b * S) a t,
+          times_times a (b * S) t,
+          ap
+              (λ (z : ℤ). pos a *ℤ z) (times_times b S t),
+        ))
 
 raised-high : (S a b : ℕ) (t n m : ℤ) → (pos a *ℤ m) ≤ℤ (pos (b * S) *ℤ n)
     → (pos a *ℤ (m +ℤ (pos b *ℤ (pos S *ℤ t)))) ≤ℤ (pos (b * S) *ℤ (n +ℤ (pos a *ℤ (pos 1 *ℤ t))))
 raised-high S a b t n m h =
     rw (times_plus (b * S) n (pos a *ℤ (pos 1 *ℤ t)), times_plus a m (pos b *ℤ (pos S *ℤ t)))
-    (let e : pos (b * S) *ℤ (pos a *ℤ (pos 1 *ℤ t)) ≡ pos a *ℤ (pos b *ℤ (pos S *ℤ t)) = shuffle S a b t in omega (arith, ints, h, e))
+    (let e : pos (b * S) *ℤ (pos a *ℤ (pos 1 *ℤ t)) ≡ pos a *ℤ (pos b *ℤ (pos S *ℤ t)) = shuffle S a b t in
+    omega (arith, ints, h, e))
   where
     commuted : (p q : ℕ) (z : ℤ) → pos (p * q) *ℤ z ≡ pos (q * p) *ℤ z
     commuted p q z = let same : p * q ≡ q * p = omega arith in ap (λ (n : ℕ). pos n *ℤ z) same
 
     shuffle : (S a b : ℕ) (t : ℤ) → pos (b * S) *ℤ (pos a *ℤ (pos 1 *ℤ t)) ≡ pos a *ℤ (pos b *ℤ (pos S *ℤ t))
     shuffle S a b t =
-        rw one_times (omega (arith, ints, times_times (b * S) a t, commuted (b * S) a t, times_times a (b * S) t, ap (λ (z : ℤ). pos a *ℤ z) (times_times b S t)))
+        rw one_times (omega (
+          arith,
+          ints,
+          times_times (b * S) a t,
+          commuted (b * S) a t,
+          times_times a (b * S) t,
+          ap
+              (λ (z : ℤ). pos a *ℤ z) (times_times b S t),
+        ))
 
 raised : (S : ℕ) (t : ℤ) (lo x hi : Rational) → IsValueBetween S lo x hi
-    → IsValueBetween S (total_of lo (whole (at_scale 1 t))) (total_of x (whole (at_scale S t))) (total_of hi (whole (at_scale 1 t)))
+    → IsValueBetween S (total_of lo (whole (at_scale 1 t))) (total_of x (whole (at_scale S t)))
+    (total_of hi (whole (at_scale 1 t)))
 raised S t lo x hi b = rw (total-is 1 t lo, total-is S t x, total-is 1 t hi) (record {
   some_lo = b.some_lo;
   some = b.some;
@@ -74,7 +94,8 @@ raised S t lo x hi b = rw (total-is 1 t lo, total-is S t x, total-is 1 t hi) (re
   high = raised-high S hi.den x.den t hi.num x.num b.high;
 })
 
-pub whole-between : (S : ℕ) (lo x hi : ℤ) → (pos S *ℤ lo) ≤ℤ x → x ≤ℤ (pos S *ℤ hi) → IsValueBetween S (whole lo) (whole x) (whole hi)
+pub whole-between : (S : ℕ) (lo x hi : ℤ) → (pos S *ℤ lo) ≤ℤ x → x ≤ℤ (pos S *ℤ hi)
+    → IsValueBetween S (whole lo) (whole x) (whole hi)
 whole-between S lo x hi l h = record {
   some_lo = omega arith;
   some = omega arith;
@@ -94,22 +115,32 @@ head-between : (network : Project) (S : ℕ) (below x above : Readings) (node : 
     → IsValueBetween S (head_of network 1 below node) (head_of network S x node) (head_of network 1 above node)
 head-between network S below x above node b =
     either-between S (is_tank network node) _ _ _ _ _ _
-    (raised S (bottom_of network (tank_number network node)) (level_of below (tank_number network node)) (level_of x (tank_number network node)) (level_of above (tank_number network node)) (b.levels (tank_number network node)))
-    (whole-between S (head_at below.heads node) (head_at x.heads node) (head_at above.heads node) (b.heads node).low (b.heads node).high)
+    (raised S (bottom_of network (tank_number network node)) (level_of below (tank_number network node))
+    (level_of x (tank_number network node)) (level_of above (tank_number network node))
+    (b.levels (tank_number network node)))
+    (whole-between S (head_at below.heads node) (head_at x.heads node) (head_at above.heads node) (b.heads node).low
+    (b.heads node).high)
 
 pressure-between : (network : Project) (S : ℕ) (below x above : Readings) (node : ℕ) → AreBetween S below x above
-    → IsValueBetween S (pressure_of network 1 below node) (pressure_of network S x node) (pressure_of network 1 above node)
+    → IsValueBetween S (pressure_of network 1 below node) (pressure_of network S x node)
+    (pressure_of network 1 above node)
 pressure-between network S below x above node b =
     either-between S (is_tank network node) _ _ _ _ _ _ (b.levels (tank_number network node))
-    (whole-between S (head_at below.heads node -ℤ at_scale 1 (elevation_of network node)) (head_at x.heads node -ℤ at_scale S (elevation_of network node)) (head_at above.heads node -ℤ at_scale 1 (elevation_of network node))
-    (let l = (b.heads node).low in rw one_times (omega (arith, ints, l, times_minus S (head_at below.heads node) (elevation_of network node))))
-    (let h = (b.heads node).high in rw one_times (omega (arith, ints, h, times_minus S (head_at above.heads node) (elevation_of network node)))))
+    (whole-between S (head_at below.heads node -ℤ at_scale 1 (elevation_of network node))
+    (head_at x.heads node -ℤ at_scale S (elevation_of network node)) (head_at above.heads node -ℤ at_scale 1
+    (elevation_of network node))
+    (let l = (b.heads node).low in
+    rw one_times (omega (arith, ints, l, times_minus S (head_at below.heads node) (elevation_of network node))))
+    (let h = (b.heads node).high in
+    rw one_times (omega (arith, ints, h, times_minus S (head_at above.heads node) (elevation_of network node)))))
 
 flow-between : (S : ℕ) (below x above : Readings) (link : ℕ) → AreBetween S below x above
-    → IsValueBetween S (whole (pos (slice_index_or below.flows link 0))) (whole (pos (slice_index_or x.flows link 0))) (whole (pos (slice_index_or above.flows link 0)))
+    → IsValueBetween S (whole (pos (slice_index_or below.flows link 0))) (whole (pos (slice_index_or x.flows link 0)))
+    (whole (pos (slice_index_or above.flows link 0)))
 flow-between S below x above link b =
     let l = b.flows_below link in let h = b.flows_above link in
-    whole-between S (pos (slice_index_or below.flows link 0)) (pos (slice_index_or x.flows link 0)) (pos (slice_index_or above.flows link 0))
+    whole-between S (pos (slice_index_or below.flows link 0)) (pos (slice_index_or x.flows link 0))
+    (pos (slice_index_or above.flows link 0))
     (omega (arith, ints, l)) (omega (arith, ints, h))
 
 -- ---- clauses
@@ -118,9 +149,12 @@ same-tells : (b : Bool) → Tells (at_both_ends b b) b
 same-tells true = refl
 same-tells false = refl
 
-value-tells : (relation : Relation) (S : ℕ) (lo x hi number : Rational) → IsOneWay relation → 0 < S → IsValueBetween S lo x hi
-    → Tells (at_both_ends (compares relation (in_ticks 1 lo) number) (compares relation (in_ticks 1 hi) number)) (compares relation (in_ticks S x) number)
-value-tells relation S lo x hi number way some b = compare_tells relation (in_ticks 1 lo) (in_ticks S x) (in_ticks 1 hi) number way
+value-tells : (relation : Relation) (S : ℕ) (lo x hi number : Rational) → IsOneWay relation → 0 < S
+    → IsValueBetween S lo x hi
+    → Tells (at_both_ends (compares relation (in_ticks 1 lo) number) (compares relation (in_ticks 1 hi) number))
+    (compares relation (in_ticks S x) number)
+value-tells relation S lo x hi number way some b = compare_tells relation (in_ticks 1 lo) (in_ticks S x)
+    (in_ticks 1 hi) number way
     (let a = b.some_lo in omega (arith, a)) (mul-pos b.some some) (let a = b.some_hi in omega (arith, a))
     (between-at-most S lo x hi b) (between-at-least S lo x hi b)
 
@@ -161,25 +195,37 @@ links-tell : (f : List LinkState → Bool) (below x above : Readings) → below.
     → Tells (at_both_ends (f below.links) (f above.links)) (f x.links)
 links-tell f below x above l h = rw (l, h) (same-tells (f x.links))
 
-subject-tells : (network : Project) (S time : ℕ) (below x above : Readings) (what : What) (relation : Relation) (value : Value)
+subject-tells : (network : Project) (S time : ℕ) (below x above : Readings) (what : What) (relation : Relation)
+    (value : Value)
     → 0 < S → Compares what relation → AreBetween S below x above
-    → Tells (at_both_ends (holds_on network 1 time below what relation value) (holds_on network 1 time above what relation value)) (holds_on network S time x what relation value)
+    → Tells (at_both_ends (holds_on network 1 time below what relation value)
+    (holds_on network 1 time above what relation value)) (holds_on network S time x what relation value)
 subject-tells network S time below x above (Head node) relation value some way b =
-    value-tells relation S _ _ _ (amount network (Head node) value) (one-way-head node relation way) some (head-between network S below x above node b)
+    value-tells relation S _ _ _ (amount network (Head node) value) (one-way-head node relation way) some
+    (head-between network S below x above node b)
 subject-tells network S time below x above (Pressure node) relation value some way b =
-    value-tells relation S _ _ _ (amount network (Pressure node) value) (one-way-pressure node relation way) some (pressure-between network S below x above node b)
+    value-tells relation S _ _ _ (amount network (Pressure node) value) (one-way-pressure node relation way) some
+    (pressure-between network S below x above node b)
 subject-tells network S time below x above (Level tank) relation value some way b =
-    value-tells relation S _ _ _ (amount network (Level tank) value) (one-way-level tank relation way) some (b.levels tank)
+    value-tells relation S _ _ _ (amount network (Level tank) value) (one-way-level tank relation way) some
+    (b.levels tank)
 subject-tells network S time below x above (Flow link) relation value some way b =
-    value-tells relation S _ _ _ (amount network (Flow link) value) (one-way-flow link relation way) some (flow-between S below x above link b)
+    value-tells relation S _ _ _ (amount network (Flow link) value) (one-way-flow link relation way) some
+    (flow-between S below x above link b)
 subject-tells network S time below x above (Setting link) relation value some way b =
-    links-tell (λ ls. compares relation (whole (setting_of (state_of_link ls link))) (amount network (Setting link) value)) below x above b.links_below b.links_above
+    links-tell (λ ls. compares relation (whole (setting_of (state_of_link ls link)))
+    (amount network (Setting link) value)) below x above b.links_below b.links_above
 subject-tells network S time below x above (Status link) relation value some way b =
-    links-tell (λ ls. status_holds relation (state_word (state_of_link ls link)) value) below x above b.links_below b.links_above
-subject-tells network S time below x above Time relation value some way b = same-tells (holds_on network S time x Time relation value)
-subject-tells network S time below x above Clock relation value some way b = same-tells (holds_on network S time x Clock relation value)
+    links-tell (λ ls. status_holds relation (state_word (state_of_link ls link)) value)
+    below x above b.links_below b.links_above
+subject-tells network S time below x above Time relation value some way b =
+    same-tells (holds_on network S time x Time relation value)
+subject-tells network S time below x above Clock relation value some way b =
+    same-tells (holds_on network S time x Clock relation value)
 
 pub clause_tells : (network : Project) (S time : ℕ) (below x above : Readings) (clause : Clause)
     → 0 < S → Compares clause.what clause.relation → AreBetween S below x above
-    → Tells (at_both_ends (clause_holds network 1 time below clause) (clause_holds network 1 time above clause)) (clause_holds network S time x clause)
-clause_tells network S time below x above clause some way b = subject-tells network S time below x above clause.what clause.relation clause.value some way b
+    → Tells (at_both_ends (clause_holds network 1 time below clause) (clause_holds network 1 time above clause))
+    (clause_holds network S time x clause)
+clause_tells network S time below x above clause some way b =
+    subject-tells network S time below x above clause.what clause.relation clause.value some way b

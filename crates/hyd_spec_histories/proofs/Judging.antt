@@ -27,31 +27,38 @@ record AreParts (P : Clause → Type 0) (parts : Parts) : Type 0 where
   front : AllByRecursion P parts.front
   rest : AllByRecursion (AllByRecursion P) parts.rest
 
-parts-before : (P : Clause → Type 0) (joined : Joined) (clause : Clause) (parts : Parts) → P clause → AreParts P parts → AreParts P (put_before joined clause parts)
+parts-before : (P : Clause → Type 0) (joined : Joined) (clause : Clause) (parts : Parts) → P clause → AreParts P parts
+    → AreParts P (put_before joined clause parts)
 parts-before P And clause parts holds are = record { front = tt; rest = ((holds, are.front), are.rest) }
 parts-before P Or clause parts holds are = record { front = (holds, are.front); rest = are.rest }
 
-parts-hold : (P : Clause → Type 0) (rows : List RuleClause) → AllByRecursion (λ (row : RuleClause). P row.clause) rows → AreParts P (parts_of rows)
+parts-hold : (P : Clause → Type 0) (rows : List RuleClause) → AllByRecursion (λ (row : RuleClause). P row.clause) rows
+    → AreParts P (parts_of rows)
 parts-hold P [] all = record { front = tt; rest = tt }
 parts-hold P (row ∷ rows) all = parts-before P row.joined row.clause (parts_of rows) all.0 (parts-hold P rows all.1)
 
-groups-hold : (P : Clause → Type 0) (front : List Clause) (rest : List (List Clause)) → AllByRecursion P front → AllByRecursion (AllByRecursion P) rest
+groups-hold : (P : Clause → Type 0) (front : List Clause) (rest : List (List Clause)) → AllByRecursion P front
+    → AllByRecursion (AllByRecursion P) rest
     → AllByRecursion (AllByRecursion P) (groups_in (record { front = front; rest = rest }))
 groups-hold P [] rest a b = b
 groups-hold P (clause ∷ front) rest a b = (a, b)
 
-pub in-groups : (P : Clause → Type 0) (rule : Rule) → AllByRecursion (λ (row : RuleClause). P row.clause) rule.clauses.list → AllByRecursion (AllByRecursion P) (groups_of rule)
+pub in-groups : (P : Clause → Type 0) (rule : Rule)
+    → AllByRecursion (λ (row : RuleClause). P row.clause) rule.clauses.list
+    → AllByRecursion (AllByRecursion P) (groups_of rule)
 in-groups P rule all =
     let parts = parts-hold P rule.clauses.list all in
     groups-hold P (parts_of rule.clauses.list).front (parts_of rule.clauses.list).rest parts.front parts.rest
 
 -- ---- truths and values
 
-all-mapped : (X : Type 0) (P Q : X → Type 0) (xs : List X) → ((x : X) → P x → Q x) → AllByRecursion P xs → AllByRecursion Q xs
+all-mapped : (X : Type 0) (P Q : X → Type 0) (xs : List X) → ((x : X) → P x → Q x) → AllByRecursion P xs
+    → AllByRecursion Q xs
 all-mapped X P Q [] f all = tt
 all-mapped X P Q (x ∷ xs) f all = (f x all.0, all-mapped X P Q xs f all.1)
 
-tell-mapped : (X : Type 0) (truth : X → Verdict) (test : X → Bool) (xs : List X) → AllByRecursion (λ (x : X). Tells (truth x) (test x)) xs → TellEach (map truth xs) (map test xs)
+tell-mapped : (X : Type 0) (truth : X → Verdict) (test : X → Bool) (xs : List X)
+    → AllByRecursion (λ (x : X). Tells (truth x) (test x)) xs → TellEach (map truth xs) (map test xs)
 tell-mapped X truth test [] all = tt
 tell-mapped X truth test (x ∷ xs) all = (all.0, tell-mapped X truth test xs all.1)
 
@@ -64,7 +71,8 @@ or-false : (a b : Bool) → (a || b) ≡ false → (a ≡ false) × (b ≡ false
 or-false true b e = absurd (cc)
 or-false false b e = (refl, e)
 
-pub all_known : (truths : List Verdict) (tests : List Bool) → list_any is_unknown truths ≡ false → TellEach truths tests → map is_yes truths ≡ tests
+pub all_known : (truths : List Verdict) (tests : List Bool) → list_any is_unknown truths ≡ false → TellEach truths tests
+    → map is_yes truths ≡ tests
 all_known [] [] e tells = refl
 all_known [] (b ∷ tests) e tells = absurd tells
 all_known (t ∷ truths) [] e tells = absurd tells
@@ -75,38 +83,54 @@ all_known (t ∷ truths) (b ∷ tests) e tells =
     λ i. first i ∷ rest i
 
 -- the truths on readings between which those at scale S lie
-pub truths_tell : (network : Project) (S time : ℕ) (below x above : Readings) (truth : Clause → Verdict) → 0 < S → Sound network → AreBetween S below x above
-    → ((clause : Clause) → Compares clause.what clause.relation → Tells (truth clause) (clause_holds network S time x clause))
-    → TellEach (map (λ rule. all_hold (map (λ group. some_holds (map truth group)) (groups_of rule))) network.rules.list) (rule_values network S time x)
+pub truths_tell : (network : Project) (S time : ℕ) (below x above : Readings) (truth : Clause → Verdict) → 0 < S
+    → Sound network → AreBetween S below x above
+    → ((clause : Clause) → Compares clause.what clause.relation
+    → Tells (truth clause) (clause_holds network S time x clause))
+    → TellEach (map (λ rule. all_hold (map (λ group. some_holds (map truth group)) (groups_of rule)))
+    network.rules.list) (rule_values network S time x)
 truths_tell network S time below x above truth some sound between tells =
-    tell-mapped Rule (λ rule. all_hold (map (λ group. some_holds (map truth group)) (groups_of rule))) (rule_holds network S time x) network.rules.list
-    (all-mapped Rule (IsRule network) (λ rule. Tells (all_hold (map (λ group. some_holds (map truth group)) (groups_of rule))) (rule_holds network S time x rule)) network.rules.list
+    tell-mapped Rule (λ rule. all_hold (map (λ group. some_holds (map truth group)) (groups_of rule)))
+    (rule_holds network S time x) network.rules.list
+    (all-mapped Rule (IsRule network)
+    (λ rule. Tells (all_hold (map (λ group. some_holds (map truth group)) (groups_of rule)))
+    (rule_holds network S time x rule)) network.rules.list
     (λ rule is. rule_tells truth (clause_holds network S time x) (groups_of rule)
     (in-groups (λ clause. Tells (truth clause) (clause_holds network S time x clause)) rule
-    (each_of RuleClause (λ row. Tells (truth row.clause) (clause_holds network S time x row.clause)) rule.clauses.list (λ k d le. tells (slice_index_or rule.clauses.list k d).clause (is.clauses k d le).relation))))
+    (each_of RuleClause (λ row. Tells (truth row.clause) (clause_holds network S time x row.clause)) rule.clauses.list
+    (λ k d le. tells (slice_index_or rule.clauses.list k d).clause (is.clauses k d le).relation))))
     (each_of Rule (IsRule network) network.rules.list sound.rules))
 
-module _ (network : Project) (sound : Sound network) (S : ℕ) (period : Period) (grid : Grid) (standing : Standing) (row : Record) (under : IsUnder network S period grid standing row) where
-  values-tell : (seconds : ℕ) → TellEach (rule_truths network grid standing row seconds) (rule_values network S (standing.time + seconds) (readings_after network S period seconds))
+module _ (network : Project) (sound : Sound network) (S : ℕ) (period : Period) (grid : Grid) (standing : Standing)
+    (row : Record) (under : IsUnder network S period grid standing row) where
+  values-tell : (seconds : ℕ) → TellEach (rule_truths network grid standing row seconds)
+      (rule_values network S (standing.time + seconds) (readings_after network S period seconds))
   values-tell seconds =
-      truths_tell network S (standing.time + seconds) _ _ _ (clause_truth network grid standing row seconds) under.compared.some sound (readings_between network S period grid standing row under seconds)
-      (λ clause way. clause_tells network S (standing.time + seconds) _ _ _ clause under.compared.some way (readings_between network S period grid standing row under seconds))
+      truths_tell network S (standing.time + seconds) _ _ _ (clause_truth network grid standing row seconds)
+      under.compared.some sound (readings_between network S period grid standing row under seconds)
+      (λ clause way. clause_tells network S (standing.time + seconds) _ _ _ clause under.compared.some way
+      (readings_between network S period grid standing row under seconds))
 
-  values-are : (seconds instant : ℕ) → instant ≡ standing.time + seconds → values_at network S period instant ≡ rule_values network S (standing.time + seconds) (readings_after network S period seconds)
+  values-are : (seconds instant : ℕ) → instant ≡ standing.time + seconds → values_at network S period instant
+      ≡ rule_values network S (standing.time + seconds) (readings_after network S period seconds)
   values-are seconds instant e =
       let t = under.time in
       let s : instant - period.time ≡ seconds = omega (arith, e, t) in
       λ i. rule_values network S (e i) (readings_after network S period (s i))
 
   -- where no rule is open, the values are those that are decided
-  pub decided_values : (seconds instant : ℕ) → instant ≡ standing.time + seconds → list_any is_unknown (rule_truths network grid standing row seconds) ≡ false
+  pub decided_values : (seconds instant : ℕ) → instant ≡ standing.time + seconds
+      → list_any is_unknown (rule_truths network grid standing row seconds) ≡ false
       → map is_yes (rule_truths network grid standing row seconds) ≡ values_at network S period instant
   decided_values seconds instant e known =
-      all_known (rule_truths network grid standing row seconds) _ known (values-tell seconds) ∙ sym (values-are seconds instant e)
+      all_known (rule_truths network grid standing row seconds) _ known (values-tell seconds)
+      ∙ sym (values-are seconds instant e)
 
   -- and so are the changes
-  pub changes_are : (seconds instant : ℕ) → instant ≡ standing.time + seconds → list_any is_unknown (rule_truths network grid standing row seconds) ≡ false
-      → decided_changes network grid standing row seconds ≡ rule_changes network (values_at network S period instant) period.links
+  pub changes_are : (seconds instant : ℕ) → instant ≡ standing.time + seconds
+      → list_any is_unknown (rule_truths network grid standing row seconds) ≡ false
+      → decided_changes network grid standing row seconds ≡ rule_changes network (values_at network S period instant)
+      period.links
   changes_are seconds instant e known =
       let v = decided_values seconds instant e known in
       let l = under.links in

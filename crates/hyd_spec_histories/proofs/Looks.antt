@@ -55,45 +55,62 @@ abs-within : (z m : ℤ) → z ≤ℤ m → neg_ℤ z ≤ℤ m → pos (unsigned
 abs-within (pos n) m a b = a
 abs-within (negsuc n) m a b = b
 
-pub least-within : (S : ℕ) (box : Interval) (q : ℤ) → LiesIn S box q → (pos S *ℤ pos (least_magnitude box)) ≤ℤ pos (unsigned_abs q)
+pub least-within : (S : ℕ) (box : Interval) (q : ℤ) → LiesIn S box q
+    → (pos S *ℤ pos (least_magnitude box)) ≤ℤ pos (unsigned_abs q)
 least-within S box q lies =
     let l = lies.low in let h = lies.high in let a = abs-above q in let b = abs-below q in
-    cond_both (int_le (pos 0) box.lo) (unsigned_abs box.lo) (if int_le box.hi (pos 0) then unsigned_abs box.hi else 0) (λ m. (pos S *ℤ pos m) ≤ℤ pos (unsigned_abs q))
-    (λ e. let same : pos S *ℤ pos (unsigned_abs box.lo) ≡ pos S *ℤ box.lo = ap (λ (z : ℤ). pos S *ℤ z) (abs-positive box.lo (le-yes (pos 0) box.lo e)) in omega (arith, ints, l, a, same))
+    cond_both (int_le (pos 0) box.lo) (unsigned_abs box.lo) (if int_le box.hi (pos 0) then unsigned_abs box.hi else 0)
+    (λ m. (pos S *ℤ pos m) ≤ℤ pos (unsigned_abs q))
+    (λ e. let same : pos S *ℤ pos (unsigned_abs box.lo) ≡ pos S *ℤ box.lo =
+    ap (λ (z : ℤ). pos S *ℤ z) (abs-positive box.lo (le-yes (pos 0) box.lo e)) in omega (arith, ints, l, a, same))
     (λ e. cond_both (int_le box.hi (pos 0)) (unsigned_abs box.hi) 0 (λ m. (pos S *ℤ pos m) ≤ℤ pos (unsigned_abs q))
-    (λ f. let same : pos S *ℤ pos (unsigned_abs box.hi) ≡ pos S *ℤ neg_ℤ box.hi = ap (λ (z : ℤ). pos S *ℤ z) (abs-negative box.hi (le-yes box.hi (pos 0) f)) in omega (arith, ints, h, b, same, times_neg S box.hi))
+    (λ f. let same : pos S *ℤ pos (unsigned_abs box.hi) ≡ pos S *ℤ neg_ℤ box.hi =
+    ap (λ (z : ℤ). pos S *ℤ z) (abs-negative box.hi (le-yes box.hi (pos 0) f)) in
+    omega (arith, ints, h, b, same, times_neg S box.hi))
     (λ f. omega (arith, ints)))
 
-pub greatest-beyond : (S : ℕ) (box : Interval) (q : ℤ) → LiesIn S box q → pos (unsigned_abs q) ≤ℤ (pos S *ℤ pos (greatest_magnitude box))
+pub greatest-beyond : (S : ℕ) (box : Interval) (q : ℤ) → LiesIn S box q
+    → pos (unsigned_abs q) ≤ℤ (pos S *ℤ pos (greatest_magnitude box))
 greatest-beyond S box q lies =
     let l = lies.low in let h = lies.high in
     let m = int_max box.hi (neg_ℤ box.lo) in
     let up : (pos S *ℤ box.hi) ≤ℤ (pos S *ℤ pos (unsigned_abs m)) =
-    times_rises S box.hi (pos (unsigned_abs m)) (let a = max_left box.hi (neg_ℤ box.lo) in let b = abs-above m in omega (arith, ints, a, b)) in
+    times_rises S box.hi (pos (unsigned_abs m)) (let a = max_left box.hi (neg_ℤ box.lo) in let b = abs-above m in
+    omega (arith, ints, a, b)) in
     let down : (pos S *ℤ neg_ℤ box.lo) ≤ℤ (pos S *ℤ pos (unsigned_abs m)) =
-    times_rises S (neg_ℤ box.lo) (pos (unsigned_abs m)) (let a = max_right box.hi (neg_ℤ box.lo) in let b = abs-above m in omega (arith, ints, a, b)) in
-    abs-within q (pos S *ℤ pos (unsigned_abs m)) (omega (arith, ints, h, up)) (omega (arith, ints, l, down, times_neg S box.lo))
+    times_rises S (neg_ℤ box.lo) (pos (unsigned_abs m)) (let a = max_right box.hi (neg_ℤ box.lo) in
+    let b = abs-above m in omega (arith, ints, a, b)) in
+    abs-within q (pos S *ℤ pos (unsigned_abs m)) (omega (arith, ints, h, up))
+    (omega (arith, ints, l, down, times_neg S box.lo))
 
 flows-low : (S : ℕ) (box : GridLink → Interval) (links : List GridLink) (flows : List ℤ) → length links ≡ length flows
     → ((l : ℕ) (link : GridLink) → slice_get links l ≡ Some link → LiesIn S (box link) (flow_at flows l))
-    → (l : ℕ) → S * slice_index_or (map least_magnitude (map box links)) l 0 ≤ slice_index_or (map unsigned_abs flows) l 0
+    → (l : ℕ) → S * slice_index_or (map least_magnitude (map box links)) l 0 ≤ slice_index_or (map unsigned_abs flows)
+    l 0
 flows-low S box [] [] same lie l = omega arith
 flows-low S box [] (q ∷ flows) same lie l = absurd (omega (arith, same))
 flows-low S box (link ∷ links) [] same lie l = absurd (omega (arith, same))
-flows-low S box (link ∷ links) (q ∷ flows) same lie zero = let w = least-within S (box link) q (lie 0 link refl) in omega (arith, ints, w)
-flows-low S box (link ∷ links) (q ∷ flows) same lie (suc l) = flows-low S box links flows (omega (arith, same)) (λ m other is. lie (suc m) other is) l
+flows-low S box (link ∷ links) (q ∷ flows) same lie zero = let w = least-within S (box link) q (lie 0 link refl) in
+    omega (arith, ints, w)
+flows-low S box (link ∷ links) (q ∷ flows) same lie (suc l) = flows-low S box links flows (omega (arith, same))
+    (λ m other is. lie (suc m) other is) l
 
 flows-high : (S : ℕ) (box : GridLink → Interval) (links : List GridLink) (flows : List ℤ) → length links ≡ length flows
     → ((l : ℕ) (link : GridLink) → slice_get links l ≡ Some link → LiesIn S (box link) (flow_at flows l))
-    → (l : ℕ) → slice_index_or (map unsigned_abs flows) l 0 ≤ S * slice_index_or (map greatest_magnitude (map box links)) l 0
+    → (l : ℕ) → slice_index_or (map unsigned_abs flows) l 0 ≤ S * slice_index_or
+    (map greatest_magnitude (map box links)) l 0
 flows-high S box [] [] same lie l = omega arith
 flows-high S box [] (q ∷ flows) same lie l = absurd (omega (arith, same))
 flows-high S box (link ∷ links) [] same lie l = absurd (omega (arith, same))
-flows-high S box (link ∷ links) (q ∷ flows) same lie zero = let w = greatest-beyond S (box link) q (lie 0 link refl) in omega (arith, ints, w)
-flows-high S box (link ∷ links) (q ∷ flows) same lie (suc l) = flows-high S box links flows (omega (arith, same)) (λ m other is. lie (suc m) other is) l
+flows-high S box (link ∷ links) (q ∷ flows) same lie zero = let w = greatest-beyond S (box link) q (lie 0 link refl) in
+    omega (arith, ints, w)
+flows-high S box (link ∷ links) (q ∷ flows) same lie (suc l) = flows-high S box links flows (omega (arith, same))
+    (λ m other is. lie (suc m) other is) l
 
-pub followed-lengths : (network : Project) (tanks : List TankState) (S : ℕ) (heads : List ℤ) (links : List Link) (states : List LinkState) (flows : List ℤ)
-    → LinksFollow network tanks S heads links states flows → length (grid_links network tanks links states) ≡ length flows
+pub followed-lengths : (network : Project) (tanks : List TankState) (S : ℕ) (heads : List ℤ) (links : List Link)
+    (states : List LinkState) (flows : List ℤ)
+    → LinksFollow network tanks S heads links states flows → length (grid_links network tanks links states)
+    ≡ length flows
 followed-lengths network tanks S heads [] [] [] f = refl
 followed-lengths network tanks S heads [] [] (q ∷ flows) f = elim f [ ]
 followed-lengths network tanks S heads [] (state ∷ states) flows f = elim f [ ]
@@ -104,7 +121,8 @@ followed-lengths network tanks S heads (link ∷ links) (state ∷ states) (q �
 
 -- ---- levels
 
-around-between : (S : ℕ) (level : Interval) (x : Rational) → LiesAround S level x → IsValueBetween S (whole level.lo) x (whole level.hi)
+around-between : (S : ℕ) (level : Interval) (x : Rational) → LiesAround S level x
+    → IsValueBetween S (whole level.lo) x (whole level.hi)
 around-between S level x around = record {
   some_lo = omega arith;
   some = around.some;
@@ -115,12 +133,22 @@ around-between S level x around = record {
 
 levels-between : (S : ℕ) (f : ℕ → Tank → Interval) (g : ℕ → Tank → Rational) (from : ℕ) (tanks : List Tank)
     → ((k : ℕ) (tank : Tank) → slice_get tanks k ≡ Some tank → LiesAround S (f (from + k) tank) (g (from + k) tank))
-    → (k : ℕ) → IsValueBetween S (slice_index_or (map (λ (level : Interval). whole level.lo) (map_from f from tanks)) k (whole (pos 0)))
-    (slice_index_or (map_from g from tanks) k (whole (pos 0))) (slice_index_or (map (λ (level : Interval). whole level.hi) (map_from f from tanks)) k (whole (pos 0)))
-levels-between S f g from [] lie k = record { some_lo = omega arith; some = omega arith; some_hi = omega arith; low = omega (arith, ints); high = omega (arith, ints) }
+    → (k : ℕ) → IsValueBetween S (slice_index_or (map (λ (level : Interval). whole level.lo) (map_from f from tanks)) k
+    (whole (pos 0)))
+    (slice_index_or (map_from g from tanks) k (whole (pos 0)))
+    (slice_index_or (map (λ (level : Interval). whole level.hi) (map_from f from tanks)) k (whole (pos 0)))
+levels-between S f g from [] lie k = record {
+  some_lo = omega arith;
+  some = omega arith;
+  some_hi = omega arith;
+  low =
+      omega (arith, ints);
+  high = omega (arith, ints);
+}
 levels-between S f g from (tank ∷ tanks) lie zero =
     let n : from + 0 ≡ from = omega arith in
-    around-between S (f from tank) (g from tank) (subst (λ (m : ℕ). LiesAround S (f m tank) (g m tank)) n (lie 0 tank refl))
+    around-between S (f from tank) (g from tank) (subst (λ (m : ℕ). LiesAround S (f m tank) (g m tank)) n
+    (lie 0 tank refl))
 levels-between S f g from (tank ∷ tanks) lie (suc k) =
     levels-between S f g (suc from) tanks (λ m other is.
     let n : from + suc m ≡ suc from + m = omega arith in
@@ -128,7 +156,8 @@ levels-between S f g from (tank ∷ tanks) lie (suc k) =
 
 -- ---- a period under a record
 
-module _ (network : Project) (S : ℕ) (period : Period) (grid : Grid) (standing : Standing) (row : Record) (under : IsUnder network S period grid standing row) where
+module _ (network : Project) (S : ℕ) (period : Period) (grid : Grid) (standing : Standing) (row : Record)
+    (under : IsUnder network S period grid standing row) where
   pub level_lies : (k : ℕ) → LiesIn S (level_of_tank standing k) (level_at_start period k)
   level_lies k = lies_at S standing.levels period.levels k under.compared.lie
 
@@ -138,43 +167,61 @@ module _ (network : Project) (S : ℕ) (period : Period) (grid : Grid) (standing
   pub inflow_within : (k : ℕ) (tank : Tank) → slice_get network.tanks.list k ≡ Some tank
       → LiesIn S (inflow_of_tank network grid row k) (tank_inflow network k period.assignment.flows)
   inflow_within k tank at =
-      let inside : k < length row.pinned = (let a = slice_get_within network.tanks.list k tank at in let b = under.certificates.pinned_each in omega (arith, a, b)) in
+      let inside : k < length row.pinned = (let a = slice_get_within network.tanks.list k tank at in
+      let b = under.certificates.pinned_each in omega (arith, a, b)) in
       let vectors : Vectors = slice_index_or row.pinned k no_vectors in
       let e : inflow_of_tank network grid row k ≡ inflow_box grid k (tank_node network k) vectors.lower vectors.upper =
-      numbered_from_start Vectors Interval (λ n v. inflow_box grid n (tank_node network n) v.lower v.upper) row.pinned k vectors nowhere (slice_get-get_or row.pinned k no_vectors inside) in
+      numbered_from_start Vectors Interval (λ n v. inflow_box grid n (tank_node network n) v.lower v.upper)
+      row.pinned k vectors nowhere (slice_get-get_or row.pinned k no_vectors inside) in
       let problem : k < tank_count network = slice_get_within network.tanks.list k tank at in
       subst (λ (x : Interval). LiesIn S x (tank_inflow network k period.assignment.flows)) (sym e)
-      (inflow_lies network S period.time standing.levels period.levels period.tanks period.links period.assignment grid k vectors.lower vectors.upper under.compared
+      (inflow_lies network S period.time standing.levels period.levels period.tanks period.links period.assignment grid
+      k vectors.lower vectors.upper under.compared
       (under.certificates.each (Pinned k) Lower problem) (under.certificates.each (Pinned k) Upper problem))
 
   pub carried_within : (seconds k : ℕ) (tank : Tank) → slice_get network.tanks.list k ≡ Some tank
-      → LiesAround S (carried_levels (walls_of network tank) tank (stocks_of_tank standing k) (inflow_of_tank network grid row k) seconds)
-      (carried_level S (walls_of network tank) tank (stock_at_start period k) (tank_inflow network k period.assignment.flows) seconds)
+      → LiesAround S (carried_levels (walls_of network tank) tank (stocks_of_tank standing k)
+      (inflow_of_tank network grid row k) seconds)
+      (carried_level S (walls_of network tank) tank (stock_at_start period k)
+      (tank_inflow network k period.assignment.flows) seconds)
   carried_within seconds k tank at =
-      carried_lies S (walls_of network tank) (stocks_of_tank standing k) (inflow_of_tank network grid row k) seconds (stock_at_start period k) (tank_inflow network k period.assignment.flows)
+      carried_lies S (walls_of network tank) (stocks_of_tank standing k) (inflow_of_tank network grid row k) seconds
+      (stock_at_start period k) (tank_inflow network k period.assignment.flows)
       (stock_lies k) (inflow_within k tank at) tank under.compared.some (under.vessels k tank at)
 
   flow_within : (l : ℕ) (link : GridLink) → slice_get grid.links l ≡ Some link
       → LiesIn S (flow_box link (heads_below grid row) (heads_above grid row)) (flow_at period.assignment.flows l)
   flow_within l link at =
-      flow_lies network S period.time standing.levels period.levels period.tanks period.links period.assignment grid (heads_below grid row) (heads_above grid row) under.compared
-      (heads_between network S period.time standing.levels period.levels period.tanks period.links period.assignment grid row.main.lower row.main.upper under.compared
+      flow_lies network S period.time standing.levels period.levels period.tanks period.links period.assignment grid
+      (heads_below grid row) (heads_above grid row) under.compared
+      (heads_between network S period.time standing.levels period.levels period.tanks period.links period.assignment
+      grid row.main.lower row.main.upper under.compared
       (under.certificates.each Main Lower tt) (under.certificates.each Main Upper tt)) l link at
 
   flow_each : length grid.links ≡ length period.assignment.flows
-  flow_each = ap length under.compared.is_grid.links_are ∙ followed-lengths network period.tanks S _ network.links.list period.links period.assignment.flows under.compared.assigned.links_follow
+  flow_each = ap length under.compared.is_grid.links_are
+      ∙ followed-lengths network period.tanks S _ network.links.list period.links period.assignment.flows
+      under.compared.assigned.links_follow
 
-  pub readings_between : (seconds : ℕ) → AreBetween S (readings_below network grid standing row seconds) (readings_after network S period seconds) (readings_above network grid standing row seconds)
+  pub readings_between : (seconds : ℕ) → AreBetween S (readings_below network grid standing row seconds)
+      (readings_after network S period seconds) (readings_above network grid standing row seconds)
   readings_between seconds = record {
-    heads = heads_between network S period.time standing.levels period.levels period.tanks period.links period.assignment grid row.main.lower row.main.upper under.compared
+    heads = heads_between network S period.time standing.levels period.levels period.tanks period.links
+        period.assignment grid row.main.lower row.main.upper under.compared
         (under.certificates.each Main Lower tt) (under.certificates.each Main Upper tt);
-    levels = levels-between S (λ k tank. carried_levels (walls_of network tank) tank (stocks_of_tank standing k) (inflow_of_tank network grid row k) seconds)
-        (λ k tank. carried_level S (walls_of network tank) tank (stock_at_start period k) (tank_inflow network k period.assignment.flows) seconds) 0 network.tanks.list
+    levels = levels-between S (λ k tank. carried_levels (walls_of network tank) tank (stocks_of_tank standing k)
+        (inflow_of_tank network grid row k) seconds)
+        (λ k tank. carried_level S (walls_of network tank) tank (stock_at_start period k)
+        (tank_inflow network k period.assignment.flows) seconds) 0 network.tanks.list
         (λ k tank at. let n : k ≡ 0 + k = omega arith in
-        subst (λ (m : ℕ). LiesAround S (carried_levels (walls_of network tank) tank (stocks_of_tank standing m) (inflow_of_tank network grid row m) seconds) (carried_level S (walls_of network tank) tank (stock_at_start period m) (tank_inflow network m period.assignment.flows) seconds)) n
+        subst (λ (m : ℕ). LiesAround S (carried_levels (walls_of network tank) tank (stocks_of_tank standing m)
+        (inflow_of_tank network grid row m) seconds) (carried_level S (walls_of network tank) tank
+        (stock_at_start period m) (tank_inflow network m period.assignment.flows) seconds)) n
         (carried_within seconds k tank at));
-    flows_below = flows-low S (λ link. flow_box link (heads_below grid row) (heads_above grid row)) grid.links period.assignment.flows flow_each flow_within;
-    flows_above = flows-high S (λ link. flow_box link (heads_below grid row) (heads_above grid row)) grid.links period.assignment.flows flow_each flow_within;
+    flows_below = flows-low S (λ link. flow_box link (heads_below grid row) (heads_above grid row))
+        grid.links period.assignment.flows flow_each flow_within;
+    flows_above = flows-high S (λ link. flow_box link (heads_below grid row) (heads_above grid row))
+        grid.links period.assignment.flows flow_each flow_within;
     links_below = sym under.links;
     links_above = sym under.links;
   }

@@ -11,13 +11,16 @@ pub same_item : (X : Type 0) (x y : X) → ◌≡◌ {A = Option X} (Some x) (So
 same_item X x y e = cc
 
 -- an item of a list that f made of the items and their numbers
-pub numbered_at : (X Y : Type 0) (f : ℕ → X → Y) (from : ℕ) (xs : List X) (k : ℕ) (x : X) (d : Y) → slice_get xs k ≡ Some x
+pub numbered_at : (X Y : Type 0) (f : ℕ → X → Y) (from : ℕ) (xs : List X) (k : ℕ) (x : X) (d : Y)
+    → slice_get xs k ≡ Some x
     → slice_index_or (map_from f from xs) k d ≡ f (from + k) x
 numbered_at X Y f from [] k x d e = absurd (cc)
 numbered_at X Y f from (y ∷ xs) zero x d e =
-    let same = same_item X y x e in let n : from ≡ from + 0 = omega arith in ap (λ (z : X). f from z) same ∙ ap (λ (m : ℕ). f m x) n
+    let same = same_item X y x e in let n : from ≡ from + 0 = omega arith in
+    ap (λ (z : X). f from z) same ∙ ap (λ (m : ℕ). f m x) n
 numbered_at X Y f from (y ∷ xs) (suc k) x d e =
-    let n : suc from + k ≡ from + suc k = omega arith in numbered_at X Y f (suc from) xs k x d e ∙ ap (λ (m : ℕ). f m x) n
+    let n : suc from + k ≡ from + suc k = omega arith in
+    numbered_at X Y f (suc from) xs k x d e ∙ ap (λ (m : ℕ). f m x) n
 
 pub numbered_from_start : (X Y : Type 0) (f : ℕ → X → Y) (xs : List X) (k : ℕ) (x : X) (d : Y) → slice_get xs k ≡ Some x
     → slice_index_or (map_from f 0 xs) k d ≡ f k x

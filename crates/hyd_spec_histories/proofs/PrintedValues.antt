@@ -57,15 +57,35 @@ ratio : (a b : ℤ) (d : ℕ) → a ≡ b → ◌≡◌ {A = Rational} (record {
 ratio a b d e = ap (λ (n : ℤ). record { num = n; den = d }) e
 
 pub head_proportional : (us : Bool) → IsProportional (head_quantity us)
-head_proportional true = record { factor = 1; part = 3048 * 10 ^ 9; is = λ t. ratio t (pos 1 *ℤ t) (3048 * 10 ^ 9) (sym (one_times t)) }
-head_proportional false = record { factor = 1; part = 10 ^ 13; is = λ t. ratio t (pos 1 *ℤ t) (10 ^ 13) (sym (one_times t)) }
+head_proportional true = record {
+  factor = 1;
+  part = 3048 * 10 ^ 9;
+  is = λ t. ratio t (pos 1 *ℤ t) (3048 * 10 ^ 9)
+      (sym (one_times t));
+}
+head_proportional false = record {
+  factor = 1;
+  part = 10 ^ 13;
+  is = λ t. ratio t (pos 1 *ℤ t) (10 ^ 13)
+      (sym (one_times t));
+}
 
 pub pressure_proportional : (us : Bool) → IsProportional (pressure_quantity us)
 pressure_proportional true = record { factor = 4333; part = 10 ^ 4 * (3048 * 10 ^ 9); is = λ t. refl }
-pressure_proportional false = record { factor = 1; part = 10 ^ 13; is = λ t. ratio t (pos 1 *ℤ t) (10 ^ 13) (sym (one_times t)) }
+pressure_proportional false = record {
+  factor = 1;
+  part = 10 ^ 13;
+  is = λ t. ratio t (pos 1 *ℤ t) (10 ^ 13)
+      (sym (one_times t));
+}
 
 pub flow_proportional : (unit : FlowUnit) → IsProportional (flow_quantity unit)
-flow_proportional unit = record { factor = (flow_factor unit).den; part = 10 ^ 7 * (flow_factor unit).num; is = λ t. refl }
+flow_proportional unit = record {
+  factor = (flow_factor unit).den;
+  part = 10 ^ 7 * (flow_factor unit).num;
+  is =
+      λ t. refl;
+}
 
 -- ---- printed values
 

@@ -10,7 +10,7 @@ use Rattle.hyd_net.specs.ListView.{ListView}
 use Rattle.hyd_net.specs.Curves.{Knot, value_at}
 use Rattle.hyd_net.specs.Sizes.{HasSizes}
 use Rattle.hyd_net.specs.Made.{IsKindMade, IsStateMade, IsValveMade}
-use Rattle.hyd_spec.specs.Types.{LinkKind, Pattern, HeadPoint, PipeLink, CheckPipe, PumpLink, CurvePump, Tcv, Fcv, Gpv, LinkState, Open, Closed, Speed, Throttle, Limit, OpenValve, Quadratic, Linear, ShutoffHead, FourThirds, Given}
+use Rattle.hyd_spec.specs.Types.{LinkKind, Pattern, HeadPoint, PipeLink, CheckPipe, PumpLink, CurvePump, Tcv, Fcv, Gpv, LinkState, Open, Closed, Speed, Throttle, Limit, OpenValve}
 use Rattle.hyd_spec_reports.specs.declared.StatusWord.TheVariants.{Open as WordOpen, Closed as WordClosed, Active as WordActive, Unsure as WordUnsure}
 use Rattle.hyd_spec.specs.Scale.{at_scale}
 use Rattle.hyd_spec_certificates.specs.Interval.{Interval}
@@ -33,7 +33,8 @@ drive-by : (d : Interval) (y : ℤ) → (pos 0 <ℤ d.lo → pos 0 <ℤ y) → (
 drive-by d y above below =
     cond_both (int_lt (pos 0) d.lo) WordOpen (if int_le d.hi (pos 0) then WordClosed else WordUnsure) (λ w. DriveIs w y)
     (λ e. above (lt-yes (pos 0) d.lo e))
-    (λ e. cond_both (int_le d.hi (pos 0)) WordClosed WordUnsure (λ w. DriveIs w y) (λ f. below (le-yes d.hi (pos 0) f)) (λ f. tt))
+    (λ e. cond_both (int_le d.hi (pos 0)) WordClosed WordUnsure (λ w. DriveIs w y) (λ f. below (le-yes d.hi (pos 0) f))
+    (λ f. tt))
 
 scaled-above : (S : ℕ) (l x : ℤ) → 0 < S → (pos S *ℤ l) ≤ℤ x → pos 0 <ℤ l → pos 0 <ℤ x
 scaled-above S l x some le h =
@@ -47,48 +48,80 @@ difference-drives S d x some lies = drive-by d x (scaled-above S d.lo x some lie
 
 lift-drives : (S : ℕ) (lift : Rational) (d : Interval) (x : ℤ) → 0 < S → 0 < lift.den → LiesIn S d x
     → DriveIs (by_drive (record { lo = d.lo +ℤ floor lift; hi = d.hi +ℤ ceiling lift })) (drive_of S lift x)
-lift-drives S lift d x some above lies = drive-by (record { lo = d.lo +ℤ floor lift; hi = d.hi +ℤ ceiling lift }) (drive_of S lift x)
+lift-drives S lift d x some above lies = drive-by (record { lo = d.lo +ℤ floor lift; hi = d.hi +ℤ ceiling lift })
+    (drive_of S lift x)
     (λ h.
     let a = times_rises lift.den (pos S *ℤ d.lo) x lies.low in
     let b = times_rises S (pos lift.den *ℤ floor lift) lift.num (floor_low lift above) in
-    let c = scaled-above lift.den (d.lo +ℤ floor lift) (pos lift.den *ℤ (d.lo +ℤ floor lift)) above (omega (arith, ints)) h in
+    let c = scaled-above lift.den (d.lo +ℤ floor lift) (pos lift.den *ℤ (d.lo +ℤ floor lift)) above
+    (omega (arith, ints)) h in
     scaled-above S (pos lift.den *ℤ (d.lo +ℤ floor lift)) (drive_of S lift x) some
-    (omega (arith, ints, a, b, times_plus lift.den d.lo (floor lift), times_plus S (pos lift.den *ℤ d.lo) (pos lift.den *ℤ floor lift), ap (λ (z : ℤ). pos S *ℤ z) (times_plus lift.den d.lo (floor lift)), exchanged S lift.den d.lo)) c)
+    (omega (
+      arith,
+      ints,
+      a,
+      b,
+      times_plus lift.den d.lo (floor lift),
+      times_plus S (pos lift.den *ℤ d.lo)
+          (pos lift.den *ℤ floor lift),
+      ap (λ (z : ℤ). pos S *ℤ z) (times_plus lift.den d.lo (floor lift)),
+      exchanged S
+          lift.den d.lo,
+    )) c)
     (λ h.
     let a = times_rises lift.den x (pos S *ℤ d.hi) lies.high in
     let b = times_rises S lift.num (pos lift.den *ℤ ceiling lift) (ceiling_high lift above) in
-    let c = scaled-below lift.den (d.hi +ℤ ceiling lift) (pos lift.den *ℤ (d.hi +ℤ ceiling lift)) (omega (arith, ints)) h in
+    let c = scaled-below lift.den (d.hi +ℤ ceiling lift) (pos lift.den *ℤ (d.hi +ℤ ceiling lift)) (omega (arith, ints))
+    h in
     scaled-below S (pos lift.den *ℤ (d.hi +ℤ ceiling lift)) (drive_of S lift x)
-    (omega (arith, ints, a, b, times_plus S (pos lift.den *ℤ d.hi) (pos lift.den *ℤ ceiling lift), ap (λ (z : ℤ). pos S *ℤ z) (times_plus lift.den d.hi (ceiling lift)), exchanged S lift.den d.hi)) c)
+    (omega (
+      arith,
+      ints,
+      a,
+      b,
+      times_plus S (pos lift.den *ℤ d.hi) (pos lift.den *ℤ ceiling lift),
+      ap
+          (λ (z : ℤ). pos S *ℤ z) (times_plus lift.den d.hi (ceiling lift)),
+      exchanged S lift.den d.hi,
+    )) c)
 
 setting-holds : (S : ℕ) (valve : OpenValve) (d : Interval) (x ticks : ℤ) → 0 < S → IsValveMade valve → LiesIn S d x
-    → SettingIs (by_setting ticks (record { lo = low (valve_law valve) d.lo; hi = high (valve_law valve) d.hi })) valve S x ticks
+    → SettingIs (by_setting ticks (record { lo = low (valve_law valve) d.lo; hi = high (valve_law valve) d.hi }))
+    valve S x ticks
 setting-holds S valve d x ticks some made lies =
     let law = IsLaw-each (valve_law valve) (valve-sound valve made) in
-    cond_both (int_le ticks (low (valve_law valve) d.lo)) WordActive (if int_lt (high (valve_law valve) d.hi) ticks then WordOpen else WordUnsure) (λ w. SettingIs w valve S x ticks)
+    cond_both (int_le ticks (low (valve_law valve) d.lo)) WordActive
+    (if int_lt (high (valve_law valve) d.hi) ticks then WordOpen else WordUnsure) (λ w. SettingIs w valve S x ticks)
     (λ e. law.downward S x (at_scale S (low (valve_law valve) d.lo)) (at_scale S ticks) some
-    (times_rises S ticks (low (valve_law valve) d.lo) (le-yes ticks (low (valve_law valve) d.lo) e)) (law.encloses_below S d.lo x some lies.low))
+    (times_rises S ticks (low (valve_law valve) d.lo) (le-yes ticks (low (valve_law valve) d.lo) e))
+    (law.encloses_below S d.lo x some lies.low))
     (λ e. cond_both (int_lt (high (valve_law valve) d.hi) ticks) WordOpen WordUnsure (λ w. SettingIs w valve S x ticks)
     (λ f least.
-    let l = law.consistent S x (at_scale S ticks) (at_scale S (high (valve_law valve) d.hi)) some least (law.encloses_above S d.hi x some lies.high) in
+    let l = law.consistent S x (at_scale S ticks) (at_scale S (high (valve_law valve) d.hi)) some least
+    (law.encloses_above S d.hi x some lies.high) in
     let g = lt-yes (high (valve_law valve) d.hi) ticks f in
     let a = times_rises S (high (valve_law valve) d.hi +ℤ pos 1) ticks (omega (arith, ints, g)) in
     absurd (omega (arith, ints, l, a, some, times_plus S (high (valve_law valve) d.hi) (pos 1), times_one S)))
     (λ f. tt))
 
 -- a pump's curve by straight lines: the sign of the value at an end is that of each value beyond it
-knots-drive : (S : ℕ) (knots : List Knot) (d : Interval) (x : ℤ) → 0 < S → AreInOrder knots → LiesIn S d x → DriveIs (by_knots knots d) (value_at S knots x).num
-knots-drive S knots d x some order lies = drive-by (record { lo = (value_at 1 knots d.lo).num; hi = (value_at 1 knots d.hi).num }) (value_at S knots x).num
+knots-drive : (S : ℕ) (knots : List Knot) (d : Interval) (x : ℤ) → 0 < S → AreInOrder knots → LiesIn S d x
+    → DriveIs (by_knots knots d) (value_at S knots x).num
+knots-drive S knots d x some order lies =
+    drive-by (record { lo = (value_at 1 knots d.lo).num; hi = (value_at 1 knots d.hi).num }) (value_at S knots x).num
     (value-positive S knots d.lo x some order lies.low) (value-negative S knots d.hi x some order lies.high)
 
 -- what is asked of a link and of its state
-pub record IsWhole (unit : FlowUnit) (patterns : List Pattern) (bends : List (ListView HeadPoint)) (kind : LinkKind) (state : LinkState) : Type 0 where
+pub record IsWhole (unit : FlowUnit) (patterns : List Pattern) (bends : List (ListView HeadPoint)) (kind : LinkKind)
+    (state : LinkState) : Type 0 where
   pub made : IsKindMade unit kind
   pub sizes : HasSizes unit patterns bends kind
   pub state_made : IsStateMade unit state
 
-pub status_holds : (unit : FlowUnit) (us : Bool) (patterns : List Pattern) (bends : List (ListView HeadPoint)) (kind : LinkKind) (state : LinkState) (S : ℕ) (d : Interval) (x : ℤ) → 0 < S
-    → IsWhole unit patterns bends kind state → LiesIn S d x → StatusHolds us bends (status_of us bends kind state d) kind state S x
+pub status_holds : (unit : FlowUnit) (us : Bool) (patterns : List Pattern) (bends : List (ListView HeadPoint))
+    (kind : LinkKind) (state : LinkState) (S : ℕ) (d : Interval) (x : ℤ) → 0 < S
+    → IsWhole unit patterns bends kind state → LiesIn S d x
+    → StatusHolds us bends (status_of us bends kind state d) kind state S x
 status_holds unit us patterns bends (PipeLink c) Open S d x some is lies = tt
 status_holds unit us patterns bends (PipeLink c) Closed S d x some is lies = tt
 status_holds unit us patterns bends (PipeLink c) (Speed n) S d x some is lies = tt
@@ -101,12 +134,15 @@ status_holds unit us patterns bends (CheckPipe c) (Throttle n law) S d x some is
 status_holds unit us patterns bends (CheckPipe c) (Limit n t) S d x some is lies = tt
 status_holds unit us patterns bends (PumpLink c s h p) Open S d x some is lies = tt
 status_holds unit us patterns bends (PumpLink c s h p) Closed S d x some is lies = tt
-status_holds unit us patterns bends (PumpLink c s h p) (Speed n) S d x some is lies = lift-drives S (lift_of us h n) d x some (lift-above us h) lies
+status_holds unit us patterns bends (PumpLink c s h p) (Speed n) S d x some is lies =
+    lift-drives S (lift_of us h n) d x some (lift-above us h) lies
 status_holds unit us patterns bends (PumpLink c s h p) (Throttle n law) S d x some is lies = tt
 status_holds unit us patterns bends (PumpLink c s h p) (Limit n t) S d x some is lies = tt
 status_holds unit us patterns bends (CurvePump b p) Open S d x some is lies = tt
 status_holds unit us patterns bends (CurvePump b p) Closed S d x some is lies = tt
-status_holds unit us patterns bends (CurvePump b p) (Speed n) S d x some is lies = knots-drive S (pump_knots (points_of bends b) n) d x some (own-sound us unit patterns bends (CurvePump b p) (Speed n) is.made is.sizes is.state_made).1 lies
+status_holds unit us patterns bends (CurvePump b p) (Speed n) S d x some is lies =
+    knots-drive S (pump_knots (points_of bends b) n) d x some (own-sound us unit patterns bends (CurvePump b p)
+    (Speed n) is.made is.sizes is.state_made).1 lies
 status_holds unit us patterns bends (CurvePump b p) (Throttle n law) S d x some is lies = tt
 status_holds unit us patterns bends (CurvePump b p) (Limit n t) S d x some is lies = tt
 status_holds unit us patterns bends (Tcv v) Open S d x some is lies = tt

@@ -45,10 +45,12 @@ abbrev pub VolumesLie : ℕ → List Interval → List ℤ → Type 0
 VolumesLie S intervals volumes = AllZip (LiesIn S) intervals volumes
 
 -- A period of a history that begins as a standing says: its time and states are the standing's, its stocks lie in the
--- intervals there, its heads and flows obey the laws on the grid of the standing, and the vectors of the record are certificates
--- on that grid.
-pub record IsUnder (network : Project) (S : ℕ) (period : Period) (grid : Grid) (standing : Standing) (row : Record) : Type 0 where
-  pub compared : IsCompared network S period.time standing.levels period.levels period.tanks period.links period.assignment grid
+-- intervals there, its heads and flows obey the laws on the grid of the standing, and the vectors of the record are
+-- certificates on that grid.
+pub record IsUnder (network : Project) (S : ℕ) (period : Period) (grid : Grid) (standing : Standing)
+    (row : Record) : Type 0 where
+  pub compared : IsCompared network S period.time standing.levels period.levels period.tanks period.links
+      period.assignment grid
   pub volumes : VolumesLie S standing.volumes period.volumes
   pub certificates : AreCertificates network grid row
   pub time : period.time ≡ standing.time
@@ -57,9 +59,9 @@ pub record IsUnder (network : Project) (S : ℕ) (period : Period) (grid : Grid)
   pub controls : ControlsAreDecided network standing.levels
   pub vessels : Each network.tanks.list (λ k tank. IsVessel (walls_of network tank) tank)
 
--- Where a period of a history begins, at a time with levels and volumes and after links were commanded so, it agrees with a
--- standing: the time is the same, the stocks lie in the intervals, the tanks are in the states that the standing has, and
--- the links were commanded to be in the same states.
+-- Where a period of a history begins, at a time with levels and volumes and after links were commanded so, it agrees
+-- with a standing: the time is the same, the stocks lie in the intervals, the tanks are in the states that the
+-- standing has, and the links were commanded to be in the same states.
 pub record AgreesWith (network : Project) (S : ℕ) (standing : Standing) (time : ℕ) (levels volumes : List ℤ)
     (commanded : List LinkState) : Type 0 where
   pub time_is : time ≡ standing.time
@@ -75,8 +77,8 @@ pub record IsOwnState (network : Project) (link : Link) (state : LinkState) : Ty
   pub made : IsStateMade network.options.unit state
   pub can : CanHave link.kind state
 
--- What every standing of a run keeps, whatever the history: the level controls are decided, the level intervals lie within the
--- bounds of their tanks, and each link was commanded to be in a state of its own.
+-- What every standing of a run keeps, whatever the history: the level controls are decided, the level intervals lie
+-- within the bounds of their tanks, and each link was commanded to be in a state of its own.
 pub record IsKept (network : Project) (standing : Standing) : Type 0 where
   pub controls : ControlsAreDecided network standing.levels
   pub levels : Each network.tanks.list (λ k (tank : Tank). IsWithin (level_bounds tank) (level_of_tank standing k))

@@ -1,6 +1,6 @@
-//! Every history of a sound network agrees with every run of valid records: heads, lengths, states of tanks and links, and
-//! every line of every report, at every scale. The statements on the way to it stand before it, each the contract of a
-//! small function.
+//! Every history of a sound network agrees with every run of valid records: heads, lengths, states of tanks and
+//! links, and every line of every report, at every scale. The statements on the way to it stand before it, each the
+//! contract of a small function.
 #![tactic(auto)]
 
 ghost use Rattle.std.specs.Prelude.{◌≡◌, ◌≢◌, ◌<◌, ◌+◌, ℕ, ℤ, false, List, Bool};
@@ -33,16 +33,18 @@ ghost use Rattle.hyd_spec_histories.specs.Agreement.{AreBetween, IsUnder, Agrees
 pub fn printed_values()
     ensures heads { (us : Bool) (S : ℕ) (interval ends : Interval) (z : ℤ) → Prints (head_quantity us) interval ends
         → LiesIn S interval z → LiesBetween ends (at_part S (head_quantity us) z) }
-    ensures pressures { (us : Bool) (S : ℕ) (interval ends : Interval) (z : ℤ) → Prints (pressure_quantity us) interval ends
+    ensures pressures { (us : Bool) (S : ℕ) (interval ends : Interval) (z : ℤ)
+        → Prints (pressure_quantity us) interval ends
         → LiesIn S interval z → LiesBetween ends (at_part S (pressure_quantity us) z) }
-    ensures flows { (unit : FlowUnit) (S : ℕ) (interval ends : Interval) (z : ℤ) → Prints (flow_quantity unit) interval ends
+    ensures flows { (unit : FlowUnit) (S : ℕ) (interval ends : Interval) (z : ℤ)
+        → Prints (flow_quantity unit) interval ends
         → LiesIn S interval z → LiesBetween ends (at_part S (flow_quantity unit) z) }
 {}
 
 // ---- a period under a record
 
-/// What the rules look at in a period lies between what the record's ends give, and a clause that both ends decide is decided
-/// so between them.
+/// What the rules look at in a period lies between what the record's ends give, and a clause that both ends decide is
+/// decided so between them.
 pub fn readings()
     ensures lie { (network : Project) (S : ℕ) (period : Period) (grid : Grid) (standing : Standing) (row : Record)
         → IsUnder network S period grid standing row → (seconds : ℕ)
@@ -56,10 +58,12 @@ pub fn readings()
 
 /// Where no rule is open, the rules change what the record decides.
 pub fn changes()
-    ensures { (network : Project) → Sound network → (S : ℕ) (period : Period) (grid : Grid) (standing : Standing) (row : Record)
+    ensures { (network : Project) → Sound network → (S : ℕ) (period : Period) (grid : Grid) (standing : Standing)
+        (row : Record)
         → IsUnder network S period grid standing row → (seconds instant : ℕ) → instant ≡ standing.time + seconds
         → list_any is_unknown (rule_truths network grid standing row seconds) ≡ false
-        → decided_changes network grid standing row seconds ≡ rule_changes network (values_at network S period instant) period.links }
+        → decided_changes network grid standing row seconds ≡ rule_changes network (values_at network S period instant)
+        period.links }
 {}
 
 /// Where a level ends a period, some watched level may have reached its target, and where one must have, a level
@@ -75,8 +79,10 @@ pub fn levels()
 
 /// A period that isn't the last lasts as long as the record decides, and leaves the links commanded as it decides.
 pub fn lengths()
-    ensures { (network : Project) → Sound network → (S : ℕ) (period : Period) (grid : Grid) (standing : Standing) (row : Record)
-        → IsUnder network S period grid standing row → standing.time ≢ network.times.duration → HasItsLength network S period
+    ensures { (network : Project) → Sound network → (S : ℕ) (period : Period) (grid : Grid) (standing : Standing)
+        (row : Record)
+        → IsUnder network S period grid standing row → standing.time ≢ network.times.duration
+        → HasItsLength network S period
         → (seconds : ℕ) (links : List LinkState) → LeavesLinks network grid standing row seconds links
         → (period.length ≡ seconds) × (commanded_after network S period ≡ links) }
 {}
@@ -94,7 +100,8 @@ pub fn end_lines()
 
 /// Pump patterns, controls and rules leave each link in a state of its own.
 pub fn commands()
-    ensures starts { (network : Project) → Sound network → (time : ℕ) (acts : ℕ → Bool → ℤ → Bool) (states : List LinkState)
+    ensures starts { (network : Project) → Sound network
+        → (time : ℕ) (acts : ℕ → Bool → ℤ → Bool) (states : List LinkState)
         → AllZip (IsOwnState network) network.links.list states
         → AllZip (IsOwnState network) network.links.list (started network time acts states) }
     ensures acts { (network : Project) → Sound network → (values : List Bool) (states : List LinkState)
@@ -102,33 +109,39 @@ pub fn commands()
         → AllZip (IsOwnState network) network.links.list (acted network values states) }
 {}
 
-/// The first standing of a run keeps what standings keep, and where a record leads on from one that does, so does the next.
+/// The first standing of a run keeps what standings keep, and where a record leads on from one that does, so does the
+/// next.
 pub fn kept()
     ensures start { (network : Project) → Sound network → IsKept network (initial_standing network) }
-    ensures next { (network : Project) → Sound network → (grid : Grid) (standing : Standing) (row : Record) (next : Standing)
+    ensures next { (network : Project) → Sound network → (grid : Grid) (standing : Standing) (row : Record)
+        (next : Standing)
         → IsKept network standing → Continues network grid standing row next → IsKept network next }
 {}
 
-/// Histories agree with the first standing where they begin. Where one agrees with a standing and a record is valid there, the
-/// period is under the record, and where the record leads on, the history agrees with the next standing at the
-/// period's end.
+/// Histories agree with the first standing where they begin. Where one agrees with a standing and a record is valid
+/// there, the period is under the record, and where the record leads on, the history agrees with the next standing at
+/// the period's end.
 pub fn steps()
     ensures start { (network : Project) (S : ℕ) → 0 < S
-        → AgreesWith network S (initial_standing network) 0 (initial_levels network S) (initial_volumes network S) (initial_links network) }
-    ensures under { (network : Project) → Sound network → (S : ℕ) → 0 < S → (grid : Grid) (standing : Standing) (row : Record)
+        → AgreesWith network S (initial_standing network) 0 (initial_levels network S) (initial_volumes network S)
+        (initial_links network) }
+    ensures under { (network : Project) → Sound network → (S : ℕ) → 0 < S
+        → (grid : Grid) (standing : Standing) (row : Record)
         (next : Standing) → IsKept network standing → IsValid network standing grid row next
         → (time : ℕ) (levels volumes : List ℤ) (commanded : List LinkState)
         → AgreesWith network S standing time levels volumes commanded
         → (period : Period) → Begins network S time levels volumes commanded period → IsPeriod network S period
         → IsUnder network S period grid standing row }
-    ensures agrees { (network : Project) → Sound network → (S : ℕ) → 0 < S → (grid : Grid) (standing : Standing) (row : Record)
+    ensures agrees { (network : Project) → Sound network → (S : ℕ) → 0 < S
+        → (grid : Grid) (standing : Standing) (row : Record)
         (next : Standing) → IsKept network standing → IsValid network standing grid row next
         → (time : ℕ) (levels volumes : List ℤ) (commanded : List LinkState)
         → AgreesWith network S standing time levels volumes commanded
         → (period : Period) → Begins network S time levels volumes commanded period → IsPeriod network S period
         → Continues network grid standing row next
         → (after_levels after_volumes : List ℤ) → AreNextStocks network S period after_levels after_volumes
-        → AgreesWith network S next (period.time + period.length) after_levels after_volumes (commanded_after network S period) }
+        → AgreesWith network S next (period.time + period.length) after_levels after_volumes
+        (commanded_after network S period) }
 {}
 
 // ---- every history
