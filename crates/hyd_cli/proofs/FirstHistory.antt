@@ -4,7 +4,8 @@ use Rattle.std.specs.Prelude.{Option, Some, None, slice_get}
 use Rattle.std.specs.List.{AllByRecursion, AllZip}
 use Rattle.std.specs.Option.{IfSome}
 use Rattle.hyd_num.specs.Numeral.{nano_of}
-use Rattle.hyd_spec.specs.Types.{Project, Junction, Tank, Link, LinkKind, LinkState, OpenValve, Capacity, Tcv, Linear, Quadratic, Throttle}
+use Rattle.hyd_net.specs.ListView.{ListView}
+use Rattle.hyd_spec.specs.Types.{Project, Junction, Tank, Link, HeadPoint, LinkKind, LinkState, OpenValve, Capacity, Tcv, Linear, Quadratic, Throttle}
 use Rattle.hyd_spec.specs.declared.TankState.{TankState}
 use Rattle.hyd_spec_certificates.specs.declared.Problem.TheVariants.{Main}
 use Rattle.hyd_spec_certificates.specs.declared.Side.TheVariants.{Upper, Lower}
@@ -135,13 +136,13 @@ no_length network S period duration time (before_end later least) = absurd (late
 
 -- ---- its lines
 
-active : (us : Bool) (kind : LinkKind) (states : List LinkState) (setting : ℤ) (law : OpenValve) (d : Interval)
-    → kind ≡ Tcv Linear → states ≡ Throttle setting law ∷ [] → status_of us kind (state_of_link states 0) d ≡ Active
-active us kind states setting law d k s = rw (k, s) refl
+active : (us : Bool) (bends : List (ListView HeadPoint)) (kind : LinkKind) (states : List LinkState) (setting : ℤ) (law : OpenValve) (d : Interval)
+    → kind ≡ Tcv Linear → states ≡ Throttle setting law ∷ [] → status_of us bends kind (state_of_link states 0) d ≡ Active
+active us bends kind states setting law d k s = rw (k, s) refl
 
-active_holds : (us : Bool) (kind : LinkKind) (setting : ℤ) (law : OpenValve) (S : ℕ) (x : ℤ) → kind ≡ Tcv Linear
-    → StatusHolds us Active kind (Throttle setting law) S x
-active_holds us kind setting law S x k = rw k tt
+active_holds : (us : Bool) (bends : List (ListView HeadPoint)) (kind : LinkKind) (setting : ℤ) (law : OpenValve) (S : ℕ) (x : ℤ) → kind ≡ Tcv Linear
+    → StatusHolds us bends Active kind (Throttle setting law) S x
+active_holds us bends kind setting law S x k = rw k tt
 
 -- the line of the one link
 link_holds : (network : Project) → IsFirstNetwork network → (S : ℕ) (commanded : List LinkState) (period : Period) (grid : Grid) (row : Record)
@@ -157,14 +158,14 @@ link_holds network first S commanded period grid row over so zero link each at l
     let law = Quadratic parts.link_is.capacity in
     let setting = nano_of first.chosen.setting in
     let states : links_at network start ≡ Throttle setting law ∷ [] = first_states network first setting law parts.link_is.start in
-    let word = active (is_us network) link.kind (links_at network start) setting law (difference line.place (heads_below grid row) (heads_above grid row)) kind states in
+    let word = active (is_us network) network.bends.list link.kind (links_at network start) setting law (difference line.place (heads_below grid row) (heads_above grid row)) kind states in
     subst (LineHolds network S commanded period) (sym (line.is_line ∙ ap (LinkLine 0 line.flow) word)) (record {
       link = link;
       is_link = at;
       state = Throttle setting law;
       is_state = ap (λ (ls : List LinkState). slice_get ls 0) (so.links ∙ states);
       flow_lies = flow_holds network S commanded period grid start row over 0 line.box line.flow line.box_is line.flow_is;
-      status_holds = active_holds (is_us network) link.kind setting law S _ kind;
+      status_holds = active_holds (is_us network) network.bends.list link.kind setting law S _ kind;
     })
 link_holds network first S commanded period grid row over so (suc l) link each at line =
     let parts = first.has_parts in

@@ -52,7 +52,7 @@ plus_nothing z = omega (arith, ints)
 
 -- the valve is throttled
 throttled : (network : Project) (first : IsFirstNetwork network) (d : Interval)
-    → status_of (is_us network) first.has_parts.link.kind (state_of_link (links_at network (initial_standing network)) 0) d ≡ Active
+    → status_of (is_us network) network.bends.list first.has_parts.link.kind (state_of_link (links_at network (initial_standing network)) 0) d ≡ Active
 throttled network first d =
     let parts = first.has_parts in
     rw (parts.plain.no_controls, parts.links, parts.link_is.kind, parts.link_is.start) refl

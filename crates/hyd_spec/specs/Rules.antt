@@ -44,11 +44,15 @@ is_same_number a b = int_le a b && int_le b a
 -- Two commanded states of one link are the same.
 abbrev pub is_same_state : LinkState → LinkState → Bool
 is_same_state Open Open = true
+is_same_state Open other = false
 is_same_state Closed Closed = true
+is_same_state Closed other = false
 is_same_state (Speed a) (Speed b) = is_same_number a b
+is_same_state (Speed a) other = false
 is_same_state (Throttle a law) (Throttle b other) = is_same_number a b
+is_same_state (Throttle a law) other = false
 is_same_state (Limit a ticks) (Limit b other) = is_same_number a b
-is_same_state a b = false
+is_same_state (Limit a ticks) other = false
 
 -- The state of a link; one that isn't there is closed.
 abbrev pub state_of_link : List LinkState → ℕ → LinkState

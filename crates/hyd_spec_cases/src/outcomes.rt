@@ -24,30 +24,30 @@ pub fn statuses()
     ensures settings { map (by_setting (pos 5)) ((record { lo = pos 5; hi = pos 9 }) ∷ (record { lo = pos 4; hi = pos 4 })
         ∷ (record { lo = pos 4; hi = pos 5 }) ∷ (record { lo = neg_ℤ (pos 9); hi = pos 4 }) ∷ [])
         ≡ WordActive ∷ WordOpen ∷ WordUnsure ∷ WordOpen ∷ [] }
-    ensures closed { map (status_of false (Tcv Linear) (Closed)) ((record { lo = pos 1; hi = pos 2 }) ∷ [])
+    ensures closed { map (status_of false [] (Tcv Linear) (Closed)) ((record { lo = pos 1; hi = pos 2 }) ∷ [])
         ≡ WordClosed ∷ [] }
-    ensures open { map (status_of false (Tcv Linear) (Open)) ((record { lo = neg_ℤ (pos 1); hi = pos 2 }) ∷ [])
+    ensures open { map (status_of false [] (Tcv Linear) (Open)) ((record { lo = neg_ℤ (pos 1); hi = pos 2 }) ∷ [])
         ≡ WordOpen ∷ [] }
-    ensures throttled { map (status_of false (Tcv Linear) (Throttle (pos 5) Linear)) ((record { lo = neg_ℤ (pos 1); hi = pos 2 }) ∷ [])
+    ensures throttled { map (status_of false [] (Tcv Linear) (Throttle (pos 5) Linear)) ((record { lo = neg_ℤ (pos 1); hi = pos 2 }) ∷ [])
         ≡ WordActive ∷ [] }
-    ensures check_valve { (capacity : Capacity) → map (status_of false (CheckPipe capacity) (Open)) ((record { lo = pos 1; hi = pos 5 })
+    ensures check_valve { (capacity : Capacity) → map (status_of false [] (CheckPipe capacity) (Open)) ((record { lo = pos 1; hi = pos 5 })
         ∷ (record { lo = pos 0; hi = pos 5 }) ∷ (record { lo = neg_ℤ (pos 5); hi = pos 1 })
         ∷ (record { lo = neg_ℤ (pos 5); hi = pos 0 }) ∷ (record { lo = neg_ℤ (pos 5); hi = neg_ℤ (pos 1) })
         ∷ (record { lo = pos 3; hi = pos 3 }) ∷ [])
         ≡ WordOpen ∷ WordUnsure ∷ WordUnsure ∷ WordClosed ∷ WordClosed ∷ WordOpen ∷ [] }
-    ensures flow_control { map (status_of false (Fcv Linear) (Limit (pos 2000000) (pos 20000))) ((record { lo = pos 0; hi = pos 0 })
+    ensures flow_control { map (status_of false [] (Fcv Linear) (Limit (pos 2000000) (pos 20000))) ((record { lo = pos 0; hi = pos 0 })
         ∷ (record { lo = pos 1; hi = pos 2 }) ∷ (record { lo = pos 2; hi = pos 3 }) ∷ (record { lo = pos 3; hi = pos 9 })
         ∷ (record { lo = neg_ℤ (pos 5); hi = pos 1 }) ∷ (record { lo = neg_ℤ (pos 5); hi = pos 3 }) ∷ [])
         ≡ WordOpen ∷ WordOpen ∷ WordUnsure ∷ WordActive ∷ WordOpen ∷ WordUnsure ∷ [] }
     ensures pump_given { (capacity : Capacity) (shutoff : Span) (head : Decimal) → head.nano ≡ pos 50000000000
-        → map (status_of false (PumpLink capacity shutoff (Given head) None) (Speed (pos 1000000000))) ((record { lo = neg_ℤ (pos 500000000000001); hi = pos 0 })
+        → map (status_of false [] (PumpLink capacity shutoff (Given head) None) (Speed (pos 1000000000))) ((record { lo = neg_ℤ (pos 500000000000001); hi = pos 0 })
         ∷ (record { lo = neg_ℤ (pos 500000000000000); hi = pos 0 }) ∷ (record { lo = neg_ℤ (pos 499999999999999); hi = pos 0 })
         ∷ (record { lo = neg_ℤ (pos 600000000000000); hi = neg_ℤ (pos 500000000000000) })
         ∷ (record { lo = neg_ℤ (pos 600000000000000); hi = neg_ℤ (pos 500000000000001) })
         ∷ (record { lo = neg_ℤ (pos 600000000000000); hi = neg_ℤ (pos 499999999999999) }) ∷ [])
         ≡ WordUnsure ∷ WordUnsure ∷ WordOpen ∷ WordClosed ∷ WordClosed ∷ WordUnsure ∷ [] }
     ensures pump_four_thirds { (capacity : Capacity) (shutoff : Span) (head : Decimal) → head.nano ≡ pos 50000000000
-        → map (status_of false (PumpLink capacity shutoff (FourThirds head) None) (Speed (pos 1000000000))) ((record { lo = neg_ℤ (pos 670000000000000); hi = pos 0 })
+        → map (status_of false [] (PumpLink capacity shutoff (FourThirds head) None) (Speed (pos 1000000000))) ((record { lo = neg_ℤ (pos 670000000000000); hi = pos 0 })
         ∷ (record { lo = neg_ℤ (pos 666666666666667); hi = pos 0 }) ∷ (record { lo = neg_ℤ (pos 666666666666666); hi = pos 0 })
         ∷ (record { lo = neg_ℤ (pos 700000000000000); hi = neg_ℤ (pos 666666666666667) })
         ∷ (record { lo = neg_ℤ (pos 700000000000000); hi = neg_ℤ (pos 666666666666666) }) ∷ [])

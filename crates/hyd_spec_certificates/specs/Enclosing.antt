@@ -8,7 +8,8 @@ use Rattle.std.specs.Option.{option_map_or}
 use Rattle.hyd_num.specs.Scaled.{numerator, denominator}
 use Rattle.hyd_spec.specs.Types.{Capacity}
 use Rattle.hyd_num.specs.Rational.{Rational, floor, ceiling}
-use Rattle.hyd_spec.specs.Law.{Law, Shut, QuadraticLaw, LinearLaw, Lifted, ForwardOnly, ReverseOnly, Capped}
+use Rattle.hyd_net.specs.Curves.{value_at}
+use Rattle.hyd_spec.specs.Law.{Law, Shut, QuadraticLaw, LinearLaw, Lifted, ForwardOnly, ReverseOnly, Capped, Bent, Held}
 
 -- ---- roots
 
@@ -53,6 +54,8 @@ low (Lifted lift law) d = low law (d +ℤ floor lift)
 low (ForwardOnly law) d = int_max (pos 0) (low law d)
 low (ReverseOnly law) d = int_min (pos 0) (low law d)
 low (Capped setting law) d = int_min setting (low law d)
+low (Bent knots) d = floor (value_at 1 knots d)
+low (Held least greatest law) d = int_max least (int_min greatest (low law d))
 
 -- At least the exact flow.
 abbrev pub high : Law → ℤ → ℤ
@@ -63,6 +66,8 @@ high (Lifted lift law) d = high law (d +ℤ ceiling lift)
 high (ForwardOnly law) d = int_max (pos 0) (high law d)
 high (ReverseOnly law) d = int_min (pos 0) (high law d)
 high (Capped setting law) d = int_min setting (high law d)
+high (Bent knots) d = ceiling (value_at 1 knots d)
+high (Held least greatest law) d = int_max least (int_min greatest (high law d))
 
 -- ---- outflows
 

@@ -1,5 +1,5 @@
 -- The laws of capacities, of valves without loss coefficient, and of every sound law.
-use Rattle.std.proofs.Common.{◌≡◌, ℕ, zero, suc, ◌*◌, ◌^◌, ◌<◌, ℤ, pos, negsuc, ◌-ℤ◌, ◌*ℤ◌, ◌≤ℤ◌, refl, sym, ap, ◌∙◌, arith}
+use Rattle.std.proofs.Common.{◌≡◌, ℕ, zero, suc, ◌*◌, ◌^◌, ◌<◌, ℤ, pos, negsuc, List, ◌-ℤ◌, ◌*ℤ◌, ◌≤ℤ◌, refl, sym, ap, ◌∙◌, arith}
 use Rattle.std.proofs.Math.Nat.{mul_comm}
 use Rattle.std.proofs.lemmas.Int.{ints}
 use Rattle.hyd_num.specs.Scaled.{numerator, denominator}
@@ -11,16 +11,18 @@ use Rattle.hyd_num.specs.declared.pairs.Pair.{Pair}
 use Rattle.hyd_num.specs.Quantity.{billionths, feet, feet_across, is_us_unit, head_ticks, pressure_fraction}
 use borrow.Author.Differences.{up}
 use Rattle.std.specs.Prelude.{Bool, true, false, unsigned_abs}
+use Rattle.hyd_net.specs.Curves.{Knot, value_at}
 use Rattle.hyd_lemmas.proofs.Enclosures.{IsEnclosure-made}
 use Rattle.hyd_lemmas.proofs.SquaredFlows.{ratio-above}
 use Rattle.hyd_spec.specs.Types.{Capacity, Origin, Pipe, Valve, Pump, Emitter, PressureDemand}
 use Rattle.hyd_spec_certificates.specs.Enclosing.{quadratic_low, quadratic_high, low, high}
-use Rattle.hyd_spec.specs.Law.{Law, Shut, QuadraticLaw, LinearLaw, Lifted, ForwardOnly, ReverseOnly, Capped, odd_at_least, odd_at_most, flow_at_least, flow_at_most, loss_at_most, loss_at_least}
+use Rattle.hyd_spec.specs.Law.{Law, Shut, QuadraticLaw, LinearLaw, Lifted, ForwardOnly, ReverseOnly, Capped, Bent, Held, odd_at_least, odd_at_most, flow_at_least, flow_at_most, loss_at_most, loss_at_least}
 use Rattle.hyd_lemmas.proofs.Enclosing.{numerator_above, denominator_above}
-use Rattle.hyd_spec_laws.specs.Laws.{IsLaw, IsSoundCapacity, IsSoundLaw, HasPositiveNumbers}
+use Rattle.hyd_spec_laws.specs.Laws.{IsLaw, IsSoundCapacity, IsSoundLaw, AreInOrder, HasPositiveNumbers}
 use Rattle.hyd_lemmas.proofs.Integers.{floor_low, ceiling_high, floor_greatest, ceiling_least, floor_at_most_ceiling}
 use Rattle.hyd_spec_laws.proofs.LossLaws.{IsLossLaw-origin}
-use Rattle.hyd_spec_laws.proofs.LinkLaws.{IsLaw-shut, IsLaw-forward, IsLaw-reverse, IsLaw-capped, IsLaw-lifted, odd-consistent, odd-downward, odd-upward, quad-below, quad-above, low-rises, high-rises, roots-ordered, roots_low, roots_high}
+use Rattle.hyd_spec_laws.proofs.StraightLines.{over-along, under-along, value-den, value-rises, value-over, value-under}
+use Rattle.hyd_spec_laws.proofs.LinkLaws.{IsLaw-shut, IsLaw-forward, IsLaw-reverse, IsLaw-capped, IsLaw-held, IsLaw-lifted, odd-consistent, odd-downward, odd-upward, quad-below, quad-above, low-rises, high-rises, roots-ordered, roots_low, roots_high}
 
 pub low_is : (c : Capacity) (d : ℤ) → quadratic_low c d ≡ roots_low (numerator c.lo) (denominator c.lo) (numerator c.hi) (denominator c.hi) d
 low_is c (pos d) = refl
@@ -90,6 +92,31 @@ IsLaw-passed g k above = record {
 pub IsLaw-straight : IsLaw (flow_at_least LinearLaw) (flow_at_most LinearLaw) (low LinearLaw) (high LinearLaw)
 IsLaw-straight = IsLaw-passed 8026822656 (10 ^ 6) (omega arith)
 
+-- ---- straight lines between knots
+
+IsLaw-bent : (knots : List Knot) → AreInOrder knots → IsLaw (flow_at_least (Bent knots)) (flow_at_most (Bent knots)) (low (Bent knots)) (high (Bent knots))
+IsLaw-bent knots order = record {
+  low_rises = λ c d le. floor_greatest (F d) (floor (F c)) (above d)
+      (over-along (F c) (F d) (floor (F c)) (above c) (floor_low (F c) (above c)) (value-rises 1 knots c d order le));
+  high_rises = λ c d le. ceiling_least (F c) (ceiling (F d)) (above c)
+      (under-along (F c) (F d) (ceiling (F d)) (above d) (ceiling_high (F d) (above d)) (value-rises 1 knots c d order le));
+  ordered = λ d. floor_at_most_ceiling (F d) (above d);
+  encloses_below = λ S d x some le. over-along (value_at S knots (pos S *ℤ d)) (value_at S knots x) (pos S *ℤ floor (F d)) (value-den S knots (pos S *ℤ d))
+      (value-over S knots d (floor (F d)) some order (floor_low (F d) (above d))) (value-rises S knots (pos S *ℤ d) x order le);
+  encloses_above = λ S d x some le. under-along (value_at S knots x) (value_at S knots (pos S *ℤ d)) (pos S *ℤ ceiling (F d)) (value-den S knots (pos S *ℤ d))
+      (value-under S knots d (ceiling (F d)) some order (ceiling_high (F d) (above d))) (value-rises S knots x (pos S *ℤ d) order le);
+  consistent = λ S x a b some least most. times_reflects (value_at S knots x).den a b (value-den S knots x)
+      (let l : (pos (value_at S knots x).den *ℤ a) ≤ℤ (pos (value_at S knots x).den *ℤ b) = omega (arith, ints, least, most) in l);
+  downward = λ S x a b some le least. let l = times_rises (value_at S knots x).den b a le in omega (arith, ints, l, least);
+  upward = λ S x a b some le most. let l = times_rises (value_at S knots x).den a b le in omega (arith, ints, l, most);
+}
+  where
+    F : ℤ → Rational
+    F d = value_at 1 knots d
+
+    above : (d : ℤ) → 0 < (value_at 1 knots d).den
+    above d = value-den 1 knots d
+
 -- every sound law
 pub IsLaw-each : (law : Law) → IsSoundLaw law → IsLaw (flow_at_least law) (flow_at_most law) (low law) (high law)
 IsLaw-each Shut sound = IsLaw-shut
@@ -99,6 +126,8 @@ IsLaw-each (Lifted lift law) sound = IsLaw-lifted lift (flow_at_least law) (flow
 IsLaw-each (ForwardOnly law) sound = IsLaw-forward (flow_at_least law) (flow_at_most law) (low law) (high law) (IsLaw-each law sound)
 IsLaw-each (ReverseOnly law) sound = IsLaw-reverse (flow_at_least law) (flow_at_most law) (low law) (high law) (IsLaw-each law sound)
 IsLaw-each (Capped setting law) sound = IsLaw-capped setting (flow_at_least law) (flow_at_most law) (low law) (high law) (IsLaw-each law sound)
+IsLaw-each (Bent knots) sound = IsLaw-bent knots sound
+IsLaw-each (Held least greatest law) sound = IsLaw-held least greatest (flow_at_least law) (flow_at_most law) (low law) (high law) sound.0 (IsLaw-each law sound.1)
 
 -- ---- capacities that are made of a file's numbers
 

@@ -1,4 +1,6 @@
 pub mod Roots
+pub mod StraightLines
+pub mod CurveKnots
 pub mod LossLaws
 pub mod LinkLaws
 pub mod EachLaw

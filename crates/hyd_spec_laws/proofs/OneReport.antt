@@ -76,7 +76,7 @@ module _ (network : Project) (grid : Grid) (standing : Standing) (row : Record) 
       let box : y.box ≡ x.box = (let p = x.box_is in let q = y.box_is in cc) in
       let flow = one_print (flow_quantity network.options.unit) x.box x.flow y.flow x.flow_is
       (subst (λ (b : Interval). Prints (flow_quantity network.options.unit) b y.flow) box y.flow_is) in
-      let line = λ (f : Interval) (p : GridLink). LinkLine k f (status_of (is_us network) link.kind (state_of_link (links_at network standing) k)
+      let line = λ (f : Interval) (p : GridLink). LinkLine k f (status_of (is_us network) network.bends.list link.kind (state_of_link (links_at network standing) k)
       (difference p (heads_below grid row) (heads_above grid row))) in
       let same : line x.flow x.place ≡ line y.flow y.place = λ i. line (flow i) (place i) in
       x.is_line ∙ (same ∙ sym y.is_line)

@@ -1,10 +1,12 @@
 -- What the comparison of heads uses of the laws of links, demands and emitters.
-use Rattle.std.specs.Prelude.{ℕ, ◌<◌, ◌≤◌, ℤ, ◌-ℤ◌, ◌≤ℤ◌, unsigned_abs, ⊤, List, All, ◌≡◌, ◌*ℤ◌, Bool, true, false, pos}
+use Rattle.std.specs.Prelude.{ℕ, ◌<◌, ◌≤◌, ℤ, ◌-ℤ◌, ◌≤ℤ◌, unsigned_abs, ⊤, List, All, AllPairs, ◌≡◌, ◌*ℤ◌, Bool, true, false, pos}
 use Rattle.std.specs.List.{AllByRecursion, AllZip}
 use Rattle.std.specs.Option.{IfSome}
 use Rattle.hyd_num.specs.Quantity.{billionths}
 use Rattle.hyd_num.specs.Rational.{Rational}
 use Rattle.hyd_num.specs.Chain.{IsMade}
+use Rattle.hyd_net.specs.Curves.{Knot}
+use Rattle.hyd_net.specs.Sizes.{HasSizes}
 use Rattle.hyd_net.specs.Made.{IsKindMade, IsStateMade}
 use Rattle.hyd_spec.specs.Types.{Project, LinkState, Tank, Relation as Comparison, Less, NotMore, More, NotLess, Equal, Unequal, Origin, Pipe, Valve, Pump, Emitter, PressureDemand, Capacity}
 use Rattle.hyd_spec_certificates.specs.Interval.{Interval}
@@ -15,7 +17,7 @@ use Rattle.hyd_spec.specs.Scale.{at_scale}
 use Rattle.hyd_spec_certificates.specs.Truth.{Truth, Yes, No, Unknown}
 use Rattle.hyd_spec_certificates.specs.Enclosing.{DemandLaw, Fixed, Driven}
 use Rattle.hyd_spec.specs.Enclosure.{IsEnclosure}
-use Rattle.hyd_spec.specs.Law.{Relation, Loss, Law, Shut, QuadraticLaw, LinearLaw, Lifted, ForwardOnly, ReverseOnly, Capped}
+use Rattle.hyd_spec.specs.Law.{Relation, Loss, Law, Shut, QuadraticLaw, LinearLaw, Lifted, ForwardOnly, ReverseOnly, Capped, Bent, Held}
 
 -- ---- losses
 
@@ -56,7 +58,12 @@ pub record IsLaw (at_least at_most : Relation) (low high : ℤ → ℤ) : Type 0
   pub downward : (S : ℕ) (x a b : ℤ) → 0 < S → b ≤ℤ a → at_least S x a → at_least S x b
   pub upward : (S : ℕ) (x a b : ℤ) → 0 < S → a ≤ℤ b → at_most S x a → at_most S x b
 
--- Each capacity in a law is sound, and each lift has a denominator above 0.
+-- Knots in order: neither their places nor their values fall.
+abbrev pub AreInOrder : List Knot → Type 0
+AreInOrder knots = AllPairs (λ (a b : Knot). (a.place ≤ℤ b.place) × (a.value ≤ℤ b.value)) knots
+
+-- Each capacity in a law is sound, each lift has a denominator above 0, the knots of straight lines are in order, and a least
+-- flow is at most the greatest one.
 abbrev pub IsSoundLaw : Law → Type 0
 IsSoundLaw Shut = ⊤
 IsSoundLaw (QuadraticLaw capacity) = IsSoundCapacity capacity
@@ -65,6 +72,8 @@ IsSoundLaw (Lifted lift law) = (0 < lift.den) × IsSoundLaw law
 IsSoundLaw (ForwardOnly law) = IsSoundLaw law
 IsSoundLaw (ReverseOnly law) = IsSoundLaw law
 IsSoundLaw (Capped setting law) = IsSoundLaw law
+IsSoundLaw (Bent knots) = AreInOrder knots
+IsSoundLaw (Held least greatest law) = (least ≤ℤ greatest) × IsSoundLaw law
 
 -- ---- grids
 
@@ -73,10 +82,12 @@ pub record IsSoundGrid (grid : Grid) : Type 0 where
   pub links : AllByRecursion (λ link. IsSoundLaw link.law) grid.links
   pub emitters : AllByRecursion (λ junction. IfSome junction.emitter IsSoundCapacity) grid.junctions
 
--- The capacities of emitters, of links and of the states that links are in are made of the file's numbers.
+-- The capacities of emitters, of links and of the states that links are in are made of the file's numbers, and the quantities of
+-- links are in range, the points of their curves among them.
 pub record AreCapacitiesMade (network : Project) (links : List LinkState) : Type 0 where
   pub emitters : All (λ j. IfSome j.emitter IsMade) network.junctions.list
   pub kinds : All (λ l. IsKindMade network.options.unit l.kind) network.links.list
+  pub sizes : All (λ l. HasSizes network.options.unit network.patterns.list network.bends.list l.kind) network.links.list
   pub states : All (IsStateMade network.options.unit) links
 
 -- A number of S-th parts of a tick lies in an interval of ticks.

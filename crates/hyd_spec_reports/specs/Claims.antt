@@ -3,14 +3,16 @@
 use Rattle.std.specs.Prelude.{◌≡◌, ℕ, ◌+◌, ◌*◌, ◌^◌, ℤ, pos, ◌+ℤ◌, ◌-ℤ◌, ◌<ℤ◌, ◌≤ℤ◌, ◌*ℤ◌, IsTrue, Bool, true, false, List, Some, slice_get, ⊤, Contains, ◌≢◌, ◌%◌, IsFalse}
 use Rattle.hyd_num.specs.Rational.{Rational, is_at_most, whole}
 use Rattle.hyd_num.specs.Decimals.{head_quantity, pressure_quantity, flow_quantity}
-use Rattle.hyd_spec.specs.Types.{Project, Junction, Reservoir, Tank, Link, LinkKind, CheckPipe, PumpLink, Fcv, OpenValve, LinkState, Open, Closed, Speed, Throttle, Limit, Control, AtLevel}
+use Rattle.hyd_net.specs.ListView.{ListView}
+use Rattle.hyd_net.specs.Curves.{value_at}
+use Rattle.hyd_spec.specs.Types.{Project, Junction, Reservoir, Tank, Link, LinkKind, PipeLink, CheckPipe, PumpLink, CurvePump, Tcv, Fcv, Gpv, HeadPoint, OpenValve, LinkState, Open, Closed, Speed, Throttle, Limit, Control, AtLevel}
 use Rattle.hyd_spec.specs.declared.TankState.{TankState}
 use Rattle.hyd_spec.specs.declared.TankState.TheVariants.{Full, Empty}
 use Rattle.hyd_spec_reports.specs.declared.StatusWord.{StatusWord}
 use Rattle.hyd_spec_reports.specs.declared.StatusWord.TheVariants.{Open as WordOpen, Closed as WordClosed, Active as WordActive, Unsure as WordUnsure}
 use Rattle.hyd_spec_certificates.specs.Interval.{Interval}
 use Rattle.hyd_spec.specs.Scale.{at_scale}
-use Rattle.hyd_spec.specs.Quantity.{is_us, lift_of, reservoir_head}
+use Rattle.hyd_spec.specs.Quantity.{is_us, lift_of, points_of, pump_knots, reservoir_head}
 use Rattle.hyd_spec.specs.Law.{flow_at_least}
 use Rattle.hyd_spec.specs.LinkLaw.{valve_law}
 use Rattle.hyd_spec.specs.Assignment.{node_heads, head_at, flow_at}
@@ -99,18 +101,50 @@ SettingIs WordUnsure valve S x setting = ⊤
 
 -- The commanded state: closed where the word is CLOSED, throttled where it is ACTIVE, open where it is OPEN.
 abbrev pub StateIs : StatusWord → LinkState → Type 0
-StateIs WordClosed Closed = ⊤
-StateIs WordActive (Throttle setting law) = ⊤
 StateIs WordOpen Open = ⊤
+StateIs WordOpen Closed = ⊥
+StateIs WordOpen (Speed speed) = ⊥
+StateIs WordOpen (Throttle setting law) = ⊥
+StateIs WordOpen (Limit setting ticks) = ⊥
+StateIs WordClosed Open = ⊥
+StateIs WordClosed Closed = ⊤
+StateIs WordClosed (Speed speed) = ⊥
+StateIs WordClosed (Throttle setting law) = ⊥
+StateIs WordClosed (Limit setting ticks) = ⊥
+StateIs WordActive Open = ⊥
+StateIs WordActive Closed = ⊥
+StateIs WordActive (Speed speed) = ⊥
+StateIs WordActive (Throttle setting law) = ⊤
+StateIs WordActive (Limit setting ticks) = ⊥
 StateIs WordUnsure state = ⊤
-StateIs word state = ⊥
 
--- What a status word says of a link in its state, at the head difference x.
-abbrev pub StatusHolds : Bool → StatusWord → LinkKind → LinkState → ℕ → ℤ → Type 0
-StatusHolds us word (CheckPipe capacity) Open S x = DriveIs word x
-StatusHolds us word (PumpLink capacity shutoff head pattern) (Speed speed) S x = DriveIs word (drive_of S (lift_of us head speed) x)
-StatusHolds us word (Fcv valve) (Limit setting ticks) S x = SettingIs word valve S x ticks
-StatusHolds us word kind state S x = StateIs word state
+-- What a status word says of a link in its state, at the head difference x. UNSURE says nothing, and so it is with a kind and a
+-- state that don't go together. Of a running pump whose curve is one by straight lines OPEN and CLOSED tell the sign of the exact
+-- flow, as of other running pumps that of the driving difference.
+abbrev pub StatusHolds : Bool → List (ListView HeadPoint) → StatusWord → LinkKind → LinkState → ℕ → ℤ → Type 0
+StatusHolds us bends word (PipeLink capacity) Open S x = StateIs word Open
+StatusHolds us bends word (PipeLink capacity) Closed S x = StateIs word Closed
+StatusHolds us bends word (PipeLink capacity) other S x = StateIs word other
+StatusHolds us bends word (CheckPipe capacity) Open S x = DriveIs word x
+StatusHolds us bends word (CheckPipe capacity) Closed S x = StateIs word Closed
+StatusHolds us bends word (CheckPipe capacity) other S x = StateIs word other
+StatusHolds us bends word (PumpLink capacity shutoff head pattern) (Speed speed) S x = DriveIs word (drive_of S (lift_of us head speed) x)
+StatusHolds us bends word (PumpLink capacity shutoff head pattern) Closed S x = StateIs word Closed
+StatusHolds us bends word (PumpLink capacity shutoff head pattern) other S x = StateIs word other
+StatusHolds us bends word (CurvePump bend pattern) (Speed speed) S x = DriveIs word (value_at S (pump_knots (points_of bends bend) speed) x).num
+StatusHolds us bends word (CurvePump bend pattern) Closed S x = StateIs word Closed
+StatusHolds us bends word (CurvePump bend pattern) other S x = StateIs word other
+StatusHolds us bends word (Tcv valve) Open S x = StateIs word Open
+StatusHolds us bends word (Tcv valve) (Throttle setting law) S x = StateIs word (Throttle setting law)
+StatusHolds us bends word (Tcv valve) Closed S x = StateIs word Closed
+StatusHolds us bends word (Tcv valve) other S x = StateIs word other
+StatusHolds us bends word (Fcv valve) Open S x = StateIs word Open
+StatusHolds us bends word (Fcv valve) (Limit setting ticks) S x = SettingIs word valve S x ticks
+StatusHolds us bends word (Fcv valve) Closed S x = StateIs word Closed
+StatusHolds us bends word (Fcv valve) other S x = StateIs word other
+StatusHolds us bends word (Gpv bend) Open S x = StateIs word Open
+StatusHolds us bends word (Gpv bend) Closed S x = StateIs word Closed
+StatusHolds us bends word (Gpv bend) other S x = StateIs word other
 
 -- Link number l: its flow lies between the printed ends, and its status word holds.
 pub record LinkLies (network : Project) (S : ℕ) (period : Period) (l : ℕ) (flow : Interval) (word : StatusWord) : Type 0 where
@@ -119,7 +153,7 @@ pub record LinkLies (network : Project) (S : ℕ) (period : Period) (l : ℕ) (f
   pub state : LinkState
   pub is_state : slice_get period.links l ≡ Some state
   pub flow_lies : FlowLies network S flow (flow_at period.assignment.flows l)
-  pub status_holds : StatusHolds (is_us network) word link.kind state S (difference_along network S period link)
+  pub status_holds : StatusHolds (is_us network) network.bends.list word link.kind state S (difference_along network S period link)
 
 -- ---- events, controls, rules
 

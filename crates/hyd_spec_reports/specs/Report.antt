@@ -4,13 +4,15 @@
 use Rattle.std.specs.Prelude.{◌≡◌, ℕ, suc, ◌+◌, ◌-◌, ◌%◌, ℤ, pos, ◌+ℤ◌, ◌-ℤ◌, Bool, ◌&&◌, not, ◌==◌, nat_le, List, [], ◌∷◌, ◌++◌, Option, Some, None, map, slice_get, slice_set, slice_index_or, if◌then◌else◌, int_le, int_lt, ⊤, MatchBool}
 use Rattle.hyd_num.specs.Rational.{Rational, floor, ceiling}
 use Rattle.hyd_num.specs.Decimals.{head_quantity, pressure_quantity, flow_quantity, IsRoundedDown, IsRoundedUp}
-use Rattle.hyd_spec.specs.Types.{Project, Link, LinkKind, CheckPipe, PumpLink, Fcv, LinkState, Open, Closed, Speed, Throttle, Limit, Tank, Control, When, AtLevel}
+use Rattle.hyd_net.specs.ListView.{ListView}
+use Rattle.hyd_net.specs.Curves.{Knot, value_at}
+use Rattle.hyd_spec.specs.Types.{Project, Link, LinkKind, PipeLink, CheckPipe, PumpLink, CurvePump, Tcv, Fcv, Gpv, HeadPoint, LinkState, Open, Closed, Speed, Throttle, Limit, Tank, Control, When, AtLevel}
 use Rattle.hyd_spec.specs.declared.TankState.{TankState}
 use Rattle.hyd_spec_reports.specs.declared.StatusWord.{StatusWord}
 use Rattle.hyd_spec_reports.specs.declared.StatusWord.TheVariants.{Open as WordOpen, Closed as WordClosed, Active as WordActive, Unsure as WordUnsure}
 use Rattle.hyd_spec.specs.Lists.{map_from, present}
 use Rattle.hyd_spec_certificates.specs.Interval.{Interval, exactly, shifted}
-use Rattle.hyd_spec.specs.Quantity.{is_us, lift_of}
+use Rattle.hyd_spec.specs.Quantity.{is_us, lift_of, points_of, pump_knots}
 use Rattle.hyd_spec.specs.Assignment.{head_at}
 use Rattle.hyd_spec.specs.LinkLaw.{valve_law, is_full, is_empty}
 use Rattle.hyd_spec.specs.Start.{patterned, control_acts}
@@ -113,16 +115,38 @@ by_setting setting flow =
     else if int_lt flow.hi setting then WordOpen
     else WordUnsure
 
--- The status word of a link in its state, by the interval of its head difference. It speaks of the link's own law.
-abbrev pub status_of : Bool → LinkKind → LinkState → Interval → StatusWord
-status_of us kind Closed d = WordClosed
-status_of us (CheckPipe capacity) Open d = by_drive d
-status_of us (PumpLink capacity shutoff head pattern) (Speed speed) d =
+-- The status of a running pump by the straight lines of its curve: by the sign of the exact flow at either end.
+abbrev pub by_knots : List Knot → Interval → StatusWord
+by_knots knots d = by_drive (record { lo = (value_at 1 knots d.lo).num; hi = (value_at 1 knots d.hi).num })
+
+-- The status word of a link in its state, by the interval of its head difference. It speaks of the link's own law. A kind and
+-- a state that don't go together have the word UNSURE.
+abbrev pub status_of : Bool → List (ListView HeadPoint) → LinkKind → LinkState → Interval → StatusWord
+status_of us bends (PipeLink capacity) Open d = WordOpen
+status_of us bends (PipeLink capacity) Closed d = WordClosed
+status_of us bends (PipeLink capacity) other d = WordUnsure
+status_of us bends (CheckPipe capacity) Open d = by_drive d
+status_of us bends (CheckPipe capacity) Closed d = WordClosed
+status_of us bends (CheckPipe capacity) other d = WordUnsure
+status_of us bends (PumpLink capacity shutoff head pattern) (Speed speed) d =
     by_drive (record { lo = d.lo +ℤ floor (lift_of us head speed); hi = d.hi +ℤ ceiling (lift_of us head speed) })
-status_of us (Fcv valve) (Limit setting ticks) d =
+status_of us bends (PumpLink capacity shutoff head pattern) Closed d = WordClosed
+status_of us bends (PumpLink capacity shutoff head pattern) other d = WordUnsure
+status_of us bends (CurvePump bend pattern) (Speed speed) d = by_knots (pump_knots (points_of bends bend) speed) d
+status_of us bends (CurvePump bend pattern) Closed d = WordClosed
+status_of us bends (CurvePump bend pattern) other d = WordUnsure
+status_of us bends (Tcv valve) Open d = WordOpen
+status_of us bends (Tcv valve) (Throttle setting law) d = WordActive
+status_of us bends (Tcv valve) Closed d = WordClosed
+status_of us bends (Tcv valve) other d = WordUnsure
+status_of us bends (Fcv valve) Open d = WordOpen
+status_of us bends (Fcv valve) (Limit setting ticks) d =
     by_setting ticks (record { lo = low (valve_law valve) d.lo; hi = high (valve_law valve) d.hi })
-status_of us kind (Throttle setting law) d = WordActive
-status_of us kind state d = WordOpen
+status_of us bends (Fcv valve) Closed d = WordClosed
+status_of us bends (Fcv valve) other d = WordUnsure
+status_of us bends (Gpv bend) Open d = WordOpen
+status_of us bends (Gpv bend) Closed d = WordClosed
+status_of us bends (Gpv bend) other d = WordUnsure
 
 -- The line of link number l: its flow box and its status word.
 pub record IsLinkLine (network : Project) (grid : Grid) (standing : Standing) (row : Record) (l : ℕ) (link : Link) (each : ReportLine) : Type 0 where
@@ -133,7 +157,7 @@ pub record IsLinkLine (network : Project) (grid : Grid) (standing : Standing) (r
   pub flow : Interval
   pub flow_is : Prints (flow_quantity network.options.unit) box flow
   pub is_line : each ≡ LinkLine l flow
-      (status_of (is_us network) link.kind (state_of_link (links_at network standing) l)
+      (status_of (is_us network) network.bends.list link.kind (state_of_link (links_at network standing) l)
       (difference place (heads_below grid row) (heads_above grid row)))
 
 -- The lines of a report time: the time, junctions, reservoirs, tanks and links in order.

@@ -114,7 +114,7 @@ module _ (choice : Choice) (grid : Grid) (standing : Standing) (row : Record) wh
 
   pub link_line : (l : ℕ) (link : Link) (place : GridLink) (box flow : Interval) (word : StatusWord) → slice_get grid.links l ≡ Some place
       → slice_get (flow_boxes grid row) l ≡ Some box → rounds (pos 1000) box flow ≡ true
-      → status_of false link.kind (state_of_link (links_at (village_with choice) standing) l) (difference place (heads_below grid row) (heads_above grid row)) ≡ word
+      → status_of false [] link.kind (state_of_link (links_at (village_with choice) standing) l) (difference place (heads_below grid row) (heads_above grid row)) ≡ word
       → IsLinkLine (village_with choice) grid standing row l link (LinkLine l flow word)
   link_line l link place box flow word at boxed e is = record {
     place = place;

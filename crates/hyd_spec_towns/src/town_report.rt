@@ -19,12 +19,12 @@ ghost use Rattle.hyd_spec_towns.specs.TownReport.{lift, lines_at_two};
 /// The status words of all links.
 pub fn statuses()
     ensures at_two { (network : Project) → IsTown network
-        → map_from (λ l link. status_of (is_us network) link.kind (state_of_link (links_at network standing_at_two) l)
+        → map_from (λ l link. status_of (is_us network) network.bends.list link.kind (state_of_link (links_at network standing_at_two) l)
         (difference (slice_index_or grid_at_two.links l lift) (heads_below grid_at_two row_at_two)
         (heads_above grid_at_two row_at_two))) 0 network.links.list
         ≡ WordClosed ∷ WordActive ∷ WordOpen ∷ WordActive ∷ WordActive ∷ [] }
     ensures when_full { (network : Project) → IsTown network
-        → map_from (λ l link. status_of (is_us network) link.kind (state_of_link (links_at network standing_when_full) l)
+        → map_from (λ l link. status_of (is_us network) network.bends.list link.kind (state_of_link (links_at network standing_when_full) l)
         (difference (slice_index_or grid_when_full.links l lift) (heads_below grid_when_full row_when_full)
         (heads_above grid_when_full row_when_full))) 0 network.links.list
         ≡ WordClosed ∷ WordClosed ∷ WordOpen ∷ WordActive ∷ WordActive ∷ [] }
