@@ -1,5 +1,5 @@
 -- What is read of a sound network: multipliers, categories and reservoirs by their numbers, and how large products are.
-use Rattle.std.proofs.Common.{◌≡◌, ℕ, zero, ◌+◌, ◌*◌, ◌/◌, ◌%◌, ◌^◌, ◌<◌, ◌≤◌, ℤ, pos, unsigned_abs, ◌*ℤ◌, List, [], length, map, Option, Some, None, slice_get, slice_index_or, subst, sym, ap, ◌∙◌, refl, suc, arith}
+use Rattle.std.proofs.Common.{◌≡◌, ℕ, ◌+◌, ◌*◌, ◌/◌, ◌%◌, ◌^◌, ◌<◌, ◌≤◌, ℤ, pos, unsigned_abs, ◌*ℤ◌, List, [], length, map, Option, Some, None, slice_get, slice_index_or, subst, sym, ap, ◌∙◌, refl, arith}
 use Rattle.std.proofs.Math.Nat.{mul-le-mul, mod-lt}
 use Rattle.std.proofs.lemmas.Bool.Decides.{nat_tests}
 use Rattle.std.proofs.lemmas.Option.{slice_get-get_or}

@@ -94,7 +94,7 @@ IsLaw-straight = IsLaw-passed 8026822656 (10 ^ 6) (omega arith)
 
 -- ---- straight lines between knots
 
-IsLaw-bent : (knots : List Knot) → AreInOrder knots → IsLaw (flow_at_least (Bent knots)) (flow_at_most (Bent knots)) (low (Bent knots)) (high (Bent knots))
+pub IsLaw-bent : (knots : List Knot) → AreInOrder knots → IsLaw (flow_at_least (Bent knots)) (flow_at_most (Bent knots)) (low (Bent knots)) (high (Bent knots))
 IsLaw-bent knots order = record {
   low_rises = λ c d le. floor_greatest (F d) (floor (F c)) (above d)
       (over-along (F c) (F d) (floor (F c)) (above c) (floor_low (F c) (above c)) (value-rises 1 knots c d order le));

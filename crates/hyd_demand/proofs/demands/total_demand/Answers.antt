@@ -1,4 +1,4 @@
-use Rattle.std.proofs.Common.{◌≡◌, ◌+◌, ℤ, pos, ◌+ℤ◌, List, None, map, drop, slice_index_or, arith}
+use Rattle.std.proofs.Common.{pos, List, None, map, arith}
 use Rattle.std.proofs.lemmas.Int.{ints}
 use Rattle.std.proofs.lemmas.List.{at_drop_more}
 use Rattle.hyd_net.specs.declared.nodes.Demand.{Demand}

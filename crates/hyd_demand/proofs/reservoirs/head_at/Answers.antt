@@ -1,4 +1,4 @@
-use Rattle.std.proofs.Common.{◌≡◌, ◌≤◌, ◌^◌, unsigned_abs, pos, None, slice_index_or, to_z, of_z, w64, ap, ◌∙◌, arith}
+use Rattle.std.proofs.Common.{◌≡◌, pos, None, slice_index_or, to_z, of_z, w64, arith}
 use Rattle.std.proofs.lemmas.Int.{ints}
 use Rattle.hyd_net.specs.declared.nodes.Reservoir.{Reservoir}
 use Rattle.hyd_demand.specs.Asked.{head_of_reservoir}
@@ -10,8 +10,8 @@ returns-in-Some-clause-value c =
     let none : Reservoir = record { head = pos 0; pattern = None } in
     let value : c.head_by_pattern.result ≡ head_of_reservoir c.args.project.now c.args.time c.args.reservoir =
     head_by_pattern c.args.project.now c.args.time c.args.reservoir c.in-Some.pattern c.as_slice.result.now none
-        (to_z w64 (of_z w64 (slice_index_or c.as_slice.result.now c.args.reservoir none).head)) c.head_by_pattern.result
-        c.requires.in_range c.as_slice.ensures c.in-Some.is (omega (arith, ints)) c.head_by_pattern.ensures.value in
+    (to_z w64 (of_z w64 (slice_index_or c.as_slice.result.now c.args.reservoir none).head)) c.head_by_pattern.result
+    c.requires.in_range c.as_slice.ensures c.in-Some.is (omega (arith, ints)) c.head_by_pattern.ensures.value in
     omega (arith, ints, value)
 
 pub returns-in-None-clause-value : goal.returns-in-None-clause-value

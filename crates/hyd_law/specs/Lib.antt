@@ -1,0 +1,4 @@
+pub mod Wrapped
+pub mod WrappedLaws
+pub mod Curves
+pub mod LinkLaws
