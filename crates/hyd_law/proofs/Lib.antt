@@ -1,2 +1,3 @@
 pub mod Rooting
 pub mod Walking
+pub mod Stepping

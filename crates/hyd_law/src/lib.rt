@@ -3,9 +3,11 @@
 
 mod any_link;
 mod bent;
+mod demands;
 mod kinds;
 mod law;
 mod link_law;
+mod outflows;
 mod quadratic;
 mod simple;
 mod straight;
@@ -14,3 +16,4 @@ mod wrapped;
 pub use kinds::{Bent, Capped, Held, Knot, Lifted, Linear, OneWay, Quad, Shut};
 pub use law::Law;
 pub use link_law::LinkLaw;
+pub use outflows::{Fixed, OutLaw, Pda};

@@ -15,6 +15,7 @@ pub mod Levelling
 pub mod Deciding
 pub mod Worked
 pub mod Rising
+pub mod DemandLaws
 pub mod NetRising
 pub mod RunRecords
 pub mod Pieces
