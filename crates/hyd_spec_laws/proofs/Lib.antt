@@ -21,6 +21,7 @@ pub mod Deciding
 pub mod WatchedEnds
 pub mod Worked
 pub mod Rising
+pub mod DemandLaws
 pub mod NetRising
 pub mod RunRecords
 pub mod Appending

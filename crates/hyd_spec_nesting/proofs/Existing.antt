@@ -11,7 +11,7 @@ use Rattle.hyd_spec.specs.Length.{EndsByClock, step, duration, pattern, report, 
 use Rattle.hyd_spec_certificates.specs.Grid.{Grid}
 use Rattle.hyd_spec_certificates.specs.Record.{Record, Standing}
 use Rattle.hyd_spec_certificates.specs.Decided.{Watch, watches, level_of_tank, inflow_of_tank, SomeMayReach, IsClockLength, IsEarliestEnd}
-use Rattle.hyd_spec_laws.proofs.Trials.{both-first, both-second, or-left, or-right, and-true, any_of}
+use Rattle.hyd_lemmas.proofs.Trials.{both-first, both-second, or-left, or-right, and-true, any_of}
 use Rattle.hyd_spec_nesting.proofs.Watching.{contains-here, contains-later}
 
 -- ---- searching
