@@ -4,4 +4,5 @@ pub mod Capacities
 pub mod City
 pub mod Single
 pub mod Forms
+pub mod Histories
 pub mod Tanks

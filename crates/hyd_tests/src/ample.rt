@@ -123,7 +123,7 @@ struct Sample {
     written: &'static str,
 }
 
-fn sample(rows: &'static str, printed: &'static str, written: &'static str) -> Sample {
+fn expected(rows: &'static str, printed: &'static str, written: &'static str) -> Sample {
     Sample {
         rows,
         printed,
@@ -135,17 +135,17 @@ fn sample(rows: &'static str, printed: &'static str, written: &'static str) -> S
 fn heads_reach_both_ends_and_ids_their_length(rt: HostRuntime) -> Result<(), Fail> {
     let alloc = rt.alloc();
     let samples = [
-        sample(
+        expected(
             "[JUNCTIONS]\nJ 0 -285.2337190\n[RESERVOIRS]\nR 10000\n[VALVES]\nV R J 10 TCV 1000 0\n",
             "HYD 1\nTIME 0:00:00\nJUNCTION J head 99999.9948 100000.0000 pressure 99999.9948 100000.0000 outflow -285.2338 -285.2337\nRESERVOIR R head 10000.0000 10000.0000\nLINK V flow -285.2338 -285.2337 status ACTIVE\nDONE 1\n",
             "HYDCERT 1 1 0\nPERIOD 0 0 0\nMU 999999999864669448\nML 999999948117633276\nEND 1 FINISHED\n",
         ),
-        sample(
+        expected(
             "[JUNCTIONS]\nJ 0 285.2337190\n[RESERVOIRS]\nR -10000\n[VALVES]\nV R J 10 TCV 1000 0\n",
             "HYD 1\nTIME 0:00:00\nJUNCTION J head -100000.0000 -99999.9948 pressure -100000.0000 -99999.9948 outflow 285.2337 285.2338\nRESERVOIR R head -10000.0000 -10000.0000\nLINK V flow 285.2337 285.2338 status ACTIVE\nDONE 1\n",
             "HYDCERT 1 1 0\nPERIOD 0 0 0\nMU -999999948117633276\nML -999999999864669448\nEND 1 FINISHED\n",
         ),
-        sample(
+        expected(
             "[JUNCTIONS]\nJJJJJJJJJJJJJJJJJJJJJJJJJJJJJJJ 0 1000\n[RESERVOIRS]\nRRRRRRRRRRRRRRRRRRRRRRRRRRRRRRR 100\n[VALVES]\nVVVVVVVVVVVVVVVVVVVVVVVVVVVVVVV RRRRRRRRRRRRRRRRRRRRRRRRRRRRRRR JJJJJJJJJJJJJJJJJJJJJJJJJJJJJJJ 304.8 TCV 100 0\n",
             "HYD 1\nTIME 0:00:00\nJUNCTION JJJJJJJJJJJJJJJJJJJJJJJJJJJJJJJ head 99.8718 99.8719 pressure 99.8718 99.8719 outflow 999.9999 1000.0001\nRESERVOIR RRRRRRRRRRRRRRRRRRRRRRRRRRRRRRR head 100.0000 100.0000\nLINK VVVVVVVVVVVVVVVVVVVVVVVVVVVVVVV flow 999.9999 1000.0001 status ACTIVE\nDONE 1\n",
             "HYDCERT 1 1 0\nPERIOD 0 0 0\nMU 998718316144933\nML 998718316123912\nEND 1 FINISHED\n",
