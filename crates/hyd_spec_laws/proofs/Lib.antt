@@ -32,4 +32,5 @@ pub mod OneReport
 pub mod OneLength
 pub mod OneCapacity
 pub mod OneRun
+pub mod OneRefusal
 pub mod Vessels
