@@ -27,6 +27,7 @@ use Rattle.hyd_spec_reports.specs.ReportLine.{refused_period}
 use Rattle.hyd_spec_reports.specs.Stops.{turn, open_states, is_open_control}
 use Rattle.hyd_spec_reports.specs.Refusals.{IsRefused, IsRefusedBy, IsDue, IsInPlace, HasItsGrid, IsCertified, IsFirstToFail, LeavesOpen, rule, event, tank, control, HasOtherLength, at_end, before_end}
 use Rattle.hyd_spec_laws.proofs.OneAnswer.{one_end}
+use Rattle.hyd_spec_laws.proofs.Failing.{fails-no-certificate, one-failure}
 use Rattle.hyd_spec_laws.proofs.OneRun.{one_grid}
 
 -- ---- lists
@@ -68,29 +69,6 @@ none-missing f k (x ∷ xs) (y ∷ ys) (suc n) d e lt is =
 
 -- ---- vectors
 
-module _ (grid : Grid) (problem : Problem) (side : Side) (u : List ℤ) where
-  fails-no-certificate : (i : ℕ) → FailsFirst None grid problem side u i → IsCertificate grid problem side u → ⊥
-  fails-no-certificate _ (outside {i = i} lt out before) is = out (is.in_box i (pos 0) lt)
-  fails-no-certificate _ (fails {i = i} junction all at missed before) is = missed (is.passes i junction at)
-
-  -- it fails first at one junction
-  none-earlier : (i j : ℕ) → i < j → FailsFirst None grid problem side u i → FailsFirst None grid problem side u j → ⊥
-  none-earlier _ _ less (outside out-in out before) (outside {i = j} lt other earlier) = out (earlier _ less)
-  none-earlier _ _ less (outside {i = i} lt out before) (fails junction all at missed earlier) = out (all i (pos 0) lt)
-  none-earlier _ _ less (fails {i = i} junction all at missed before) (outside {i = j} lt out earlier) = out
-      (all j (pos 0) lt)
-  none-earlier _ _ less (fails {i = i} junction all at missed before) (fails here every is other earlier) = missed
-      (earlier i junction less at)
-
-  one-failure : (i j : ℕ) → FailsFirst None grid problem side u i → FailsFirst None grid problem side u j → i ≡ j
-  one-failure i j a b = elim (cases_lt i j) [
-    | inl less ↦ absurd (none-earlier i j less a b)
-    | inr ge ↦ elim (cases_lt j i) [
-      | inl less ↦ absurd (none-earlier j i less b a)
-      | inr le ↦ omega (arith, ge, le)
-    ]
-  ]
-
 -- problems and sides have turns of their own
 same-turn : (p q : Problem) (s t : Side) → turn p s ≡ turn q t → (p ≡ q) × (s ≡ t)
 same-turn Main Main Upper Upper e = (refl, refl)
@@ -113,7 +91,7 @@ same-turn (Pinned k) (Pinned m) Lower Lower e = (ap Pinned (omega (arith, e)), r
 module _ (network : Project) (grid : Grid) (row : Record) where
   first-fails : (p : Problem) (s : Side) (i : ℕ) → IsFirstToFail network grid row p s i → IsCertificate grid p s
       (vector_of row p s) → ⊥
-  first-fails p s i first is = fails-no-certificate grid p s (vector_of row p s) i first.fails is
+  first-fails p s i first is = fails-no-certificate None grid p s (vector_of row p s) i first.fails is
 
   abbrev AreOne : Problem → Problem → Side → Side → ℕ → ℕ → Type 0
   AreOne p q s t i j = (p ≡ q) × ((s ≡ t) × (i ≡ j))
@@ -130,7 +108,7 @@ module _ (network : Project) (grid : Grid) (row : Record) where
           let other : IsFirstToFail network grid row p s j = subst
           (λ (r : Problem). IsFirstToFail network grid row r s j) (sym same.0)
           (subst (λ (r : Side). IsFirstToFail network grid row q r j) (sym same.1) b) in
-          (same.0, (same.1, one-failure grid p s (vector_of row p s) i j a.fails other.fails))
+          (same.0, (same.1, one-failure None grid p s (vector_of row p s) i j a.fails other.fails))
     ]
   ]
 
