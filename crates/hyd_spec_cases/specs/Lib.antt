@@ -7,3 +7,4 @@ pub mod Forms
 pub mod Tanks
 pub mod Curves
 pub mod Cylinders
+pub mod Flask

@@ -22,4 +22,5 @@ pub mod parts;
 pub mod quantities;
 pub mod rules;
 pub mod starts;
+pub mod stocks;
 pub mod texts;

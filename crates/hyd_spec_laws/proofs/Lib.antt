@@ -1,5 +1,4 @@
 pub mod Roots
-pub mod StraightLines
 pub mod CurveKnots
 pub mod StatusWords
 pub mod LossLaws
@@ -14,6 +13,7 @@ pub mod HeldComparison
 pub mod Boxed
 pub mod HeldFlows
 pub mod Grids
+pub mod Leading
 pub mod RisingLines
 pub mod Placing
 pub mod Levelling

@@ -19,3 +19,5 @@ pub mod ShallowHistory
 pub mod VillageSound
 pub mod NarrowRecords
 pub mod RoundsAre
+pub mod BasinRun
+pub mod BasinHistory

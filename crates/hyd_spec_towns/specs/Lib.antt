@@ -14,3 +14,4 @@ pub mod VillageStops
 pub mod VillageRefusals
 pub mod Shallow
 pub mod Rounds
+pub mod Basin

@@ -2,6 +2,7 @@
 //! definitions ask for, and they have histories. No function here has a body.
 #![tactic(auto)]
 
+pub mod basins;
 pub mod clauses;
 pub mod refusals;
 pub mod rounds;

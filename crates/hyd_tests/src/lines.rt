@@ -2,7 +2,7 @@
 //! cause.
 #![tactic(auto)]
 
-use crate::{Lines, split_word};
+use hyd_lex::{Lines, split_word};
 use std::alloc::Global;
 use std::fmt::Write;
 use std::test::Fail;
