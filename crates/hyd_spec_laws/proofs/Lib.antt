@@ -33,4 +33,6 @@ pub mod OneReport
 pub mod OneLength
 pub mod OneCapacity
 pub mod OneRun
+pub mod Failing
+pub mod OneRefusal
 pub mod Vessels
