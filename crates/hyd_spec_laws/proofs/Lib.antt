@@ -32,3 +32,5 @@ pub mod OneLength
 pub mod OneCapacity
 pub mod OneRun
 pub mod Vessels
+pub mod CurveLevels
+pub mod Targets

@@ -41,7 +41,7 @@ through T U r s v most least = record {
 -- ---- one line
 
 -- a line over a width of W with a rise of D, from a place and a value, at x
-abbrev line : (T W D : ℕ) (place value x : ℤ) → ℤ
+abbrev pub line : (T W D : ℕ) (place value x : ℤ) → ℤ
 line T W D place value x = (pos W *ℤ (pos T *ℤ value)) +ℤ (pos D *ℤ (x -ℤ (pos T *ℤ place)))
 
 no-times : (D : ℕ) → pos D *ℤ pos 0 ≡ pos 0
@@ -87,13 +87,13 @@ pub record Follows (knot next : Knot) : Type 0 where
   pub later : knot.place <ℤ next.place
   pub higher : knot.value ≤ℤ next.value
 
-abbrev width-of : Knot → Knot → ℕ
+abbrev pub width-of : Knot → Knot → ℕ
 width-of knot next = unsigned_abs (next.place -ℤ knot.place)
 
-abbrev rise-of : Knot → Knot → ℕ
+abbrev pub rise-of : Knot → Knot → ℕ
 rise-of knot next = unsigned_abs (next.value -ℤ knot.value)
 
-not-negative : (z : ℤ) → pos 0 ≤ℤ z → z ≡ pos (unsigned_abs z)
+pub not-negative : (z : ℤ) → pos 0 ≤ℤ z → z ≡ pos (unsigned_abs z)
 not-negative (pos n) h = refl
 not-negative (negsuc n) h = absurd (omega (arith, ints, h))
 
@@ -103,14 +103,14 @@ some-width knot next f = let l = f.later in let e = not-negative (next.place -�
 lt-from : (a b : ℤ) → a <ℤ b → int_lt a b ≡ true
 lt-from a b lt = grind (arith, ints)
 
-lt-yes : (a b : ℤ) → int_lt a b ≡ true → a <ℤ b
+pub lt-yes : (a b : ℤ) → int_lt a b ≡ true → a <ℤ b
 lt-yes a b e = grind (arith, ints)
 
-lt-no : (a b : ℤ) → int_lt a b ≡ false → b ≤ℤ a
+pub lt-no : (a b : ℤ) → int_lt a b ≡ false → b ≤ℤ a
 lt-no a b e = grind (arith, ints)
 
 -- what two neighbours have is a line
-between-is : (T : ℕ) (knot next : Knot) (x : ℤ) → Follows knot next
+pub between-is : (T : ℕ) (knot next : Knot) (x : ℤ) → Follows knot next
     → between T knot next x ≡ record { num = line T (width-of knot next) (rise-of knot next) knot.place knot.value x; den = width-of knot next }
 between-is T knot next x f =
     let l = f.later in let h = f.higher in
@@ -158,7 +158,7 @@ AreClimbing knot (next ∷ rest) = Follows knot next × AreClimbing next rest
 one-den : (v : ℤ) → pos 1 *ℤ v ≡ v
 one-den v = omega (arith, ints, *ℤ_comm (pos 1) v)
 
-from-first : (T : ℕ) (knot : Knot) (rest : List Knot) (x : ℤ) → AreClimbing knot rest → (pos T *ℤ knot.place) ≤ℤ x → From T (value_from T knot rest x) knot.value
+pub from-first : (T : ℕ) (knot : Knot) (rest : List Knot) (x : ℤ) → AreClimbing knot rest → (pos T *ℤ knot.place) ≤ℤ x → From T (value_from T knot rest x) knot.value
 from-first T knot [] x climbing le = omega (arith, ints, one-den (pos T *ℤ knot.value))
 from-first T knot (next ∷ []) x climbing le = between-least T knot next x climbing.0 le
 from-first T knot (next ∷ (later ∷ rest)) x climbing le =
