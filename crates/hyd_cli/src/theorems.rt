@@ -26,16 +26,6 @@ ghost use Rattle.hyd_spec_laws.specs.Laws.{LiesIn};
 ghost use Rattle.hyd_cli.specs.FirstRun.{first_row, first_found, last_standing};
 ghost use Rattle.hyd_cli.specs.Solution.{IsTightHead};
 
-/// The printed ends of an interval enclose each of its values, at every scale.
-fn printed_values()
-    ensures heads { (us : Bool) (S : ℕ) (interval ends : Interval) (z : ℤ) → Prints (head_quantity us) interval ends
-        → LiesIn S interval z → LiesBetween ends (at_part S (head_quantity us) z) }
-    ensures pressures { (us : Bool) (S : ℕ) (interval ends : Interval) (z : ℤ) → Prints (pressure_quantity us) interval ends
-        → LiesIn S interval z → LiesBetween ends (at_part S (pressure_quantity us) z) }
-    ensures flows { (unit : FlowUnit) (S : ℕ) (interval ends : Interval) (z : ℤ) → Prints (flow_quantity unit) interval ends
-        → LiesIn S interval z → LiesBetween ends (at_part S (flow_quantity unit) z) }
-{}
-
 /// Certificates of both sides are the record of a valid run, and every history agrees with it and
 /// with its report. Tight ones are as sharp as can be asked for.
 fn first_histories()

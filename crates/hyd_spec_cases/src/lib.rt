@@ -11,6 +11,7 @@ pub mod curves;
 pub mod decisions;
 pub mod enclosing;
 pub mod forms;
+pub mod held;
 pub mod levels;
 pub mod links;
 pub mod losses;

@@ -1,5 +1,4 @@
 pub mod Roots
-pub mod StraightLines
 pub mod CurveKnots
 pub mod StatusWords
 pub mod LossLaws
@@ -14,10 +13,12 @@ pub mod HeldComparison
 pub mod Boxed
 pub mod HeldFlows
 pub mod Grids
+pub mod Leading
 pub mod RisingLines
 pub mod Placing
 pub mod Levelling
 pub mod Deciding
+pub mod WatchedEnds
 pub mod Worked
 pub mod Rising
 pub mod NetRising

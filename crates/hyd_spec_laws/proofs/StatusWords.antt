@@ -1,6 +1,6 @@
 -- The status word of a link holds at each head difference of the interval by which it was chosen.
-use Rattle.std.proofs.Common.{◌≡◌, ℕ, ◌*◌, ◌<◌, ℤ, pos, ◌+ℤ◌, ◌*ℤ◌, ◌≤ℤ◌, ◌<ℤ◌, List, ap, arith, Bool, true, false}
-use Rattle.std.specs.Prelude.{Option, int_le, int_lt, if◌then◌else◌}
+use Rattle.std.proofs.Common.{◌≡◌, ℕ, ◌<◌, ℤ, pos, ◌+ℤ◌, ◌*ℤ◌, ◌≤ℤ◌, ◌<ℤ◌, List, ap, arith, Bool, true}
+use Rattle.std.specs.Prelude.{int_le, int_lt, if◌then◌else◌}
 use Rattle.std.proofs.lemmas.Int.{ints, by_lt_z}
 use Rattle.std.proofs.lemmas.Bool.{cond_both}
 use Rattle.hyd_num.proofs.Integers.{times_plus, times_rises, times_reflects, times_one}
@@ -10,7 +10,7 @@ use Rattle.hyd_net.specs.ListView.{ListView}
 use Rattle.hyd_net.specs.Curves.{Knot, value_at, IsPumpCurve}
 use Rattle.hyd_net.specs.Sizes.{HasSizes}
 use Rattle.hyd_net.specs.Made.{IsKindMade, IsValveMade}
-use Rattle.hyd_spec.specs.Types.{HeadPoint, Pattern, LinkKind, PipeLink, CheckPipe, PumpLink, CurvePump, Tcv, Fcv, Gpv, LinkState, Open, Closed, Speed, Throttle, Limit, OpenValve, ShutoffHead}
+use Rattle.hyd_spec.specs.Types.{HeadPoint, Pattern, LinkKind, PipeLink, CheckPipe, PumpLink, CurvePump, Tcv, Fcv, Gpv, LinkState, Open, Closed, Speed, Throttle, Limit, OpenValve}
 use Rattle.hyd_spec.specs.Scale.{at_scale}
 use Rattle.hyd_spec.specs.Quantity.{lift_of, points_of, pump_knots}
 use Rattle.hyd_spec.specs.LinkLaw.{valve_law}
@@ -19,12 +19,13 @@ use Rattle.hyd_spec_certificates.specs.Enclosing.{low, high}
 use Rattle.hyd_spec_reports.specs.declared.StatusWord.TheVariants.{Open as WordOpen, Closed as WordClosed, Active as WordActive, Unsure as WordUnsure}
 use Rattle.hyd_spec_reports.specs.Report.{by_drive, by_knots, by_setting, status_of}
 use Rattle.hyd_spec_reports.specs.Claims.{DriveIs, drive_of, SettingIs, StatusHolds}
-use Rattle.hyd_lemmas.proofs.Integers.{floor_low, ceiling_high}
+use Rattle.hyd_lemmas.proofs.Integers.{exchanged, floor_low, ceiling_high}
 use Rattle.hyd_spec_laws.specs.Laws.{LiesIn, AreInOrder}
-use Rattle.hyd_spec_laws.proofs.EachLaw.{IsLaw-each, exchanged}
+use Rattle.hyd_spec_laws.proofs.EachLaw.{IsLaw-each}
 use Rattle.hyd_spec_laws.proofs.Grids.{valve-sound, bend-sound, lift-above}
 use Rattle.hyd_spec_laws.proofs.CurveKnots.{pump_knots-in_order}
-use Rattle.hyd_spec_laws.proofs.StraightLines.{value-den, value-rises, value-fold}
+use Rattle.hyd_spec_laws.proofs.Leading.{Leads}
+use Rattle.hyd_spec_laws.proofs.RisingLines.{value-den, value-rises}
 
 lt-yes : (a b : ℤ) → int_lt a b ≡ true → a <ℤ b
 lt-yes a b e = grind (arith, ints)
@@ -89,20 +90,23 @@ lift-drives S lift d x some above lies = drive-by (record { lo = d.lo +ℤ floor
 knots-drive : (S : ℕ) (knots : List Knot) (d : Interval) (x : ℤ) → 0 < S → AreInOrder knots → LiesIn S d x
     → DriveIs (by_knots knots d) (value_at S knots x).num
 knots-drive S knots d x some order lies = drive-by (record { lo = (value_at 1 knots d.lo).num; hi = (value_at 1 knots d.hi).num }) (value_at S knots x).num
-    (λ h.
-    let fold = value-fold S knots d.lo some order in
-    let rises = value-rises S knots (pos S *ℤ d.lo) x order lies.low in
-    let first = positive-times S (value_at 1 knots d.lo).num (value_at S knots (pos S *ℤ d.lo)).num some (omega (arith, ints, fold.num_fold)) h in
-    positive-from (value_at S knots (pos S *ℤ d.lo)).den (value_at S knots x).num
-    (positive-times (value_at S knots x).den (value_at S knots (pos S *ℤ d.lo)).num (pos (value_at S knots (pos S *ℤ d.lo)).den *ℤ (value_at S knots x).num)
-    (value-den S knots x) rises first))
-    (λ h.
-    let fold = value-fold S knots d.hi some order in
-    let rises = value-rises S knots x (pos S *ℤ d.hi) order lies.high in
-    let last = negative-times S (value_at 1 knots d.hi).num (value_at S knots (pos S *ℤ d.hi)).num (omega (arith, ints, fold.num_fold)) h in
-    negative-from (value_at S knots (pos S *ℤ d.hi)).den (value_at S knots x).num (value-den S knots (pos S *ℤ d.hi))
-    (negative-times (value_at S knots x).den (value_at S knots (pos S *ℤ d.hi)).num (pos (value_at S knots (pos S *ℤ d.hi)).den *ℤ (value_at S knots x).num)
-    rises last))
+    (λ h. positive-along (value_at 1 knots d.lo) (value_at S knots x) (value-den S knots x)
+    (value-rises 1 S knots d.lo x (omega arith) order (let l = lies.low in let m : (pos S *ℤ d.lo) ≤ℤ (pos 1 *ℤ x) = omega (arith, ints, l) in m)) h)
+    (λ h. negative-along (value_at S knots x) (value_at 1 knots d.hi) (value-den 1 knots d.hi) (value-den S knots x)
+    (value-rises S 1 knots x d.hi some order (let l = lies.high in let m : (pos 1 *ℤ x) ≤ℤ (pos S *ℤ d.hi) = omega (arith, ints, l) in m)) h)
+  where
+    -- a value above 0 leads to one above 0 alone, and one that leads to a value of 0 or less is 0 or less
+    positive-along : (p q : Rational) → 0 < q.den → Leads 1 S p q → pos 0 <ℤ p.num → pos 0 <ℤ q.num
+    positive-along p q above leads h =
+        positive-from 1 q.num (positive-from p.den (pos 1 *ℤ q.num)
+        (positive-times q.den (pos S *ℤ p.num) (pos p.den *ℤ (pos 1 *ℤ q.num)) above leads.crossed
+        (positive-times S p.num (pos S *ℤ p.num) some (let l : (pos S *ℤ p.num) ≤ℤ (pos S *ℤ p.num) = omega (arith, ints) in l) h)))
+
+    negative-along : (p q : Rational) → 0 < q.den → 0 < p.den → Leads S 1 p q → q.num ≤ℤ pos 0 → p.num ≤ℤ pos 0
+    negative-along p q above own leads h =
+        negative-from 1 p.num (omega arith) (negative-from q.den (pos 1 *ℤ p.num) above
+        (negative-times p.den (pos S *ℤ q.num) (pos q.den *ℤ (pos 1 *ℤ p.num)) leads.crossed
+        (negative-times S q.num (pos S *ℤ q.num) (let l : (pos S *ℤ q.num) ≤ℤ (pos S *ℤ q.num) = omega (arith, ints) in l) h)))
 
 -- ---- flow control valves
 

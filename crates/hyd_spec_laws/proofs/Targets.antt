@@ -11,11 +11,11 @@ use Rattle.hyd_spec.specs.Types.{Tank, VolumePoint}
 use Rattle.hyd_spec.specs.Scale.{at_scale}
 use Rattle.hyd_spec.specs.Tank.{Curve, Stock, level_bounds, content_bounds, level_knots, level_on_curve, level_at_volume, carried_level, exact_content, reaches, is_bound, has_reached}
 use Rattle.hyd_spec_laws.specs.Laws.{in_parts, IsVessel}
-use Rattle.hyd_spec_laws.proofs.EachLaw.{exchanged}
-use Rattle.hyd_lemmas.proofs.Integers.{floor_low}
+use Rattle.hyd_lemmas.proofs.Integers.{exchanged, floor_low}
 use Rattle.hyd_spec_laws.proofs.RisingLines.{some-den}
 use Rattle.hyd_spec_laws.proofs.CurveLevels.{AreAlike, same, above, below, Rises, AreRisingPoints, at-level, at-volume, levels_undo, volumes-climb, over-level, over-volume}
-use Rattle.hyd_spec_laws.proofs.Placing.{one_times, le-from, above-yes, above-from, below-yes, below-from, placed-is}
+use Rattle.hyd_spec_laws.proofs.Leading.{one_times}
+use Rattle.hyd_spec_laws.proofs.Placing.{le-from, above-yes, above-from, below-yes, below-from, placed-is}
 use Rattle.hyd_spec_laws.proofs.Outflows.{le-yes}
 use Rattle.hyd_spec_laws.proofs.Levelling.{pairs-tail, exact-some, curve-some}
 
@@ -38,7 +38,7 @@ points-rise p (q ∷ points) levels volumes = (
 
 volume-some : (points : List VolumePoint) (t : ℤ) → IsVolumeCurve points → 0 < (value_at 1 (volume_knots points) t).den
 volume-some [] t curve = omega arith
-volume-some (p ∷ points) t curve = some-den 1 (at-level p) (volume_knots points) t (volumes-climb p points (points-rise p points curve.levels_rise curve.volumes_rise))
+volume-some (p ∷ points) t curve = some-den 1 (at-level p) (volume_knots points) t
 
 alike : (T : ℕ) (points : List VolumePoint) (t n : ℤ) → 0 < T → IsVolumeCurve points
     → AreAlike (over-level T (value_at T (level_knots points) n) t) (over-volume T (value_at 1 (volume_knots points) t) n)

@@ -59,9 +59,9 @@ pub fn grids()
         → IsGridAt network standing b → a ≡ b }
 {}
 
-/// Two tight runs of as many periods are the same.
+/// Two tight runs of as many periods are the same, and leave the same standing.
 pub fn runs()
     ensures { (network : Project) → (a b : List Found) (last other : Standing)
         → IsRun network a last → IsRun network b other → AllByRecursion (IsTightThroughout network) a
-        → AllByRecursion (IsTightThroughout network) b → length a ≡ length b → a ≡ b }
+        → AllByRecursion (IsTightThroughout network) b → length a ≡ length b → (a ≡ b) × (last ≡ other) }
 {}

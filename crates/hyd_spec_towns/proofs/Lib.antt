@@ -12,6 +12,7 @@ pub mod VillageReports
 pub mod VillageTexts
 pub mod VillageAgreement
 pub mod VillageStops
+pub mod VillageRefusals
 pub mod VillageWhole
 pub mod ShallowRun
 pub mod ShallowHistory

@@ -1,6 +1,6 @@
 use Rattle.hyd_num.specs.Decimals.{head_quantity, pressure_quantity, flow_quantity}
-use Rattle.hyd_cli.proofs.PrintedValues.{prints_hold, head_proportional, pressure_proportional, flow_proportional}
-use Rattle.hyd_cli.proofs.theorems.printed_values.Goals as goal
+use Rattle.hyd_spec_histories.proofs.PrintedValues.{prints_hold, head_proportional, pressure_proportional, flow_proportional}
+use Rattle.hyd_spec_histories.proofs.printed_values.Goals as goal
 
 pub returns-clause-heads : goal.returns-clause-heads
 returns-clause-heads c = λ us S. prints_hold S (head_quantity us) (head_proportional us)
