@@ -102,13 +102,17 @@ placed S contents range x inside =
 abbrev pub level_knots : List VolumePoint → List Knot
 level_knots points = map (λ (p : VolumePoint). record { place = p.volume; value = p.level }) points
 
--- The level at the volume x by the curve, held between minimum and maximum: an exact value in S-th parts, as x is. At a scale
--- finer by the denominator of x both are whole places of the curve.
+-- The level at the volume x on the lines of the curve: an exact value in S-th parts, as x is. At a scale finer by the
+-- denominator of x both are whole places of the curve.
+abbrev pub level_on_curve : ℕ → List VolumePoint → Rational → Rational
+level_on_curve S points x =
+    let fine = value_at (S * x.den) (level_knots points) x.num in
+    record { num = fine.num; den = fine.den * x.den }
+
+-- The level at the volume x, held between minimum and maximum.
 abbrev pub level_at_volume : ℕ → List VolumePoint → Tank → Rational → Rational
 level_at_volume S points tank x =
-    let fine = value_at (S * x.den) (level_knots points) x.num in
-    let level : Rational = record { num = fine.num; den = fine.den * x.den } in
-    placed S (level_bounds tank) (level_bounds tank) level level
+    let level = level_on_curve S points x in placed S (level_bounds tank) (level_bounds tank) level level
 
 -- The level at the content x.
 abbrev pub level_at : ℕ → Walls → Tank → Rational → Rational

@@ -36,3 +36,5 @@ pub mod OneRun
 pub mod Failing
 pub mod OneRefusal
 pub mod Vessels
+pub mod CurveLevels
+pub mod Targets
