@@ -15,7 +15,7 @@ use Rattle.hyd_spec_certificates.specs.Interval.{Interval, shifted}
 use Rattle.hyd_spec.specs.Network.{tank_node, tank_count, junction_count, reservoir_count}
 use Rattle.hyd_spec.specs.Quantity.{reservoir_head}
 use Rattle.hyd_spec.specs.Assignment.{head_at}
-use Rattle.hyd_spec_certificates.specs.Grid.{Grid, GridLink, GridJunction, IsJunctionOf, all_heads, fixed_heads, end_on, opposite, tank_side, tank_intervals}
+use Rattle.hyd_spec_certificates.specs.Grid.{Grid, GridLink, IsJunctionOf, all_heads, fixed_heads, end_on, opposite, tank_side, tank_intervals}
 use Rattle.hyd_spec_certificates.specs.Boxes.{flow_box, inflow_box}
 use Rattle.hyd_spec_certificates.specs.Certificate.{IsCertificate}
 use Rattle.hyd_spec_certificates.specs.Record.{Record, Standing, Vectors, no_vectors, vector_of}
@@ -26,9 +26,11 @@ use Rattle.hyd_spec_laws.proofs.EachLaw.{IsLaw-each}
 use Rattle.hyd_spec_laws.proofs.Placing.{one_times}
 use Rattle.hyd_spec_laws.proofs.Nodes.{excess}
 use Rattle.hyd_spec_laws.proofs.Comparison.{place_long}
-use Rattle.hyd_spec_nesting.specs.Agreement.{IsOrdered, AreNested}
-use Rattle.hyd_spec_nesting.proofs.Places.{same_item, numbered_from_start}
-use Rattle.hyd_spec_nesting.proofs.Sides.{net-low-rises, net-high-rises, net-ordered, heads_below_plus}
+use Rattle.hyd_spec_nesting.specs.Nesting.{IsOrdered, AreNested}
+use Rattle.hyd_spec_histories.proofs.Places.{same_item, numbered_from_start}
+use Rattle.hyd_spec_nesting.proofs.TwoSides.{heads_below_plus}
+use Rattle.hyd_spec_laws.proofs.NetRising.{low-rises, high-rises, net-rises, net-ordered, item-at}
+use Rattle.hyd_spec_certificates.specs.Enclosing.{low, high}
 
 -- ---- fixed heads
 
@@ -68,11 +70,6 @@ all-below (x ∷ u) [] fixed same each m = absurd (omega (arith, same))
 all-below (x ∷ u) (y ∷ v) fixed same each zero = each 0 (omega arith)
 all-below (x ∷ u) (y ∷ v) fixed same each (suc m) = all-below u v fixed (omega (arith, same)) (λ k lt. each (suc k) (omega (arith, lt))) m
 
-there : (X : Type 0) (xs : List X) (k : ℕ) → k < length xs → (x : X) × (slice_get xs k ≡ Some x)
-there X [] k lt = absurd (omega (arith, lt))
-there X (x ∷ xs) zero lt = (x, refl)
-there X (x ∷ xs) (suc k) lt = there X xs k (omega (arith, lt))
-
 long-mapped : (X Y : Type 0) (f : X → Y) (xs : List X) → length (map f xs) ≡ length xs
 long-mapped X Y f [] = refl
 long-mapped X Y f (x ∷ xs) = let r = long-mapped X Y f xs in omega (arith, r)
@@ -96,7 +93,7 @@ module _ (network : Project) (standing : Standing) (grid : Grid) (outer inner : 
   grid-ordered : (k : ℕ) (x : Interval) → slice_get grid.tanks k ≡ Some x → x.lo ≤ℤ x.hi
   grid-ordered k x at =
       let is = interval-at network.tanks.list standing.levels k x (subst (λ xs. slice_get xs k ≡ Some x) nested.is_grid.tank_heads at) in
-      let o = nested.ordered k in
+      let o = (nested.ordered k).level in
       subst (λ y. y.lo ≤ℤ y.hi) (sym is.1) (omega (arith, ints, o))
 
   -- ---- main vectors
@@ -111,13 +108,13 @@ module _ (network : Project) (standing : Standing) (grid : Grid) (outer inner : 
   upper-within problem is =
       let a = (nested.inner_certificates.each problem Upper is).one_each in let b = (nested.outer_certificates.each problem Upper is).one_each in
       all-below (vector_of inner problem Upper) (vector_of outer problem Upper) (fixed_heads grid problem Upper) (a ∙ sym b)
-      (λ m lt. let t = there GridJunction grid.junctions m (omega (arith, lt, a)) in nested.inside.upper problem is m t.0 t.1)
+      (λ m lt. let t = item-at grid.junctions m (omega (arith, lt, a)) in nested.about.upper problem is m t.0 t.1)
 
   lower-within : (problem : Problem) → IsProblem network problem → (m : ℕ) → head_at (all_heads grid problem Lower (vector_of outer problem Lower)) m ≤ℤ head_at (all_heads grid problem Lower (vector_of inner problem Lower)) m
   lower-within problem is =
       let a = (nested.inner_certificates.each problem Lower is).one_each in let b = (nested.outer_certificates.each problem Lower is).one_each in
       all-below (vector_of outer problem Lower) (vector_of inner problem Lower) (fixed_heads grid problem Lower) (b ∙ sym a)
-      (λ m lt. let t = there GridJunction grid.junctions m (omega (arith, lt, b)) in nested.inside.lower problem is m t.0 t.1)
+      (λ m lt. let t = item-at grid.junctions m (omega (arith, lt, b)) in nested.about.lower problem is m t.0 t.1)
 
   pub above_within : (m : ℕ) → head_at (heads_above grid inner) m ≤ℤ head_at (heads_above grid outer) m
   above_within = upper-within Main tt
@@ -186,9 +183,9 @@ module _ (network : Project) (standing : Standing) (grid : Grid) (outer inner : 
       let b = tank-head (Pinned k) Upper (vector_of outer (Pinned k) Upper) k tank (nested.outer_certificates.each (Pinned k) Upper inside) at in
       let c = tank-head (Pinned k) Lower (vector_of inner (Pinned k) Lower) k tank (nested.inner_certificates.each (Pinned k) Lower inside) at in
       let d = tank-head (Pinned k) Lower (vector_of outer (Pinned k) Lower) k tank (nested.outer_certificates.each (Pinned k) Lower inside) at in
-      let high-side = net-low-rises (all_heads grid (Pinned k) Upper (vector_of outer (Pinned k) Upper)) (all_heads grid (Pinned k) Upper (vector_of inner (Pinned k) Upper)) node
+      let high-side = net-rises low high low-rises high-rises (all_heads grid (Pinned k) Upper (vector_of outer (Pinned k) Upper)) (all_heads grid (Pinned k) Upper (vector_of inner (Pinned k) Upper)) node
       (λ m. let e = up m in omega (arith, ints, e, a, b)) grid.links nested.steady.sound.links in
-      let low-side = net-high-rises (all_heads grid (Pinned k) Lower (vector_of inner (Pinned k) Lower)) (all_heads grid (Pinned k) Lower (vector_of outer (Pinned k) Lower)) node
+      let low-side = net-rises high low high-rises low-rises (all_heads grid (Pinned k) Lower (vector_of inner (Pinned k) Lower)) (all_heads grid (Pinned k) Lower (vector_of outer (Pinned k) Lower)) node
       (λ m. let e = down m in omega (arith, ints, e, c, d)) grid.links nested.steady.sound.links in
       rw (inflow-is inner k nested.inner_certificates.pinned_each inside, inflow-is outer k nested.outer_certificates.pinned_each inside)
       (record { low = omega (arith, ints, low-side); high = omega (arith, ints, high-side) })
@@ -212,7 +209,7 @@ module _ (network : Project) (standing : Standing) (grid : Grid) (outer inner : 
       let inside : k < tank_count network = slice_get_within network.tanks.list k tank at in
       let node = tank_node network k in
       let x : Interval = shifted tank.bottom (level_of_tank standing k) in
-      let o = nested.ordered k in
+      let o = (nested.ordered k).level in
       let room : pos 0 ≤ℤ (x.hi -ℤ x.lo) = omega (arith, ints, o) in
       let place : slice_get grid.tanks k ≡ Some x = ap (λ xs. slice_get xs k) nested.is_grid.tank_heads ∙ interval-there network.tanks.list standing.levels k tank at nested.levels_each in
       let v = vector_of inner (Pinned k) Lower in
@@ -224,6 +221,6 @@ module _ (network : Project) (standing : Standing) (grid : Grid) (outer inner : 
       (λ e. let same : y ≡ x = same_item Interval y x (sym is ∙ ap (slice_get grid.tanks) (sym e) ∙ place) in subst (λ z. (z.hi -ℤ z.lo) ≤ℤ (x.hi -ℤ x.lo)) (sym same) (omega (arith, ints))))) in
       let a = tank-head (Pinned k) Upper u k tank over at ∙ own-high k x in
       let b = tank-head (Pinned k) Lower v k tank under at ∙ own-low k x in
-      let rise = net-low-rises (all_heads grid (Pinned k) Upper u) (all_heads grid (Pinned k) Lower v) node (λ m. let p = plus m in omega (arith, ints, p, a, b)) grid.links nested.steady.sound.links in
+      let rise = net-rises low high low-rises high-rises (all_heads grid (Pinned k) Upper u) (all_heads grid (Pinned k) Lower v) node (λ m. let p = plus m in omega (arith, ints, p, a, b)) grid.links nested.steady.sound.links in
       let order = net-ordered (all_heads grid (Pinned k) Lower v) node grid.links nested.steady.sound.links in
       rw (inflow-is inner k nested.inner_certificates.pinned_each inside) (omega (arith, ints, rise, order))

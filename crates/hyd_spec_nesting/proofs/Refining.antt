@@ -1,35 +1,35 @@
 -- What an outer record decides an inner one decides in the same way.
-use Rattle.std.proofs.Common.{◌≡◌, ◌≢◌, ℕ, zero, suc, ◌+◌, ◌*◌, ◌≤◌, ℤ, pos, negsuc, neg_ℤ, ◌*ℤ◌, ◌≤ℤ◌, refl, sym, ap, subst, ◌∙◌, arith, Bool, true, false, ◌||◌, List, [], ◌∷◌, map, ◌⊎◌, inl, inr}
-use Rattle.std.specs.Prelude.{Some, slice_get, slice_index_or, unsigned_abs, int_le, if◌then◌else◌}
+use Rattle.std.proofs.Common.{◌≡◌, ◌≢◌, ℕ, zero, suc, ◌+◌, ◌*◌, ◌≤◌, ℤ, pos, negsuc, neg_ℤ, ◌≤ℤ◌, refl, sym, ap, subst, ◌∙◌, arith, Bool, true, false, ◌||◌, List, [], ◌∷◌, map, ◌⊎◌, inl, inr}
+use Rattle.std.specs.Prelude.{Some, slice_get, slice_index_or, unsigned_abs, int_le, if◌then◌else◌, ⊤}
 use Rattle.std.specs.List.{AllByRecursion, list_any}
 use Rattle.std.proofs.lemmas.Int.{ints}
 use Rattle.std.proofs.lemmas.Bool.{cases_Bool, cond_both}
-use Rattle.hyd_num.proofs.Integers.{times_reflects}
 use Rattle.hyd_num.specs.Rational.{whole}
 use Rattle.hyd_net.specs.Commands.{Compares, IsRule}
 use Rattle.hyd_net.specs.Sound.{Sound}
 use Rattle.hyd_spec.specs.Types.{Project, Tank, Rule, RuleClause, Clause, LinkState}
 use Rattle.hyd_spec.specs.Lists.{map_from}
 use Rattle.hyd_spec_certificates.specs.Interval.{Interval}
-use Rattle.hyd_spec.specs.Tank.{carried_level}
+use Rattle.hyd_spec.specs.Tank.{walls_of}
 use Rattle.hyd_spec.specs.Rules.{groups_of, rule_changes, acted}
-use Rattle.hyd_spec_certificates.specs.Stocks.{levels_after, carried_levels, may_reach, must_reach}
+use Rattle.hyd_spec_certificates.specs.Stocks.{carried_levels}
 use Rattle.hyd_spec_certificates.specs.Verdict.{Verdict, Yes, No, Unknown, at_both_ends, is_yes, is_unknown, either, both, some_holds, all_hold}
 use Rattle.hyd_spec_certificates.specs.Grid.{Grid, GridLink}
 use Rattle.hyd_spec_certificates.specs.Boxes.{flow_box}
 use Rattle.hyd_spec_certificates.specs.Record.{Record, Standing}
-use Rattle.hyd_spec_certificates.specs.Decided.{links_at, level_of_tank, inflow_of_tank, least_magnitude, greatest_magnitude, heads_below, heads_above, readings_below, readings_above, clause_truth, rule_truth, rule_truths, decided_changes, SomeMayReach, SomeMustReach, IsClockLength, IsEarliestEnd, RulesMatter, EndsBy, ByRules, WithoutRules, by_rules as decided_by_rules, by_clock as decided_by_clock}
-use Rattle.hyd_spec_certificates.specs.Valid.{LeavesLinks, by_rules as left_by_rules, by_clock as left_by_clock}
-use Rattle.hyd_spec_laws.specs.Laws.{LiesIn, IsInside, Tells}
+use Rattle.hyd_spec_certificates.specs.Decided.{links_at, stocks_of_tank, inflow_of_tank, least_magnitude, greatest_magnitude, heads_below, heads_above, readings_below, readings_above, clause_truth, rule_truth, rule_truths, decided_changes, SomeMayReach, SomeMustReach, IsClockLength, IsEarliestEnd, RulesMatter, EndsBy, ByRules, WithoutRules, by_rules as decided_by_rules, by_clock as decided_by_clock}
+use Rattle.hyd_spec_certificates.specs.Valid.{LeavesLinks, by_rules as left_by_rules, by_clock as left_by_clock, stocks_next}
+use Rattle.hyd_spec_laws.specs.Laws.{LiesIn, IsInside, AreInside, HasStock, Tells}
 use Rattle.hyd_lemmas.proofs.Integers.{max_is}
 use Rattle.hyd_spec_laws.proofs.Outflows.{le-no}
-use Rattle.hyd_spec_laws.proofs.Levelling.{one_times, next_inside}
-use Rattle.hyd_spec_laws.proofs.Deciding.{reached_may, must_reached}
-use Rattle.hyd_spec_nesting.specs.Agreement.{IsValueBetween, AreBetween, IsOrdered, AreNested}
-use Rattle.hyd_spec_nesting.proofs.Carried.{carried_lies}
-use Rattle.hyd_spec_nesting.proofs.Clauses.{clause_tells, whole-between}
-use Rattle.hyd_spec_nesting.proofs.Looks.{least-within, greatest-beyond}
-use Rattle.hyd_spec_nesting.proofs.Judging.{each_of, in-groups}
+use Rattle.hyd_spec_laws.proofs.Placing.{one_times}
+use Rattle.hyd_spec_laws.proofs.Levelling.{carried_inside, carried_ordered, next_inside, next_has}
+use Rattle.hyd_spec_laws.proofs.Deciding.{may_nests, must_nests, must_may}
+use Rattle.hyd_spec_histories.specs.Agreement.{IsValueBetween, AreBetween}
+use Rattle.hyd_spec_nesting.specs.Nesting.{IsOrdered, AreNested}
+use Rattle.hyd_spec_histories.proofs.Clauses.{clause_tells, whole-between}
+use Rattle.hyd_spec_histories.proofs.Looks.{least-within, greatest-beyond}
+use Rattle.hyd_spec_histories.proofs.Judging.{each_of, in-groups}
 use Rattle.hyd_spec_nesting.proofs.Boxing.{above_within, below_within, inner_ordered, flow_inside, flow_ordered, inflow_inside, inflow_ordered}
 
 -- ---- magnitudes
@@ -109,7 +109,7 @@ mapped-levels outer inner f from (tank ∷ tanks) each (suc k) =
 abbrev pub Refines : Verdict → Verdict → Type 0
 Refines Yes t = t ≡ Yes
 Refines No t = t ≡ No
-Refines Unknown t = Unit {0}
+Refines Unknown t = ⊤
 
 pub ends-refine : (t : Verdict) (a b : Bool) → Tells t a → Tells t b → Refines t (at_both_ends a b)
 ends-refine Yes a b p q = λ i. at_both_ends (p i) (q i)
@@ -184,41 +184,38 @@ module _ (network : Project) (sound : Sound network) (standing : Standing) (grid
   in-flow link = flow_box link (heads_below grid inner) (heads_above grid inner)
 
   abbrev out-level : ℕ → ℕ → Tank → Interval
-  out-level seconds k tank = carried_levels tank (level_of_tank standing k) (inflow_of_tank network grid outer k) seconds
+  out-level seconds k tank = carried_levels (walls_of network tank) tank (stocks_of_tank standing k) (inflow_of_tank network grid outer k) seconds
 
   abbrev in-level : ℕ → ℕ → Tank → Interval
-  in-level seconds k tank = carried_levels tank (level_of_tank standing k) (inflow_of_tank network grid inner k) seconds
+  in-level seconds k tank = carried_levels (walls_of network tank) tank (stocks_of_tank standing k) (inflow_of_tank network grid inner k) seconds
 
-  same-level : (k : ℕ) → IsInside (level_of_tank standing k) (level_of_tank standing k)
-  same-level k = record { low = omega (arith, ints); high = omega (arith, ints) }
+  same-stocks : (k : ℕ) → AreInside (stocks_of_tank standing k) (stocks_of_tank standing k)
+  same-stocks k = record {
+    level = record { low = omega (arith, ints); high = omega (arith, ints) };
+    volume = record { low = omega (arith, ints); high = omega (arith, ints) };
+  }
 
-  pub level-inside : (room : ℤ) (seconds k : ℕ) (tank : Tank) → pos 0 ≤ℤ room → slice_get network.tanks.list k ≡ Some tank
-      → IsInside (levels_after room tank (level_of_tank standing k) (inflow_of_tank network grid inner k) seconds) (levels_after room tank (level_of_tank standing k) (inflow_of_tank network grid outer k) seconds)
-  level-inside room seconds k tank positive at =
-      next_inside room tank (level_of_tank standing k) (inflow_of_tank network grid inner k) (level_of_tank standing k) (inflow_of_tank network grid outer k) seconds positive (nested.vessels k tank at)
-      (same-level k) (inflow_inside network standing grid outer inner nested k tank at)
+  carried-within : (seconds k : ℕ) (tank : Tank) → slice_get network.tanks.list k ≡ Some tank → IsInside (in-level seconds k tank) (out-level seconds k tank)
+  carried-within seconds k tank at =
+      carried_inside (walls_of network tank) tank (nested.vessels k tank at) (stocks_of_tank standing k) (stocks_of_tank standing k) (inflow_of_tank network grid inner k) (inflow_of_tank network grid outer k) seconds
+      (same-stocks k) (inflow_inside network standing grid outer inner nested k tank at)
 
-  -- some level and inflow
-  level-lies : (k : ℕ) → LiesIn 1 (level_of_tank standing k) (level_of_tank standing k).lo
-  level-lies k = lies-one (level_of_tank standing k) (level_of_tank standing k).lo (omega (arith, ints)) (nested.ordered k)
+  carried-there : (seconds k : ℕ) (tank : Tank) → slice_get network.tanks.list k ≡ Some tank → IsOrdered (in-level seconds k tank)
+  carried-there seconds k tank at =
+      carried_ordered (walls_of network tank) tank (nested.vessels k tank at) (stocks_of_tank standing k) (inflow_of_tank network grid inner k) seconds
+      (nested.ordered k) (inflow_ordered network standing grid outer inner nested k tank at)
 
-  high-lies : (k : ℕ) → LiesIn 1 (level_of_tank standing k) (level_of_tank standing k).hi
-  high-lies k = lies-one (level_of_tank standing k) (level_of_tank standing k).hi (nested.ordered k) (omega (arith, ints))
+  -- the next stocks of the inner record lie inside those of the outer one, and are there
+  pub stocks_within : (seconds k : ℕ) (tank : Tank) → slice_get network.tanks.list k ≡ Some tank
+      → AreInside (stocks_next network grid standing inner seconds k tank) (stocks_next network grid standing outer seconds k tank)
+  stocks_within seconds k tank at =
+      next_inside (walls_of network tank) tank (stocks_of_tank standing k) (stocks_of_tank standing k) (inflow_of_tank network grid inner k) (inflow_of_tank network grid outer k) seconds
+      (nested.vessels k tank at) (same-stocks k) (inflow_inside network standing grid outer inner nested k tank at)
 
-  inflow-lo : (k : ℕ) (tank : Tank) → slice_get network.tanks.list k ≡ Some tank → LiesIn 1 (inflow_of_tank network grid inner k) (inflow_of_tank network grid inner k).lo
-  inflow-lo k tank at = lies-one (inflow_of_tank network grid inner k) _ (omega (arith, ints)) (inflow_ordered network standing grid outer inner nested k tank at)
-
-  inflow-hi : (k : ℕ) (tank : Tank) → slice_get network.tanks.list k ≡ Some tank → LiesIn 1 (inflow_of_tank network grid inner k) (inflow_of_tank network grid inner k).hi
-  inflow-hi k tank at = lies-one (inflow_of_tank network grid inner k) _ (inflow_ordered network standing grid outer inner nested k tank at) (omega (arith, ints))
-
-  pub carried-ordered : (seconds k : ℕ) (tank : Tank) → slice_get network.tanks.list k ≡ Some tank → IsOrdered (in-level seconds k tank)
-  carried-ordered seconds k tank at =
-      let around = carried_lies 1 tank (level_of_tank standing k) (inflow_of_tank network grid inner k) seconds (level_of_tank standing k).lo (inflow_of_tank network grid inner k).lo
-      (omega arith) (nested.vessels k tank at) (level-lies k) (inflow-lo k tank at) in
-      let l = around.low in let h = around.high in
-      let x = carried_level 1 tank (level_of_tank standing k).lo (inflow_of_tank network grid inner k).lo seconds in
-      let both = times_reflects x.den (pos 1 *ℤ (in-level seconds k tank).lo) (pos 1 *ℤ (in-level seconds k tank).hi) around.some (omega (arith, ints, l, h)) in
-      omega (arith, ints, both, one_times (in-level seconds k tank).lo, one_times (in-level seconds k tank).hi)
+  pub stocks_there : (seconds k : ℕ) (tank : Tank) → slice_get network.tanks.list k ≡ Some tank → HasStock (stocks_next network grid standing inner seconds k tank)
+  stocks_there seconds k tank at =
+      next_has (walls_of network tank) tank (stocks_of_tank standing k) (inflow_of_tank network grid inner k) seconds (nested.vessels k tank at)
+      (nested.ordered k) (inflow_ordered network standing grid outer inner nested k tank at)
 
   -- ---- readings
 
@@ -228,8 +225,8 @@ module _ (network : Project) (sound : Sound network) (standing : Standing) (grid
         (let a = inner_ordered network standing grid outer inner nested m in let b = above_within network standing grid outer inner nested m in omega (arith, ints, a, b));
     levels = mapped-levels (out-level seconds) (in-level seconds) (λ x. x.lo) 0 network.tanks.list
         (λ k tank at. let n : k ≡ 0 + k = omega arith in subst (λ p. LiesIn 1 (out-level seconds p tank) (in-level seconds p tank).lo) n
-        (widened-lies (in-level seconds k tank) (out-level seconds k tank) (in-level seconds k tank).lo (level-inside (pos 0) seconds k tank (omega (arith, ints)) at)
-        (lies-one (in-level seconds k tank) (in-level seconds k tank).lo (omega (arith, ints)) (carried-ordered seconds k tank at))));
+        (widened-lies (in-level seconds k tank) (out-level seconds k tank) (in-level seconds k tank).lo (carried-within seconds k tank at)
+        (lies-one (in-level seconds k tank) (in-level seconds k tank).lo (omega (arith, ints)) (carried-there seconds k tank at))));
     flows_below = λ l. (mapped-magnitudes out-flow in-flow least_magnitude grid.links
         (λ m link at. magnitudes (out-flow link) (in-flow link) (least_magnitude (in-flow link)) (flow_inside network standing grid outer inner nested m link at) (least-point (in-flow link) (flow_ordered network standing grid outer inner nested m link at))) l).0;
     flows_above = λ l. (mapped-magnitudes out-flow in-flow least_magnitude grid.links
@@ -245,8 +242,8 @@ module _ (network : Project) (sound : Sound network) (standing : Standing) (grid
         (above_within network standing grid outer inner nested m);
     levels = mapped-levels (out-level seconds) (in-level seconds) (λ x. x.hi) 0 network.tanks.list
         (λ k tank at. let n : k ≡ 0 + k = omega arith in subst (λ p. LiesIn 1 (out-level seconds p tank) (in-level seconds p tank).hi) n
-        (widened-lies (in-level seconds k tank) (out-level seconds k tank) (in-level seconds k tank).hi (level-inside (pos 0) seconds k tank (omega (arith, ints)) at)
-        (lies-one (in-level seconds k tank) (in-level seconds k tank).hi (carried-ordered seconds k tank at) (omega (arith, ints)))));
+        (widened-lies (in-level seconds k tank) (out-level seconds k tank) (in-level seconds k tank).hi (carried-within seconds k tank at)
+        (lies-one (in-level seconds k tank) (in-level seconds k tank).hi (carried-there seconds k tank at) (omega (arith, ints)))));
     flows_below = λ l. (mapped-magnitudes out-flow in-flow greatest_magnitude grid.links
         (λ m link at. magnitudes (out-flow link) (in-flow link) (greatest_magnitude (in-flow link)) (flow_inside network standing grid outer inner nested m link at) (greatest-point (in-flow link) (flow_ordered network standing grid outer inner nested m link at))) l).0;
     flows_above = λ l. (mapped-magnitudes out-flow in-flow greatest_magnitude grid.links
@@ -298,34 +295,37 @@ module _ (network : Project) (sound : Sound network) (standing : Standing) (grid
 
   -- ---- events
 
-  may-out-by : (tank : Tank) (k : ℕ) (target : ℤ) (rising : Bool) (seconds : ℕ) → slice_get network.tanks.list k ≡ Some tank
-      → may_reach tank (level_of_tank standing k) (inflow_of_tank network grid inner k) target rising seconds ≡ true → may_reach tank (level_of_tank standing k) (inflow_of_tank network grid outer k) target rising seconds ≡ true
-  may-out-by tank k target true seconds at e = reached_may 1 tank (level_of_tank standing k) (inflow_of_tank network grid outer k) target true seconds (level_of_tank standing k).hi (inflow_of_tank network grid inner k).hi (omega arith)
-      (high-lies k) (widened-lies (inflow_of_tank network grid inner k) (inflow_of_tank network grid outer k) _ (inflow_inside network standing grid outer inner nested k tank at) (inflow-hi k tank at)) e
-  may-out-by tank k target false seconds at e = reached_may 1 tank (level_of_tank standing k) (inflow_of_tank network grid outer k) target false seconds (level_of_tank standing k).lo (inflow_of_tank network grid inner k).lo (omega arith)
-      (level-lies k) (widened-lies (inflow_of_tank network grid inner k) (inflow_of_tank network grid outer k) _ (inflow_inside network standing grid outer inner nested k tank at) (inflow-lo k tank at)) e
-
-  must-in-by : (tank : Tank) (k : ℕ) (target : ℤ) (rising : Bool) (seconds : ℕ) → slice_get network.tanks.list k ≡ Some tank
-      → must_reach tank (level_of_tank standing k) (inflow_of_tank network grid outer k) target rising seconds ≡ true → must_reach tank (level_of_tank standing k) (inflow_of_tank network grid inner k) target rising seconds ≡ true
-  must-in-by tank k target true seconds at e = must_reached 1 tank (level_of_tank standing k) (inflow_of_tank network grid outer k) target true seconds (level_of_tank standing k).lo (inflow_of_tank network grid inner k).lo
-      (level-lies k) (widened-lies (inflow_of_tank network grid inner k) (inflow_of_tank network grid outer k) _ (inflow_inside network standing grid outer inner nested k tank at) (inflow-lo k tank at)) e
-  must-in-by tank k target false seconds at e = must_reached 1 tank (level_of_tank standing k) (inflow_of_tank network grid outer k) target false seconds (level_of_tank standing k).hi (inflow_of_tank network grid inner k).hi
-      (high-lies k) (widened-lies (inflow_of_tank network grid inner k) (inflow_of_tank network grid outer k) _ (inflow_inside network standing grid outer inner nested k tank at) (inflow-hi k tank at)) e
-
-  must-may-by : (tank : Tank) (k : ℕ) (target : ℤ) (rising : Bool) (seconds : ℕ) → slice_get network.tanks.list k ≡ Some tank
-      → must_reach tank (level_of_tank standing k) (inflow_of_tank network grid inner k) target rising seconds ≡ true → may_reach tank (level_of_tank standing k) (inflow_of_tank network grid inner k) target rising seconds ≡ true
-  must-may-by tank k target rising seconds at e =
-      reached_may 1 tank (level_of_tank standing k) (inflow_of_tank network grid inner k) target rising seconds (level_of_tank standing k).lo (inflow_of_tank network grid inner k).lo (omega arith) (level-lies k) (inflow-lo k tank at)
-      (must_reached 1 tank (level_of_tank standing k) (inflow_of_tank network grid inner k) target rising seconds (level_of_tank standing k).lo (inflow_of_tank network grid inner k).lo (level-lies k) (inflow-lo k tank at) e)
-
   may-out : (seconds : ℕ) → SomeMayReach network grid standing inner seconds → SomeMayReach network grid standing outer seconds
-  may-out seconds r = record { watch = r.watch; is_watched = r.is_watched; tank = r.tank; is_tank = r.is_tank; reached = may-out-by r.tank r.watch.tank r.watch.target r.watch.rising seconds r.is_tank r.reached }
+  may-out seconds r = record {
+    watch = r.watch;
+    is_watched = r.is_watched;
+    tank = r.tank;
+    is_tank = r.is_tank;
+    reached = may_nests (walls_of network r.tank) r.tank (stocks_of_tank standing r.watch.tank) (stocks_of_tank standing r.watch.tank) (inflow_of_tank network grid inner r.watch.tank)
+        (inflow_of_tank network grid outer r.watch.tank) r.watch.target r.watch.rising seconds (nested.vessels r.watch.tank r.tank r.is_tank) (same-stocks r.watch.tank)
+        (inflow_inside network standing grid outer inner nested r.watch.tank r.tank r.is_tank) r.reached;
+  }
 
   must-in : (seconds : ℕ) → SomeMustReach network grid standing outer seconds → SomeMustReach network grid standing inner seconds
-  must-in seconds r = record { watch = r.watch; is_watched = r.is_watched; tank = r.tank; is_tank = r.is_tank; reached = must-in-by r.tank r.watch.tank r.watch.target r.watch.rising seconds r.is_tank r.reached }
+  must-in seconds r = record {
+    watch = r.watch;
+    is_watched = r.is_watched;
+    tank = r.tank;
+    is_tank = r.is_tank;
+    reached = must_nests (walls_of network r.tank) r.tank (stocks_of_tank standing r.watch.tank) (stocks_of_tank standing r.watch.tank) (inflow_of_tank network grid inner r.watch.tank)
+        (inflow_of_tank network grid outer r.watch.tank) r.watch.target r.watch.rising seconds (nested.vessels r.watch.tank r.tank r.is_tank) (same-stocks r.watch.tank)
+        (inflow_inside network standing grid outer inner nested r.watch.tank r.tank r.is_tank) r.reached;
+  }
 
   must-may : (seconds : ℕ) → SomeMustReach network grid standing inner seconds → SomeMayReach network grid standing inner seconds
-  must-may seconds r = record { watch = r.watch; is_watched = r.is_watched; tank = r.tank; is_tank = r.is_tank; reached = must-may-by r.tank r.watch.tank r.watch.target r.watch.rising seconds r.is_tank r.reached }
+  must-may seconds r = record {
+    watch = r.watch;
+    is_watched = r.is_watched;
+    tank = r.tank;
+    is_tank = r.is_tank;
+    reached = must_may (walls_of network r.tank) r.tank (stocks_of_tank standing r.watch.tank) (inflow_of_tank network grid inner r.watch.tank) r.watch.target r.watch.rising seconds
+        (nested.vessels r.watch.tank r.tank r.is_tank) (nested.ordered r.watch.tank) (inflow_ordered network standing grid outer inner nested r.watch.tank r.tank r.is_tank) r.reached;
+  }
 
   -- ---- the end
 
