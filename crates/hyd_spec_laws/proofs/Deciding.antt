@@ -253,9 +253,9 @@ pub seconds_hold : (S : ℕ) (walls : Walls) (tank : Tank) (stocks : Stocks) (in
     → IsFirstSecond (has_reached S walls tank stock q rising target) cap first → (earliest ≤ first) × (first ≤ latest)
 seconds_hold S walls tank stocks inflow target rising cap stock q earliest latest first some vessel at flow e l f = (
   first-sooner (may_reach walls tank stocks inflow target rising) (has_reached S walls tank stock q rising target) cap earliest first
-  (λ s h. reached_may S walls tank stocks inflow target rising s stock q some vessel at flow h) e f,
+      (λ s h. reached_may S walls tank stocks inflow target rising s stock q some vessel at flow h) e f,
   first-sooner (has_reached S walls tank stock q rising target) (must_reach walls tank stocks inflow target rising) cap first latest
-  (λ s h. must_reached S walls tank stocks inflow target rising s stock q some vessel at flow h) f l,
+      (λ s h. must_reached S walls tank stocks inflow target rising s stock q some vessel at flow h) f l,
 )
 
 pub seconds_nest : (walls : Walls) (tank : Tank) (stocks wider : Stocks) (inflow more : Interval) (target : ℤ) (rising : Bool) (cap earliest latest sooner later : ℕ)
@@ -265,9 +265,9 @@ pub seconds_nest : (walls : Walls) (tank : Tank) (stocks wider : Stocks) (inflow
     → (sooner ≤ earliest) × (latest ≤ later)
 seconds_nest walls tank stocks wider inflow more target rising cap earliest latest sooner later vessel at flow e l f m = (
   first-sooner (may_reach walls tank wider more target rising) (may_reach walls tank stocks inflow target rising) cap sooner earliest
-  (λ s h. may_nests walls tank stocks wider inflow more target rising s vessel at flow h) f e,
+      (λ s h. may_nests walls tank stocks wider inflow more target rising s vessel at flow h) f e,
   first-sooner (must_reach walls tank stocks inflow target rising) (must_reach walls tank wider more target rising) cap latest later
-  (λ s h. must_nests walls tank stocks wider inflow more target rising s vessel at flow h) l m,
+      (λ s h. must_nests walls tank stocks wider inflow more target rising s vessel at flow h) l m,
 )
 
 -- ---- rules

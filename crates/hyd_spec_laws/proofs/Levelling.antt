@@ -32,7 +32,7 @@ climbing p (q ∷ points) levels volumes = (
     higher = let l = levels 0 1 (pos 0) (omega arith) (omega arith) in omega (arith, ints, l);
   },
   climbing q points (pairs-tail (λ a b. a <ℤ b) p.level (map (λ (q : VolumePoint). q.level) (q ∷ points)) levels)
-  (pairs-tail (λ a b. a <ℤ b) p.volume (map (λ (q : VolumePoint). q.volume) (q ∷ points)) volumes),
+      (pairs-tail (λ a b. a <ℤ b) p.volume (map (λ (q : VolumePoint). q.volume) (q ∷ points)) volumes),
 )
 
 -- the curve's level before it is held
@@ -54,7 +54,7 @@ curve-rises T U (p ∷ points) x y holds some x-some leads =
     let r = value_at (T * x.den) (level_knots (p ∷ points)) x.num in
     let s = value_at (U * y.den) (level_knots (p ∷ points)) y.num in
     let up = from-rises (T * x.den) (U * y.den) knot (level_knots points) x.num y.num (mul-pos some x-some) (climbing p points holds.0 holds.1)
-        (let a = leads.crossed in omega (arith, ints, a, merged U y.den x.num, merged T x.den y.num)) in
+    (let a = leads.crossed in omega (arith, ints, a, merged U y.den x.num, merged T x.den y.num)) in
     record { crossed = let a = up.crossed in omega (arith, ints, a, apart s.den U y.den r.num, apart r.den T x.den s.num) }
   where
     merged : (a b : ℕ) (z : ℤ) → pos (a * b) *ℤ z ≡ pos b *ℤ (pos a *ℤ z)
@@ -75,8 +75,18 @@ mixed-leads : (T U B F : ℕ) (a b p q : ℤ) → (pos U *ℤ a) ≤ℤ (pos T *
 mixed-leads T U B F a b p q content flow = record {
   crossed = times_rises B (pos U *ℤ ((pos B *ℤ a) +ℤ (pos F *ℤ p))) (pos T *ℤ ((pos B *ℤ b) +ℤ (pos F *ℤ q)))
       (let m = times_rises B (pos U *ℤ a) (pos T *ℤ b) content in let n = times_rises F (pos U *ℤ p) (pos T *ℤ q) flow in
-      omega (arith, ints, m, n, times_plus U (pos B *ℤ a) (pos F *ℤ p), times_plus T (pos B *ℤ b) (pos F *ℤ q),
-      exchanged B U a, exchanged F U p, exchanged B T b, exchanged F T q));
+      omega (
+        arith,
+        ints,
+        m,
+        n,
+        times_plus U (pos B *ℤ a) (pos F *ℤ p),
+        times_plus T (pos B *ℤ b) (pos F *ℤ q),
+        exchanged B U a,
+        exchanged F U p,
+        exchanged B T b,
+        exchanged F T q,
+      ));
 }
 
 pub content-leads : (T U : ℕ) (walls : Walls) (a b : Stock) (p q : ℤ) (seconds : ℕ) → (pos U *ℤ content_of walls a) ≤ℤ (pos T *ℤ content_of walls b)
@@ -383,7 +393,7 @@ module _ (walls : Walls) (tank : Tank) (vessel : IsVessel walls tank) where
         let least = exact_least walls stocks inflow seconds in let greatest = exact_greatest walls stocks inflow seconds in
         let fits = content-fits walls tank greatest vessel (exact-some walls (greatest_stock stocks) inflow.hi seconds vessel.holds_water) in
         let a = lower-rises bounds bounds least greatest least greatest
-            (content-fits walls tank least vessel (exact-some walls (least_stock stocks) inflow.lo seconds vessel.holds_water)) fits least-below least-below room positive in
+        (content-fits walls tank least vessel (exact-some walls (least_stock stocks) inflow.lo seconds vessel.holds_water)) fits least-below least-below room positive in
         let b = ends-ordered bounds bounds greatest greatest room positive fits in
         omega (arith, ints, a, b)
 
@@ -450,9 +460,9 @@ state_holds S tank level z s some at = shared-holds s
 pub state_nests : (tank : Tank) (level wider : Interval) (s : TankState) → level.lo ≤ℤ level.hi → IsInside level wider → state_of tank wider ≡ Some s → state_of tank level ≡ Some s
 state_nests tank level wider s some at e =
     let low = state_holds 1 tank wider level.lo s (omega arith)
-        (record { low = let a = at.low in omega (arith, ints, a); high = let a = at.high in omega (arith, ints, a, some) }) e in
+    (record { low = let a = at.low in omega (arith, ints, a); high = let a = at.high in omega (arith, ints, a, some) }) e in
     let high = state_holds 1 tank wider level.hi s (omega arith)
-        (record { low = let a = at.low in omega (arith, ints, a, some); high = let a = at.high in omega (arith, ints, a) }) e in
+    (record { low = let a = at.low in omega (arith, ints, a, some); high = let a = at.high in omega (arith, ints, a) }) e in
     subst (λ (t : TankState). shared_state t (tank_state 1 tank level.hi) ≡ Some s) (sym low)
     (subst (λ (t : TankState). shared_state s t ≡ Some s) (sym high) (itself s))
   where

@@ -51,20 +51,28 @@ line-rises : (T U W D : ℕ) (place value x y : ℤ) → (pos U *ℤ x) ≤ℤ (
     → (pos U *ℤ line T W D place value x) ≤ℤ (pos T *ℤ line U W D place value y)
 line-rises T U W D place value x y le =
     let a = times_rises D (pos U *ℤ (x -ℤ (pos T *ℤ place))) (pos T *ℤ (y -ℤ (pos U *ℤ place)))
-        (omega (arith, ints, le, times_minus U x (pos T *ℤ place), times_minus T y (pos U *ℤ place), exchanged T U place)) in
+    (omega (arith, ints, le, times_minus U x (pos T *ℤ place), times_minus T y (pos U *ℤ place), exchanged T U place)) in
     let same : pos W *ℤ (pos U *ℤ (pos T *ℤ value)) ≡ pos W *ℤ (pos T *ℤ (pos U *ℤ value)) = ap (λ (z : ℤ). pos W *ℤ z) (exchanged T U value) in
-    omega (arith, ints, a, same, times_plus U (pos W *ℤ (pos T *ℤ value)) (pos D *ℤ (x -ℤ (pos T *ℤ place))),
-    times_plus T (pos W *ℤ (pos U *ℤ value)) (pos D *ℤ (y -ℤ (pos U *ℤ place))),
-    exchanged D U (x -ℤ (pos T *ℤ place)), exchanged D T (y -ℤ (pos U *ℤ place)),
-    exchanged W U (pos T *ℤ value), exchanged W T (pos U *ℤ value))
+    omega (
+      arith,
+      ints,
+      a,
+      same,
+      times_plus U (pos W *ℤ (pos T *ℤ value)) (pos D *ℤ (x -ℤ (pos T *ℤ place))),
+      times_plus T (pos W *ℤ (pos U *ℤ value)) (pos D *ℤ (y -ℤ (pos U *ℤ place))),
+      exchanged D U (x -ℤ (pos T *ℤ place)),
+      exchanged D T (y -ℤ (pos U *ℤ place)),
+      exchanged W U (pos T *ℤ value),
+      exchanged W T (pos U *ℤ value),
+    )
 
 line-most : (T W D : ℕ) (place value x : ℤ) → x ≤ℤ (pos T *ℤ (place +ℤ pos W)) → line T W D place value x ≤ℤ (pos W *ℤ (pos T *ℤ (value +ℤ pos D)))
 line-most T W D place value x le =
     let a = times_rises D (x -ℤ (pos T *ℤ place)) (pos T *ℤ pos W) (omega (arith, ints, le, times_plus T place (pos W))) in
     let same : pos D *ℤ (pos T *ℤ pos W) ≡ pos W *ℤ (pos T *ℤ pos D) =
-        times_times D T (pos W) ∙ *ℤ_comm (pos (D * T)) (pos W) ∙ ap (λ (z : ℤ). pos W *ℤ z) (*ℤ_comm (pos D) (pos T)) in
+    times_times D T (pos W) ∙ *ℤ_comm (pos (D * T)) (pos W) ∙ ap (λ (z : ℤ). pos W *ℤ z) (*ℤ_comm (pos D) (pos T)) in
     let apart : pos W *ℤ (pos T *ℤ (value +ℤ pos D)) ≡ (pos W *ℤ (pos T *ℤ value)) +ℤ (pos W *ℤ (pos T *ℤ pos D)) =
-        ap (λ (z : ℤ). pos W *ℤ z) (times_plus T value (pos D)) ∙ times_plus W (pos T *ℤ value) (pos T *ℤ pos D) in
+    ap (λ (z : ℤ). pos W *ℤ z) (times_plus T value (pos D)) ∙ times_plus W (pos T *ℤ value) (pos T *ℤ pos D) in
     omega (arith, ints, a, same, apart)
 
 line-least : (T W D : ℕ) (place value x : ℤ) → (pos T *ℤ place) ≤ℤ x → (pos W *ℤ (pos T *ℤ value)) ≤ℤ line T W D place value x
@@ -112,9 +120,9 @@ between-is T knot next x f =
     ≡ record { num = line T (width-of knot next) (rise-of knot next) knot.place knot.value x; den = width-of knot next }) (sym ordered)
     (ap (λ (z : ℤ). record { num = z; den = width-of knot next })
     (let a : pos (T * width-of knot next) *ℤ knot.value ≡ pos (width-of knot next) *ℤ (pos T *ℤ knot.value) =
-        sym (times_times T (width-of knot next) knot.value) ∙ exchanged (width-of knot next) T knot.value in
+    sym (times_times T (width-of knot next) knot.value) ∙ exchanged (width-of knot next) T knot.value in
     let b : (next.value -ℤ knot.value) *ℤ (x -ℤ (pos T *ℤ knot.place)) ≡ pos (rise-of knot next) *ℤ (x -ℤ (pos T *ℤ knot.place)) =
-        ap (λ (z : ℤ). z *ℤ (x -ℤ (pos T *ℤ knot.place))) high in
+    ap (λ (z : ℤ). z *ℤ (x -ℤ (pos T *ℤ knot.place))) high in
     omega (arith, ints, a, b)))
 
 between-rises : (T U : ℕ) (knot next : Knot) (x y : ℤ) → Follows knot next → (pos U *ℤ x) ≤ℤ (pos T *ℤ y) → Leads T U (between T knot next x) (between U knot next y)

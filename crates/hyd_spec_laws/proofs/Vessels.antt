@@ -54,7 +54,7 @@ cylinder : (network : Project) (tank : Tank) → tank.shape ≡ None → IsSound
 cylinder network tank none is =
     let across = head_ticks (is_us_unit network.options.unit) tank.diameter.nano in
     let wide : pos (10 ^ 8) ≤ℤ tank.diameter.nano =
-        subst (λ (o : Option ℕ). pos (if is_some o then 0 else 10 ^ 8) ≤ℤ tank.diameter.nano) none is.ranges.diameter.at_least in
+    subst (λ (o : Option ℕ). pos (if is_some o then 0 else 10 ^ 8) ≤ℤ tank.diameter.nano) none is.ranges.diameter.at_least in
     let big = square-above across (across-above (is_us_unit network.options.unit) tank.diameter.nano wide) in
     let apart = is.ranges.apart in
     record {

@@ -38,7 +38,8 @@ search-below test (suc n) = by-case (search-below test n)
       | inr more ↦ more
     ]
 
-    by-case : (((k : ℕ) → k < n → test k ≡ false) ⊎ ((m : ℕ) × IsFirst test m)) → ((k : ℕ) → k < suc n → test k ≡ false) ⊎ ((m : ℕ) × IsFirst test m)
+    by-case : (((k : ℕ) → k < n → test k ≡ false) ⊎ ((m : ℕ) × IsFirst test m))
+        → ((k : ℕ) → k < suc n → test k ≡ false) ⊎ ((m : ℕ) × IsFirst test m)
     by-case (inr found) = inr found
     by-case (inl before) = elim (cases_Bool (test n)) [
       | inl passes ↦ inr (n, record { passes = passes; least = least before })
@@ -55,16 +56,17 @@ or-cases : (a b : Bool) → (a || b) ≡ true → (a ≡ true) ⊎ (b ≡ true)
 or-cases true b e = inl refl
 or-cases false b e = inr e
 
-record IsAny (X : Type 0) (test : X → Bool) (xs : List X) : Type 0 where
-  item : X
-  contained : Contains xs item
-  passes : test item ≡ true
+pub record IsAny (X : Type 0) (test : X → Bool) (xs : List X) : Type 0 where
+  pub item : X
+  pub contained : Contains xs item
+  pub passes : test item ≡ true
 
-any-there : (X : Type 0) (test : X → Bool) (xs : List X) → list_any test xs ≡ true → IsAny X test xs
+pub any-there : (X : Type 0) (test : X → Bool) (xs : List X) → list_any test xs ≡ true → IsAny X test xs
 any-there X test [] e = absurd (cc)
 any-there X test (x ∷ xs) e = elim (or-cases (test x) (list_any test xs) e) [
   | inl here ↦ record { item = x; contained = contains-here X x xs; passes = here }
-  | inr later ↦ let r = any-there X test xs later in record { item = r.item; contained = contains-later X r.item x xs r.contained; passes = r.passes }
+  | inr later ↦ let r = any-there X test xs later in
+      record { item = r.item; contained = contains-later X r.item x xs r.contained; passes = r.passes }
 ]
 
 lt-true : (a b : ℕ) → nat_lt a b ≡ true → a < b
@@ -120,7 +122,8 @@ module _ (network : Project) (time : ℕ) where
   tested e (duration later is) =
       later-so e later (or-right (step-test e) _ (or-left (duration-test e) _ (eq-eqb e network.times.duration is)))
   tested e (pattern later is) =
-      later-so e later (or-right (step-test e) _ (or-right (duration-test e) _ (or-left (pattern-test e) _ (eq-eqb _ 0 is))))
+      later-so e later
+      (or-right (step-test e) _ (or-right (duration-test e) _ (or-left (pattern-test e) _ (eq-eqb _ 0 is))))
   tested e (report later from is) = later-so e later (or-right (step-test e) _ (or-right (duration-test e) _
       (or-right (pattern-test e) _ (or-left (report-test e) (control-test e)
       (and-true (nat_le network.times.report_start e) _ (true-le _ e from) (eq-eqb _ 0 is))))))
@@ -129,13 +132,17 @@ module _ (network : Project) (time : ℕ) where
       (let t : when-test e each.when ≡ when-test e (AtTime e) = ap (when-test e) is in t ∙ eq-eqb e e refl)))
   tested e (control_clock each at contained is shows later) = later-so e later (by-control e
       (any_of Control (λ (c : Control). when-test e c.when) network.controls.list each contained
-      (let t : when-test e each.when ≡ when-test e (AtClock at) = ap (when-test e) is in t ∙ eq-eqb (clock_at network e) at shows)))
+      (let t : when-test e each.when ≡ when-test e (AtClock at) = ap (when-test e) is in
+      t ∙ eq-eqb (clock_at network e) at shows)))
 
-  control-ends : (e : ℕ) → time < e → (each : Control) → Contains network.controls.list each → (w : When) → each.when ≡ w
+  control-ends : (e : ℕ) → time < e → (each : Control) → Contains network.controls.list each → (w : When)
+      → each.when ≡ w
       → when-test e w ≡ true → EndsByClock network time e
   control-ends e later each contained (AtLevel tank above ticks) is t = absurd (cc)
-  control-ends e later each contained (AtTime at) is t = control_time each contained (is ∙ ap AtTime (eqb-true at e t)) later
-  control-ends e later each contained (AtClock at) is t = control_clock each at contained is (eqb-true (clock_at network e) at t) later
+  control-ends e later each contained (AtTime at) is t = control_time each contained (is ∙ ap AtTime (eqb-true at e t))
+      later
+  control-ends e later each contained (AtClock at) is t = control_clock each at contained is
+      (eqb-true (clock_at network e) at t) later
 
   ends : (e : ℕ) → clock-test e ≡ true → EndsByClock network time e
   ends e t =
@@ -164,7 +171,9 @@ module _ (network : Project) (time : ℕ) where
   pub clock_length_is : 1 ≤ network.times.hydraulic → (cap : ℕ) × IsClockLength network time cap
   clock_length_is some =
       let found = first-of (λ d. clock-test (time + d)) network.times.hydraulic
-          (later-so (time + network.times.hydraulic) (omega (arith, some)) (or-left (step-test (time + network.times.hydraulic)) _ (eq-eqb (time + network.times.hydraulic) _ refl))) in (
+      (later-so (time + network.times.hydraulic) (omega (arith, some))
+      (or-left (step-test (time + network.times.hydraulic)) _ (eq-eqb (time + network.times.hydraulic) _ refl)))
+      in (
         found.0,
         record {
           holds = ends (time + found.0) found.1.passes;
@@ -184,23 +193,36 @@ module _ (test : ReachTest) (network : Project) (grid : Grid) (standing : Standi
 
   passes-at : (s : ℕ) (w : Watch) (tank : Tank) → slice_get network.tanks.list w.tank ≡ Some tank
       → watch_passes test network grid standing row w s
-      ≡ test (walls_of network tank) tank (stocks_of_tank standing w.tank) (inflow_of_tank network grid row w.tank) w.target w.rising s
-  passes-at s w tank at = ap (λ o. option_map_or (λ (t : Tank). test (walls_of network t) t (stocks_of_tank standing w.tank)
+      ≡ test (walls_of network tank) tank (stocks_of_tank standing w.tank) (inflow_of_tank network grid row w.tank)
+      w.target w.rising s
+  passes-at s w tank at =
+      ap (λ o. option_map_or (λ (t : Tank). test (walls_of network t) t (stocks_of_tank standing w.tank)
       (inflow_of_tank network grid row w.tank) w.target w.rising s) o false) at
 
   reaches-tested : (s : ℕ) → SomeReaches test network grid standing row s → some-test s ≡ true
-  reaches-tested s r = any_of Watch (λ (w : Watch). watch_passes test network grid standing row w s) (watches network standing)
+  reaches-tested s r = any_of Watch (λ (w : Watch). watch_passes test network grid standing row w s)
+      (watches network standing)
       r.watch r.is_watched (passes-at s r.watch r.tank r.is_tank ∙ r.reached)
 
-  reaches-so : (s : ℕ) (w : Watch) → Contains (watches network standing) w → (o : Option Tank) → slice_get network.tanks.list w.tank ≡ o
+  reaches-so : (s : ℕ) (w : Watch) → Contains (watches network standing) w → (o : Option Tank)
+      → slice_get network.tanks.list w.tank ≡ o
       → option_map_or (λ (tank : Tank). test (walls_of network tank) tank (stocks_of_tank standing w.tank)
-      (inflow_of_tank network grid row w.tank) w.target w.rising s) o false ≡ true → SomeReaches test network grid standing row s
+      (inflow_of_tank network grid row w.tank) w.target w.rising s) o false ≡ true
+      → SomeReaches test network grid standing row s
   reaches-so s w contained None at e = absurd (cc)
-  reaches-so s w contained (Some tank) at e = record { watch = w; is_watched = contained; tank = tank; is_tank = at; reached = e }
+  reaches-so s w contained (Some tank) at e = record {
+    watch = w;
+    is_watched = contained;
+    tank = tank;
+    is_tank =
+        at;
+    reached = e;
+  }
 
   tested-reaches : (s : ℕ) → some-test s ≡ true → SomeReaches test network grid standing row s
   tested-reaches s e =
-      let found = any-there Watch (λ (w : Watch). watch_passes test network grid standing row w s) (watches network standing) e in
+      let found = any-there Watch (λ (w : Watch). watch_passes test network grid standing row w s)
+      (watches network standing) e in
       reaches-so s found.item found.contained (slice_get network.tanks.list found.item.tank) refl found.passes
 
   -- the clock, or some watched level that passes the test, ends the period
@@ -213,7 +235,8 @@ module _ (test : ReachTest) (network : Project) (grid : Grid) (standing : Standi
   module _ (cap : ℕ) (clock : IsClockLength network standing.time cap) where
     same-length : (s : ℕ) → IsClockLength network standing.time s → s ≡ cap
     same-length s other =
-        let a = clock.least (standing.time + s) other.holds in let b = other.least (standing.time + cap) clock.holds in omega (arith, a, b)
+        let a = clock.least (standing.time + s) other.holds in let b = other.least (standing.time + cap) clock.holds in
+        omega (arith, a, b)
 
     passes : (s : ℕ) → EndsAt s → end-test cap s ≡ true
     passes s (inl other) = or-left (s == cap) _ (eq-eqb s cap (same-length s other))

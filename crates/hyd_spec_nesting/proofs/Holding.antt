@@ -43,18 +43,28 @@ demand-sound network demand law is = by-case (int_le demand (pos 0)) network.opt
     some-den true nano = omega arith
     some-den false nano = omega arith
 
-    by-case : (a b : Bool) → int_le demand (pos 0) ≡ a → MatchBool (if a then false else b) (IsDriven network demand law) (law ≡ Fixed demand) → IsSoundDemand law
+    by-case : (a b : Bool) → int_le demand (pos 0) ≡ a
+        → MatchBool (if a then false else b) (IsDriven network demand law) (law ≡ Fixed demand) → IsSoundDemand law
     by-case true b e fixed = subst IsSoundDemand (sym fixed) tt
     by-case false true e driven =
-        subst IsSoundDemand (sym driven.is_law)
-        ((let l = le-no demand (pos 0) e in omega (arith, ints, l)), (some-den (is_us network) network.options.p0, some-den (is_us network) network.options.pf))
+        subst IsSoundDemand (sym driven.is_law) (
+          (let l = le-no demand (pos 0) e in
+              omega (arith, ints, l)),
+          (
+            some-den (is_us network) network.options.p0,
+            some-den
+                (is_us network) network.options.pf,
+          ),
+        )
     by-case false false e fixed = subst IsSoundDemand (sym fixed) tt
 
-demands-sound : (network : Project) (time : ℕ) (xs : List Junction) (ys : List GridJunction) → AllZip (IsJunctionOf network time) xs ys → AllByRecursion (λ (j : GridJunction). IsSoundDemand j.demand) ys
+demands-sound : (network : Project) (time : ℕ) (xs : List Junction) (ys : List GridJunction)
+    → AllZip (IsJunctionOf network time) xs ys → AllByRecursion (λ (j : GridJunction). IsSoundDemand j.demand) ys
 demands-sound network time [] [] all = tt
 demands-sound network time [] (y ∷ ys) all = absurd all
 demands-sound network time (x ∷ xs) [] all = absurd all
-demands-sound network time (x ∷ xs) (y ∷ ys) all = (demand-sound network (demand_of network time x) y.demand all.0.demand, demands-sound network time xs ys all.1)
+demands-sound network time (x ∷ xs) (y ∷ ys) all =
+    (demand-sound network (demand_of network time x) y.demand all.0.demand, demands-sound network time xs ys all.1)
 
 -- ---- lists
 
@@ -67,7 +77,8 @@ long-mapped X Y f [] = refl
 long-mapped X Y f (x ∷ xs) = let r = long-mapped X Y f xs in omega (arith, r)
 
 -- past the end of the tanks there is no interval
-past : (f : ℕ → Tank → Interval) (from : ℕ) (tanks : List Tank) (m : ℕ) → slice_get tanks m ≡ None → slice_index_or (map_from f from tanks) m nowhere ≡ nowhere
+past : (f : ℕ → Tank → Interval) (from : ℕ) (tanks : List Tank) (m : ℕ) → slice_get tanks m ≡ None
+    → slice_index_or (map_from f from tanks) m nowhere ≡ nowhere
 past f from [] m none = refl
 past f from (t ∷ tanks) zero none = absurd (cc)
 past f from (t ∷ tanks) (suc m) none = past f (suc from) tanks m none
@@ -75,20 +86,24 @@ past f from (t ∷ tanks) (suc m) none = past f (suc from) tanks m none
 nowhere-ordered : IsOrdered nowhere
 nowhere-ordered = let o : pos 0 ≤ℤ pos 0 = omega (arith, ints) in o
 
-exact-ordered : (f : Tank → ℤ) (tanks : List Tank) (k : ℕ) → IsOrdered (slice_index_or (map (λ (tank : Tank). exactly (f tank)) tanks) k nowhere)
+exact-ordered : (f : Tank → ℤ) (tanks : List Tank) (k : ℕ)
+    → IsOrdered (slice_index_or (map (λ (tank : Tank). exactly (f tank)) tanks) k nowhere)
 exact-ordered f [] k = nowhere-ordered
 exact-ordered f (tank ∷ tanks) zero = let o : f tank ≤ℤ f tank = omega (arith, ints) in o
 exact-ordered f (tank ∷ tanks) (suc k) = exact-ordered f tanks k
 
-numbered-ordered : (f : ℕ → Tank → Interval) (tanks : List Tank) (k : ℕ) → ((tank : Tank) → slice_get tanks k ≡ Some tank → IsOrdered (f k tank))
+numbered-ordered : (f : ℕ → Tank → Interval) (tanks : List Tank) (k : ℕ)
+    → ((tank : Tank) → slice_get tanks k ≡ Some tank → IsOrdered (f k tank))
     → IsOrdered (slice_index_or (map_from f 0 tanks) k nowhere)
 numbered-ordered f tanks k each = by-place (slice_get tanks k) refl
   where
     by-place : (o : Option Tank) → slice_get tanks k ≡ o → IsOrdered (slice_index_or (map_from f 0 tanks) k nowhere)
     by-place None at = subst IsOrdered (sym (past f 0 tanks k at)) nowhere-ordered
-    by-place (Some tank) at = subst IsOrdered (sym (numbered_from_start Tank Interval f tanks k tank nowhere at)) (each tank at)
+    by-place (Some tank) at = subst IsOrdered (sym (numbered_from_start Tank Interval f tanks k tank nowhere at))
+        (each tank at)
 
-decided-long : (f : ℕ → Tank → Option TankState) (from : ℕ) (tanks : List Tank) (states : List TankState) → map_from f from tanks ≡ map Some states
+decided-long : (f : ℕ → Tank → Option TankState) (from : ℕ) (tanks : List Tank) (states : List TankState)
+    → map_from f from tanks ≡ map Some states
     → length states ≡ length tanks
 decided-long f from [] [] e = refl
 decided-long f from [] (s ∷ states) e = absurd (cc)
@@ -99,14 +114,16 @@ decided-long f from (tank ∷ tanks) (s ∷ states) e =
 
 module _ (network : Project) (sound : Sound network) where
   -- the grid of a standing of a run has sound laws
-  pub steady_at : (standing : Standing) (grid : Grid) → IsKept network standing → IsGridAt network standing grid → IsSteady grid
+  pub steady_at : (standing : Standing) (grid : Grid) → IsKept network standing → IsGridAt network standing grid
+      → IsSteady grid
   steady_at standing grid kept is = record {
     sound = IsSoundGrid-made network standing.time standing.levels standing.tanks (links_at network standing) grid is
         (record {
           emitters = sound.made.emitters;
           kinds = sound.made.links;
           sizes = sound.quantities.links;
-          states = made-states network network.links.list (links_at network standing) (started_own network sound standing.time (acts_on standing.levels) standing.commanded kept.states);
+          states = made-states network network.links.list (links_at network standing)
+              (started_own network sound standing.time (acts_on standing.levels) standing.commanded kept.states);
         });
     demands = demands-sound network standing.time network.junctions.list grid.junctions is.junctions;
   }
@@ -116,7 +133,8 @@ module _ (network : Project) (sound : Sound network) where
   pub tidy_at_start : IsTidy network (initial_standing network)
   tidy_at_start = record {
     levels_each = long-mapped Tank Interval (λ tank. exactly tank.initial) network.tanks.list;
-    volumes_each = long-mapped Tank Interval (λ tank. exactly (kept_volume (walls_of network tank) tank.initial)) network.tanks.list;
+    volumes_each = long-mapped Tank Interval (λ tank. exactly (kept_volume (walls_of network tank) tank.initial))
+        network.tanks.list;
     tanks_each = long-mapped Tank TankState (λ tank. tank_state 1 tank tank.initial) network.tanks.list;
     ordered = λ k. record {
       level = exact-ordered (λ tank. tank.initial) network.tanks.list k;
@@ -125,7 +143,8 @@ module _ (network : Project) (sound : Sound network) where
     in_time = omega arith;
   }
 
-  module _ (standing : Standing) (grid : Grid) (row next : _) (kept : IsKept network standing) (tidy : IsTidy network standing) (valid : IsValid network standing grid row next) where
+  module _ (standing : Standing) (grid : Grid) (row next : _) (kept : IsKept network standing)
+      (tidy : IsTidy network standing) (valid : IsValid network standing grid row next) where
     -- the record inside itself
     self-nested : AreNested network standing grid row row
     self-nested = record {
@@ -135,28 +154,44 @@ module _ (network : Project) (sound : Sound network) where
       ordered = tidy.ordered;
       outer_certificates = valid.certificates;
       inner_certificates = valid.certificates;
-      about = record { upper = λ problem is i junction at. omega (arith, ints); lower = λ problem is i junction at. omega (arith, ints) };
+      about = record {
+        upper = λ problem is i junction at. omega (arith, ints);
+        lower =
+            λ problem is i junction at. omega (arith, ints);
+      };
       vessels = vessels network sound;
     }
 
-    ends-in-time : (cap : ℕ) → IsClockLength network standing.time cap → (seconds : ℕ) (links : List LinkState) → LeavesLinks network grid standing row seconds links → seconds ≤ cap
-    ends-in-time cap clock seconds _ (left_by_rules (decided_by_rules first known)) = let a = first.is_earliest.least cap (inl clock) in let b = first.in_time in omega (arith, a, b)
-    ends-in-time cap clock seconds _ (left_by_clock (decided_by_clock none latest)) = none.is_earliest.least cap (inl clock)
+    ends-in-time : (cap : ℕ) → IsClockLength network standing.time cap → (seconds : ℕ) (links : List LinkState)
+        → LeavesLinks network grid standing row seconds links → seconds ≤ cap
+    ends-in-time cap clock seconds _ (left_by_rules (decided_by_rules first known)) = let a =
+        first.is_earliest.least cap (inl clock) in let b = first.in_time in omega (arith, a, b)
+    ends-in-time cap clock seconds _ (left_by_clock (decided_by_clock none latest)) =
+        none.is_earliest.least cap (inl clock)
 
     pub tidy_next : Continues network grid standing row next → IsTidy network next
     tidy_next c = record {
-      levels_each = ap length c.levels ∙ long-numbered Tank Interval (λ k tank. (stocks_next network grid standing row row.length k tank).level) 0 network.tanks.list;
-      volumes_each = ap length c.volumes ∙ long-numbered Tank Interval (λ k tank. (stocks_next network grid standing row row.length k tank).volume) 0 network.tanks.list;
-      tanks_each = decided-long (λ k tank. state_of tank (slice_index_or next.levels k nowhere)) 0 network.tanks.list next.tanks c.tanks;
+      levels_each = ap length c.levels ∙ long-numbered Tank Interval
+          (λ k tank. (stocks_next network grid standing row row.length k tank).level) 0 network.tanks.list;
+      volumes_each = ap length c.volumes ∙ long-numbered Tank Interval
+          (λ k tank. (stocks_next network grid standing row row.length k tank).volume) 0 network.tanks.list;
+      tanks_each = decided-long (λ k tank. state_of tank (slice_index_or next.levels k nowhere))
+          0 network.tanks.list next.tanks c.tanks;
       ordered = λ k. record {
         level = subst (λ ls. IsOrdered (slice_index_or ls k nowhere)) (sym c.levels)
-            (numbered-ordered (λ n tank. (stocks_next network grid standing row row.length n tank).level) network.tanks.list k (λ tank at. (stocks_there network sound standing grid row row self-nested row.length k tank at).level));
+            (numbered-ordered (λ n tank. (stocks_next network grid standing row row.length n tank).level)
+            network.tanks.list k
+            (λ tank at. (stocks_there network sound standing grid row row self-nested row.length k tank at).level));
         volume = subst (λ vs. IsOrdered (slice_index_or vs k nowhere)) (sym c.volumes)
-            (numbered-ordered (λ n tank. (stocks_next network grid standing row row.length n tank).volume) network.tanks.list k (λ tank at. (stocks_there network sound standing grid row row self-nested row.length k tank at).volume));
+            (numbered-ordered (λ n tank. (stocks_next network grid standing row row.length n tank).volume)
+            network.tanks.list k
+            (λ tank at.
+            (stocks_there network sound standing grid row row self-nested row.length k tank at).volume));
       };
       in_time =
           let found = clock_length_is network standing.time sound.times.hydraulic in
-          let before : standing.time < network.times.duration = strict standing.time network.times.duration tidy.in_time c.not_last in
+          let before : standing.time < network.times.duration =
+          strict standing.time network.times.duration tidy.in_time c.not_last in
           let a = found.1.least network.times.duration (duration before refl) in
           let b = ends-in-time found.0 found.1 row.length next.commanded c.leaves_links in
           let t = c.time in omega (arith, a, b, t);
@@ -178,10 +213,16 @@ module _ (network : Project) (sound : Sound network) where
         levels_each = tidy.levels_each;
         ordered = tidy.ordered;
         outer_certificates = valid.certificates;
-        inner_certificates = record { pinned_each = tightened.pinned_each; each = λ problem side is. (tightened.each problem side is).is_certificate };
+        inner_certificates = record {
+          pinned_each = tightened.pinned_each;
+          each =
+              λ problem side is. (tightened.each problem side is).is_certificate;
+        };
         about = record {
-          upper = λ problem is. (tightened.each problem Upper is).nearest (vector_of row problem Upper) (valid.certificates.each problem Upper is);
-          lower = λ problem is. (tightened.each problem Lower is).nearest (vector_of row problem Lower) (valid.certificates.each problem Lower is);
+          upper = λ problem is. (tightened.each problem Upper is).nearest (vector_of row problem Upper)
+              (valid.certificates.each problem Upper is);
+          lower = λ problem is. (tightened.each problem Lower is).nearest (vector_of row problem Lower)
+              (valid.certificates.each problem Lower is);
         };
         vessels = vessels network sound;
       }
@@ -189,29 +230,43 @@ module _ (network : Project) (sound : Sound network) where
       abbrev next-level : Record → ℕ → Tank → Interval
       next-level r k tank = (stocks_next network grid standing r row.length k tank).level
 
-      level-within : (k : ℕ) (tank : Tank) → slice_get network.tanks.list k ≡ Some tank → IsInside (next-level tight k tank) (next-level row k tank)
-      level-within k tank at = (stocks_within network sound standing grid row tight tight-nested row.length k tank at).level
+      level-within : (k : ℕ) (tank : Tank) → slice_get network.tanks.list k ≡ Some tank
+          → IsInside (next-level tight k tank) (next-level row k tank)
+      level-within k tank at =
+          (stocks_within network sound standing grid row tight tight-nested row.length k tank at).level
 
-      level-there : (k : ℕ) (tank : Tank) → slice_get network.tanks.list k ≡ Some tank → IsOrdered (next-level tight k tank)
-      level-there k tank at = (stocks_there network sound standing grid row tight tight-nested row.length k tank at).level
+      level-there : (k : ℕ) (tank : Tank) → slice_get network.tanks.list k ≡ Some tank
+          → IsOrdered (next-level tight k tank)
+      level-there k tank at =
+          (stocks_there network sound standing grid row tight tight-nested row.length k tank at).level
 
-      control-known : (k : ℕ) (tank : Tank) (above : Bool) (ticks : ℤ) → slice_get network.tanks.list k ≡ Some tank → is_unknown (control_truth (next-level row k tank) above ticks) ≡ false
+      control-known : (k : ℕ) (tank : Tank) (above : Bool) (ticks : ℤ) → slice_get network.tanks.list k ≡ Some tank
+          → is_unknown (control_truth (next-level row k tank) above ticks) ≡ false
           → is_unknown (control_truth (next-level tight k tank) above ticks) ≡ false
       control-known k tank above ticks at known =
           let outer = next-level row k tank in let inner = next-level tight k tank in
-          let lo = widened-lies inner outer inner.lo (level-within k tank at) (lies-one inner inner.lo (omega (arith, ints)) (level-there k tank at)) in
-          let hi = widened-lies inner outer inner.hi (level-within k tank at) (lies-one inner inner.hi (level-there k tank at) (omega (arith, ints))) in
+          let lo = widened-lies inner outer inner.lo (level-within k tank at)
+          (lies-one inner inner.lo (omega (arith, ints)) (level-there k tank at)) in
+          let hi = widened-lies inner outer inner.hi (level-within k tank at)
+          (lies-one inner inner.hi (level-there k tank at) (omega (arith, ints))) in
           let refines = ends-refine (control_truth outer above ticks) _ _
-              (control_tells 1 outer above ticks inner.lo (omega arith) lo) (control_tells 1 outer above ticks inner.hi (omega arith) hi) in
-          ap is_unknown (sym (known-same (control_truth outer above ticks) (control_truth inner above ticks) known refines)) ∙ known
+          (control_tells 1 outer above ticks inner.lo (omega arith) lo) (control_tells 1 outer above ticks inner.hi
+          (omega arith) hi) in
+          ap is_unknown
+          (sym (known-same (control_truth outer above ticks) (control_truth inner above ticks) known refines))
+          ∙ known
 
       -- ---- over all tanks
 
-      at-next : (r : Record) (k : ℕ) (tank : Tank) → slice_get network.tanks.list k ≡ Some tank → slice_index_or (levels_next network grid standing r row.length) k nowhere ≡ next-level r k tank
-      at-next r k tank at = numbered_from_start Tank Interval (λ n t. (stocks_next network grid standing r row.length n t).level) network.tanks.list k tank nowhere at
+      at-next : (r : Record) (k : ℕ) (tank : Tank) → slice_get network.tanks.list k ≡ Some tank
+          → slice_index_or (levels_next network grid standing r row.length) k nowhere ≡ next-level r k tank
+      at-next r k tank at =
+          numbered_from_start Tank Interval (λ n t. (stocks_next network grid standing r row.length n t).level)
+          network.tanks.list k tank nowhere at
 
       states-same : (f g : ℕ → Tank → Option TankState) (from : ℕ) (tanks : List Tank) (states : List TankState)
-          → ((k : ℕ) (tank : Tank) (s : TankState) → slice_get tanks k ≡ Some tank → f (from + k) tank ≡ Some s → g (from + k) tank ≡ Some s)
+          → ((k : ℕ) (tank : Tank) (s : TankState) → slice_get tanks k ≡ Some tank → f (from + k) tank ≡ Some s
+          → g (from + k) tank ≡ Some s)
           → map_from f from tanks ≡ map Some states → map_from g from tanks ≡ map Some states
       states-same f g from [] states each e = e
       states-same f g from (tank ∷ tanks) [] each e = absurd (cc)
@@ -219,32 +274,50 @@ module _ (network : Project) (sound : Sound network) where
           let first : f from tank ≡ Some s = cc in
           let others : map_from f (suc from) tanks ≡ map {B = Option TankState} Some states = cc in
           let n : from + 0 ≡ from = omega arith in
-          let here : g from tank ≡ Some s = subst (λ m. f m tank ≡ Some s → g m tank ≡ Some s) n (each 0 tank s refl) first in
-          let rest = states-same f g (suc from) tanks states (λ k t u at. let m : from + suc k ≡ suc from + k = omega arith in subst (λ p. f p t ≡ Some u → g p t ≡ Some u) m (each (suc k) t u at)) others in
+          let here : g from tank ≡ Some s = subst (λ m. f m tank ≡ Some s → g m tank ≡ Some s) n (each 0 tank s refl)
+          first in
+          let rest = states-same f g (suc from) tanks states (λ k t u at. let m : from + suc k ≡ suc from + k =
+          omega arith in subst (λ p. f p t ≡ Some u → g p t ≡ Some u) m (each (suc k) t u at)) others in
           λ i. here i ∷ rest i
 
-      pub next_states : (states : List TankState) → AreStates network (levels_next network grid standing row row.length) states → AreStates network (levels_next network grid standing tight row.length) states
-      next_states states = states-same (λ k tank. state_of tank (slice_index_or (levels_next network grid standing row row.length) k nowhere)) (λ k tank. state_of tank (slice_index_or (levels_next network grid standing tight row.length) k nowhere))
+      pub next_states : (states : List TankState) → AreStates network (levels_next network grid standing row row.length)
+          states → AreStates network (levels_next network grid standing tight row.length) states
+      next_states states =
+          states-same
+          (λ k tank. state_of tank (slice_index_or (levels_next network grid standing row row.length) k nowhere))
+          (λ k tank. state_of tank (slice_index_or (levels_next network grid standing tight row.length) k nowhere))
           0 network.tanks.list states
           (λ k tank s at. let n : k ≡ 0 + k = omega arith in
-          subst (λ m. state_of tank (slice_index_or (levels_next network grid standing row row.length) m nowhere) ≡ Some s → state_of tank (slice_index_or (levels_next network grid standing tight row.length) m nowhere) ≡ Some s) n
+          subst (λ m. state_of tank (slice_index_or (levels_next network grid standing row row.length) m nowhere)
+          ≡ Some s → state_of tank (slice_index_or (levels_next network grid standing tight row.length) m nowhere)
+          ≡ Some s) n
           (λ e. ap (state_of tank) (at-next tight k tank at)
-          ∙ state_nests tank (next-level tight k tank) (next-level row k tank) s (level-there k tank at) (level-within k tank at) (ap (state_of tank) (sym (at-next row k tank at)) ∙ e)))
+          ∙ state_nests tank (next-level tight k tank) (next-level row k tank) s (level-there k tank at)
+          (level-within k tank at) (ap (state_of tank) (sym (at-next row k tank at)) ∙ e)))
 
-      pub next_controls : ControlsAreDecided network (levels_next network grid standing row row.length) → ControlsAreDecided network (levels_next network grid standing tight row.length)
+      pub next_controls : ControlsAreDecided network (levels_next network grid standing row row.length)
+          → ControlsAreDecided network (levels_next network grid standing tight row.length)
       next_controls decided each k above ticks contained is = by-place (slice_get network.tanks.list k) refl
         where
-          known : is_unknown (control_truth (slice_index_or (levels_next network grid standing row row.length) k nowhere) above ticks) ≡ false
+          known : is_unknown
+              (control_truth (slice_index_or (levels_next network grid standing row row.length) k nowhere) above ticks)
+              ≡ false
           known = decided each k above ticks contained is
 
-          by-place : (o : Option Tank) → slice_get network.tanks.list k ≡ o → is_unknown (control_truth (slice_index_or (levels_next network grid standing tight row.length) k nowhere) above ticks) ≡ false
+          by-place : (o : Option Tank) → slice_get network.tanks.list k ≡ o
+              → is_unknown
+              (control_truth (slice_index_or (levels_next network grid standing tight row.length) k nowhere)
+              above ticks) ≡ false
           by-place None at =
-              let a = past (λ n t. (stocks_next network grid standing row row.length n t).level) 0 network.tanks.list k at in
-              let b = past (λ n t. (stocks_next network grid standing tight row.length n t).level) 0 network.tanks.list k at in
+              let a = past (λ n t. (stocks_next network grid standing row row.length n t).level)
+              0 network.tanks.list k at in
+              let b = past (λ n t. (stocks_next network grid standing tight row.length n t).level)
+              0 network.tanks.list k at in
               ap (λ x. is_unknown (control_truth x above ticks)) (b ∙ sym a) ∙ known
           by-place (Some tank) at =
               ap (λ x. is_unknown (control_truth x above ticks)) (at-next tight k tank at)
-              ∙ control-known k tank above ticks at (ap (λ x. is_unknown (control_truth x above ticks)) (sym (at-next row k tank at)) ∙ known)
+              ∙ control-known k tank above ticks at (ap (λ x. is_unknown (control_truth x above ticks))
+              (sym (at-next row k tank at)) ∙ known)
 
       -- the standing that the tight record leads on to: its stocks lie inside the other's
       abbrev tight-next : Standing
@@ -259,11 +332,15 @@ module _ (network : Project) (sound : Sound network) where
           let same = tightened.length_is in
           record {
             not_last = c.not_last;
-            leaves_links = subst (λ n. LeavesLinks network grid standing tight n next.commanded) (sym same) (leaves_so network sound standing grid row tight tight-nested row.length found.0 next.commanded found.1 c.leaves_links);
+            leaves_links = subst (λ n. LeavesLinks network grid standing tight n next.commanded) (sym same)
+                (leaves_so network sound standing grid row tight tight-nested row.length found.0 next.commanded found.1
+                c.leaves_links);
             levels = refl;
             volumes = refl;
-            tanks = subst (λ n. AreStates network (levels_next network grid standing tight n) next.tanks) (sym same) (next_states next.tanks (subst (λ ls. AreStates network ls next.tanks) c.levels c.tanks));
-            controls = subst (λ n. ControlsAreDecided network (levels_next network grid standing tight n)) (sym same) (next_controls (subst (ControlsAreDecided network) c.levels c.controls));
+            tanks = subst (λ n. AreStates network (levels_next network grid standing tight n) next.tanks) (sym same)
+                (next_states next.tanks (subst (λ ls. AreStates network ls next.tanks) c.levels c.tanks));
+            controls = subst (λ n. ControlsAreDecided network (levels_next network grid standing tight n)) (sym same)
+                (next_controls (subst (ControlsAreDecided network) c.levels c.controls));
             number = c.number;
             time = let t = c.time in omega (arith, t, same);
             unfinished = c.unfinished;

@@ -14,7 +14,8 @@ use Rattle.hyd_spec_laws.proofs.Nodes.{excess, excess_after, head_front, IsGreat
 
 -- ---- the comparison
 
-module _ (grid : Grid) (steady : IsSteady grid) (p q : Problem) (u v : List ℤ) (t : ℤ) (above : IsCertificate grid p Upper u) (below : IsCertificate grid q Lower v)
+module _ (grid : Grid) (steady : IsSteady grid) (p q : Problem) (u v : List ℤ) (t : ℤ)
+    (above : IsCertificate grid p Upper u) (below : IsCertificate grid q Lower v)
     (room : pos 0 ≤ℤ t) (fixed : (m : ℕ) → excess 1 (fixed_heads grid q Lower) (fixed_heads grid p Upper) m ≤ℤ t) where
   same-long : length v ≡ length u
   same-long = below.one_each ∙ sym above.one_each
@@ -29,9 +30,11 @@ module _ (grid : Grid) (steady : IsSteady grid) (p q : Problem) (u v : List ℤ)
       (λ k. let f = fixed k in omega (arith, ints, f, ge)) m (λ lt. best.each m lt) in
       rw (head_front v (fixed_heads grid q Lower) i best.below, head_front u (fixed_heads grid p Upper) i long-u)
       (omega (arith, ints, e, one_times (head_at (all_heads grid p Upper u) m), one_times (head_at u i)))) in
-      let flows = net-rises low high low-rises high-rises (all_heads grid p Upper u) (all_heads grid q Lower v) i top grid.links steady.sound.links in
+      let flows = net-rises low high low-rises high-rises (all_heads grid p Upper u) (all_heads grid q Lower v)
+      i top grid.links steady.sound.links in
       let order = net-ordered (all_heads grid q Lower v) i grid.links steady.sound.links in
-      let leaves = outflow-rises here.0 (head_at u i) (head_at v i) (demand-at grid.junctions i here.0 steady.demands here.1)
+      let leaves = outflow-rises here.0 (head_at u i) (head_at v i)
+      (demand-at grid.junctions i here.0 steady.demands here.1)
       (omega (arith, ints, ge, room, one_times (head_at u i))) in
       let over = above.passes i here.0 here.1 in
       let under = below.passes i here.0 here.1 in
@@ -51,7 +54,10 @@ module _ (grid : Grid) (steady : IsSteady grid) (p q : Problem) (u v : List ℤ)
       omega (arith, ints, e, one_times (head_at (all_heads grid p Upper u) m))
 
 -- the same in plain differences
-pub lower-below : (grid : Grid) → IsSteady grid → (p q : Problem) (u v : List ℤ) (t : ℤ) → IsCertificate grid p Upper u → IsCertificate grid q Lower v → pos 0 ≤ℤ t
-    → ((m : ℕ) → (head_at (fixed_heads grid q Lower) m -ℤ head_at (fixed_heads grid p Upper) m) ≤ℤ t) → (j : ℕ) → j < length v → head_at v j <ℤ (head_at u j +ℤ t)
+pub lower-below : (grid : Grid) → IsSteady grid → (p q : Problem) (u v : List ℤ) (t : ℤ) → IsCertificate grid p Upper u
+    → IsCertificate grid q Lower v → pos 0 ≤ℤ t
+    → ((m : ℕ) → (head_at (fixed_heads grid q Lower) m -ℤ head_at (fixed_heads grid p Upper) m) ≤ℤ t) → (j : ℕ)
+    → j < length v → head_at v j <ℤ (head_at u j +ℤ t)
 lower-below grid steady p q u v t above below room fixed j lt =
-    junctions_below grid steady p q u v t above below room (λ m. let f = fixed m in omega (arith, ints, f, one_times (head_at (fixed_heads grid p Upper) m))) j lt
+    junctions_below grid steady p q u v t above below room (λ m. let f = fixed m in
+    omega (arith, ints, f, one_times (head_at (fixed_heads grid p Upper) m))) j lt

@@ -29,7 +29,8 @@ a_step_later n m r p q less = elim (cases_lt (n / r) (m / r)) [
 ]
 
 -- from a time the first multiple after it
-pub first_after : (time r : ℕ) → 1 ≤ r → ((time + (r - time % r)) % r ≡ 0) → (k : ℕ) → 0 < k → (time + k) % r ≡ 0 → r - time % r ≤ k
+pub first_after : (time r : ℕ) → 1 ≤ r → ((time + (r - time % r)) % r ≡ 0) → (k : ℕ) → 0 < k → (time + k) % r ≡ 0
+    → r - time % r ≤ k
 first_after time r some is k later tried = elim (cases_lt k (r - time % r)) [
   | inl less ↦ absurd (
       let a = a_step_later (time + k) (time + (r - time % r)) r tried is (omega (arith, less)) in
@@ -46,25 +47,32 @@ next-multiple n r some =
     ap (λ (m : ℕ). m % r) e ∙ mul-mod_left ((n / r) + 1) r
 
 module _ (network : Project) (grid : Grid) (standing : Standing) (row : Record) where
-  pub walk_on : (current : ℕ) → (standing.time + current) % network.times.rule ≡ 0 → (RulesMatter network grid standing row current → ⊥) → IsWalked network grid standing row current
+  pub walk_on : (current : ℕ) → (standing.time + current) % network.times.rule ≡ 0
+      → (RulesMatter network grid standing row current → ⊥) → IsWalked network grid standing row current
       → IsWalked network grid standing row (current + network.times.rule)
   walk_on current tried idle walked = record {
     none_before = λ k matters.
         let l = walked.none_before k matters in
         elim (cases_lt current k) [
-          | inl less ↦ let a = a_step_later (standing.time + current) (standing.time + k) network.times.rule tried matters.tried.is_multiple (omega (arith, less)) in omega (arith, a)
-          | inr more ↦ let e : k ≡ current = omega (arith, l, more) in absurd (idle (subst (RulesMatter network grid standing row) e matters))
+          | inl less ↦ let a = a_step_later (standing.time + current) (standing.time + k)
+              network.times.rule tried matters.tried.is_multiple (omega (arith, less)) in omega (arith, a)
+          | inr more ↦ let e : k ≡ current = omega (arith, l, more) in
+              absurd (idle (subst (RulesMatter network grid standing row) e matters))
         ];
   }
 
   -- the first multiple of the rule step after the start
-  first-multiple : 1 ≤ network.times.rule → (standing.time + (network.times.rule - standing.time % network.times.rule)) % network.times.rule ≡ 0
+  first-multiple : 1 ≤ network.times.rule → (standing.time + (network.times.rule - standing.time % network.times.rule))
+      % network.times.rule ≡ 0
   first-multiple some = next-multiple standing.time network.times.rule some
 
-  pub walk_begins : 1 ≤ network.times.rule → IsWalked network grid standing row (network.times.rule - standing.time % network.times.rule)
+  pub walk_begins : 1 ≤ network.times.rule
+      → IsWalked network grid standing row (network.times.rule - standing.time % network.times.rule)
   walk_begins some = record {
-    none_before = λ k matters. first_after standing.time network.times.rule some (first-multiple some) k matters.tried.later matters.tried.is_multiple;
+    none_before = λ k matters. first_after standing.time network.times.rule some (first-multiple some)
+        k matters.tried.later matters.tried.is_multiple;
   }
 
-  pub found : (current : ℕ) → RulesMatter network grid standing row current → IsWalked network grid standing row current → IsLeast (RulesMatter network grid standing row) current
+  pub found : (current : ℕ) → RulesMatter network grid standing row current → IsWalked network grid standing row current
+      → IsLeast (RulesMatter network grid standing row) current
   found current matters walked = record { holds = matters; least = λ k other. walked.none_before k other }

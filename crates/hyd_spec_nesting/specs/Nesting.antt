@@ -31,9 +31,11 @@ IsOrdered x = x.lo ≤ℤ x.hi
 -- At each junction the vectors of one record are as far out as those of another, or farther.
 pub record LiesAbout (network : Project) (grid : Grid) (outer inner : Record) : Type 0 where
   pub upper : (problem : Problem) → IsProblem network problem
-      → Each grid.junctions (λ i junction. head_at (vector_of inner problem Upper) i ≤ℤ head_at (vector_of outer problem Upper) i)
+      → Each grid.junctions (λ i junction. head_at (vector_of inner problem Upper) i ≤ℤ head_at
+      (vector_of outer problem Upper) i)
   pub lower : (problem : Problem) → IsProblem network problem
-      → Each grid.junctions (λ i junction. head_at (vector_of outer problem Lower) i ≤ℤ head_at (vector_of inner problem Lower) i)
+      → Each grid.junctions (λ i junction. head_at (vector_of outer problem Lower) i ≤ℤ head_at
+      (vector_of inner problem Lower) i)
 
 -- Two records with certificates on the grid of a standing, the one inside the other. The standing's stocks are there.
 pub record AreNested (network : Project) (standing : Standing) (grid : Grid) (outer inner : Record) : Type 0 where
@@ -57,8 +59,8 @@ pub record IsTightened (network : Project) (grid : Grid) (row tight : Record) : 
 
 -- ---- standings
 
--- What every standing of a run keeps besides: a level interval, a volume interval and a state for each tank, some stock in each
--- tank's intervals, and a time that isn't past the end of the run.
+-- What every standing of a run keeps besides: a level interval, a volume interval and a state for each tank, some
+-- stock in each tank's intervals, and a time that isn't past the end of the run.
 pub record IsTidy (network : Project) (standing : Standing) : Type 0 where
   pub levels_each : length standing.levels ≡ tank_count network
   pub volumes_each : length standing.volumes ≡ tank_count network
@@ -68,7 +70,8 @@ pub record IsTidy (network : Project) (standing : Standing) : Type 0 where
 
 -- ---- single watched levels
 
--- A test of a tank's walls, the tank, its stocks and inflow, a target, its direction and a second, as `may_reach` and `must_reach`.
+-- A test of a tank's walls, the tank, its stocks and inflow, a target, its direction and a second, as `may_reach` and
+-- `must_reach`.
 abbrev pub ReachTest : Type 0
 ReachTest = Walls → Tank → Stocks → Interval → ℤ → Bool → ℕ → Bool
 
@@ -79,8 +82,10 @@ watch_passes test network grid standing row watch second =
     (inflow_of_tank network grid row watch.tank) watch.target watch.rising second)
     (slice_get network.tanks.list watch.tank) false
 
--- The first second, at least 1, at which one of some watched levels passes the test, or the cap where none up to it does.
-pub record IsFirstAmong (test : ReachTest) (network : Project) (grid : Grid) (standing : Standing) (row : Record) (cap : ℕ)
+-- The first second, at least 1, at which one of some watched levels passes the test, or the cap where none up to it
+-- does.
+pub record IsFirstAmong (test : ReachTest) (network : Project) (grid : Grid) (standing : Standing) (row : Record)
+    (cap : ℕ)
     (watched : List Watch) (second : ℕ) : Type 0 where
   pub within : second ≤ cap
   pub reached : (second ≡ cap) ⊎ ((1 ≤ second) × ((watch : Watch)

@@ -3,12 +3,18 @@ use Rattle.hyd_spec_nesting.proofs.Refining.{stocks_within, stocks_there}
 use Rattle.hyd_spec_nesting.proofs.boxes.Goals as goal
 
 pub returns-clause-flows : goal.returns-clause-flows
-returns-clause-flows c = λ network standing grid outer inner nested l link at.
-    (flow_inside network standing grid outer inner nested l link at, flow_ordered network standing grid outer inner nested l link at)
+returns-clause-flows c = λ network standing grid outer inner nested l link at. (
+  flow_inside network standing grid outer inner nested l link at,
+  flow_ordered network standing grid outer inner
+      nested l link at,
+)
 
 pub returns-clause-inflows : goal.returns-clause-inflows
-returns-clause-inflows c = λ network standing grid outer inner nested k tank at.
-    (inflow_inside network standing grid outer inner nested k tank at, inflow_ordered network standing grid outer inner nested k tank at)
+returns-clause-inflows c = λ network standing grid outer inner nested k tank at. (
+  inflow_inside network standing grid outer inner nested k tank at,
+  inflow_ordered network standing grid outer inner
+      nested k tank at,
+)
 
 pub returns-clause-stocks : goal.returns-clause-stocks
 returns-clause-stocks c = λ network sound standing grid outer inner nested seconds k tank at. (
