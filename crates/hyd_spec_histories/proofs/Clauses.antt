@@ -14,7 +14,7 @@ use Rattle.hyd_spec.specs.Rules.{Readings, in_ticks, level_of, head_of, pressure
 use Rattle.hyd_spec_certificates.specs.Verdict.{at_both_ends}
 use Rattle.hyd_spec_laws.specs.Laws.{IsAtMost, IsOneWay, Tells}
 use Rattle.hyd_spec_laws.proofs.Deciding.{compare_tells}
-use Rattle.hyd_spec_laws.proofs.Placing.{one_times}
+use Rattle.hyd_spec_laws.proofs.Leading.{one_times}
 use Rattle.hyd_spec_histories.specs.Agreement.{IsValueBetween, AreBetween}
 
 -- ---- values

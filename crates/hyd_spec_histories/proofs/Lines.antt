@@ -44,7 +44,8 @@ use Rattle.hyd_spec_reports.specs.Claims.{LineHolds, ReachesControl, ReachesAtEn
 use Rattle.hyd_spec_laws.specs.Laws.{LiesIn}
 use Rattle.hyd_spec_laws.proofs.Boxed.{heads_between}
 use Rattle.hyd_spec_laws.proofs.Deciding.{control_tells}
-use Rattle.hyd_spec_laws.proofs.Placing.{one_times, le-from}
+use Rattle.hyd_spec_laws.proofs.Placing.{le-from}
+use Rattle.hyd_spec_laws.proofs.Leading.{one_times}
 use Rattle.hyd_spec_laws.proofs.Outflows.{le-yes}
 use Rattle.hyd_spec_histories.specs.Agreement.{IsUnder, IsOwnState, IsKept}
 use Rattle.hyd_spec_histories.proofs.Places.{same_item, numbered_from_start}

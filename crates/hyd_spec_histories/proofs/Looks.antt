@@ -25,7 +25,7 @@ use Rattle.hyd_spec_certificates.specs.Decided.{level_of_tank, stocks_of_tank, i
 use Rattle.hyd_spec_laws.specs.Laws.{LiesIn, LiesAround, StockLies}
 use Rattle.hyd_lemmas.proofs.Integers.{max_left, max_right}
 use Rattle.hyd_spec_laws.proofs.Outflows.{le-yes}
-use Rattle.hyd_spec_laws.proofs.Placing.{one_times}
+use Rattle.hyd_spec_laws.proofs.Leading.{one_times}
 use Rattle.hyd_spec_laws.proofs.Boxed.{heads_between, flow_lies}
 use Rattle.hyd_spec_laws.proofs.Pinning.{inflow_lies}
 use Rattle.hyd_spec_laws.proofs.Levelling.{carried_lies}

@@ -12,7 +12,8 @@ use Rattle.hyd_spec_certificates.specs.Interval.{Interval}
 use Rattle.hyd_spec_certificates.specs.Stocks.{Stocks, least_stock, greatest_stock, carried_levels, must_reach}
 use Rattle.hyd_spec_laws.specs.Laws.{LiesIn, StockLies, IsVessel}
 use Rattle.hyd_lemmas.proofs.Integers.{floor_low, ceiling_high, max_is, min_is}
-use Rattle.hyd_spec_laws.proofs.Placing.{one_times, le-from, above-from, below-from, lower-is, upper-is}
+use Rattle.hyd_spec_laws.proofs.Placing.{le-from, above-from, below-from, lower-is, upper-is}
+use Rattle.hyd_spec_laws.proofs.Leading.{one_times}
 use Rattle.hyd_spec_laws.proofs.Levelling.{exact-some, carried_lies}
 use Rattle.hyd_spec_laws.proofs.Deciding.{must_reached}
 

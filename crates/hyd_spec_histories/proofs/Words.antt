@@ -21,9 +21,10 @@ use Rattle.hyd_spec_reports.specs.Report.{by_drive, by_setting, by_knots, status
 use Rattle.hyd_spec_reports.specs.Claims.{DriveIs, drive_of, SettingIs, StatusHolds}
 use Rattle.hyd_spec_laws.specs.Laws.{LiesIn, AreInOrder}
 use Rattle.hyd_lemmas.proofs.Integers.{floor_low, ceiling_high}
-use Rattle.hyd_spec_laws.proofs.EachLaw.{IsLaw-each, exchanged}
+use Rattle.hyd_spec_laws.proofs.EachLaw.{IsLaw-each}
+use Rattle.hyd_lemmas.proofs.Integers.{exchanged}
 use Rattle.hyd_spec_laws.proofs.Grids.{valve-sound, lift-above, own-sound}
-use Rattle.hyd_spec_laws.proofs.StraightLines.{value-positive, value-negative}
+use Rattle.hyd_spec_laws.proofs.RisingLines.{value-positive, value-negative}
 use Rattle.hyd_spec_laws.proofs.Outflows.{le-yes}
 
 lt-yes : (a b : ℤ) → int_lt a b ≡ true → a <ℤ b

@@ -1,5 +1,5 @@
 -- The grid of a period has sound laws where the capacities are made of the file's numbers.
-use Rattle.std.proofs.Common.{ℕ, ◌*◌, ◌^◌, ◌<◌, ◌≤ℤ◌, sym, ap, subst, arith, List, [], ◌∷◌, get_or, Bool}
+use Rattle.std.proofs.Common.{ℕ, ◌*◌, ◌^◌, ◌<◌, sym, ap, subst, arith, List, [], ◌∷◌, get_or, Bool}
 use Rattle.std.specs.Prelude.{Option, Some, None, if◌then◌else◌}
 use Rattle.std.specs.List.{AllByRecursion, AllZip}
 use Rattle.std.specs.Option.{IfSome, option_map_or}
@@ -33,7 +33,7 @@ lift-above us (FourThirds head) = omega arith
 lift-above us (Given head) = omega arith
 
 -- the knots of a curve that is there
-bend-sound : (P : List HeadPoint → Type 0) (knots : List HeadPoint → List Knot) (bends : List (ListView HeadPoint)) (bend : ℕ)
+pub bend-sound : (P : List HeadPoint → Type 0) (knots : List HeadPoint → List Knot) (bends : List (ListView HeadPoint)) (bend : ℕ)
     → HasBend P bends bend → ((points : List HeadPoint) → P points → AreInOrder (knots points)) → AreInOrder (knots (points_of bends bend))
 bend-sound P knots bends bend has each =
     let there = ap (λ (o : Option (ListView HeadPoint)). option_map_or (λ (b : ListView HeadPoint). b.list) o []) (slice_get-get_or bends bend no_points has.in_range) in

@@ -1,22 +1,23 @@
 -- Stocks: intervals of them hold the stocks that every history may have, and lesser intervals lead into lesser ones.
-use Rattle.std.proofs.Common.{◌≡◌, ℕ, zero, suc, ◌*◌, ◌^◌, ◌<◌, ℤ, pos, ◌+ℤ◌, ◌-ℤ◌, ◌*ℤ◌, ◌≤ℤ◌, ◌<ℤ◌, refl, sym, ap, subst, ◌∙◌, arith, Bool, true, false, mul-pos, List, [], ◌∷◌}
-use Rattle.std.specs.Prelude.{Some, int_le, if◌then◌else◌, map, length, AllPairs, ⊤}
+use Rattle.std.proofs.Common.{◌≡◌, ℕ, suc, ◌*◌, ◌^◌, ◌<◌, ℤ, pos, ◌+ℤ◌, ◌-ℤ◌, ◌*ℤ◌, ◌≤ℤ◌, ◌<ℤ◌, refl, sym, ap, subst, ◌∙◌, arith, Bool, true, false, mul-pos, List, [], ◌∷◌}
+use Rattle.std.specs.Prelude.{Some, int_le, if◌then◌else◌, map, AllPairs}
 use Rattle.std.proofs.lemmas.Int.{ints}
-use Rattle.hyd_num.proofs.Integers.{times_plus, times_minus, times_rises, times_reflects, times_times}
+use Rattle.hyd_num.proofs.Integers.{times_plus, times_rises, times_reflects, times_times}
 use Rattle.hyd_num.specs.Rational.{Rational, whole}
 use Rattle.hyd_net.specs.Curves.{Knot, value_at, AreRising}
 use Rattle.hyd_spec.specs.Types.{Tank, VolumePoint}
 use Rattle.hyd_spec.specs.Scale.{at_scale}
-use Rattle.hyd_spec.specs.Tank.{Walls, Cylinder, Curve, Stock, Bounds, level_bounds, content_bounds, content_of, exact_content, placed, level_knots, level_at_volume, level_at, carried_level, IsNextContent, IsLevelAt, IsNextStock, tank_state, state_band}
+use Rattle.hyd_spec.specs.Tank.{Walls, Cylinder, Curve, Stock, Bounds, level_bounds, content_bounds, content_of, exact_content, level_knots, level_at, carried_level, IsNextContent, IsLevelAt, IsNextStock, tank_state, state_band}
 use Rattle.hyd_spec.specs.declared.TankState.{TankState}
 use Rattle.hyd_spec.specs.declared.TankState.TheVariants.{Full, Between, Empty}
 use Rattle.hyd_spec_certificates.specs.Interval.{Interval}
 use Rattle.hyd_spec_certificates.specs.Stocks.{Stocks, least_stock, greatest_stock, exact_least, exact_greatest, lower_level, upper_level, contents_after, carried_levels, levels_at, next_stocks, shared_state, state_of}
 use Rattle.hyd_spec_laws.specs.Laws.{LiesIn, LiesAround, IsVessel, HoldWater, StockLies, AreInside, IsInside, IsWithin, HasStock}
-use Rattle.hyd_spec_laws.proofs.EachLaw.{exchanged}
+use Rattle.hyd_lemmas.proofs.Integers.{exchanged}
 use Rattle.hyd_spec_laws.proofs.Outflows.{le-yes}
-use Rattle.hyd_spec_laws.proofs.RisingLines.{Leads, AreClimbing, Follows, from-rises, some-den}
-use Rattle.hyd_spec_laws.proofs.Placing.{one_times, le-from, Fits, FitsAt, ends-ordered, placed-is, lower-least, lower-most, upper-least, upper-most, next-low, next-high, placed-low, placed-high, lower-rises, upper-rises, placed-rises, placed-most, placed-least, placed-some}
+use Rattle.hyd_spec_laws.proofs.Leading.{Leads, one_times}
+use Rattle.hyd_spec_laws.proofs.RisingLines.{AreClimbing, from-rises, some-den}
+use Rattle.hyd_spec_laws.proofs.Placing.{le-from, Fits, FitsAt, ends-ordered, lower-least, lower-most, upper-least, upper-most, next-low, next-high, placed-low, placed-high, lower-rises, upper-rises, placed-rises, placed-most, placed-least, placed-some}
 
 -- ---- levels by a volume curve
 
@@ -28,7 +29,7 @@ climbing : (p : VolumePoint) (points : List VolumePoint) → AreRising (map (λ 
 climbing p [] levels volumes = tt
 climbing p (q ∷ points) levels volumes = (
   record {
-    later = volumes 0 1 (pos 0) (omega arith) (omega arith);
+    later = let l = volumes 0 1 (pos 0) (omega arith) (omega arith) in omega (arith, ints, l);
     higher = let l = levels 0 1 (pos 0) (omega arith) (omega arith) in omega (arith, ints, l);
   },
   climbing q points (pairs-tail (λ a b. a <ℤ b) p.level (map (λ (q : VolumePoint). q.level) (q ∷ points)) levels)
@@ -44,7 +45,7 @@ curve-level S points x =
 curve-some : (S : ℕ) (points : List VolumePoint) (x : Rational) → HoldWater (Curve points) → 0 < x.den → 0 < (curve-level S points x).den
 curve-some S [] x holds some = mul-pos (omega arith) some
 curve-some S (p ∷ points) x holds some =
-    mul-pos (some-den (S * x.den) (record { place = p.volume; value = p.level }) (level_knots points) x.num (climbing p points holds.0 holds.1)) some
+    mul-pos (some-den (S * x.den) (record { place = p.volume; value = p.level }) (level_knots points) x.num) some
 
 curve-rises : (T U : ℕ) (points : List VolumePoint) (x y : Rational) → HoldWater (Curve points) → 0 < T → 0 < x.den → Leads T U x y
     → Leads T U (curve-level T points x) (curve-level U points y)

@@ -1,4 +1,3 @@
-use Rattle.std.proofs.Common.{refl}
 use Rattle.hyd_spec_towns.specs.Village.{village}
 use Rattle.hyd_spec_towns.specs.VillageRun.{standing_0, left, founds}
 use Rattle.hyd_spec_laws.proofs.OneRun.{one_run}
