@@ -33,7 +33,7 @@ points-rise p [] levels volumes = tt
 points-rise p (q ∷ points) levels volumes = (
   record { levels = levels 0 1 (pos 0) (omega arith) (omega arith); volumes = volumes 0 1 (pos 0) (omega arith) (omega arith) },
   points-rise q points (pairs-tail (λ a b. a <ℤ b) p.level (map (λ (q : VolumePoint). q.level) (q ∷ points)) levels)
-  (pairs-tail (λ a b. a <ℤ b) p.volume (map (λ (q : VolumePoint). q.volume) (q ∷ points)) volumes),
+      (pairs-tail (λ a b. a <ℤ b) p.volume (map (λ (q : VolumePoint). q.volume) (q ∷ points)) volumes),
 )
 
 volume-some : (points : List VolumePoint) (t : ℤ) → IsVolumeCurve points → 0 < (value_at 1 (volume_knots points) t).den
@@ -130,7 +130,7 @@ at_maximum S points tank stock q seconds some curve apart =
     let level = level_on_curve S points exact in
     let lower = times_rises S (tank.minimum +ℤ pos 1) tank.maximum (omega (arith, ints, apart)) in
     let short : (pos 1 *ℤ (pos S *ℤ tank.maximum)) ≤ℤ (pos S *ℤ tank.minimum) → ⊥ =
-        (λ h. omega (arith, ints, h, lower, some, times_plus S tank.minimum (pos 1), times_one S, one_times (pos S *ℤ tank.maximum))) in
+    (λ h. omega (arith, ints, h, lower, some, times_plus S tank.minimum (pos 1), times_one S, one_times (pos S *ℤ tank.maximum))) in
     subst (λ (b : Bool). (if b then reaches S true (volume_at points tank.maximum) exact else reaches S true tank.maximum (carried_level S (Curve points) tank stock q seconds))
     ≡ reaches S true tank.maximum (carried_level S (Curve points) tank stock q seconds)) (sym (same-number tank))
     (one-test (reaches S true (volume_at points tank.maximum) exact) (reaches S true tank.maximum (carried_level S (Curve points) tank stock q seconds))
@@ -162,5 +162,5 @@ at_maximum S points tank stock q seconds some curve apart =
         let f = floor_low v v-some in
         let a = times_rises exact.den (pos S *ℤ (pos v.den *ℤ floor v)) (pos S *ℤ v.num) (times_rises S (pos v.den *ℤ floor v) v.num f) in
         let same-product : pos exact.den *ℤ (pos S *ℤ (pos v.den *ℤ floor v)) ≡ pos v.den *ℤ (pos exact.den *ℤ (pos S *ℤ floor v)) =
-            ap (λ (z : ℤ). pos exact.den *ℤ z) (exchanged v.den S (floor v)) ∙ exchanged v.den exact.den (pos S *ℤ floor v) in
+        ap (λ (z : ℤ). pos exact.den *ℤ z) (exchanged v.den S (floor v)) ∙ exchanged v.den exact.den (pos S *ℤ floor v) in
         times_reflects v.den (pos exact.den *ℤ (pos S *ℤ floor v)) exact.num v-some (omega (arith, ints, a, h, same-product))
