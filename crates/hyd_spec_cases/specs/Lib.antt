@@ -4,5 +4,6 @@ pub mod Capacities
 pub mod City
 pub mod Single
 pub mod Forms
+pub mod Input
 pub mod Tanks
 pub mod Cylinders

@@ -10,6 +10,7 @@ pub mod cities;
 pub mod decisions;
 pub mod enclosing;
 pub mod forms;
+pub mod input;
 pub mod levels;
 pub mod links;
 pub mod losses;
