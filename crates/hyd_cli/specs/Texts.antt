@@ -14,11 +14,11 @@ use Rattle.hyd_cli.specs.FirstRun.{first_row}
 
 -- the certificate of the run that found these heads
 abbrev pub finished_certificate : ℤ → ℤ → List ℕ
-finished_certificate upper lower = certificate_text 1 0 (first_row upper lower ∷ []) 1 true
+finished_certificate upper lower = certificate_text 1 1 0 (first_row upper lower ∷ []) 1 true
 
 -- the certificate of the run that found none on a side
 abbrev pub stopped_certificate : List ℕ
-stopped_certificate = certificate_text 1 0 [] 0 false
+stopped_certificate = certificate_text 1 1 0 [] 0 false
 
 -- The text is the report of the period with these heads, on each grid of the period.
 pub record IsFinishedReport (network : Project) (upper lower : ℤ) (text : List ℕ) : Type 0 where

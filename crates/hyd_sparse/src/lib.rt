@@ -12,8 +12,6 @@ mod permutation;
 mod queue;
 mod solution;
 mod tables;
-#[cfg(test)]
-mod tests;
 
 pub use factor::{Factor, UNIT};
 

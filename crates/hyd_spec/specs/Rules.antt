@@ -147,11 +147,11 @@ abbrev pub seconds_of : Value → ℕ
 seconds_of (Amount span number) = unsigned_abs span.lo
 seconds_of value = 0
 
--- A time has come within the last rule step.
+-- The time v has come within the last rule step at the second s: s less the rule step is below v, and v is at most s.
 abbrev pub has_come : Project → ℕ → ℕ → Bool
 has_come network time at = nat_le at time && nat_lt time (at + network.times.rule)
 
--- A time of day has come within the last rule step, where the clock shows `now`.
+-- The same of a time of day, modulo a day, where the clock shows `now`.
 abbrev pub has_come_today : Project → ℕ → ℕ → Bool
 has_come_today network now at = nat_lt ((now + day - at % day) % day) network.times.rule
 

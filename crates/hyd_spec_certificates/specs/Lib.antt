@@ -4,6 +4,7 @@ pub mod Grid
 pub mod NetOutflow
 pub mod Certificate
 pub mod Climbing
+pub mod HeldBoxes
 pub mod Boxes
 pub mod Stocks
 pub mod Verdict

@@ -59,11 +59,11 @@ same_heads (x ∷ u) (y ∷ v) e each =
     let rest = same_heads u v (omega (arith, e)) (λ j le. each (suc j) (omega (arith, le))) in
     cc
 
-record IsThere (X : Type 0) (xs : List X) (j : ℕ) : Type 0 where
-  item : X
-  is_item : slice_get xs j ≡ Some item
+pub record IsThere (X : Type 0) (xs : List X) (j : ℕ) : Type 0 where
+  pub item : X
+  pub is_item : slice_get xs j ≡ Some item
 
-there : (X : Type 0) (xs : List X) (j : ℕ) → j < length xs → IsThere X xs j
+pub there : (X : Type 0) (xs : List X) (j : ℕ) → j < length xs → IsThere X xs j
 there X [] j le = absurd (omega (arith, le))
 there X (x ∷ xs) zero le = record { item = x; is_item = refl }
 there X (x ∷ xs) (suc j) le = let t = there X xs j (omega (arith, le)) in record { item = t.item; is_item = t.is_item }

@@ -10,10 +10,15 @@ ghost use Rattle.hyd_spec_certificates.specs.Interval.{Interval};
 ghost use Rattle.hyd_spec.specs.Tank.{Walls, walls_of, Stock, level_bounds, carried_level, has_reached, IsNextStock, tank_state};
 ghost use Rattle.hyd_spec_certificates.specs.Stocks.{Stocks, carried_levels, next_stocks, state_of, may_reach, must_reach};
 ghost use Rattle.hyd_spec_certificates.specs.FirstSeconds.{IsFirstSecond};
-ghost use Rattle.hyd_spec_laws.specs.Laws.{LiesIn, LiesAround, StockLies, IsVessel, IsInside, AreInside, IsWithin};
+ghost use Rattle.hyd_spec_laws.specs.Laws.{LiesIn, LiesAround, StockLies, IsVessel, IsInside, AreInside, IsWithin, HasStock};
 
-/// Each stock with which a next period may begin lies in the next stocks, and lesser stocks lead
-/// into lesser ones.
+/// The tanks of a sound network hold water, and their bounds are in order.
+pub fn vessels()
+    ensures { (network : Project) → Sound network → Each network.tanks.list (λ k tank. IsVessel (walls_of network tank) tank) }
+{}
+
+/// Each stock with which a next period may begin lies in the next stocks, lesser stocks lead into lesser ones, and
+/// stocks that are there lead into stocks that are.
 pub fn next_stock()
     ensures holds { (S : ℕ) (walls : Walls) (tank : Tank) (stocks : Stocks) (inflow : Interval) (seconds : ℕ) (stock : Stock)
         (q : ℤ) (next : Stock) → 0 < S → IsVessel walls tank → StockLies S stocks stock → LiesIn S inflow q
@@ -23,10 +28,12 @@ pub fn next_stock()
         → AreInside (next_stocks walls tank stocks inflow seconds) (next_stocks walls tank wider more seconds) }
     ensures bounded { (walls : Walls) (tank : Tank) (stocks : Stocks) (inflow : Interval) (seconds : ℕ) → IsVessel walls tank
         → IsWithin (level_bounds tank) (next_stocks walls tank stocks inflow seconds).level }
+    ensures there { (walls : Walls) (tank : Tank) (stocks : Stocks) (inflow : Interval) (seconds : ℕ) → IsVessel walls tank
+        → HasStock stocks → inflow.lo ≤ℤ inflow.hi → HasStock (next_stocks walls tank stocks inflow seconds) }
 {}
 
-/// Each carried level lies in the interval of carried levels, and lesser stocks have lesser
-/// intervals.
+/// Each carried level lies in the interval of carried levels, lesser stocks have lesser intervals, and stocks that are
+/// there have some carried level.
 pub fn carried()
     ensures holds { (S : ℕ) (walls : Walls) (tank : Tank) (stocks : Stocks) (inflow : Interval) (seconds : ℕ) (stock : Stock)
         (q : ℤ) → 0 < S → IsVessel walls tank → StockLies S stocks stock → LiesIn S inflow q
@@ -36,6 +43,9 @@ pub fn carried()
         → IsInside (carried_levels walls tank stocks inflow seconds) (carried_levels walls tank wider more seconds) }
     ensures bounded { (walls : Walls) (tank : Tank) (stocks : Stocks) (inflow : Interval) (seconds : ℕ) → IsVessel walls tank
         → IsWithin (level_bounds tank) (carried_levels walls tank stocks inflow seconds) }
+    ensures there { (walls : Walls) (tank : Tank) (stocks : Stocks) (inflow : Interval) (seconds : ℕ) → IsVessel walls tank
+        → HasStock stocks → inflow.lo ≤ℤ inflow.hi
+        → (carried_levels walls tank stocks inflow seconds).lo ≤ℤ (carried_levels walls tank stocks inflow seconds).hi }
 {}
 
 /// The state that both ends of a level interval have is that of each level between them, and of

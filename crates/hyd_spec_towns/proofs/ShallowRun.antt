@@ -45,7 +45,7 @@ first_ends = by_clock
 first_valid : IsValid (village_with shallow) standing_0 grid_0 row_0 standing_1
 first_valid = valid_at shallow standing_0 grid_0 row_0 standing_1 refl (omega arith) refl refl (in_range shallow 0 (lit≤ tt) (lit≤ tt))
     (grid_at shallow standing_0 _ _ _ _ refl refl refl refl) (certificates shallow grid_0 row_0 _ refl refl refl refl refl) (left_by_clock first_ends)
-    refl refl (controls_decided shallow _ refl) refl refl refl
+    refl refl refl (controls_decided shallow _ refl) refl refl refl
 
 first_state : AreStateLines (village_with shallow) grid_0 standing_0 row_0 (take 8 lines_0)
 first_state = record {
@@ -89,7 +89,7 @@ second_ends = by_clock
 second_valid : IsValid (village_with shallow) standing_1 grid_1 row_1 left
 second_valid = valid_at shallow standing_1 grid_1 row_1 left refl (omega arith) refl refl (in_range shallow 1 (lit≤ tt) (lit≤ tt))
     (grid_at shallow standing_1 _ _ _ _ refl refl refl refl) (certificates shallow grid_1 row_1 _ refl refl refl refl refl) (left_by_clock second_ends)
-    refl refl (controls_decided shallow _ refl) refl refl refl
+    refl refl refl (controls_decided shallow _ refl) refl refl refl
 
 second_report : IsReport (village_with shallow) grid_1 standing_1 row_1 lines_1
 second_report = record { state = []; state_are = refl; at_end = lines_1; at_end_are = record { events = _; changes = _; brings = ended_by_clock second_ends; lines_are = refl }; lines_are = refl }

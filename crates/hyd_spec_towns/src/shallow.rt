@@ -25,7 +25,7 @@ pub fn stop()
 
 /// What was written is the certificate of the records, what was printed the report of the lines and of the stop.
 pub fn texts()
-    ensures certificate { IsCertificateText written 2 1 (rows_of founds) 2 false }
+    ensures certificate { IsCertificateText written 1 2 1 (rows_of founds) 2 false }
     ensures report { printed ≡ report_text (village_with shallow) (lines_of founds)
         (last_line (village_with shallow) left 2 (Stopped (NoCertificate 2 Main Lower 1))) }
 {}

@@ -2,6 +2,8 @@
 #![tactic(auto)]
 
 #[cfg(test)]
+mod ample;
+#[cfg(test)]
 mod capacities;
 #[cfg(test)]
 mod command;
@@ -15,5 +17,7 @@ mod numbers;
 mod outside;
 #[cfg(test)]
 mod rows;
+#[cfg(test)]
+mod sparse;
 #[cfg(test)]
 mod units;
