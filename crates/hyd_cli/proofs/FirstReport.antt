@@ -123,6 +123,6 @@ report_is network first elevation valve upper lower p = record {
   state_are = subst (λ b. MatchBool b (AreStateLines network (valve_grid elevation valve) (initial_standing network) (first_row upper lower) (first_lines p)) (first_lines p ≡ []))
       (sym (reported_at_once network first.has_parts.plain)) (state_lines network first elevation valve upper lower p);
   at_end = [];
-  at_end_are = at_end (sym first.has_parts.plain.times.duration);
+  at_end_are = record { events = []; changes = []; brings = at_end (sym first.has_parts.plain.times.duration); lines_are = refl };
   lines_are = sym (ap (λ front. front ++ (first_lines p ++ [])) (no_controls network first.has_parts.plain) ∙ append-nil (first_lines p));
 }

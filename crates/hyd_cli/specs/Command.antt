@@ -1,5 +1,7 @@
 -- The words of a command: `run NET CERT --tight`, NET and CERT being two different names that don't begin with `-`.
-use Rattle.std.specs.Prelude.{ℕ, Bool, ◌&&◌, not, ◌==◌, List, [], ◌∷◌, ◌++◌, Option, Some, None, bytes_eq, codes, slice_index, if◌then◌else◌}
+use Rattle.std.specs.Prelude.{ℕ, Bool, ◌&&◌, not, ◌==◌, List, [], ◌∷◌, ◌++◌, Option, Some, None, bytes_eq, codes, slice_index, if◌then◌else◌, map, drop, string_bytes, String, Result, Ok, Err}
+use Rattle.std.specs.Vec.Iter.{into_iter_items}
+use Rattle.std.specs.declared.vec.IntoIter.{IntoIter}
 
 -- the names of a command, as bytes: what it reads, and what it writes
 pub record Names : Type 0 where
@@ -17,6 +19,12 @@ command (word ∷ net ∷ cert ∷ option ∷ []) =
     then Some (record { net = net; cert = cert })
     else None
 command words = None
+
+-- The words of a command, of all that the system gives: those behind the program's name. There are none where the words
+-- can't be had as a whole, as where one of them isn't text.
+abbrev pub words_behind_name : {A B E : Type 0} → Result (IntoIter (String A) B) E → List (List ℕ)
+words_behind_name (Ok given) = map string_bytes (drop 1 (into_iter_items given))
+words_behind_name (Err fault) = []
 
 -- what is printed where the words aren't a command
 abbrev pub usage_line : List ℕ

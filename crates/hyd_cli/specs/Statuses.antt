@@ -1,5 +1,5 @@
 -- The statuses of a command.
-use Rattle.std.specs.Prelude.{ℕ, ⊤}
+use Rattle.std.specs.Prelude.{ℕ}
 use Rattle.hyd_cli.specs.declared.status.Status.{Status}
 use Rattle.hyd_cli.specs.declared.status.Status.TheVariants.{Done, OutOfMemory, Usage, ReadFault, WriteFault, InputRefused, Undecided, Stalled}
 
@@ -13,9 +13,3 @@ number_of WriteFault = 4
 number_of InputRefused = 5
 number_of Undecided = 6
 number_of Stalled = 10
-
--- a status that says how a run ended
-abbrev pub IsEnd : Status → Type 0
-IsEnd Done = ⊤
-IsEnd Undecided = ⊤
-IsEnd status = ⊥

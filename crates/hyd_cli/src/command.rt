@@ -1,12 +1,12 @@
 //! The top call.
 
 ghost use Rattle.std.specs.Prelude.{◌≡◌, ◌≢◌, ◌⊎◌, ◌<◌, ℕ, List, Option, Some, None, IsTrue, IfOk, IfErr, IfSome, IfNone, OnOk, OnErr, length, map, string_bytes};
-ghost use Rattle.hyd_io.specs.Told.{IsTold, file_at};
+ghost use Rattle.hyd_io.specs.Told.{IsTold};
+ghost use Rattle.hyd_io.specs.Counts.{with_opened, with_created};
 ghost use Rattle.hyd_spec.specs.Types.{Project};
 ghost use Rattle.hyd_spec_input.specs.FirstForm.{IsFirstNetwork, Words, HasForm, HasNoForm};
 ghost use Rattle.hyd_cli.specs.Command.{Names, command};
-ghost use Rattle.hyd_cli.specs.Statuses.{IsEnd};
-ghost use Rattle.hyd_cli.specs.Answers.{seen, status_of, IsUntouched, ChangesOnly, HasCause, Leaves, AnswersUsage, AnswersRefused, AnswersNetwork, AnswersRun};
+ghost use Rattle.hyd_cli.specs.Answers.{seen, status_of, IsUntouched, ChangesOnly, HasCause, OpensOnce, Leaves, Holds, AnswersUsage, AnswersRefused, AnswersNetwork, AnswersRun};
 ghost use Rattle.hyd_cli.specs.Delivery.{PutBoth, PutFronts};
 ghost use Rattle.hyd_cli.specs.declared.status.Status.TheVariants.{Usage, ReadFault, OutOfMemory};
 
@@ -31,7 +31,7 @@ const REFUSED: &[u8] = b"REFUSED line 0 cause 6 detail 12\n";
 ///
 /// The words `run`, NET, CERT, `--tight` read the network of NET, write its certificate to CERT and
 /// print its report; NET and CERT differ and don't begin with `-`. Nothing but NET is opened and
-/// nothing but CERT created. A call on the desk that fails or stalls decides the status.
+/// nothing but CERT created, each once at most. A call on the desk that fails or stalls decides the status.
 pub fn tool<D: Desk>(alloc: Global, words: &[String], desk: &mut D) -> Status
     requires opens { (names : Names) → command (map string_bytes words.now) ≡ Some names
         → IsTrue (D.may_open names.net) }
@@ -48,13 +48,16 @@ pub fn tool<D: Desk>(alloc: Global, words: &[String], desk: &mut D) -> Status
         (seen D.files D.written D.printed desk.old) (seen D.files D.written D.printed desk.new) }
     ensures run { (names : Names) (text : List ℕ) (w : Words)
         → command (map string_bytes words.now) ≡ Some names
-        → IsTold (D.files desk.old) names.net text → HasForm text w → AnswersRun text result
+        → IsTold (D.files desk.old) names.net text → HasForm text w → AnswersRun text names.cert result
         (seen D.files D.written D.printed desk.old) (seen D.files D.written D.printed desk.new) }
-    ensures holds { (names : Names) → command (map string_bytes words.now) ≡ Some names → IsEnd result
-        → file_at (D.files desk.new) names.cert ≡ D.written desk.new }
+    ensures holds { (names : Names) → command (map string_bytes words.now) ≡ Some names → Holds result names.cert
+        (seen D.files D.written D.printed desk.old) (seen D.files D.written D.printed desk.new) }
     ensures others { (names : Names) → command (map string_bytes words.now) ≡ Some names
         → ChangesOnly names.cert
         (seen D.files D.written D.printed desk.old) (seen D.files D.written D.printed desk.new) }
+    ensures once { (names : Names) → command (map string_bytes words.now) ≡ Some names
+        → OpensOnce result (D.openings desk.old) (D.openings desk.new) }
+    ensures never { command (map string_bytes words.now) ≡ None → D.openings desk.new ≡ D.openings desk.old }
 {
     match names_of(words) {
         Some((net, cert)) => run(alloc, net, cert, desk),
@@ -74,11 +77,13 @@ fn run<D: Desk>(alloc: Global, net: &str, cert: &str, desk: &mut D) -> Status
         → AnswersRefused result
         (seen D.files D.written D.printed desk.old) (seen D.files D.written D.printed desk.new) }
     ensures run { (text : List ℕ) (w : Words)
-        → IsTold (D.files desk.old) net.now text → HasForm text w → AnswersRun text result
+        → IsTold (D.files desk.old) net.now text → HasForm text w → AnswersRun text cert.now result
         (seen D.files D.written D.printed desk.old) (seen D.files D.written D.printed desk.new) }
-    ensures holds { IsEnd result → file_at (D.files desk.new) cert.now ≡ D.written desk.new }
+    ensures holds { Holds result cert.now
+        (seen D.files D.written D.printed desk.old) (seen D.files D.written D.printed desk.new) }
     ensures others { ChangesOnly cert.now
         (seen D.files D.written D.printed desk.old) (seen D.files D.written D.printed desk.new) }
+    ensures once { OpensOnce result (D.openings desk.old) (D.openings desk.new) }
 {
     let text = match read_text(alloc, net, desk) {
         Ok(Some(text)) => text,
@@ -97,11 +102,12 @@ fn answer<D: Desk>(alloc: Global, project: &Project, cert: &str, desk: &mut D) -
     requires creates { IsTrue (D.may_create cert.now) }
     requires first { IsFirstNetwork project.now }
     ensures cause { HasCause result (D.counts desk.old) (D.counts desk.new) }
-    ensures answers { AnswersNetwork project.now result
+    ensures answers { AnswersNetwork project.now cert.now result
         (seen D.files D.written D.printed desk.old) (seen D.files D.written D.printed desk.new) }
-    ensures holds { IsEnd result → file_at (D.files desk.new) cert.now ≡ D.written desk.new }
     ensures others { ChangesOnly cert.now
         (seen D.files D.written D.printed desk.old) (seen D.files D.written D.printed desk.new) }
+    ensures no_memory { result ≡ OutOfMemory → D.openings desk.new ≡ D.openings desk.old }
+    ensures created { result ≢ OutOfMemory → D.openings desk.new ≡ with_created (D.openings desk.old) }
 {
     let Ok(texts) = compute(alloc, project) else {
         return Status::OutOfMemory;
@@ -115,11 +121,11 @@ fn answer<D: Desk>(alloc: Global, project: &Project, cert: &str, desk: &mut D) -
 /// Creates CERT, writes the certificate and prints the report.
 fn deliver<D: Desk>(desk: &mut D, cert: &str, texts: &Texts) -> Result<(), OutFault>
     requires { IsTrue (D.may_create cert.now) }
-    ensures both { OnOk result (PutBoth texts.now
+    ensures both { OnOk result (PutBoth texts.now cert.now
         (seen D.files D.written D.printed desk.old) (seen D.files D.written D.printed desk.new)) }
-    ensures fronts { OnErr result (PutFronts texts.now
+    ensures fronts { OnErr result (PutFronts texts.now cert.now
         (seen D.files D.written D.printed desk.old) (seen D.files D.written D.printed desk.new)) }
-    ensures holds { OnOk result (file_at (D.files desk.new) cert.now ≡ D.written desk.new) }
+    ensures created { D.openings desk.new ≡ with_created (D.openings desk.old) }
     ensures cause { IfErr result (λ fault.
         HasCause (status_of fault) (D.counts desk.old) (D.counts desk.new)) }
     ensures steady { OnOk result (D.counts desk.new ≡ D.counts desk.old) }
@@ -143,6 +149,7 @@ fn refuse_words<D: Desk>(desk: &mut D) -> Status
     ensures cause { HasCause result (D.counts desk.old) (D.counts desk.new) }
     ensures answers { AnswersUsage result
         (seen D.files D.written D.printed desk.old) (seen D.files D.written D.printed desk.new) }
+    ensures openings_stay { D.openings desk.new ≡ D.openings desk.old }
 {
     match put_bytes(desk, Channel::Report, USAGE) {
         Ok(()) => Status::Usage,
@@ -155,6 +162,7 @@ fn refuse_text<D: Desk>(desk: &mut D) -> Status
     ensures cause { HasCause result (D.counts desk.old) (D.counts desk.new) }
     ensures answers { AnswersRefused result
         (seen D.files D.written D.printed desk.old) (seen D.files D.written D.printed desk.new) }
+    ensures openings_stay { D.openings desk.new ≡ D.openings desk.old }
 {
     match put_bytes(desk, Channel::Report, REFUSED) {
         Ok(()) => Status::InputRefused,
@@ -184,6 +192,7 @@ fn read_text<D: Desk>(alloc: Global, net: &str, desk: &mut D) -> Result<Option<V
     ensures why { IfErr result (λ status. (status ≡ ReadFault) ⊎ (status ≡ OutOfMemory)) }
     ensures untouched { IsUntouched
         (seen D.files D.written D.printed desk.old) (seen D.files D.written D.printed desk.new) }
+    ensures opened { D.openings desk.new ≡ with_opened (D.openings desk.old) }
 {
     if desk.open(net).is_err() {
         return Err(Status::ReadFault);

@@ -8,6 +8,7 @@ mod lines;
 mod network;
 mod output;
 mod printed;
+mod program;
 mod run;
 mod shown;
 mod solve;
@@ -18,5 +19,6 @@ mod valve;
 mod words;
 
 pub use command::tool;
+pub use program::{run_program, start};
 pub use solve::Solution;
 pub use status::Status;

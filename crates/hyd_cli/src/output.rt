@@ -26,6 +26,7 @@ pub(crate) fn put_bytes<D: Desk>(desk: &mut D, to: Channel, bytes: &[u8]) -> Res
     ensures still_told { is_some (D.files desk.new) ≡ is_some (D.files desk.old) }
     ensures target_stays { D.target desk.new ≡ D.target desk.old }
     ensures ready_stays { D.ready desk.new ≡ D.ready desk.old }
+    ensures openings_stay { D.openings desk.new ≡ D.openings desk.old }
 {
     let mut pen = Pen::new(to);
     if let Err(fault) = pen.put(desk, bytes) {

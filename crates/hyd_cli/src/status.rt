@@ -1,7 +1,10 @@
 //! How a command ends.
 
 ghost use Rattle.std.specs.Prelude.{◌≡◌};
+ghost use Rattle.std.specs.Process.{exit_status};
 ghost use Rattle.hyd_cli.specs.Statuses.{number_of};
+
+use std::process::{ExitCode, Termination};
 
 /// The answer of a command. Its number is the exit status of the program.
 #[derive(Debug, Clone, Copy, PartialEq, Eq, Drop)]
@@ -30,5 +33,13 @@ impl Status {
         ensures { result ≡ number_of self }
     {
         self as u8
+    }
+}
+
+impl Termination for Status {
+    fn report<R: Eprint>(self, _rt: &R) -> ExitCode
+        ensures { exit_status result ≡ number_of self }
+    {
+        ExitCode::from(self.number())
     }
 }

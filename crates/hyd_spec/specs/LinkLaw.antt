@@ -1,10 +1,10 @@
 -- The exact law of a link in its state, between tanks that may be full or empty.
--- Source: EPANET 2.2 User Manual, chapter 3 (pipes, pumps, valves; tanks); the reverse flow of a flow-control valve, and the
--- greatest flow by a curve of straight lines, are this program's.
-use Rattle.std.specs.Prelude.{ℕ, ◌^◌, ℤ, pos, neg_ℤ, Bool, true, false, ◌&&◌, ◌||◌, List, slice_get, if◌then◌else◌}
+-- Source: EPANET 2.2 User Manual, chapter 3 (pipes, pumps, valves; tanks) and appendix C ([TANKS], overflow); the reverse flow
+-- of a flow-control valve, and the greatest flow by a curve of straight lines, are this program's.
+use Rattle.std.specs.Prelude.{ℕ, ◌^◌, ℤ, pos, neg_ℤ, Bool, true, false, ◌&&◌, ◌||◌, not, List, slice_get, if◌then◌else◌}
 use Rattle.std.specs.Option.{option_map_or}
 use Rattle.hyd_net.specs.ListView.{ListView}
-use Rattle.hyd_spec.specs.Types.{Project, Link, HeadPoint, LinkKind, PipeLink, CheckPipe, PumpLink, CurvePump, Tcv, Fcv, Gpv, OpenValve, Quadratic, Linear, LinkState, Open, Closed, Speed, Throttle, Limit, TankState, Full, Empty, Between}
+use Rattle.hyd_spec.specs.Types.{Project, Tank, Link, HeadPoint, LinkKind, PipeLink, CheckPipe, PumpLink, CurvePump, Tcv, Fcv, Gpv, OpenValve, Quadratic, Linear, LinkState, Open, Closed, Speed, Throttle, Limit, TankState, Full, Empty, Between}
 use Rattle.hyd_spec.specs.Network.{is_tank, tank_number}
 use Rattle.hyd_spec.specs.Quantity.{is_us, lift_of, points_of, pump_knots, valve_knots}
 use Rattle.hyd_spec.specs.Law.{Law, Shut, QuadraticLaw, LinearLaw, Lifted, ForwardOnly, ReverseOnly, Capped, Bent, Held}
@@ -72,15 +72,25 @@ abbrev pub is_empty_tank : Project → List TankState → ℕ → Bool
 is_empty_tank network tanks node =
     is_tank network node && option_map_or is_empty (slice_get tanks (tank_number network node)) false
 
--- Nothing flows from the first node of the link to the second: into a full tank or out of an empty one.
+-- The node is a tank that overflows: where it is full it takes further inflow, which is spilled.
+abbrev pub overflows : Project → ℕ → Bool
+overflows network node =
+    is_tank network node && option_map_or (λ (tank : Tank). tank.overflow) (slice_get network.tanks.list (tank_number network node)) false
+
+-- Nothing flows into the node: it is a full tank that doesn't overflow.
+abbrev pub takes_nothing : Project → List TankState → ℕ → Bool
+takes_nothing network tanks node = is_full_tank network tanks node && not (overflows network node)
+
+-- Nothing flows from the first node of the link to the second: into a full tank that doesn't overflow, or out of an empty
+-- one.
 abbrev pub forbids_forward : Project → List TankState → Link → Bool
 forbids_forward network tanks link =
-    is_full_tank network tanks link.to || is_empty_tank network tanks link.from
+    takes_nothing network tanks link.to || is_empty_tank network tanks link.from
 
 -- Nothing flows from the second node of the link to the first.
 abbrev pub forbids_reverse : Project → List TankState → Link → Bool
 forbids_reverse network tanks link =
-    is_full_tank network tanks link.from || is_empty_tank network tanks link.to
+    takes_nothing network tanks link.from || is_empty_tank network tanks link.to
 
 -- The law of a link in its state, between the tanks in theirs: where its own flow would go a forbidden
 -- way, it is 0.

@@ -9,7 +9,7 @@ ghost use Rattle.hyd_spec.specs.Types.{FourThirds, Given, Open, Closed, Speed, T
 ghost use Rattle.hyd_spec.specs.LinkLaw.{own_law, law_of};
 ghost use Rattle.hyd_spec_certificates.specs.Enclosing.{low, high};
 ghost use Rattle.hyd_spec_cases.specs.Capacities.{IsValve, IsPipe, IsPump, IsPumpInFeet, differences};
-ghost use Rattle.hyd_spec_cases.specs.Tanks.{between_tanks, pairs};
+ghost use Rattle.hyd_spec_cases.specs.Tanks.{between_tanks, pairs, HasTanks};
 
 /// A pipe that is open, and one that is closed.
 pub fn pipes()
@@ -155,7 +155,7 @@ pub fn control_valves()
 /// An open pipe from one tank to another, each of them full, between or empty.
 pub fn pipes_at_tanks()
     ensures low { (network : Project) (capacity : Capacity) → network.options.unit ≡ Cmd → length network.junctions.list ≡ 1
-        → length network.reservoirs.list ≡ 0
+        → length network.reservoirs.list ≡ 0 → HasTanks network false false
         → IsPipe capacity
         → map (λ tanks. map (low (law_of network tanks (between_tanks (PipeLink capacity)) Open)) (pos 1000000000000000 ∷ neg_ℤ (pos 1000000000000000)
         ∷ [])) pairs
@@ -163,7 +163,7 @@ pub fn pipes_at_tanks()
         ∷ (pos 312321049455 ∷ neg_ℤ (pos 312321049456) ∷ []) ∷ (pos 312321049455 ∷ pos 0 ∷ []) ∷ (pos 0 ∷ neg_ℤ (pos 312321049456) ∷ []) ∷ (pos 0
         ∷ neg_ℤ (pos 312321049456) ∷ []) ∷ (pos 0 ∷ pos 0 ∷ []) ∷ [] }
     ensures high { (network : Project) (capacity : Capacity) → network.options.unit ≡ Cmd → length network.junctions.list ≡ 1
-        → length network.reservoirs.list ≡ 0
+        → length network.reservoirs.list ≡ 0 → HasTanks network false false
         → IsPipe capacity
         → map (λ tanks. map (high (law_of network tanks (between_tanks (PipeLink capacity)) Open)) (pos 1000000000000000
         ∷ neg_ℤ (pos 1000000000000000) ∷ [])) pairs
@@ -175,14 +175,14 @@ pub fn pipes_at_tanks()
 /// A pipe with a check valve from one tank to another.
 pub fn check_pipes_at_tanks()
     ensures low { (network : Project) (capacity : Capacity) → network.options.unit ≡ Cmd → length network.junctions.list ≡ 1
-        → length network.reservoirs.list ≡ 0
+        → length network.reservoirs.list ≡ 0 → HasTanks network false false
         → IsPipe capacity
         → map (λ tanks. map (low (law_of network tanks (between_tanks (CheckPipe capacity)) Open)) (pos 1000000000000000
         ∷ neg_ℤ (pos 1000000000000000) ∷ [])) pairs
         ≡ (pos 0 ∷ pos 0 ∷ []) ∷ (pos 312321049455 ∷ pos 0 ∷ []) ∷ (pos 312321049455 ∷ pos 0 ∷ []) ∷ (pos 0 ∷ pos 0 ∷ []) ∷ (pos 312321049455 ∷ pos 0
         ∷ []) ∷ (pos 312321049455 ∷ pos 0 ∷ []) ∷ (pos 0 ∷ pos 0 ∷ []) ∷ (pos 0 ∷ pos 0 ∷ []) ∷ (pos 0 ∷ pos 0 ∷ []) ∷ [] }
     ensures high { (network : Project) (capacity : Capacity) → network.options.unit ≡ Cmd → length network.junctions.list ≡ 1
-        → length network.reservoirs.list ≡ 0
+        → length network.reservoirs.list ≡ 0 → HasTanks network false false
         → IsPipe capacity
         → map (λ tanks. map (high (law_of network tanks (between_tanks (CheckPipe capacity)) Open)) (pos 1000000000000000
         ∷ neg_ℤ (pos 1000000000000000) ∷ [])) pairs
@@ -193,14 +193,14 @@ pub fn check_pipes_at_tanks()
 /// A pump from one tank to another.
 pub fn pumps_at_tanks()
     ensures low { (network : Project) (capacity : Capacity) (shutoff : Span) (head : Decimal) (pattern : Option ℕ) → network.options.unit ≡ Cmd
-        → length network.junctions.list ≡ 1 → length network.reservoirs.list ≡ 0
+        → length network.junctions.list ≡ 1 → length network.reservoirs.list ≡ 0 → HasTanks network false false
         → IsPump capacity → head.nano ≡ pos 40000000000
         → map (λ tanks. map (low (law_of network tanks (between_tanks (PumpLink capacity shutoff (FourThirds head) pattern)) (Speed (pos 900000000)))) (pos 1000000000000000
         ∷ neg_ℤ (pos 1000000000000000) ∷ [])) pairs
         ≡ (pos 0 ∷ pos 0 ∷ []) ∷ (pos 70787388707 ∷ pos 0 ∷ []) ∷ (pos 70787388707 ∷ pos 0 ∷ []) ∷ (pos 0 ∷ pos 0 ∷ []) ∷ (pos 70787388707 ∷ pos 0
         ∷ []) ∷ (pos 70787388707 ∷ pos 0 ∷ []) ∷ (pos 0 ∷ pos 0 ∷ []) ∷ (pos 0 ∷ pos 0 ∷ []) ∷ (pos 0 ∷ pos 0 ∷ []) ∷ [] }
     ensures high { (network : Project) (capacity : Capacity) (shutoff : Span) (head : Decimal) (pattern : Option ℕ) → network.options.unit ≡ Cmd
-        → length network.junctions.list ≡ 1 → length network.reservoirs.list ≡ 0
+        → length network.junctions.list ≡ 1 → length network.reservoirs.list ≡ 0 → HasTanks network false false
         → IsPump capacity → head.nano ≡ pos 40000000000
         → map (λ tanks. map (high (law_of network tanks (between_tanks (PumpLink capacity shutoff (FourThirds head) pattern)) (Speed (pos 900000000)))) (pos 1000000000000000
         ∷ neg_ℤ (pos 1000000000000000) ∷ [])) pairs
@@ -211,7 +211,7 @@ pub fn pumps_at_tanks()
 /// A throttled valve from one tank to another.
 pub fn throttle_valves_at_tanks()
     ensures low { (network : Project) (capacity : Capacity) → network.options.unit ≡ Cmd → length network.junctions.list ≡ 1
-        → length network.reservoirs.list ≡ 0
+        → length network.reservoirs.list ≡ 0 → HasTanks network false false
         → IsValve capacity
         → map (λ tanks. map (low (law_of network tanks (between_tanks (Tcv Linear)) (Throttle (pos 100000000000) (Quadratic capacity)))) (pos 1000000000000000
         ∷ neg_ℤ (pos 1000000000000000) ∷ [])) pairs
@@ -219,7 +219,7 @@ pub fn throttle_valves_at_tanks()
         ∷ (pos 279324828875 ∷ neg_ℤ (pos 279324828876) ∷ []) ∷ (pos 279324828875 ∷ pos 0 ∷ []) ∷ (pos 0 ∷ neg_ℤ (pos 279324828876) ∷ []) ∷ (pos 0
         ∷ neg_ℤ (pos 279324828876) ∷ []) ∷ (pos 0 ∷ pos 0 ∷ []) ∷ [] }
     ensures high { (network : Project) (capacity : Capacity) → network.options.unit ≡ Cmd → length network.junctions.list ≡ 1
-        → length network.reservoirs.list ≡ 0
+        → length network.reservoirs.list ≡ 0 → HasTanks network false false
         → IsValve capacity
         → map (λ tanks. map (high (law_of network tanks (between_tanks (Tcv Linear)) (Throttle (pos 100000000000) (Quadratic capacity)))) (pos 1000000000000000
         ∷ neg_ℤ (pos 1000000000000000) ∷ [])) pairs
@@ -231,7 +231,7 @@ pub fn throttle_valves_at_tanks()
 /// A flow control valve with a limit from one tank to another.
 pub fn control_valves_at_tanks()
     ensures low { (network : Project) (capacity : Capacity) → network.options.unit ≡ Cmd → length network.junctions.list ≡ 1
-        → length network.reservoirs.list ≡ 0
+        → length network.reservoirs.list ≡ 0 → HasTanks network false false
         → IsValve capacity
         → map (λ tanks. map (low (law_of network tanks (between_tanks (Fcv (Quadratic capacity))) (Limit (pos 500000000000) (pos 5000000000)))) (pos 1000000000000000
         ∷ neg_ℤ (pos 1000000000000000) ∷ [])) pairs
@@ -239,7 +239,7 @@ pub fn control_valves_at_tanks()
         ∷ (pos 5000000000 ∷ neg_ℤ (pos 279324828876) ∷ []) ∷ (pos 5000000000 ∷ pos 0 ∷ []) ∷ (pos 0 ∷ neg_ℤ (pos 279324828876) ∷ []) ∷ (pos 0
         ∷ neg_ℤ (pos 279324828876) ∷ []) ∷ (pos 0 ∷ pos 0 ∷ []) ∷ [] }
     ensures high { (network : Project) (capacity : Capacity) → network.options.unit ≡ Cmd → length network.junctions.list ≡ 1
-        → length network.reservoirs.list ≡ 0
+        → length network.reservoirs.list ≡ 0 → HasTanks network false false
         → IsValve capacity
         → map (λ tanks. map (high (law_of network tanks (between_tanks (Fcv (Quadratic capacity))) (Limit (pos 500000000000) (pos 5000000000)))) (pos 1000000000000000
         ∷ neg_ℤ (pos 1000000000000000) ∷ [])) pairs

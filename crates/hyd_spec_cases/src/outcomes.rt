@@ -11,8 +11,10 @@ ghost use Rattle.hyd_spec_reports.specs.declared.StatusWord.TheVariants.{Open as
 ghost use Rattle.hyd_spec_certificates.specs.Enclosing.{low, high};
 ghost use Rattle.hyd_spec.specs.LinkLaw.{law_of};
 ghost use Rattle.hyd_spec.specs.Rules.{measured, holds_on};
-ghost use Rattle.hyd_spec_reports.specs.Report.{by_drive, by_setting, status_of, tank_event, control_event};
+ghost use Rattle.hyd_spec_reports.specs.Report.{by_drive, by_setting, status_of, tank_event, control_event, event_line};
+ghost use Rattle.hyd_spec_reports.specs.declared.EventKind.TheVariants.{Full as BecomesFull, Empty as BecomesEmpty, Control as ReachesLevel};
 ghost use Rattle.hyd_spec_reports.specs.ReportLine.{FilledLine, EmptiedLine, ReachedLine};
+ghost use Rattle.hyd_spec_cases.specs.Tanks.{HasTanks};
 
 /// Status words by the interval of the head difference: of a check valve, a flow control valve and pumps, whose curve
 /// has a shutoff head of 50 m, or gives it as four thirds of 50 m.
@@ -57,48 +59,56 @@ pub fn statuses()
 /// A tank that wasn't full, or empty, and whose whole level interval stands at the bound.
 pub fn events()
     ensures full { (tank : Tank) → tank.minimum ≡ pos 100 → tank.maximum ≡ pos 200
-        → map (tank_event 60 0 tank Full) ((record { lo = pos 200; hi = pos 200 }) ∷ (record { lo = pos 199; hi = pos 200 })
+        → map (tank_event 0 tank Full) ((record { lo = pos 200; hi = pos 200 }) ∷ (record { lo = pos 199; hi = pos 200 })
         ∷ (record { lo = pos 100; hi = pos 100 }) ∷ (record { lo = pos 100; hi = pos 101 })
         ∷ (record { lo = pos 150; hi = pos 160 }) ∷ [])
-        ≡ ([]) ∷ ([]) ∷ (EmptiedLine 60 0 ∷ []) ∷ ([]) ∷ ([]) ∷ [] }
+        ≡ ([]) ∷ ([]) ∷ (record { tank = 0; what = BecomesEmpty } ∷ []) ∷ ([]) ∷ ([]) ∷ [] }
     ensures empty { (tank : Tank) → tank.minimum ≡ pos 100 → tank.maximum ≡ pos 200
-        → map (tank_event 60 0 tank Empty) ((record { lo = pos 200; hi = pos 200 }) ∷ (record { lo = pos 199; hi = pos 200 })
+        → map (tank_event 0 tank Empty) ((record { lo = pos 200; hi = pos 200 }) ∷ (record { lo = pos 199; hi = pos 200 })
         ∷ (record { lo = pos 100; hi = pos 100 }) ∷ (record { lo = pos 100; hi = pos 101 })
         ∷ (record { lo = pos 150; hi = pos 160 }) ∷ [])
-        ≡ (FilledLine 60 0 ∷ []) ∷ ([]) ∷ ([]) ∷ ([]) ∷ ([]) ∷ [] }
+        ≡ (record { tank = 0; what = BecomesFull } ∷ []) ∷ ([]) ∷ ([]) ∷ ([]) ∷ ([]) ∷ [] }
     ensures between { (tank : Tank) → tank.minimum ≡ pos 100 → tank.maximum ≡ pos 200
-        → map (tank_event 60 0 tank Between) ((record { lo = pos 200; hi = pos 200 }) ∷ (record { lo = pos 199; hi = pos 200 })
+        → map (tank_event 0 tank Between) ((record { lo = pos 200; hi = pos 200 }) ∷ (record { lo = pos 199; hi = pos 200 })
         ∷ (record { lo = pos 100; hi = pos 100 }) ∷ (record { lo = pos 100; hi = pos 101 })
         ∷ (record { lo = pos 150; hi = pos 160 }) ∷ [])
-        ≡ (FilledLine 60 0 ∷ []) ∷ ([]) ∷ (EmptiedLine 60 0 ∷ []) ∷ ([]) ∷ ([]) ∷ [] }
+        ≡ (record { tank = 0; what = BecomesFull } ∷ []) ∷ ([]) ∷ (record { tank = 0; what = BecomesEmpty } ∷ []) ∷ ([]) ∷ ([]) ∷ [] }
 {}
 
 /// A level control that didn't hold, and whose level the whole level interval has reached.
 pub fn control_events()
-    ensures { (control_event 60 ((record { lo = pos 120; hi = pos 140 }) ∷ []) ((record { lo = pos 150; hi = pos 160 })
+    ensures { (control_event ((record { lo = pos 120; hi = pos 140 }) ∷ []) ((record { lo = pos 150; hi = pos 160 })
         ∷ []) 4 (record { link = 0; to = Open; when = AtLevel 0 true (pos 150) })
-        ∷ control_event 60 ((record { lo = pos 120; hi = pos 140 }) ∷ []) ((record { lo = pos 149; hi = pos 160 })
+        ∷ control_event ((record { lo = pos 120; hi = pos 140 }) ∷ []) ((record { lo = pos 149; hi = pos 160 })
         ∷ []) 4 (record { link = 0; to = Open; when = AtLevel 0 true (pos 150) })
-        ∷ control_event 60 ((record { lo = pos 150; hi = pos 150 }) ∷ []) ((record { lo = pos 150; hi = pos 160 })
+        ∷ control_event ((record { lo = pos 150; hi = pos 150 }) ∷ []) ((record { lo = pos 150; hi = pos 160 })
         ∷ []) 4 (record { link = 0; to = Open; when = AtLevel 0 true (pos 150) }) ∷ [])
-        ≡ Some (ReachedLine 60 0 4) ∷ None ∷ None ∷ [] }
+        ≡ Some (record { tank = 0; what = ReachesLevel 4 }) ∷ None ∷ None ∷ [] }
 {}
 
-/// A valve between a junction and tanks, or two tanks: nothing flows into a full tank or out of an empty one.
+/// The line of each kind of event.
+pub fn event_lines()
+    ensures { map (event_line 60) ((record { tank = 3; what = BecomesFull }) ∷ (record { tank = 3; what = BecomesEmpty })
+        ∷ (record { tank = 3; what = ReachesLevel 4 }) ∷ [])
+        ≡ FilledLine 60 3 ∷ EmptiedLine 60 3 ∷ ReachedLine 60 3 4 ∷ [] }
+{}
+
+/// A valve between a junction and tanks, or two tanks: nothing flows into a full tank that doesn't overflow, or out of an
+/// empty one.
 pub fn tank_laws()
-    ensures out_of_full_low { (network : Project) → length network.junctions.list ≡ 1 → length network.reservoirs.list ≡ 0
+    ensures out_of_full_low { (network : Project) → length network.junctions.list ≡ 1 → length network.reservoirs.list ≡ 0 → HasTanks network false false
         → map (low (law_of network (Full ∷ Between
         ∷ []) (record { from = 1; to = 0; kind = Tcv Linear; start = Open }) Open)) (neg_ℤ (pos 125) ∷ pos 0 ∷ pos 125 ∷ [])
         ≡ pos 0 ∷ pos 0 ∷ pos 1003352 ∷ [] }
-    ensures out_of_full_high { (network : Project) → length network.junctions.list ≡ 1 → length network.reservoirs.list ≡ 0
+    ensures out_of_full_high { (network : Project) → length network.junctions.list ≡ 1 → length network.reservoirs.list ≡ 0 → HasTanks network false false
         → map (high (law_of network (Full ∷ Between
         ∷ []) (record { from = 1; to = 0; kind = Tcv Linear; start = Open }) Open)) (neg_ℤ (pos 125) ∷ pos 0 ∷ pos 125 ∷ [])
         ≡ pos 0 ∷ pos 0 ∷ pos 1003353 ∷ [] }
-    ensures into_full_low { (network : Project) → length network.junctions.list ≡ 1 → length network.reservoirs.list ≡ 0
+    ensures into_full_low { (network : Project) → length network.junctions.list ≡ 1 → length network.reservoirs.list ≡ 0 → HasTanks network false false
         → map (low (law_of network (Full ∷ Between
         ∷ []) (record { from = 0; to = 1; kind = Tcv Linear; start = Open }) Open)) (neg_ℤ (pos 125) ∷ pos 0 ∷ pos 125 ∷ [])
         ≡ neg_ℤ (pos 1003353) ∷ pos 0 ∷ pos 0 ∷ [] }
-    ensures into_full_high { (network : Project) → length network.junctions.list ≡ 1 → length network.reservoirs.list ≡ 0
+    ensures into_full_high { (network : Project) → length network.junctions.list ≡ 1 → length network.reservoirs.list ≡ 0 → HasTanks network false false
         → map (high (law_of network (Full ∷ Between
         ∷ []) (record { from = 0; to = 1; kind = Tcv Linear; start = Open }) Open)) (neg_ℤ (pos 125) ∷ pos 0 ∷ pos 125 ∷ [])
         ≡ neg_ℤ (pos 1003352) ∷ pos 0 ∷ pos 0 ∷ [] }
@@ -118,27 +128,27 @@ pub fn tank_laws()
         → map (high (law_of network (Empty ∷ Between
         ∷ []) (record { from = 0; to = 1; kind = Tcv Linear; start = Open }) Open)) (neg_ℤ (pos 125) ∷ pos 0 ∷ pos 125 ∷ [])
         ≡ pos 0 ∷ pos 0 ∷ pos 1003353 ∷ [] }
-    ensures full_to_full_low { (network : Project) → length network.junctions.list ≡ 1 → length network.reservoirs.list ≡ 0
+    ensures full_to_full_low { (network : Project) → length network.junctions.list ≡ 1 → length network.reservoirs.list ≡ 0 → HasTanks network false false
         → map (low (law_of network (Full ∷ Full
         ∷ []) (record { from = 1; to = 2; kind = Tcv Linear; start = Open }) Open)) (neg_ℤ (pos 125) ∷ pos 0 ∷ pos 125 ∷ [])
         ≡ pos 0 ∷ pos 0 ∷ pos 0 ∷ [] }
-    ensures full_to_full_high { (network : Project) → length network.junctions.list ≡ 1 → length network.reservoirs.list ≡ 0
+    ensures full_to_full_high { (network : Project) → length network.junctions.list ≡ 1 → length network.reservoirs.list ≡ 0 → HasTanks network false false
         → map (high (law_of network (Full ∷ Full
         ∷ []) (record { from = 1; to = 2; kind = Tcv Linear; start = Open }) Open)) (neg_ℤ (pos 125) ∷ pos 0 ∷ pos 125 ∷ [])
         ≡ pos 0 ∷ pos 0 ∷ pos 0 ∷ [] }
-    ensures empty_to_full_low { (network : Project) → length network.junctions.list ≡ 1 → length network.reservoirs.list ≡ 0
+    ensures empty_to_full_low { (network : Project) → length network.junctions.list ≡ 1 → length network.reservoirs.list ≡ 0 → HasTanks network false false
         → map (low (law_of network (Empty ∷ Full
         ∷ []) (record { from = 1; to = 2; kind = Tcv Linear; start = Open }) Open)) (neg_ℤ (pos 125) ∷ pos 0 ∷ pos 125 ∷ [])
         ≡ neg_ℤ (pos 1003353) ∷ pos 0 ∷ pos 0 ∷ [] }
-    ensures empty_to_full_high { (network : Project) → length network.junctions.list ≡ 1 → length network.reservoirs.list ≡ 0
+    ensures empty_to_full_high { (network : Project) → length network.junctions.list ≡ 1 → length network.reservoirs.list ≡ 0 → HasTanks network false false
         → map (high (law_of network (Empty ∷ Full
         ∷ []) (record { from = 1; to = 2; kind = Tcv Linear; start = Open }) Open)) (neg_ℤ (pos 125) ∷ pos 0 ∷ pos 125 ∷ [])
         ≡ neg_ℤ (pos 1003352) ∷ pos 0 ∷ pos 0 ∷ [] }
-    ensures full_to_empty_low { (network : Project) → length network.junctions.list ≡ 1 → length network.reservoirs.list ≡ 0
+    ensures full_to_empty_low { (network : Project) → length network.junctions.list ≡ 1 → length network.reservoirs.list ≡ 0 → HasTanks network false false
         → map (low (law_of network (Full ∷ Empty
         ∷ []) (record { from = 1; to = 2; kind = Tcv Linear; start = Open }) Open)) (neg_ℤ (pos 125) ∷ pos 0 ∷ pos 125 ∷ [])
         ≡ pos 0 ∷ pos 0 ∷ pos 1003352 ∷ [] }
-    ensures full_to_empty_high { (network : Project) → length network.junctions.list ≡ 1 → length network.reservoirs.list ≡ 0
+    ensures full_to_empty_high { (network : Project) → length network.junctions.list ≡ 1 → length network.reservoirs.list ≡ 0 → HasTanks network false false
         → map (high (law_of network (Full ∷ Empty
         ∷ []) (record { from = 1; to = 2; kind = Tcv Linear; start = Open }) Open)) (neg_ℤ (pos 125) ∷ pos 0 ∷ pos 125 ∷ [])
         ≡ pos 0 ∷ pos 0 ∷ pos 1003353 ∷ [] }
@@ -150,6 +160,18 @@ pub fn tank_laws()
         → map (high (law_of network (Between ∷ Between
         ∷ []) (record { from = 1; to = 2; kind = Tcv Linear; start = Open }) Open)) (neg_ℤ (pos 125) ∷ pos 0 ∷ pos 125 ∷ [])
         ≡ neg_ℤ (pos 1003352) ∷ pos 0 ∷ pos 1003353 ∷ [] }
+    ensures into_overflowing_low { (network : Project) → length network.junctions.list ≡ 1 → length network.reservoirs.list ≡ 0 → HasTanks network true false
+        → map (low (law_of network (Full ∷ Between
+        ∷ []) (record { from = 0; to = 1; kind = Tcv Linear; start = Open }) Open)) (neg_ℤ (pos 125) ∷ pos 0 ∷ pos 125 ∷ [])
+        ≡ neg_ℤ (pos 1003353) ∷ pos 0 ∷ pos 1003352 ∷ [] }
+    ensures into_overflowing_high { (network : Project) → length network.junctions.list ≡ 1 → length network.reservoirs.list ≡ 0 → HasTanks network true false
+        → map (high (law_of network (Full ∷ Between
+        ∷ []) (record { from = 0; to = 1; kind = Tcv Linear; start = Open }) Open)) (neg_ℤ (pos 125) ∷ pos 0 ∷ pos 125 ∷ [])
+        ≡ neg_ℤ (pos 1003352) ∷ pos 0 ∷ pos 1003353 ∷ [] }
+    ensures overflowing_to_full_low { (network : Project) → length network.junctions.list ≡ 1 → length network.reservoirs.list ≡ 0 → HasTanks network true false
+        → map (low (law_of network (Full ∷ Full
+        ∷ []) (record { from = 1; to = 2; kind = Tcv Linear; start = Open }) Open)) (neg_ℤ (pos 125) ∷ pos 0 ∷ pos 125 ∷ [])
+        ≡ neg_ℤ (pos 1003353) ∷ pos 0 ∷ pos 0 ∷ [] }
 {}
 
 /// Clauses on a pressure about the amount, which in pounds a square inch isn't a whole number of head ticks.

@@ -136,12 +136,13 @@ pub fn start()
         ∷ (record { from = 2; to = 0; kind = Tcv Linear; start = Open })
         ∷ (record { from = 1; to = 0; kind = Tcv Linear; start = Throttle (pos 5) Linear }) ∷ []
         → a.initial ≡ pos 6096000000 → b.initial ≡ neg_ℤ (pos 5)
-        → a.minimum ≡ pos 0 → a.maximum ≡ pos 15240000000 → b.minimum ≡ neg_ℤ (pos 5) → b.maximum ≡ pos 4572000000
+        → a.minimum ≡ pos 0 → a.maximum ≡ pos 15240000000 → b.minimum ≡ neg_ℤ (pos 5) → b.maximum ≡ pos 4572000000 → a.shape ≡ None → b.shape ≡ None
         → initial_standing network ≡ record {
           number = 0;
           time = 0;
           levels = (record { lo = pos 6096000000; hi = pos 6096000000 })
               ∷ (record { lo = neg_ℤ (pos 5); hi = neg_ℤ (pos 5) }) ∷ [];
+          volumes = (record { lo = pos 0; hi = pos 0 }) ∷ (record { lo = pos 0; hi = pos 0 }) ∷ [];
           tanks = Between ∷ Empty ∷ [];
           commanded = Open ∷ Closed ∷ Open ∷ Throttle (pos 5) Linear ∷ [];
           finished = false;

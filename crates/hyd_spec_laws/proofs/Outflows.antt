@@ -17,7 +17,8 @@ use Rattle.hyd_spec_certificates.specs.Grid.{IsDriven, IsDemandLaw}
 use Rattle.hyd_spec_laws.specs.Laws.{IsLaw, IsSoundCapacity}
 use Rattle.hyd_spec_laws.proofs.EachLaw.{IsLaw-quad}
 use Rattle.hyd_spec_laws.proofs.LinkLaws.{IsLaw-lifted, at_most_for, at_least_for}
-use Rattle.hyd_spec_laws.proofs.EachLaw.{IsSoundCapacity-made, exchanged}
+use Rattle.hyd_spec_laws.proofs.EachLaw.{IsSoundCapacity-made}
+use Rattle.hyd_lemmas.proofs.Integers.{exchanged}
 use Rattle.hyd_lemmas.proofs.Integers.{floor_low, ceiling_high, floor_greatest, ceiling_least, floor_at_most_ceiling, min_left, min_right, min_is}
 use Rattle.hyd_lemmas.proofs.Losses.{square_is}
 use Rattle.std.proofs.Math.IntN.{*ℤ_comm}

@@ -8,6 +8,8 @@ use Rattle.hyd_net.specs.Curves.{value_at}
 use Rattle.hyd_spec.specs.Types.{Project, Junction, Reservoir, Tank, Link, LinkKind, PipeLink, CheckPipe, PumpLink, CurvePump, Tcv, Fcv, Gpv, HeadPoint, OpenValve, LinkState, Open, Closed, Speed, Throttle, Limit, Control, AtLevel}
 use Rattle.hyd_spec.specs.declared.TankState.{TankState}
 use Rattle.hyd_spec.specs.declared.TankState.TheVariants.{Full, Empty}
+use Rattle.hyd_spec.specs.declared.Change.{Change}
+use Rattle.hyd_spec.specs.declared.Source.TheVariants.{Control as ByControl, Rule as ByRule}
 use Rattle.hyd_spec_reports.specs.declared.StatusWord.{StatusWord}
 use Rattle.hyd_spec_reports.specs.declared.StatusWord.TheVariants.{Open as WordOpen, Closed as WordClosed, Active as WordActive, Unsure as WordUnsure}
 use Rattle.hyd_spec_certificates.specs.Interval.{Interval}
@@ -18,8 +20,8 @@ use Rattle.hyd_spec.specs.LinkLaw.{valve_law}
 use Rattle.hyd_spec.specs.Assignment.{node_heads, head_at, flow_at}
 use Rattle.hyd_spec.specs.Tank.{tank_inflow, reaches}
 use Rattle.hyd_spec.specs.Start.{acts_at}
-use Rattle.hyd_spec.specs.Rules.{Change, rule_changes}
-use Rattle.hyd_spec.specs.Length.{Period, level_at_start, exact_after, values_at}
+use Rattle.hyd_spec.specs.Rules.{rule_changes}
+use Rattle.hyd_spec.specs.Length.{Period, level_at_start, watched_after, values_at}
 use Rattle.hyd_spec_reports.specs.Report.{start_changes}
 use Rattle.hyd_spec_reports.specs.ReportLine.{ReportLine, ControlLine, TimeLine, JunctionLine, ReservoirLine, TankLine, LinkLine, FilledLine, EmptiedLine, ReachedLine, RuleLine}
 
@@ -157,12 +159,13 @@ pub record LinkLies (network : Project) (S : ℕ) (period : Period) (l : ℕ) (f
 
 -- ---- events, controls, rules
 
--- At the second of the period's end the tank's exact level is at or beyond a target.
+-- At the second of the period's end the tank's level, the exact one of a cylinder and the carried one of a tank with a curve, is
+-- at or beyond a target.
 pub record ReachesAtEnd (network : Project) (S : ℕ) (period : Period) (time k : ℕ) (above : Bool) (target : ℤ) : Type 0 where
   pub at_end : time ≡ period.time + period.length
   pub tank : Tank
   pub is_tank : slice_get network.tanks.list k ≡ Some tank
-  pub reached : IsTrue (reaches S above target (exact_after network period k tank period.length))
+  pub reached : IsTrue (reaches S above target (watched_after network S period k tank period.length))
 
 -- The tank, which wasn't full at the start, reaches its maximum.
 pub record Fills (network : Project) (S : ℕ) (period : Period) (time k : ℕ) : Type 0 where
@@ -204,7 +207,7 @@ pub record IsEndChange (network : Project) (S : ℕ) (period : Period) (time : �
 -- The line holds of a period of a history at scale S, before which the links were commanded so.
 abbrev pub LineHolds : Project → ℕ → List LinkState → Period → ReportLine → Type 0
 LineHolds network S commanded period (ControlLine time number link state) =
-    IsStartChange network S commanded period time (record { by = number; link = link; to = state })
+    IsStartChange network S commanded period time (record { source = ByControl number; link = link; to = state })
 LineHolds network S commanded period (TimeLine time) = period.time ≡ time
 LineHolds network S commanded period (JunctionLine j head pressure outflow) = JunctionLies network S period j head pressure outflow
 LineHolds network S commanded period (ReservoirLine r head) = ReservoirLies network S period r head
@@ -214,4 +217,4 @@ LineHolds network S commanded period (FilledLine time k) = Fills network S perio
 LineHolds network S commanded period (EmptiedLine time k) = Empties network S period time k
 LineHolds network S commanded period (ReachedLine time k number) = ReachesControl network S period time k number
 LineHolds network S commanded period (RuleLine time rule link state) =
-    IsEndChange network S period time (record { by = rule; link = link; to = state })
+    IsEndChange network S period time (record { source = ByRule rule; link = link; to = state })

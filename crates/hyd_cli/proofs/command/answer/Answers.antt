@@ -8,4 +8,4 @@ returns-clause-answers g c =
     let before = seen g.D.Desk.files g.D.Desk.written g.D.Desk.printed c.args.desk.now in
     let now = seen g.D.Desk.files g.D.Desk.written g.D.Desk.printed c.deliver.new.desk in
     let texts = c.in-Ok.texts in
-    answers_broke_off c.args.project.now c.in-Err.fault texts.status c.fault_status.result texts.certificate.items texts.report.items before now c.fault_status.ensures c.in-Ok.ensures c.in-Err.ensures.fronts
+    answers_broke_off c.args.project.now c.args.cert.now c.in-Err.fault texts.status c.fault_status.result texts.certificate.items texts.report.items before now c.fault_status.ensures c.in-Ok.ensures c.in-Err.ensures.fronts

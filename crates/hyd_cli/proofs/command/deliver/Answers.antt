@@ -15,7 +15,8 @@ returns-in-Err-clause-fronts g c =
       written = search rules;
       printed = nothing_more (g.D.Desk.printed c.args.desk.now) (g.D.Desk.printed c.put_bytes.new.desk) c.args.texts.now.report.items printed_stays;
       in_order = inl printed_stays;
+      held = search rules;
     })
 
 pub returns-in-Err-put_bytes-clause-fronts : goal.returns-in-Err-put_bytes-clause-fronts
-returns-in-Err-put_bytes-clause-fronts g c = inr (record { written = search rules; printed = search rules; in_order = inr (search rules) })
+returns-in-Err-put_bytes-clause-fronts g c = inr (record { written = search rules; printed = search rules; in_order = inr (search rules); held = search rules })
