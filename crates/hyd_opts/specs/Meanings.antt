@@ -7,7 +7,7 @@ use Rattle.hyd_lex.specs.Headings.{is_one_of}
 use Rattle.hyd_spec_input.specs.Columns.{word, amount, word_is, status_words}
 use Rattle.hyd_spec_input.specs.Keywords.{flow_unit, option_word, time_word, link_word, node_word, object_word, attribute_word, relation_word}
 use Rattle.hyd_spec_input.specs.Moments.{time_seconds, clock_seconds}
-use Rattle.hyd_spec_input.specs.RuleRows.{begins_with}
+use Rattle.hyd_spec_input.specs.RuleRows.{begins_with, attribute_place}
 use Rattle.hyd_spec_input.specs.declared.OptionWord.{OptionWord}
 use Rattle.hyd_spec_input.specs.declared.OptionWord.TheVariants as option
 use Rattle.hyd_spec_input.specs.declared.TimeWord.{TimeWord}
@@ -121,11 +121,6 @@ abbrev pub object_at : ObjectWord → Object
 object_at object.System = System
 object_at (object.Node kind) = Node kind 2
 object_at (object.Link kind) = Link kind 2
-
--- the word of a clause's attribute
-abbrev pub attribute_place : ObjectWord → ℕ
-attribute_place object.System = 2
-attribute_place _ = 3
 
 abbrev pub status_value : List ℕ → Value
 status_value word =

@@ -1,5 +1,5 @@
--- Enclosing functions: for each law, a whole number of flow ticks below and one above the exact
--- flow at a head difference of a whole number of head ticks. Both never fall as the difference rises.
+-- Enclosing functions: for each law and at a head difference of whole head ticks, a whole number of flow ticks that is at most
+-- the exact flow, and one that is at least it. Neither falls as the difference rises.
 -- Source: interval arithmetic with outward rounding (Moore 1966, Interval Analysis), for the laws of EPANET 2.2 User
 -- Manual, chapter 3.
 use Rattle.std.specs.Prelude.{ℕ, zero, suc, ◌*◌, ◌^◌, ℤ, pos, negsuc, neg_ℤ, ◌+ℤ◌, ◌-ℤ◌, ◌*ℤ◌, nat_le, int_le, ◌==◌, ◌+◌, if◌then◌else◌, Option}

@@ -1,11 +1,11 @@
 -- The knots of the curves of pumps and of general purpose valves are in order.
-use Rattle.std.proofs.Common.{◌≡◌, ℕ, zero, suc, ◌+◌, ◌-◌, ◌*◌, ◌/◌, ◌^◌, ◌<◌, ◌≤◌, ℤ, pos, negsuc, neg_ℤ, ◌+ℤ◌, ◌-ℤ◌, ◌*ℤ◌, ◌≤ℤ◌, ◌<ℤ◌, List, [], ◌∷◌, ◌++◌, length, map, get_or, reverse, refl, sym, ap, ◌∙◌, arith}
-use Rattle.std.proofs.Math.Nat.{mul-div-le, mul_comm}
+use Rattle.std.proofs.Common.{◌≡◌, ℕ, zero, suc, ◌+◌, ◌-◌, ◌*◌, ◌/◌, ◌^◌, ◌<◌, ◌≤◌, ℤ, pos, negsuc, neg_ℤ, ◌*ℤ◌, ◌≤ℤ◌, ◌<ℤ◌, List, length, map, get_or, reverse, ap, ◌∙◌, arith}
+use Rattle.std.proofs.Math.Nat.{mul-div-le}
 use Rattle.std.proofs.lemmas.Nat.{le-div}
 use Rattle.std.proofs.lemmas.Int.{ints, by_lt_z}
 use Rattle.std.proofs.lemmas.List.{get_or-map, get_or-reverse, get_or_append_left, get_or-append_right, length-reverse, length-map, length-append}
-use Rattle.std.specs.Prelude.{AllPairs, int_div, unsigned_abs}
-use Rattle.hyd_num.proofs.Integers.{times_neg, times_rises}
+use Rattle.std.specs.Prelude.{unsigned_abs}
+use Rattle.hyd_num.proofs.Integers.{times_rises}
 use Rattle.hyd_net.specs.Curves.{Knot, AreRising, AreFalling, IsPumpCurve, IsLossCurve}
 use Rattle.hyd_spec.specs.Types.{HeadPoint}
 use Rattle.hyd_spec.specs.Scale.{cut}

@@ -1,6 +1,6 @@
 -- What is decided by the ends of intervals is so at every point between them.
-use Rattle.std.proofs.Common.{◌≡◌, ℕ, ◌*◌, ◌^◌, ◌<◌, ◌≤◌, ◌⊎◌, ℤ, pos, ◌+ℤ◌, ◌*ℤ◌, ◌≤ℤ◌, ◌<ℤ◌, refl, sym, subst, arith, Bool, true, false, ◌&&◌, ◌||◌, List, [], ◌∷◌, inl, inr}
-use Rattle.std.specs.Prelude.{int_lt, unsigned_abs, map, if◌then◌else◌}
+use Rattle.std.proofs.Common.{◌≡◌, ℕ, ◌<◌, ◌≤◌, ◌⊎◌, ℤ, pos, ◌*ℤ◌, ◌≤ℤ◌, ◌<ℤ◌, refl, sym, subst, arith, Bool, true, false, ◌&&◌, ◌||◌, List, [], ◌∷◌, inl, inr}
+use Rattle.std.specs.Prelude.{int_lt, map, if◌then◌else◌}
 use Rattle.std.specs.List.{AllByRecursion, list_any, list_all}
 use Rattle.std.proofs.Math.IntN.{*ℤ_comm}
 use Rattle.std.proofs.lemmas.Int.{ints}
@@ -9,7 +9,6 @@ use Rattle.hyd_num.proofs.Integers.{times_rises, times_reflects}
 use Rattle.hyd_num.specs.Rational.{Rational, is_at_most, is_less, whole}
 use Rattle.hyd_spec.specs.Types.{Tank, Clause, Relation, Less, NotMore, More, NotLess, Equal, Unequal}
 use Rattle.hyd_spec_certificates.specs.Interval.{Interval}
-use Rattle.hyd_spec.specs.Scale.{at_scale}
 use Rattle.hyd_spec.specs.Tank.{Walls, Cylinder, Curve, Stock, content_of, exact_content, carried_level, reaches, is_bound, has_reached}
 use Rattle.hyd_spec.specs.Rules.{compares}
 use Rattle.hyd_spec_certificates.specs.Stocks.{Stocks, least_stock, greatest_stock, may_reach, must_reach}
@@ -17,11 +16,11 @@ use Rattle.hyd_spec_certificates.specs.FirstSeconds.{IsFirstSecond}
 use Rattle.hyd_spec_certificates.specs.Verdict.{Verdict, Yes, No, Unknown, at_both_ends, either, both, some_holds, all_hold}
 use Rattle.hyd_spec_certificates.specs.Decided.{control_truth}
 use Rattle.hyd_spec_laws.specs.Laws.{LiesIn, IsVessel, StockLies, AreInside, IsInside, HasStock, IsAtMost, IsOneWay, Tells, TellEach}
-use Rattle.hyd_spec_laws.proofs.EachLaw.{exchanged}
+use Rattle.hyd_lemmas.proofs.Integers.{exchanged}
 use Rattle.hyd_spec_laws.proofs.Outflows.{le-yes}
 use Rattle.hyd_net.specs.Curves.{volume_at}
-use Rattle.hyd_spec_laws.proofs.RisingLines.{Leads}
-use Rattle.hyd_spec_laws.proofs.Placing.{above-yes, below-yes, above-from, below-from, one_times, le-from, passes-up, passes-down}
+use Rattle.hyd_spec_laws.proofs.Leading.{Leads, one_times, passes-up, passes-down}
+use Rattle.hyd_spec_laws.proofs.Placing.{above-yes, below-yes, above-from, below-from, le-from}
 use Rattle.hyd_spec_laws.proofs.Levelling.{exact-some, content-leads, carried-some, carried-leads, content-low, content-high, content-up}
 
 -- ---- values
@@ -253,9 +252,9 @@ pub seconds_hold : (S : ℕ) (walls : Walls) (tank : Tank) (stocks : Stocks) (in
     → IsFirstSecond (has_reached S walls tank stock q rising target) cap first → (earliest ≤ first) × (first ≤ latest)
 seconds_hold S walls tank stocks inflow target rising cap stock q earliest latest first some vessel at flow e l f = (
   first-sooner (may_reach walls tank stocks inflow target rising) (has_reached S walls tank stock q rising target) cap earliest first
-  (λ s h. reached_may S walls tank stocks inflow target rising s stock q some vessel at flow h) e f,
+      (λ s h. reached_may S walls tank stocks inflow target rising s stock q some vessel at flow h) e f,
   first-sooner (has_reached S walls tank stock q rising target) (must_reach walls tank stocks inflow target rising) cap first latest
-  (λ s h. must_reached S walls tank stocks inflow target rising s stock q some vessel at flow h) f l,
+      (λ s h. must_reached S walls tank stocks inflow target rising s stock q some vessel at flow h) f l,
 )
 
 pub seconds_nest : (walls : Walls) (tank : Tank) (stocks wider : Stocks) (inflow more : Interval) (target : ℤ) (rising : Bool) (cap earliest latest sooner later : ℕ)
@@ -265,9 +264,9 @@ pub seconds_nest : (walls : Walls) (tank : Tank) (stocks wider : Stocks) (inflow
     → (sooner ≤ earliest) × (latest ≤ later)
 seconds_nest walls tank stocks wider inflow more target rising cap earliest latest sooner later vessel at flow e l f m = (
   first-sooner (may_reach walls tank wider more target rising) (may_reach walls tank stocks inflow target rising) cap sooner earliest
-  (λ s h. may_nests walls tank stocks wider inflow more target rising s vessel at flow h) f e,
+      (λ s h. may_nests walls tank stocks wider inflow more target rising s vessel at flow h) f e,
   first-sooner (must_reach walls tank stocks inflow target rising) (must_reach walls tank wider more target rising) cap latest later
-  (λ s h. must_nests walls tank stocks wider inflow more target rising s vessel at flow h) l m,
+      (λ s h. must_nests walls tank stocks wider inflow more target rising s vessel at flow h) l m,
 )
 
 -- ---- rules

@@ -1,5 +1,5 @@
 -- The grid of a period has sound laws where the capacities are made of the file's numbers.
-use Rattle.std.proofs.Common.{ℕ, ◌*◌, ◌^◌, ◌<◌, ◌≤ℤ◌, sym, ap, subst, arith, List, [], ◌∷◌, get_or, Bool}
+use Rattle.std.proofs.Common.{ℕ, ◌*◌, ◌^◌, ◌<◌, sym, ap, subst, arith, List, [], ◌∷◌, get_or, Bool}
 use Rattle.std.specs.Prelude.{Option, Some, None, if◌then◌else◌}
 use Rattle.std.specs.List.{AllByRecursion, AllZip}
 use Rattle.std.specs.Option.{IfSome, option_map_or}
@@ -24,16 +24,16 @@ use Rattle.hyd_spec_laws.specs.Laws.{IsSoundGrid, IsSoundLaw, IsSoundCapacity, A
 use Rattle.hyd_spec_laws.proofs.EachLaw.{IsSoundCapacity-made}
 use Rattle.hyd_spec_laws.proofs.CurveKnots.{pump_knots-in_order, valve_knots-in_order}
 
-valve-sound : (valve : OpenValve) → IsValveMade valve → IsSoundLaw (valve_law valve)
+pub valve-sound : (valve : OpenValve) → IsValveMade valve → IsSoundLaw (valve_law valve)
 valve-sound (Quadratic capacity) made = IsSoundCapacity-made capacity made
 valve-sound Linear made = tt
 
-lift-above : (us : Bool) (head : ShutoffHead) → 0 < 10 ^ 18 * (shutoff_head us head).den
+pub lift-above : (us : Bool) (head : ShutoffHead) → 0 < 10 ^ 18 * (shutoff_head us head).den
 lift-above us (FourThirds head) = omega arith
 lift-above us (Given head) = omega arith
 
 -- the knots of a curve that is there
-bend-sound : (P : List HeadPoint → Type 0) (knots : List HeadPoint → List Knot) (bends : List (ListView HeadPoint)) (bend : ℕ)
+pub bend-sound : (P : List HeadPoint → Type 0) (knots : List HeadPoint → List Knot) (bends : List (ListView HeadPoint)) (bend : ℕ)
     → HasBend P bends bend → ((points : List HeadPoint) → P points → AreInOrder (knots points)) → AreInOrder (knots (points_of bends bend))
 bend-sound P knots bends bend has each =
     let there = ap (λ (o : Option (ListView HeadPoint)). option_map_or (λ (b : ListView HeadPoint). b.list) o []) (slice_get-get_or bends bend no_points has.in_range) in
@@ -42,7 +42,7 @@ bend-sound P knots bends bend has each =
     no_points : ListView HeadPoint
     no_points = record { list = []; spare = 0 }
 
-own-sound : (us : Bool) (unit : FlowUnit) (patterns : List Pattern) (bends : List (ListView HeadPoint)) (kind : LinkKind) (state : LinkState)
+pub own-sound : (us : Bool) (unit : FlowUnit) (patterns : List Pattern) (bends : List (ListView HeadPoint)) (kind : LinkKind) (state : LinkState)
     → IsKindMade unit kind → HasSizes unit patterns bends kind → IsStateMade unit state → IsSoundLaw (own_law us bends kind state)
 own-sound us unit patterns bends (PipeLink capacity) Open kind sizes state = IsSoundCapacity-made capacity kind
 own-sound us unit patterns bends (PipeLink capacity) Closed kind sizes state = tt

@@ -1,6 +1,6 @@
 pub mod Roots
-pub mod StraightLines
 pub mod CurveKnots
+pub mod StatusWords
 pub mod LossLaws
 pub mod LinkLaws
 pub mod EachLaw
@@ -13,12 +13,15 @@ pub mod HeldComparison
 pub mod Boxed
 pub mod HeldFlows
 pub mod Grids
+pub mod Leading
 pub mod RisingLines
 pub mod Placing
 pub mod Levelling
 pub mod Deciding
+pub mod WatchedEnds
 pub mod Worked
 pub mod Rising
+pub mod DemandLaws
 pub mod NetRising
 pub mod RunRecords
 pub mod Appending
@@ -30,4 +33,8 @@ pub mod OneReport
 pub mod OneLength
 pub mod OneCapacity
 pub mod OneRun
+pub mod Failing
+pub mod OneRefusal
 pub mod Vessels
+pub mod CurveLevels
+pub mod Targets

@@ -1,6 +1,6 @@
 -- What goes with a content, by its bounds: at every scale it lies between the ends that go with a lesser and a greater content.
-use Rattle.std.proofs.Common.{◌≡◌, ℕ, ◌*◌, ◌<◌, ℤ, pos, ◌+ℤ◌, ◌-ℤ◌, ◌*ℤ◌, ◌≤ℤ◌, ◌<ℤ◌, refl, sym, ap, subst, arith, Bool, true, false, inl, inr}
-use Rattle.std.specs.Prelude.{int_le, MatchBool, if◌then◌else◌}
+use Rattle.std.proofs.Common.{◌≡◌, ℕ, ◌<◌, ℤ, pos, ◌+ℤ◌, ◌-ℤ◌, ◌*ℤ◌, ◌≤ℤ◌, ◌<ℤ◌, sym, subst, arith, true, false, inl, inr}
+use Rattle.std.specs.Prelude.{int_le, if◌then◌else◌}
 use Rattle.std.specs.Int.{int_max, int_min}
 use Rattle.std.proofs.Math.IntN.{*ℤ_comm}
 use Rattle.std.proofs.lemmas.Int.{ints}
@@ -10,16 +10,9 @@ use Rattle.hyd_num.specs.Rational.{Rational, floor, ceiling, is_at_most, whole}
 use Rattle.hyd_spec.specs.Scale.{at_scale}
 use Rattle.hyd_spec.specs.Tank.{Bounds, is_at_maximum, is_at_minimum, placed, IsNear, IsPlaced}
 use Rattle.hyd_spec_certificates.specs.Stocks.{lower_end, upper_end}
-use Rattle.hyd_lemmas.proofs.Integers.{floor_low, ceiling_high, floor_greatest, ceiling_least, max_left, max_is, max_rises, min_left, min_is, min_rises}
-use Rattle.hyd_spec_laws.proofs.EachLaw.{exchanged}
+use Rattle.hyd_lemmas.proofs.Integers.{exchanged, floor_low, floor_at_most_ceiling, ceiling_high, floor_greatest, ceiling_least, max_left, max_is, max_rises, min_left, min_is, min_rises}
 use Rattle.hyd_spec_laws.proofs.Outflows.{le-yes, le-no}
-use Rattle.hyd_spec_laws.proofs.RisingLines.{Leads, moved, through}
-
-pub one_times : (z : ℤ) → pos 1 *ℤ z ≡ z
-one_times z = omega (arith, ints)
-
-one-within : (n : ℕ) (z : ℤ) → pos n *ℤ (pos 1 *ℤ z) ≡ pos n *ℤ z
-one-within n z = ap (λ (w : ℤ). pos n *ℤ w) (one_times z)
+use Rattle.hyd_spec_laws.proofs.Leading.{one_times, one-within, Leads, through, passes-up, passes-down, raised, sunk, lowered, risen}
 
 pub le-from : (a b : ℤ) → a ≤ℤ b → int_le a b ≡ true
 le-from a b le = grind (arith, ints)
@@ -98,37 +91,6 @@ placed-is P S contents range x value full empty inside =
     (λ g. empty (above-no S contents.most x e) (below-yes S contents.least x g))
     (λ g. inside (above-no S contents.most x e) (below-no S contents.least x g)))
 
--- ---- values at two scales, y in T-th parts at most x in U-th parts
-
-module _ (T U : ℕ) (y x : Rational) (leads : Leads T U y x) where
-  both-ways : (t : ℤ) → pos x.den *ℤ (pos U *ℤ (pos y.den *ℤ (pos T *ℤ t))) ≡ pos y.den *ℤ (pos T *ℤ (pos x.den *ℤ (pos U *ℤ t)))
-  both-ways t = moved x.den U y.den T t
-
-  -- what y is at or above, x is, too
-  pub passes-up : (t : ℤ) → 0 < T → 0 < y.den → (pos y.den *ℤ (pos T *ℤ t)) ≤ℤ y.num → (pos x.den *ℤ (pos U *ℤ t)) ≤ℤ x.num
-  passes-up t some above le = times_reflects T (pos x.den *ℤ (pos U *ℤ t)) x.num some (times_reflects y.den (pos T *ℤ (pos x.den *ℤ (pos U *ℤ t))) (pos T *ℤ x.num) above
-      (let a = times_rises x.den (pos U *ℤ (pos y.den *ℤ (pos T *ℤ t))) (pos U *ℤ y.num) (times_rises U (pos y.den *ℤ (pos T *ℤ t)) y.num le) in
-      let b = leads.crossed in omega (arith, ints, a, b, both-ways t)))
-
-  -- what x is at or below, y is, too
-  pub passes-down : (t : ℤ) → 0 < U → 0 < x.den → x.num ≤ℤ (pos x.den *ℤ (pos U *ℤ t)) → y.num ≤ℤ (pos y.den *ℤ (pos T *ℤ t))
-  passes-down t some above le = times_reflects U y.num (pos y.den *ℤ (pos T *ℤ t)) some (times_reflects x.den (pos U *ℤ y.num) (pos U *ℤ (pos y.den *ℤ (pos T *ℤ t))) above
-      (let a = times_rises y.den (pos T *ℤ x.num) (pos T *ℤ (pos x.den *ℤ (pos U *ℤ t))) (times_rises T x.num (pos x.den *ℤ (pos U *ℤ t)) le) in
-      let b = leads.crossed in omega (arith, ints, a, b, both-ways t)))
-
--- the same against ticks
-pub raised : (S : ℕ) (t : ℤ) (y x : Rational) → 0 < y.den → Leads 1 S y x → (pos y.den *ℤ t) ≤ℤ y.num → (pos x.den *ℤ (pos S *ℤ t)) ≤ℤ x.num
-raised S t y x some under le = passes-up 1 S y x under t (omega arith) some (subst (λ (z : ℤ). z ≤ℤ y.num) (sym (one-within y.den t)) le)
-
-pub sunk : (S : ℕ) (t : ℤ) (y x : Rational) → 0 < S → 0 < x.den → Leads 1 S y x → x.num ≤ℤ (pos x.den *ℤ (pos S *ℤ t)) → y.num ≤ℤ (pos y.den *ℤ t)
-sunk S t y x some above under le = subst (λ (z : ℤ). y.num ≤ℤ z) (one-within y.den t) (passes-down 1 S y x under t some above le)
-
-pub lowered : (S : ℕ) (t : ℤ) (y x : Rational) → 0 < y.den → Leads S 1 x y → y.num ≤ℤ (pos y.den *ℤ t) → x.num ≤ℤ (pos x.den *ℤ (pos S *ℤ t))
-lowered S t y x some over le = passes-down S 1 x y over t (omega arith) some (subst (λ (z : ℤ). y.num ≤ℤ z) (sym (one-within y.den t)) le)
-
-pub risen : (S : ℕ) (t : ℤ) (y x : Rational) → 0 < S → 0 < x.den → Leads S 1 x y → (pos x.den *ℤ (pos S *ℤ t)) ≤ℤ x.num → (pos y.den *ℤ t) ≤ℤ y.num
-risen S t y x some above over le = subst (λ (z : ℤ). z ≤ℤ y.num) (one-within y.den t) (passes-up S 1 x y over t some above le)
-
 -- ---- an interval's end within its range
 
 pub lower-least : (contents range : Bounds) (x value : Rational) (room : ℤ) → range.least ≤ℤ range.most → range.least ≤ℤ lower_end contents range x value room
@@ -160,6 +122,22 @@ upper-least contents range x value room positive f = upper-is (λ z. range.least
     (λ h l. min_is (λ z. range.least ≤ℤ z) range.most (ceiling value +ℤ room) (λ e. f.order)
     (λ e. let above : range.least ≤ℤ ceiling value = times_reflects value.den range.least (ceiling value) f.value_some
     (let a = ceiling_high value f.value_some in let b = f.above_least l in omega (arith, ints, a, b)) in omega (arith, ints, above, positive)))
+
+-- an interval's ends at one content are in order
+pub ends-ordered : (contents range : Bounds) (x value : Rational) (room : ℤ) → pos 0 ≤ℤ room → Fits contents range x value
+    → lower_end contents range x value room ≤ℤ upper_end contents range x value room
+ends-ordered contents range x value room positive f = lower-is (λ z. z ≤ℤ upper_end contents range x value room) contents range x value room
+    (λ h. upper-is (λ z. range.most ≤ℤ z) contents range x value room
+    (λ m. omega (arith, ints)) (λ m k. absurd (omega (arith, ints, h, m))) (λ m k. absurd (omega (arith, ints, h, m))))
+    (λ h l. upper-least contents range x value room positive f)
+    (λ h l. max_is (λ z. z ≤ℤ upper_end contents range x value room) range.least (floor value -ℤ room)
+    (λ e. upper-least contents range x value room positive f)
+    (λ e. upper-is (λ z. (floor value -ℤ room) ≤ℤ z) contents range x value room
+    (λ m. absurd (omega (arith, ints, h, m))) (λ m k. absurd (omega (arith, ints, l, k)))
+    (λ m k. min_is (λ z. (floor value -ℤ room) ≤ℤ z) range.most (ceiling value +ℤ room)
+    (λ g. let below : floor value ≤ℤ range.most = times_reflects value.den (floor value) range.most f.value_some
+    (let a = floor_low value f.value_some in let b = f.below_most h in omega (arith, ints, a, b)) in omega (arith, ints, below, positive))
+    (λ g. let a = floor_at_most_ceiling value f.value_some in omega (arith, ints, a, positive)))))
 
 -- ---- what may go with a content of S-th parts, between the ends that go with contents of ticks
 

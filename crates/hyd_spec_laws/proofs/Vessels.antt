@@ -1,6 +1,6 @@
 -- The tanks of a sound network hold water, and their levels and contents have bounds in order.
 use Rattle.std.proofs.Common.{◌≡◌, ℕ, ◌*◌, ◌^◌, ◌<◌, ◌≤◌, ℤ, pos, negsuc, ◌*ℤ◌, ◌≤ℤ◌, refl, sym, ap, subst, arith, Bool, true, false, List, []}
-use Rattle.std.specs.Prelude.{unsigned_abs, Option, Some, None, is_some, if◌then◌else◌, slice_get, slice_index_or, length, IfSome}
+use Rattle.std.specs.Prelude.{unsigned_abs, Option, Some, None, is_some, if◌then◌else◌, slice_get, IfSome}
 use Rattle.std.specs.Option.{option_map_or}
 use Rattle.std.proofs.lemmas.Int.{ints}
 use Rattle.std.proofs.lemmas.Option.{slice_get_within, get_or_from_slice_get}
@@ -16,7 +16,7 @@ use Rattle.hyd_spec.specs.Lists.{Each}
 use Rattle.hyd_spec.specs.Tank.{Cylinder, Curve, shape_points, walls_of}
 use Rattle.hyd_spec_laws.specs.Laws.{IsVessel}
 use Rattle.hyd_spec_laws.proofs.OneStanding.{there}
-use Rattle.hyd_spec_laws.proofs.Placing.{one_times}
+use Rattle.hyd_spec_laws.proofs.Leading.{one_times}
 
 -- what is asked of each tank
 pub record IsSoundTank (network : Project) (tank : Tank) : Type 0 where
@@ -54,7 +54,7 @@ cylinder : (network : Project) (tank : Tank) → tank.shape ≡ None → IsSound
 cylinder network tank none is =
     let across = head_ticks (is_us_unit network.options.unit) tank.diameter.nano in
     let wide : pos (10 ^ 8) ≤ℤ tank.diameter.nano =
-        subst (λ (o : Option ℕ). pos (if is_some o then 0 else 10 ^ 8) ≤ℤ tank.diameter.nano) none is.ranges.diameter.at_least in
+    subst (λ (o : Option ℕ). pos (if is_some o then 0 else 10 ^ 8) ≤ℤ tank.diameter.nano) none is.ranges.diameter.at_least in
     let big = square-above across (across-above (is_us_unit network.options.unit) tank.diameter.nano wide) in
     let apart = is.ranges.apart in
     record {

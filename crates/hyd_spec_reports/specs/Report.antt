@@ -79,7 +79,8 @@ abbrev pub is_report_time : Project → ℕ → Bool
 is_report_time network time =
     nat_le network.times.report_start time && ((time - network.times.report_start) % network.times.report == 0)
 
--- Line after line says something of one of some items, from number k on.
+-- There is one line for each item of a list, in order: P holds of the item's number, the item and its line. The first item has
+-- the number k.
 abbrev pub LineEach : {X : Type 0} → (ℕ → X → ReportLine → Type 0) → ℕ → List X → List ReportLine → Type 0
 LineEach P k [] [] = ⊤
 LineEach P k (x ∷ xs) (l ∷ ls) = P k x l × LineEach P (suc k) xs ls
