@@ -21,11 +21,12 @@ use Rattle.hyd_spec_reports.specs.declared.StopCause.TheVariants.{NoCertificate}
 use Rattle.hyd_spec_reports.specs.ReportLine.{ReportLine, report_text, done_line, stop_line}
 use Rattle.hyd_spec_reports.specs.Report.{IsReport}
 use Rattle.hyd_spec_input.specs.FirstForm.{IsFirstNetwork}
-use Rattle.hyd_spec_reports.specs.Headline.{IsFound, IsRun, none, more, Sharpness, IsTightThroughout, IsSharpFound, Finished, Stopped, RunWrites}
+use Rattle.hyd_spec_reports.specs.Headline.{EveryHistoryAgrees, IsFound, IsRun, none, more, Sharpness, IsTightThroughout, IsSharpFound, Finished, Stopped, RunWrites}
+use Rattle.hyd_spec_histories.proofs.Running.{every_history as run_agrees_so}
 use Rattle.hyd_cli.specs.FirstRun.{first_row, first_found, last_standing}
 use Rattle.hyd_cli.specs.Solution.{IsTightHead}
 use Rattle.hyd_cli.proofs.FirstGrid.{demand_is, has_grid}
-use Rattle.hyd_cli.proofs.FirstHistory.{every_history, none_found}
+use Rattle.hyd_cli.proofs.SoundNetworks.{sound}
 
 -- ---- counts
 
@@ -99,6 +100,16 @@ pub found_run : (network : Project) → IsFirstNetwork network → (grid : Grid)
     → IsRun network (first_found network grid upper lower lines ∷ []) (last_standing network)
 found_run network first grid at upper lower above below lines report =
     more {found = first_found network grid upper lower lines} (found_valid network first grid at upper lower above below lines report) none
+
+-- so every history agrees with it
+pub every_history : (network : Project) → IsFirstNetwork network → (grid : Grid)
+    → IsGridAt network (initial_standing network) grid → (upper lower : ℤ)
+    → IsCertificate grid Main Upper (upper ∷ []) → IsCertificate grid Main Lower (lower ∷ [])
+    → (lines : List ReportLine) → IsReport network grid (initial_standing network) (first_row upper lower) lines
+    → EveryHistoryAgrees network (first_found network grid upper lower lines ∷ [])
+every_history network first grid at upper lower above below lines report =
+    run_agrees_so network (sound network first) (first_found network grid upper lower lines ∷ [])
+    (last_standing network) (found_run network first grid at upper lower above below lines report)
 
 pub found_sharp : (network : Project) → IsFirstNetwork network → (sharpness : Sharpness) → sharpness.tight ≡ true → (grid : Grid) (upper lower : ℤ) (lines : List ReportLine)
     → IsTight grid Main Upper (upper ∷ []) → IsTight grid Main Lower (lower ∷ [])
@@ -199,5 +210,5 @@ writes_stopped network first side lacks written printed written_is printed_is =
         is_text = written_is ∙ same_counts network first [] 0 false;
       };
       report = printed_is;
-      every_history = λ S some history is. none_found network S _ history;
+      every_history = run_agrees_so network (sound network first) [] (initial_standing network) none;
     }

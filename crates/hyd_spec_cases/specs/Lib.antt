@@ -4,6 +4,12 @@ pub mod Capacities
 pub mod City
 pub mod Single
 pub mod Forms
+<<<<<<< HEAD
+pub mod Input
+=======
+pub mod Histories
+>>>>>>> origin/main
 pub mod Tanks
 pub mod Curves
 pub mod Cylinders
+pub mod Flask

@@ -11,6 +11,12 @@ pub mod curves;
 pub mod decisions;
 pub mod enclosing;
 pub mod forms;
+<<<<<<< HEAD
+pub mod input;
+=======
+pub mod held;
+pub mod histories;
+>>>>>>> origin/main
 pub mod levels;
 pub mod links;
 pub mod losses;
@@ -21,4 +27,5 @@ pub mod parts;
 pub mod quantities;
 pub mod rules;
 pub mod starts;
+pub mod stocks;
 pub mod texts;

@@ -72,8 +72,8 @@ bent_name rows row =
 abbrev pub bend_names : List Row → List (List ℕ)
 bend_names rows =
     new_names []
-        (flat_map (bent_name rows) (rows_of Pumps rows)
-            ++ flat_map (λ (row : Row). as_list (valve_curve row.words)) (rows_of Valves rows))
+    (flat_map (bent_name rows) (rows_of Pumps rows)
+    ++ flat_map (λ (row : Row). as_list (valve_curve row.words)) (rows_of Valves rows))
 
 -- ---- demands
 

@@ -42,7 +42,7 @@ bend-sound P knots bends bend has each =
     no_points : ListView HeadPoint
     no_points = record { list = []; spare = 0 }
 
-own-sound : (us : Bool) (unit : FlowUnit) (patterns : List Pattern) (bends : List (ListView HeadPoint)) (kind : LinkKind) (state : LinkState)
+pub own-sound : (us : Bool) (unit : FlowUnit) (patterns : List Pattern) (bends : List (ListView HeadPoint)) (kind : LinkKind) (state : LinkState)
     → IsKindMade unit kind → HasSizes unit patterns bends kind → IsStateMade unit state → IsSoundLaw (own_law us bends kind state)
 own-sound us unit patterns bends (PipeLink capacity) Open kind sizes state = IsSoundCapacity-made capacity kind
 own-sound us unit patterns bends (PipeLink capacity) Closed kind sizes state = tt

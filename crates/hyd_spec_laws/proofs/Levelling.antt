@@ -7,21 +7,21 @@ use Rattle.hyd_num.specs.Rational.{Rational, whole}
 use Rattle.hyd_net.specs.Curves.{Knot, value_at, AreRising}
 use Rattle.hyd_spec.specs.Types.{Tank, VolumePoint}
 use Rattle.hyd_spec.specs.Scale.{at_scale}
-use Rattle.hyd_spec.specs.Tank.{Walls, Cylinder, Curve, Stock, Bounds, level_bounds, content_bounds, content_of, exact_content, level_knots, level_at, carried_level, IsNextContent, IsLevelAt, IsNextStock, tank_state, state_band}
+use Rattle.hyd_spec.specs.Tank.{Walls, Cylinder, Curve, Stock, Bounds, level_bounds, content_bounds, content_of, exact_content, level_knots, level_on_curve, level_at, carried_level, IsNextContent, IsLevelAt, IsNextStock, tank_state, state_band}
 use Rattle.hyd_spec.specs.declared.TankState.{TankState}
 use Rattle.hyd_spec.specs.declared.TankState.TheVariants.{Full, Between, Empty}
 use Rattle.hyd_spec_certificates.specs.Interval.{Interval}
 use Rattle.hyd_spec_certificates.specs.Stocks.{Stocks, least_stock, greatest_stock, exact_least, exact_greatest, lower_level, upper_level, contents_after, carried_levels, levels_at, next_stocks, shared_state, state_of}
-use Rattle.hyd_spec_laws.specs.Laws.{LiesIn, LiesAround, IsVessel, HoldWater, StockLies, AreInside, IsInside, IsWithin}
+use Rattle.hyd_spec_laws.specs.Laws.{LiesIn, LiesAround, IsVessel, HoldWater, StockLies, AreInside, IsInside, IsWithin, HasStock}
 use Rattle.hyd_lemmas.proofs.Integers.{exchanged}
 use Rattle.hyd_spec_laws.proofs.Outflows.{le-yes}
 use Rattle.hyd_spec_laws.proofs.Leading.{Leads, one_times}
 use Rattle.hyd_spec_laws.proofs.RisingLines.{AreClimbing, from-rises, some-den}
-use Rattle.hyd_spec_laws.proofs.Placing.{le-from, Fits, FitsAt, lower-least, lower-most, upper-least, upper-most, next-low, next-high, placed-low, placed-high, lower-rises, upper-rises, placed-rises, placed-most, placed-least, placed-some}
+use Rattle.hyd_spec_laws.proofs.Placing.{le-from, Fits, FitsAt, ends-ordered, lower-least, lower-most, upper-least, upper-most, next-low, next-high, placed-low, placed-high, lower-rises, upper-rises, placed-rises, placed-most, placed-least, placed-some}
 
 -- ---- levels by a volume curve
 
-pairs-tail : (R : ℤ → ℤ → Type 0) (x : ℤ) (xs : List ℤ) → AllPairs R (x ∷ xs) → AllPairs R xs
+pub pairs-tail : (R : ℤ → ℤ → Type 0) (x : ℤ) (xs : List ℤ) → AllPairs R (x ∷ xs) → AllPairs R xs
 pairs-tail R x xs all = λ i j d below inside. all (suc i) (suc j) d (omega (arith, below)) (omega (arith, inside))
 
 climbing : (p : VolumePoint) (points : List VolumePoint) → AreRising (map (λ (q : VolumePoint). q.level) (p ∷ points)) → AreRising (map (λ (q : VolumePoint). q.volume) (p ∷ points))
@@ -36,19 +36,13 @@ climbing p (q ∷ points) levels volumes = (
       (pairs-tail (λ a b. a <ℤ b) p.volume (map (λ (q : VolumePoint). q.volume) (q ∷ points)) volumes),
 )
 
--- the curve's level before it is held
-abbrev curve-level : ℕ → List VolumePoint → Rational → Rational
-curve-level S points x =
-    let fine = value_at (S * x.den) (level_knots points) x.num in
-    record { num = fine.num; den = fine.den * x.den }
-
-curve-some : (S : ℕ) (points : List VolumePoint) (x : Rational) → HoldWater (Curve points) → 0 < x.den → 0 < (curve-level S points x).den
+pub curve-some : (S : ℕ) (points : List VolumePoint) (x : Rational) → HoldWater (Curve points) → 0 < x.den → 0 < (level_on_curve S points x).den
 curve-some S [] x holds some = mul-pos (omega arith) some
 curve-some S (p ∷ points) x holds some =
     mul-pos (some-den (S * x.den) (record { place = p.volume; value = p.level }) (level_knots points) x.num) some
 
 curve-rises : (T U : ℕ) (points : List VolumePoint) (x y : Rational) → HoldWater (Curve points) → 0 < T → 0 < x.den → Leads T U x y
-    → Leads T U (curve-level T points x) (curve-level U points y)
+    → Leads T U (level_on_curve T points x) (level_on_curve U points y)
 curve-rises T U [] x y holds some x-some leads = record { crossed = omega (arith, ints) }
 curve-rises T U (p ∷ points) x y holds some x-some leads =
     let knot : Knot = record { place = p.volume; value = p.level } in
@@ -115,7 +109,7 @@ pub level-fits-at : (S : ℕ) (walls : Walls) (tank : Tank) (x : Rational) → I
     → FitsAt S (content_bounds walls tank) (level_bounds tank) x (level_at S walls tank x)
 level-fits-at S (Cylinder area) tank x vessel some = self-fits-at S (level_bounds tank) x some
 level-fits-at S (Curve points) tank x vessel some =
-    let level = curve-level S points x in
+    let level = level_on_curve S points x in
     let level-some = curve-some S points x vessel.holds_water some in
     let own = self-fits-at S (level_bounds tank) level level-some in
     record {
@@ -138,7 +132,7 @@ pub level-leads : (T U : ℕ) (walls : Walls) (tank : Tank) (y x : Rational) →
     → Leads T U (level_at T walls tank y) (level_at U walls tank x)
 level-leads T U (Cylinder area) tank y x vessel some other-some y-some x-some leads = leads
 level-leads T U (Curve points) tank y x vessel some other-some y-some x-some leads =
-    let low = curve-level T points y in let high = curve-level U points x in
+    let low = level_on_curve T points y in let high = level_on_curve U points x in
     let up = curve-rises T U points y x vessel.holds_water some y-some leads in
     placed-rises T U (level_bounds tank) (level_bounds tank) low high low high some other-some vessel.ordered
     (self-fits-at T (level_bounds tank) low (curve-some T points y vessel.holds_water y-some))
@@ -369,6 +363,50 @@ next_within (Cylinder area) tank stocks inflow seconds vessel = contents_within 
 next_within (Curve points) tank stocks inflow seconds vessel =
     let volume = contents_after (pos 10) (Curve points) tank stocks inflow seconds in
     levels-within (Curve points) tank (whole volume.lo) (whole volume.hi) (pos 10) (omega (arith, ints)) vessel (omega arith) (omega arith)
+
+-- ---- stocks that are there
+
+module _ (walls : Walls) (tank : Tank) (vessel : IsVessel walls tank) where
+  levels-ordered : (x y : Rational) (room : ℤ) → pos 0 ≤ℤ room → 0 < x.den → 0 < y.den → Leads 1 1 x y → lower_level walls tank x room ≤ℤ upper_level walls tank y room
+  levels-ordered x y room positive some other-some leads =
+      let a = lower-levels walls tank vessel x y room positive some other-some leads in
+      let b = ends-ordered (content_bounds walls tank) (level_bounds tank) y (level_at 1 walls tank y) room positive (level-fits walls tank y vessel other-some) in
+      omega (arith, ints, a, b)
+
+  module _ (stocks : Stocks) (inflow : Interval) (seconds : ℕ) (has : HasStock stocks) (flow : inflow.lo ≤ℤ inflow.hi) where
+    least-below : Leads 1 1 (exact_least walls stocks inflow seconds) (exact_greatest walls stocks inflow seconds)
+    least-below = content-leads 1 1 walls (least_stock stocks) (greatest_stock stocks) inflow.lo inflow.hi seconds
+        (content-up walls (least_stock stocks) (greatest_stock stocks) has.level has.volume) (omega (arith, ints, flow))
+
+    pub carried_ordered : (carried_levels walls tank stocks inflow seconds).lo ≤ℤ (carried_levels walls tank stocks inflow seconds).hi
+    carried_ordered = levels-ordered (exact_least walls stocks inflow seconds) (exact_greatest walls stocks inflow seconds) (pos 0) (omega (arith, ints))
+        (exact-some walls (least_stock stocks) inflow.lo seconds vessel.holds_water) (exact-some walls (greatest_stock stocks) inflow.hi seconds vessel.holds_water) least-below
+
+    contents-ordered : (room : ℤ) → pos 0 ≤ℤ room → (contents_after room walls tank stocks inflow seconds).lo ≤ℤ (contents_after room walls tank stocks inflow seconds).hi
+    contents-ordered room positive =
+        let bounds = content_bounds walls tank in
+        let least = exact_least walls stocks inflow seconds in let greatest = exact_greatest walls stocks inflow seconds in
+        let fits = content-fits walls tank greatest vessel (exact-some walls (greatest_stock stocks) inflow.hi seconds vessel.holds_water) in
+        let a = lower-rises bounds bounds least greatest least greatest
+        (content-fits walls tank least vessel (exact-some walls (least_stock stocks) inflow.lo seconds vessel.holds_water)) fits least-below least-below room positive in
+        let b = ends-ordered bounds bounds greatest greatest room positive fits in
+        omega (arith, ints, a, b)
+
+-- from stocks and an inflow that are there the next stocks are there
+pub next_has : (walls : Walls) (tank : Tank) (stocks : Stocks) (inflow : Interval) (seconds : ℕ) → IsVessel walls tank → HasStock stocks → inflow.lo ≤ℤ inflow.hi
+    → HasStock (next_stocks walls tank stocks inflow seconds)
+next_has (Cylinder area) tank stocks inflow seconds vessel has flow = record {
+  level = contents-ordered (Cylinder area) tank vessel stocks inflow seconds has flow (pos 10) (omega (arith, ints));
+  volume = omega (arith, ints);
+}
+next_has (Curve points) tank stocks inflow seconds vessel has flow =
+    let volume = contents_after (pos 10) (Curve points) tank stocks inflow seconds in
+    let order = contents-ordered (Curve points) tank vessel stocks inflow seconds has flow (pos 10) (omega (arith, ints)) in
+    record {
+      level = levels-ordered (Curve points) tank vessel (whole volume.lo) (whole volume.hi) (pos 10) (omega (arith, ints)) (omega arith) (omega arith)
+          (record { crossed = omega (arith, ints, order, one_times volume.lo, one_times volume.hi, one_times (pos 1 *ℤ volume.lo), one_times (pos 1 *ℤ volume.hi)) });
+      volume = order;
+    }
 
 -- ---- states
 

@@ -19,8 +19,10 @@ pub mod RisingLines
 pub mod Placing
 pub mod Levelling
 pub mod Deciding
+pub mod WatchedEnds
 pub mod Worked
 pub mod Rising
+pub mod DemandLaws
 pub mod NetRising
 pub mod RunRecords
 pub mod Appending
@@ -32,4 +34,8 @@ pub mod OneReport
 pub mod OneLength
 pub mod OneCapacity
 pub mod OneRun
+pub mod Failing
+pub mod OneRefusal
 pub mod Vessels
+pub mod CurveLevels
+pub mod Targets

@@ -1,5 +1,5 @@
--- A network has one tight run of each number of periods.
-use Rattle.std.proofs.Common.{◌≡◌, ℕ, suc, ◌<◌, ℤ, Bool, true, false, MatchBool, List, [], ◌∷◌, length, refl, sym, ap, subst, ◌∙◌, arith}
+-- A standing has one grid, and a network one tight run of each number of periods.
+use Rattle.std.proofs.Common.{◌≡◌, ℕ, suc, ◌<◌, ℤ, pos, Bool, true, false, MatchBool, List, [], ◌∷◌, length, int_le, refl, sym, ap, subst, ◌∙◌, arith}
 use Rattle.std.specs.Prelude.{slice_index_or}
 use Rattle.std.specs.List.{AllZip, AllByRecursion}
 use Rattle.hyd_spec.specs.Types.{Project, Junction, Capacity}
@@ -16,26 +16,25 @@ use Rattle.hyd_spec_certificates.specs.Record.{Record, Vectors, Standing, no_vec
 use Rattle.hyd_spec_certificates.specs.Valid.{IsProblem, IsGridAt, LeadsOn, IsValid}
 use Rattle.hyd_spec_reports.specs.ReportLine.{ReportLine}
 use Rattle.hyd_spec_reports.specs.Report.{IsReport}
-use Rattle.hyd_spec_reports.specs.Headline.{Found, IsFound, IsRunFrom, more, IsTightThroughout}
-use Rattle.hyd_spec_laws.proofs.OneCapacity.{one_capacity}
+use Rattle.hyd_spec_reports.specs.Headline.{Found, IsFound, IsRunFrom, none, more, IsTightThroughout}
 use Rattle.hyd_spec_laws.proofs.OneLength.{one_length}
 use Rattle.hyd_spec_laws.proofs.OneStanding.{one_standing, one_vector}
 use Rattle.hyd_spec_laws.proofs.OneReport.{one_report}
+use Rattle.hyd_spec_laws.proofs.OneCapacity.{one_capacity}
 
 module _ (network : Project) where
   -- ---- grids
 
-  -- two laws of one demand: both fixed, or both driven by the one capacity of its numbers
-  one_law : (demand : ℤ) (a b : DemandLaw) → IsDemandLaw network demand a → IsDemandLaw network demand b → a ≡ b
-  one_law demand a b = by (is_pressure_driven network demand)
+  -- a demand has one law: the capacity of given numbers is one
+  one_law : (demand : ℤ) (x y : DemandLaw) → IsDemandLaw network demand x → IsDemandLaw network demand y → x ≡ y
+  one_law demand x y is other = by_case (is_pressure_driven network demand) is other
     where
-      by : (driven : Bool) → MatchBool driven (IsDriven network demand a) (a ≡ Fixed demand)
-          → MatchBool driven (IsDriven network demand b) (b ≡ Fixed demand) → a ≡ b
-      by true x y =
-          let same = one_capacity x.capacity y.capacity (x.origin ∙ sym y.origin) x.made y.made in
-          let law = λ (c : Capacity). Driven demand c (minimum_pressure network) (required_pressure network) in
-          x.is_law ∙ (ap law same ∙ sym y.is_law)
-      by false x y = x ∙ sym y
+      by_case : (driven : Bool) → MatchBool driven (IsDriven network demand x) (x ≡ Fixed demand)
+          → MatchBool driven (IsDriven network demand y) (y ≡ Fixed demand) → x ≡ y
+      by_case true p q =
+          let same = one_capacity p.capacity q.capacity (p.origin ∙ sym q.origin) p.made q.made in
+          p.is_law ∙ ap (λ (c : Capacity). Driven demand c (minimum_pressure network) (required_pressure network)) same ∙ sym q.is_law
+      by_case false p q = p ∙ sym q
 
   same_junction : (time : ℕ) (junction : Junction) (a b : GridJunction) → IsJunctionOf network time junction a → IsJunctionOf network time junction b → a ≡ b
   same_junction time junction a b x y =
@@ -154,3 +153,18 @@ module _ (network : Project) where
       let on = subst (λ (n : Standing). IsRunFrom network n ys other) (ap (λ (f : Found). f.next) (sym first)) t.goes_on in
       let rest = one_run a.next xs ys last other s.goes_on on tight.1 too.1 (omega (arith, e)) in
       cc
+
+  -- and it leaves one standing
+  ends_here : (start last : Standing) → IsRunFrom network start [] last → start ≡ last
+  ends_here start last run = over start [] last run refl
+    where
+      over : (s : Standing) (fs : List Found) (l : Standing) → IsRunFrom network s fs l → fs ≡ [] → s ≡ l
+      over _ _ l none e = refl
+      over _ _ l (more is on) e = absurd (cc)
+
+  one_last : (start : Standing) (xs : List Found) (last other : Standing) → IsRunFrom network start xs last → IsRunFrom network start xs other → last ≡ other
+  one_last start [] last other x y = sym (ends_here start last x) ∙ ends_here start other y
+  one_last start (a ∷ xs) last other x y = one_last a.next xs last other (steps start a xs last x).goes_on (steps start a xs other y).goes_on
+
+  pub one_left : (start : Standing) (xs ys : List Found) (last other : Standing) → IsRunFrom network start xs last → IsRunFrom network start ys other → xs ≡ ys → last ≡ other
+  one_left start xs ys last other x y same = one_last start xs last other x (subst (λ (fs : List Found). IsRunFrom network start fs other) (sym same) y)

@@ -10,7 +10,7 @@ use Rattle.hyd_num.specs.Rational.{Rational, floor, ceiling, is_at_most, whole}
 use Rattle.hyd_spec.specs.Scale.{at_scale}
 use Rattle.hyd_spec.specs.Tank.{Bounds, is_at_maximum, is_at_minimum, placed, IsNear, IsPlaced}
 use Rattle.hyd_spec_certificates.specs.Stocks.{lower_end, upper_end}
-use Rattle.hyd_lemmas.proofs.Integers.{exchanged, floor_low, ceiling_high, floor_greatest, ceiling_least, max_left, max_is, max_rises, min_left, min_is, min_rises}
+use Rattle.hyd_lemmas.proofs.Integers.{exchanged, floor_low, floor_at_most_ceiling, ceiling_high, floor_greatest, ceiling_least, max_left, max_is, max_rises, min_left, min_is, min_rises}
 use Rattle.hyd_spec_laws.proofs.Outflows.{le-yes, le-no}
 use Rattle.hyd_spec_laws.proofs.Leading.{one_times, one-within, Leads, through, passes-up, passes-down, raised, sunk, lowered, risen}
 
@@ -122,6 +122,22 @@ upper-least contents range x value room positive f = upper-is (λ z. range.least
     (λ h l. min_is (λ z. range.least ≤ℤ z) range.most (ceiling value +ℤ room) (λ e. f.order)
     (λ e. let above : range.least ≤ℤ ceiling value = times_reflects value.den range.least (ceiling value) f.value_some
     (let a = ceiling_high value f.value_some in let b = f.above_least l in omega (arith, ints, a, b)) in omega (arith, ints, above, positive)))
+
+-- an interval's ends at one content are in order
+pub ends-ordered : (contents range : Bounds) (x value : Rational) (room : ℤ) → pos 0 ≤ℤ room → Fits contents range x value
+    → lower_end contents range x value room ≤ℤ upper_end contents range x value room
+ends-ordered contents range x value room positive f = lower-is (λ z. z ≤ℤ upper_end contents range x value room) contents range x value room
+    (λ h. upper-is (λ z. range.most ≤ℤ z) contents range x value room
+    (λ m. omega (arith, ints)) (λ m k. absurd (omega (arith, ints, h, m))) (λ m k. absurd (omega (arith, ints, h, m))))
+    (λ h l. upper-least contents range x value room positive f)
+    (λ h l. max_is (λ z. z ≤ℤ upper_end contents range x value room) range.least (floor value -ℤ room)
+    (λ e. upper-least contents range x value room positive f)
+    (λ e. upper-is (λ z. (floor value -ℤ room) ≤ℤ z) contents range x value room
+    (λ m. absurd (omega (arith, ints, h, m))) (λ m k. absurd (omega (arith, ints, l, k)))
+    (λ m k. min_is (λ z. (floor value -ℤ room) ≤ℤ z) range.most (ceiling value +ℤ room)
+    (λ g. let below : floor value ≤ℤ range.most = times_reflects value.den (floor value) range.most f.value_some
+    (let a = floor_low value f.value_some in let b = f.below_most h in omega (arith, ints, a, b)) in omega (arith, ints, below, positive))
+    (λ g. let a = floor_at_most_ceiling value f.value_some in omega (arith, ints, a, positive)))))
 
 -- ---- what may go with a content of S-th parts, between the ends that go with contents of ticks
 

@@ -1,24 +1,24 @@
 -- Values on the straight lines between knots of which neither places nor values fall: from one scale to another they rise with the
 -- place.
-use Rattle.std.proofs.Common.{◌≡◌, ℕ, suc, ◌*◌, ◌<◌, ℤ, pos, ◌+ℤ◌, ◌-ℤ◌, ◌*ℤ◌, ◌≤ℤ◌, ◌<ℤ◌, refl, ap, ◌∙◌, arith, Bool, true, false, List, [], ◌∷◌}
+use Rattle.std.proofs.Common.{◌≡◌, ℕ, zero, suc, ◌*◌, ◌<◌, ℤ, pos, negsuc, ◌+ℤ◌, ◌-ℤ◌, ◌*ℤ◌, ◌≤ℤ◌, ◌<ℤ◌, refl, ap, ◌∙◌, arith, Bool, true, false, List, [], ◌∷◌}
 use Rattle.std.specs.Prelude.{⊤, unsigned_abs, int_lt, if◌then◌else◌}
 use Rattle.std.proofs.Math.Nat.{mul_comm}
 use Rattle.std.proofs.lemmas.Int.{ints}
 use Rattle.std.proofs.lemmas.Bool.{cond_both}
-use Rattle.hyd_num.proofs.Integers.{times_plus, times_minus, times_rises, times_one, times_times}
+use Rattle.hyd_num.proofs.Integers.{times_plus, times_minus, times_rises, times_reflects, times_one, times_times}
 use Rattle.hyd_num.specs.Rational.{Rational, whole}
 use Rattle.hyd_net.specs.Curves.{Knot, on_line, between, value_from, value_at}
 use Rattle.hyd_lemmas.proofs.Integers.{exchanged}
 use Rattle.hyd_spec_laws.specs.Laws.{AreInOrder}
-use Rattle.hyd_spec_laws.proofs.Leading.{Leads, UpTo, From, through, one_times}
+use Rattle.hyd_spec_laws.proofs.Leading.{Leads, UpTo, From, through, one_times, one-within}
 
 -- ---- one line
 
 -- a line over a width of W with a rise of D, from a place and a value, at x
-abbrev line : (T W D : ℕ) (place value x : ℤ) → ℤ
+abbrev pub line : (T W D : ℕ) (place value x : ℤ) → ℤ
 line T W D place value x = (pos (T * W) *ℤ value) +ℤ (pos D *ℤ (x -ℤ (pos T *ℤ place)))
 
-spread : (T W : ℕ) (v : ℤ) → pos W *ℤ (pos T *ℤ v) ≡ pos (T * W) *ℤ v
+pub spread : (T W : ℕ) (v : ℤ) → pos W *ℤ (pos T *ℤ v) ≡ pos (T * W) *ℤ v
 spread T W v = times_times W T v ∙ ap (λ (n : ℕ). pos n *ℤ v) (mul_comm W T)
 
 line-rises : (T U W D : ℕ) (place value x y : ℤ) → (pos U *ℤ x) ≤ℤ (pos T *ℤ y)
@@ -60,24 +60,24 @@ pub record Follows (knot next : Knot) : Type 0 where
   pub later : knot.place ≤ℤ next.place
   pub higher : knot.value ≤ℤ next.value
 
-lt-yes : (a b : ℤ) → int_lt a b ≡ true → a <ℤ b
+pub lt-yes : (a b : ℤ) → int_lt a b ≡ true → a <ℤ b
 lt-yes a b e = grind (arith, ints)
 
-lt-no : (a b : ℤ) → int_lt a b ≡ false → b ≤ℤ a
+pub lt-no : (a b : ℤ) → int_lt a b ≡ false → b ≤ℤ a
 lt-no a b e = grind (arith, ints)
 
-difference-is : (y z : ℤ) → y ≤ℤ z → z -ℤ y ≡ pos (unsigned_abs (z -ℤ y))
+pub difference-is : (y z : ℤ) → y ≤ℤ z → z -ℤ y ≡ pos (unsigned_abs (z -ℤ y))
 difference-is y z le = omega (arith, ints)
 
 -- the line between two knots, with its width and its rise
-line-is : (T : ℕ) (knot next : Knot) (x : ℤ) → Follows knot next
+pub line-is : (T : ℕ) (knot next : Knot) (x : ℤ) → Follows knot next
     → (on_line T knot next x).num ≡ line T (unsigned_abs (next.place -ℤ knot.place)) (unsigned_abs (next.value -ℤ knot.value)) knot.place knot.value x
 line-is T knot next x f =
     ap (λ (r : ℤ). (pos (T * unsigned_abs (next.place -ℤ knot.place)) *ℤ knot.value) +ℤ (r *ℤ (x -ℤ (pos T *ℤ knot.place))))
     (difference-is knot.value next.value f.higher)
 
 -- two knots at one place have the first one's value before it and the second one's from it on
-abbrev stepped : Bool → Knot → Knot → ℤ
+abbrev pub stepped : Bool → Knot → Knot → ℤ
 stepped before knot next = if before then knot.value else next.value
 
 stepped-least : (before : Bool) (knot next : Knot) → Follows knot next → knot.value ≤ℤ stepped before knot next
@@ -160,7 +160,7 @@ abbrev pub AreClimbing : Knot → List Knot → Type 0
 AreClimbing knot [] = ⊤
 AreClimbing knot (next ∷ rest) = Follows knot next × AreClimbing next rest
 
-from-first : (T : ℕ) (knot : Knot) (rest : List Knot) (x : ℤ) → AreClimbing knot rest → (pos T *ℤ knot.place) ≤ℤ x → From T (value_from T knot rest x) knot.value
+pub from-first : (T : ℕ) (knot : Knot) (rest : List Knot) (x : ℤ) → AreClimbing knot rest → (pos T *ℤ knot.place) ≤ℤ x → From T (value_from T knot rest x) knot.value
 from-first T knot [] x climbing le = omega (arith, ints, one_times (pos T *ℤ knot.value))
 from-first T knot (next ∷ []) x climbing le = between-least (int_lt knot.place next.place) T knot next x climbing.0 le
 from-first T knot (next ∷ (later ∷ rest)) x climbing le =
@@ -215,3 +215,37 @@ pub value-rises : (T U : ℕ) (knots : List Knot) (x y : ℤ) → 0 < T → AreI
     → Leads T U (value_at T knots x) (value_at U knots y)
 value-rises T U [] x y some order le = record { crossed = omega (arith, ints) }
 value-rises T U (knot ∷ rest) x y some order le = from-rises T U knot rest x y some (climbing-is knot rest order) le
+
+-- ---- the sign of the value
+
+from-product : (n : ℕ) (z : ℤ) → pos 0 <ℤ (pos n *ℤ z) → pos 0 <ℤ z
+from-product n (pos zero) h = absurd (let o : pos n *ℤ pos 0 ≡ pos 0 = omega (arith, ints) in omega (arith, ints, h, o))
+from-product n (pos (suc m)) h = omega (arith, ints)
+from-product n (negsuc m) h = absurd (let l = times_rises n (negsuc m) (pos 0) (omega (arith, ints)) in let o : pos n *ℤ pos 0 ≡ pos 0 = omega (arith, ints) in omega (arith, ints, h, l, o))
+
+-- where the value at d is above 0, that at x, at least S d, is above 0 at scale S
+pub value-positive : (S : ℕ) (knots : List Knot) (d x : ℤ) → 0 < S → AreInOrder knots → (pos S *ℤ d) ≤ℤ x → pos 0 <ℤ (value_at 1 knots d).num
+    → pos 0 <ℤ (value_at S knots x).num
+value-positive S knots d x some order le h =
+    let p = value_at 1 knots d in
+    let r = value_at S knots x in
+    let up = (value-rises 1 S knots d x (omega arith) order (omega (arith, ints, le, one_times x))).crossed in
+    let above = value-den S knots x in
+    let one : pos S ≤ℤ (pos S *ℤ p.num) = (let l = times_rises S (pos 1) p.num (omega (arith, ints, h)) in omega (arith, ints, l, times_one S)) in
+    let more : pos r.den ≤ℤ (pos r.den *ℤ (pos S *ℤ p.num)) =
+    (let l = times_rises r.den (pos 1) (pos S *ℤ p.num) (omega (arith, ints, one, some)) in omega (arith, ints, l, times_one r.den)) in
+    from-product p.den r.num (omega (arith, ints, up, more, above, one-within p.den r.num))
+
+-- and where it is at most 0, that at x, at most S d, is at most 0
+pub value-negative : (S : ℕ) (knots : List Knot) (d x : ℤ) → 0 < S → AreInOrder knots → x ≤ℤ (pos S *ℤ d) → (value_at 1 knots d).num ≤ℤ pos 0
+    → (value_at S knots x).num ≤ℤ pos 0
+value-negative S knots d x some order le h =
+    let p = value_at 1 knots d in
+    let r = value_at S knots x in
+    let up = (value-rises S 1 knots x d some order (omega (arith, ints, le, one_times x))).crossed in
+    let s_zero : pos S *ℤ pos 0 ≡ pos 0 = omega (arith, ints) in
+    let p_zero : pos p.den *ℤ pos 0 ≡ pos 0 = omega (arith, ints) in
+    let r_zero : pos r.den *ℤ pos 0 ≡ pos 0 = omega (arith, ints) in
+    let below : (pos S *ℤ p.num) ≤ℤ pos 0 = (let l = times_rises S p.num (pos 0) h in omega (arith, ints, l, s_zero)) in
+    times_reflects p.den r.num (pos 0) (value-den 1 knots d)
+    (let l = times_rises r.den (pos S *ℤ p.num) (pos 0) below in omega (arith, ints, up, l, p_zero, r_zero, one-within p.den r.num))

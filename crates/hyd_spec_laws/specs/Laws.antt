@@ -1,5 +1,5 @@
 -- What the comparison of heads uses of the laws of links, demands and emitters.
-use Rattle.std.specs.Prelude.{map, ℕ, ◌<◌, ◌≤◌, ℤ, ◌-ℤ◌, ◌≤ℤ◌, unsigned_abs, ⊤, List, All, AllPairs, ◌≡◌, ◌*ℤ◌, Bool, true, false, pos}
+use Rattle.std.specs.Prelude.{map, Some, slice_get, Contains, IsTrue, ℕ, ◌<◌, ◌≤◌, ℤ, ◌-ℤ◌, ◌≤ℤ◌, unsigned_abs, ⊤, List, All, AllPairs, ◌≡◌, ◌*ℤ◌, Bool, true, false, pos}
 use Rattle.std.specs.List.{AllByRecursion, AllZip}
 use Rattle.std.specs.Option.{IfSome}
 use Rattle.hyd_num.specs.Quantity.{billionths}
@@ -11,10 +11,13 @@ use Rattle.hyd_net.specs.Made.{IsKindMade, IsStateMade}
 use Rattle.hyd_spec.specs.Types.{Project, LinkState, Tank, VolumePoint, Relation as Comparison, Less, NotMore, More, NotLess, Equal, Unequal, Origin, Pipe, Valve, Pump, Emitter, PressureDemand, Capacity}
 use Rattle.hyd_spec_certificates.specs.Interval.{Interval}
 use Rattle.hyd_net.specs.Curves.{AreRising as AreRisingNumbers}
-use Rattle.hyd_spec.specs.Tank.{Walls, Cylinder, Curve, Stock, Bounds, content_bounds}
+use Rattle.hyd_spec.specs.Tank.{Walls, Cylinder, Curve, Stock, Bounds, content_bounds, walls_of}
 use Rattle.hyd_spec_certificates.specs.Stocks.{Stocks}
 use Rattle.hyd_spec_certificates.specs.Grid.{Grid, IsGrid}
 use Rattle.hyd_spec.specs.Assignment.{Assignment, IsAssignment, head_at}
+use Rattle.hyd_spec_certificates.specs.Record.{Record, Standing}
+use Rattle.hyd_spec_certificates.specs.FirstSeconds.{IsFirstSecond}
+use Rattle.hyd_spec_certificates.specs.Decided.{Watch, watches, stocks_of_tank, inflow_of_tank}
 use Rattle.hyd_spec.specs.Draw.{IsAssignmentDrawing}
 use Rattle.hyd_spec.specs.declared.TankState.{TankState}
 use Rattle.hyd_spec.specs.Scale.{at_scale}
@@ -150,6 +153,10 @@ pub record LiesAround (S : ℕ) (interval : Interval) (x : Rational) : Type 0 wh
   pub low : (pos x.den *ℤ at_scale S interval.lo) ≤ℤ x.num
   pub high : x.num ≤ℤ (pos x.den *ℤ at_scale S interval.hi)
 
+-- A value in ticks, as a value in S-th parts.
+abbrev pub in_parts : ℕ → Rational → Rational
+in_parts S x = record { num = at_scale S x.num; den = x.den }
+
 -- An interval lies inside another.
 pub record IsInside (x y : Interval) : Type 0 where
   pub low : y.lo ≤ℤ x.lo
@@ -196,6 +203,27 @@ Tells Unknown test = ⊤
 -- Truths tell tests, one after another.
 abbrev pub TellEach : List Verdict → List Bool → Type 0
 TellEach truths tests = AllZip Tells truths tests
+
+-- ---- watched levels
+
+-- Some watched level passes a test first at this second, up to a cap.
+pub record SomeReachesFirst (test : Walls → Tank → Stocks → Interval → ℤ → Bool → ℕ → Bool) (network : Project) (grid : Grid)
+    (standing : Standing) (row : Record) (cap second : ℕ) : Type 0 where
+  pub watch : Watch
+  pub is_watched : Contains (watches network standing) watch
+  pub tank : Tank
+  pub is_tank : slice_get network.tanks.list watch.tank ≡ Some tank
+  pub is_first : IsFirstSecond (test (walls_of network tank) tank (stocks_of_tank standing watch.tank)
+      (inflow_of_tank network grid row watch.tank) watch.target watch.rising) cap second
+
+-- The second isn't after the cap, nor after the first second at which any watched level passes the test.
+pub record NoneReachesBefore (test : Walls → Tank → Stocks → Interval → ℤ → Bool → ℕ → Bool) (network : Project) (grid : Grid)
+    (standing : Standing) (row : Record) (cap second : ℕ) : Type 0 where
+  pub by_clock : second ≤ cap
+  pub each : (watch : Watch) → Contains (watches network standing) watch → (tank : Tank)
+      → slice_get network.tanks.list watch.tank ≡ Some tank
+      → (first : ℕ) × (IsFirstSecond (test (walls_of network tank) tank (stocks_of_tank standing watch.tank)
+      (inflow_of_tank network grid row watch.tank) watch.target watch.rising) cap first × (second ≤ first))
 
 -- ---- outflows
 

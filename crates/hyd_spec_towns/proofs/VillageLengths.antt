@@ -22,13 +22,13 @@ use Rattle.hyd_lemmas.proofs.Trials.{none_below, from, or-left, or-right, and-tr
 
 -- ---- by levels
 
-not_full : (o : Option TankState) → o ≢ Some Full → not (option_map_or is_full o false) ≡ true
+pub not_full : (o : Option TankState) → o ≢ Some Full → not (option_map_or is_full o false) ≡ true
 not_full None other = refl
 not_full (Some Full) other = absurd (other refl)
 not_full (Some Between) other = refl
 not_full (Some Empty) other = refl
 
-not_empty : (o : Option TankState) → o ≢ Some Empty → not (option_map_or is_empty o false) ≡ true
+pub not_empty : (o : Option TankState) → o ≢ Some Empty → not (option_map_or is_empty o false) ≡ true
 not_empty None other = refl
 not_empty (Some Full) other = refl
 not_empty (Some Between) other = refl

@@ -23,7 +23,7 @@ use Rattle.hyd_lemmas.proofs.Trials.{le-yes, both-first, both-second}
 -- ---- printed numbers
 
 -- whether the ends print an interval of so many ticks for a ten-thousandth
-abbrev rounds : ℤ → Interval → Interval → Bool
+abbrev pub rounds : ℤ → Interval → Interval → Bool
 rounds unit ticks ends =
     (int_le (ends.lo *ℤ unit) ticks.lo && int_le (ticks.lo +ℤ pos 1) ((ends.lo +ℤ pos 1) *ℤ unit))
     && (int_le ticks.hi (ends.hi *ℤ unit) && int_le (((ends.hi -ℤ pos 1) *ℤ unit) +ℤ pos 1) ticks.hi)
@@ -50,7 +50,7 @@ rounded unit ticks ends e =
       no_lower = le-yes (((ends.hi -ℤ pos 1) *ℤ unit) +ℤ pos 1) ticks.hi (both-second c d above);
     }
 
-prints_heads : (ticks ends : Interval) → rounds (pos (10 ^ 9)) ticks ends ≡ true → Prints (head_quantity false) ticks ends
+pub prints_heads : (ticks ends : Interval) → rounds (pos (10 ^ 9)) ticks ends ≡ true → Prints (head_quantity false) ticks ends
 prints_heads ticks ends e =
     let r = rounded (pos (10 ^ 9)) ticks ends e in
     record {
@@ -58,7 +58,7 @@ prints_heads ticks ends e =
       up = record { at_least = omega (arith, ints, r.up); least = λ k le. omega (arith, ints, r.no_lower, le) };
     }
 
-prints_flows : (ticks ends : Interval) → rounds (pos 1000) ticks ends ≡ true → Prints (flow_quantity Cmd) ticks ends
+pub prints_flows : (ticks ends : Interval) → rounds (pos 1000) ticks ends ≡ true → Prints (flow_quantity Cmd) ticks ends
 prints_flows ticks ends e =
     let r = rounded (pos 1000) ticks ends e in
     record {

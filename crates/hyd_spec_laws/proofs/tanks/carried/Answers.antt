@@ -1,4 +1,4 @@
-use Rattle.hyd_spec_laws.proofs.Levelling.{carried_lies, carried_inside, carried_within}
+use Rattle.hyd_spec_laws.proofs.Levelling.{carried_lies, carried_inside, carried_within, carried_ordered}
 use Rattle.hyd_spec_laws.proofs.tanks.carried.Goals as goal
 
 pub returns-clause-holds : goal.returns-clause-holds
@@ -11,3 +11,6 @@ returns-clause-nests c = λ walls tank stocks wider inflow more seconds vessel a
 
 pub returns-clause-bounded : goal.returns-clause-bounded
 returns-clause-bounded c = carried_within
+
+pub returns-clause-there : goal.returns-clause-there
+returns-clause-there c = λ walls tank stocks inflow seconds vessel has flow. carried_ordered walls tank vessel stocks inflow seconds has flow
