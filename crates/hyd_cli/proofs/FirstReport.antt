@@ -52,7 +52,7 @@ plus_nothing z = omega (arith, ints)
 
 -- the valve is throttled
 throttled : (network : Project) (first : IsFirstNetwork network) (d : Interval)
-    → status_of (is_us network) first.has_parts.link.kind (state_of_link (links_at network (initial_standing network)) 0) d ≡ Active
+    → status_of (is_us network) network.bends.list first.has_parts.link.kind (state_of_link (links_at network (initial_standing network)) 0) d ≡ Active
 throttled network first d =
     let parts = first.has_parts in
     rw (parts.plain.no_controls, parts.links, parts.link_is.kind, parts.link_is.start) refl
@@ -123,6 +123,6 @@ report_is network first elevation valve upper lower p = record {
   state_are = subst (λ b. MatchBool b (AreStateLines network (valve_grid elevation valve) (initial_standing network) (first_row upper lower) (first_lines p)) (first_lines p ≡ []))
       (sym (reported_at_once network first.has_parts.plain)) (state_lines network first elevation valve upper lower p);
   at_end = [];
-  at_end_are = at_end (sym first.has_parts.plain.times.duration);
+  at_end_are = record { events = []; changes = []; brings = at_end (sym first.has_parts.plain.times.duration); lines_are = refl };
   lines_are = sym (ap (λ front. front ++ (first_lines p ++ [])) (no_controls network first.has_parts.plain) ∙ append-nil (first_lines p));
 }

@@ -1,5 +1,5 @@
 -- The run of a network of the first form: its record is valid, and what is written and printed of it is right.
-use Rattle.std.proofs.Common.{◌≡◌, ℕ, ◌*◌, ◌^◌, ◌<◌, ◌≤◌, ℤ, pos, Bool, true, false, List, [], ◌∷◌, ◌++◌, All, length, unsigned_abs, refl, sym, ap, subst, ◌∙◌, arith}
+use Rattle.std.proofs.Common.{◌≡◌, ℕ, ◌*◌, ◌^◌, ◌<◌, ◌≤◌, ℤ, pos, Bool, true, false, List, [], ◌∷◌, ◌++◌, All, length, unsigned_abs, refl, sym, ap, subst, ◌∙◌, arith, ◌⊎◌, inl}
 use Rattle.std.proofs.lemmas.Int.{ints}
 use Rattle.std.proofs.lemmas.List.Elements.{All-nil, All-cons}
 use Rattle.hyd_num.specs.Numeral.{nano_of}
@@ -13,18 +13,20 @@ use Rattle.hyd_spec.specs.Network.{junction_count, tank_count}
 use Rattle.hyd_spec.specs.Quantity.{demand_of}
 use Rattle.hyd_spec_certificates.specs.Grid.{Grid}
 use Rattle.hyd_spec_certificates.specs.Certificate.{IsCertificate, IsTight}
-use Rattle.hyd_spec_reports.specs.CertificateText.{IsVector, IsRow, certificate_text}
+use Rattle.hyd_spec_reports.specs.CertificateText.{IsVector, IsRow, certificate_text, version_of}
 use Rattle.hyd_spec_certificates.specs.Record.{Record, Vectors, initial_standing, vector_of}
 use Rattle.hyd_spec_certificates.specs.Valid.{IsProblem, IsGridAt, DemandsAreInRange, demand_limit, finishes}
-use Rattle.hyd_spec_reports.specs.Stops.{HasNoCertificate, NoCertificate}
+use Rattle.hyd_spec_reports.specs.Stops.{HasNoCertificate}
+use Rattle.hyd_spec_reports.specs.declared.StopCause.TheVariants.{NoCertificate}
 use Rattle.hyd_spec_reports.specs.ReportLine.{ReportLine, report_text, done_line, stop_line}
 use Rattle.hyd_spec_reports.specs.Report.{IsReport}
 use Rattle.hyd_spec_input.specs.FirstForm.{IsFirstNetwork}
-use Rattle.hyd_spec_reports.specs.Headline.{IsFound, IsRun, none, more, Sharpness, IsTightThroughout, IsSharpFound, Finished, Stopped, RunWrites}
+use Rattle.hyd_spec_reports.specs.Headline.{EveryHistoryAgrees, IsFound, IsRun, none, more, Sharpness, IsTightThroughout, IsSharpFound, Finished, Stopped, RunWrites}
+use Rattle.hyd_spec_histories.proofs.Running.{every_history as run_agrees_so}
 use Rattle.hyd_cli.specs.FirstRun.{first_row, first_found, last_standing}
 use Rattle.hyd_cli.specs.Solution.{IsTightHead}
 use Rattle.hyd_cli.proofs.FirstGrid.{demand_is, has_grid}
-use Rattle.hyd_cli.proofs.FirstHistory.{every_history, none_found}
+use Rattle.hyd_cli.proofs.SoundNetworks.{sound}
 
 -- ---- counts
 
@@ -99,6 +101,16 @@ pub found_run : (network : Project) → IsFirstNetwork network → (grid : Grid)
 found_run network first grid at upper lower above below lines report =
     more {found = first_found network grid upper lower lines} (found_valid network first grid at upper lower above below lines report) none
 
+-- so every history agrees with it
+pub every_history : (network : Project) → IsFirstNetwork network → (grid : Grid)
+    → IsGridAt network (initial_standing network) grid → (upper lower : ℤ)
+    → IsCertificate grid Main Upper (upper ∷ []) → IsCertificate grid Main Lower (lower ∷ [])
+    → (lines : List ReportLine) → IsReport network grid (initial_standing network) (first_row upper lower) lines
+    → EveryHistoryAgrees network (first_found network grid upper lower lines ∷ [])
+every_history network first grid at upper lower above below lines report =
+    run_agrees_so network (sound network first) (first_found network grid upper lower lines ∷ [])
+    (last_standing network) (found_run network first grid at upper lower above below lines report)
+
 pub found_sharp : (network : Project) → IsFirstNetwork network → (sharpness : Sharpness) → sharpness.tight ≡ true → (grid : Grid) (upper lower : ℤ) (lines : List ReportLine)
     → IsTight grid Main Upper (upper ∷ []) → IsTight grid Main Lower (lower ∷ [])
     → IsSharpFound network sharpness (first_found network grid upper lower lines)
@@ -126,11 +138,19 @@ first_rows network first grid upper lower above below =
       pinned_lower = All-nil (λ (vectors : Vectors). IsVector (junction_count network) vectors.lower);
     }) (All-nil P)
 
+-- without tanks the version is 1
+first_version : (network : Project) → IsFirstNetwork network → version_of network ≡ 1
+first_version network first = rw first.has_parts.plain.no_tanks refl
+
+known_version : (network : Project) → IsFirstNetwork network → (version_of network ≡ 1) ⊎ (version_of network ≡ 2)
+known_version network first = inl (first_version network first)
+
 same_counts : (network : Project) → IsFirstNetwork network → (rows : List Record) (periods : ℕ) (finished : Bool)
-    → certificate_text 1 0 rows periods finished ≡ certificate_text (junction_count network) (tank_count network) rows periods finished
+    → certificate_text 1 1 0 rows periods finished ≡ certificate_text (version_of network) (junction_count network) (tank_count network) rows periods finished
 same_counts network first rows periods finished =
-    ap (λ (n : ℕ). certificate_text n 0 rows periods finished) (sym (one_junction network first))
-    ∙ ap (λ (k : ℕ). certificate_text (junction_count network) k rows periods finished) (sym (no_tank network first))
+    ap (λ (v : ℕ). certificate_text v 1 0 rows periods finished) (sym (first_version network first))
+    ∙ ap (λ (n : ℕ). certificate_text (version_of network) n 0 rows periods finished) (sym (one_junction network first))
+    ∙ ap (λ (k : ℕ). certificate_text (version_of network) (junction_count network) k rows periods finished) (sym (no_tank network first))
 
 append_nil : (X : Type 0) (xs : List X) → xs ++ [] ≡ xs
 append_nil X [] = refl
@@ -140,7 +160,7 @@ pub writes_finished : (network : Project) → IsFirstNetwork network → (upper 
     → IsTightHead network Upper upper → IsTightHead network Lower lower
     → (lines : List ReportLine) → ((grid : Grid) → IsGridAt network (initial_standing network) grid
     → IsReport network grid (initial_standing network) (first_row upper lower) lines)
-    → (written printed : List ℕ) → written ≡ certificate_text 1 0 (first_row upper lower ∷ []) 1 true
+    → (written printed : List ℕ) → written ≡ certificate_text 1 1 0 (first_row upper lower ∷ []) 1 true
     → printed ≡ report_text network lines (done_line 1)
     → RunWrites network 200 (record { width = pos (10 ^ 11); tight = true }) Finished written printed
 writes_finished network first upper lower above below lines reports written printed written_is printed_is =
@@ -157,6 +177,7 @@ writes_finished network first upper lower above below lines reports written prin
       sharp = (first_tight network first grid upper lower lines over under, tt);
       ends_so = refl;
       certificate = record {
+        known = known_version network first;
         junctions_fit = few_junctions network first;
         tanks_fit = few_tanks network first;
         rows_fit = first_rows network first grid upper lower over.is_certificate under.is_certificate;
@@ -169,9 +190,9 @@ writes_finished network first upper lower above below lines reports written prin
 
 pub writes_stopped : (network : Project) → IsFirstNetwork network → (side : Side)
     → HasNoCertificate network (initial_standing network) Main side
-    → (written printed : List ℕ) → written ≡ certificate_text 1 0 [] 0 false
-    → printed ≡ report_text network [] (stop_line network 0 0 (NoCertificate Main side 0))
-    → RunWrites network 200 (record { width = pos (10 ^ 11); tight = true }) (Stopped (NoCertificate Main side 0)) written printed
+    → (written printed : List ℕ) → written ≡ certificate_text 1 1 0 [] 0 false
+    → printed ≡ report_text network [] (stop_line network 0 (NoCertificate 0 Main side 0))
+    → RunWrites network 200 (record { width = pos (10 ^ 11); tight = true }) (Stopped (NoCertificate 0 Main side 0)) written printed
 writes_stopped network first side lacks written printed written_is printed_is =
     let one = one_junction network first in
     record {
@@ -179,8 +200,9 @@ writes_stopped network first side lacks written printed written_is printed_is =
       left = initial_standing network;
       is_run = none;
       sharp = tt;
-      ends_so = (refl, (omega (arith, one), lacks));
+      ends_so = (refl, record { period_is = refl; holds = (omega (arith, one), lacks) });
       certificate = record {
+        known = known_version network first;
         junctions_fit = few_junctions network first;
         tanks_fit = few_tanks network first;
         rows_fit = All-nil (IsRow (junction_count network) (tank_count network));
@@ -188,5 +210,5 @@ writes_stopped network first side lacks written printed written_is printed_is =
         is_text = written_is ∙ same_counts network first [] 0 false;
       };
       report = printed_is;
-      every_history = λ S some history is. none_found network S _ history;
+      every_history = run_agrees_so network (sound network first) [] (initial_standing network) none;
     }

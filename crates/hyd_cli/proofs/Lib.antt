@@ -7,9 +7,7 @@ pub mod Certificates
 pub mod FirstSolution
 pub mod FirstReport
 pub mod TextLemmas
-pub mod PrintedValues
-pub mod LinesHold
-pub mod FirstHistory
+pub mod SoundNetworks
 pub mod FirstRuns
 pub mod AnswerLemmas
 pub mod LengthLemmas
@@ -17,4 +15,3 @@ pub mod Reading
 pub mod Valves
 pub mod Unlike
 pub mod RunLemmas
-pub mod SoundNetworks

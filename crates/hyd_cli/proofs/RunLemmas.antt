@@ -6,7 +6,8 @@ use Rattle.hyd_spec_certificates.specs.declared.Side.{Side}
 use Rattle.hyd_spec_certificates.specs.declared.Side.TheVariants.{Upper, Lower}
 use Rattle.hyd_spec_certificates.specs.Certificate.{IsInBox}
 use Rattle.hyd_spec_certificates.specs.Record.{initial_standing}
-use Rattle.hyd_spec_reports.specs.Stops.{HasNoCertificate, NoCertificate}
+use Rattle.hyd_spec_reports.specs.Stops.{HasNoCertificate}
+use Rattle.hyd_spec_reports.specs.declared.StopCause.TheVariants.{NoCertificate}
 use Rattle.hyd_spec_reports.specs.Headline.{Finished, Stopped}
 use Rattle.hyd_spec_input.specs.FirstForm.{IsFirstNetwork}
 use Rattle.hyd_cli.specs.declared.status.Status.TheVariants.{Done, Undecided}
@@ -35,7 +36,7 @@ pub stopped_run : (network : Project) → IsFirstNetwork network → (side : Sid
     → (written printed : List ℕ) → written ≡ stopped_certificate → printed ≡ stopped_report network side
     → IsRunOf network Undecided written printed
 stopped_run network first side none written printed is_written is_printed = record {
-  outcome = Stopped (NoCertificate Main side 0);
+  outcome = Stopped (NoCertificate 0 Main side 0);
   has_outcome = refl;
   run = writes_stopped network first side none written printed is_written is_printed;
 }

@@ -35,7 +35,7 @@ record_parts h p mu su nl ml sl e = simp (append_assoc, append-nil) refl
 pub finished_is : (upper lower : ℤ)
     → codes "HYDCERT 1 1 0\nPERIOD 0 0 0\nMU " ++ (signed_decimal upper ++ (codes "\nML " ++ (signed_decimal lower ++ codes "\nEND 1 FINISHED\n"))) ≡ finished_certificate upper lower
 unfolding digits
-finished_is upper lower = sym (record_parts (header_line 1 0) (period_line (first_row upper lower)) (codes "MU ") (signed_decimal upper) (10 ∷ []) (codes "ML ") (signed_decimal lower) (end_line 1 true))
+finished_is upper lower = sym (record_parts (header_line 1 1 0) (period_line (first_row upper lower)) (codes "MU ") (signed_decimal upper) (10 ∷ []) (codes "ML ") (signed_decimal lower) (end_line 1 true))
 
 pub stopped_is : codes "HYDCERT 1 1 0\nEND 0 STOPPED\n" ≡ stopped_certificate
 unfolding digits

@@ -7,18 +7,18 @@ use Rattle.hyd_spec_certificates.specs.Grid.{Grid}
 use Rattle.hyd_spec_certificates.specs.Record.{initial_standing}
 use Rattle.hyd_spec_certificates.specs.Valid.{IsGridAt}
 use Rattle.hyd_spec_reports.specs.CertificateText.{certificate_text}
-use Rattle.hyd_spec_reports.specs.Stops.{NoCertificate}
+use Rattle.hyd_spec_reports.specs.declared.StopCause.TheVariants.{NoCertificate}
 use Rattle.hyd_spec_reports.specs.Report.{IsReport}
 use Rattle.hyd_spec_reports.specs.ReportLine.{ReportLine, report_text, done_line, stop_line}
 use Rattle.hyd_cli.specs.FirstRun.{first_row}
 
 -- the certificate of the run that found these heads
 abbrev pub finished_certificate : ℤ → ℤ → List ℕ
-finished_certificate upper lower = certificate_text 1 0 (first_row upper lower ∷ []) 1 true
+finished_certificate upper lower = certificate_text 1 1 0 (first_row upper lower ∷ []) 1 true
 
 -- the certificate of the run that found none on a side
 abbrev pub stopped_certificate : List ℕ
-stopped_certificate = certificate_text 1 0 [] 0 false
+stopped_certificate = certificate_text 1 1 0 [] 0 false
 
 -- The text is the report of the period with these heads, on each grid of the period.
 pub record IsFinishedReport (network : Project) (upper lower : ℤ) (text : List ℕ) : Type 0 where
@@ -29,4 +29,4 @@ pub record IsFinishedReport (network : Project) (upper lower : ℤ) (text : List
 
 -- the report of a run that stopped at once
 abbrev pub stopped_report : Project → Side → List ℕ
-stopped_report network side = report_text network [] (stop_line network 0 0 (NoCertificate Main side 0))
+stopped_report network side = report_text network [] (stop_line network 0 (NoCertificate 0 Main side 0))

@@ -15,7 +15,8 @@ ghost use Rattle.hyd_spec_certificates.specs.Certificate.{IsCertificate, IsTight
 ghost use Rattle.hyd_spec_reports.specs.CertificateText.{certificate_text};
 ghost use Rattle.hyd_spec_certificates.specs.Record.{initial_standing};
 ghost use Rattle.hyd_spec_certificates.specs.Valid.{IsGridAt};
-ghost use Rattle.hyd_spec_reports.specs.Stops.{HasNoCertificate, NoCertificate};
+ghost use Rattle.hyd_spec_reports.specs.Stops.{HasNoCertificate};
+ghost use Rattle.hyd_spec_reports.specs.declared.StopCause.TheVariants.{NoCertificate};
 ghost use Rattle.hyd_spec_reports.specs.ReportLine.{ReportLine, report_text, done_line, stop_line};
 ghost use Rattle.hyd_spec_reports.specs.Report.{Prints, IsReport};
 ghost use Rattle.hyd_spec_reports.specs.Claims.{LiesBetween, at_part};
@@ -44,16 +45,6 @@ fn texts_have_networks(alloc: Global, diameter: Decimal, setting: Decimal)
     let _network = empty(alloc);
 }
 
-/// The printed ends of an interval enclose each of its values, at every scale.
-fn printed_values()
-    ensures heads { (us : Bool) (S : ℕ) (interval ends : Interval) (z : ℤ) → Prints (head_quantity us) interval ends
-        → LiesIn S interval z → LiesBetween ends (at_part S (head_quantity us) z) }
-    ensures pressures { (us : Bool) (S : ℕ) (interval ends : Interval) (z : ℤ) → Prints (pressure_quantity us) interval ends
-        → LiesIn S interval z → LiesBetween ends (at_part S (pressure_quantity us) z) }
-    ensures flows { (unit : FlowUnit) (S : ℕ) (interval ends : Interval) (z : ℤ) → Prints (flow_quantity unit) interval ends
-        → LiesIn S interval z → LiesBetween ends (at_part S (flow_quantity unit) z) }
-{}
-
 /// Certificates of both sides are the record of a valid run, and every history agrees with it and
 /// with its report. Tight ones are as sharp as can be asked for.
 fn first_histories()
@@ -77,14 +68,14 @@ fn first_runs()
         → IsTightHead network Upper upper → IsTightHead network Lower lower
         → (lines : List ReportLine) → ((grid : Grid) → IsGridAt network (initial_standing network) grid
         → IsReport network grid (initial_standing network) (first_row upper lower) lines)
-        → (written printed : List ℕ) → written ≡ certificate_text 1 0 (first_row upper lower ∷ []) 1 true
+        → (written printed : List ℕ) → written ≡ certificate_text 1 1 0 (first_row upper lower ∷ []) 1 true
         → printed ≡ report_text network lines (done_line 1)
         → RunWrites network 200 (record { width = pos (10 ^ 11); tight = true }) Finished written printed }
     ensures stopped { (network : Project) → IsFirstNetwork network → (side : Side)
         → HasNoCertificate network (initial_standing network) Main side
-        → (written printed : List ℕ) → written ≡ certificate_text 1 0 [] 0 false
-        → printed ≡ report_text network [] (stop_line network 0 0 (NoCertificate Main side 0))
-        → RunWrites network 200 (record { width = pos (10 ^ 11); tight = true }) (Stopped (NoCertificate Main side 0)) written printed }
+        → (written printed : List ℕ) → written ≡ certificate_text 1 1 0 [] 0 false
+        → printed ≡ report_text network [] (stop_line network 0 (NoCertificate 0 Main side 0))
+        → RunWrites network 200 (record { width = pos (10 ^ 11); tight = true }) (Stopped (NoCertificate 0 Main side 0)) written printed }
 {}
 
 /// A network of the first form is sound.

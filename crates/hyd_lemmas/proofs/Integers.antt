@@ -1,10 +1,11 @@
 -- Integers: floors and ceilings, greatest and least of two, factors.
-use Rattle.std.proofs.Common.{◌≡◌, ℕ, suc, ◌*◌, ◌/◌, ◌%◌, ◌<◌, ◌≤◌, ℤ, pos, negsuc, ◌+ℤ◌, ◌*ℤ◌, ◌≤ℤ◌, ◌<ℤ◌, neg_ℤ, subst, arith}
+use Rattle.std.proofs.Common.{◌≡◌, ℕ, suc, ◌*◌, ◌/◌, ◌%◌, ◌<◌, ◌≤◌, ℤ, pos, negsuc, ◌+ℤ◌, ◌*ℤ◌, ◌≤ℤ◌, ◌<ℤ◌, neg_ℤ, sym, ap, ◌∙◌, subst, arith}
+use Rattle.std.proofs.Math.Nat.{mul_comm}
 use Rattle.std.proofs.lemmas.Int.{ints, clamps, by_lt_z}
 use Rattle.std.proofs.lemmas.Nat.{div-add-mod'}
 use Rattle.std.specs.Int.{int_max, int_min, int_div_euclid}
 use Rattle.hyd_num.specs.Rational.{Rational, floor, ceiling, negated}
-use Rattle.hyd_num.proofs.Integers.{times_plus, times_neg, times_rises, times_reflects, times_one}
+use Rattle.hyd_num.proofs.Integers.{times_plus, times_neg, times_rises, times_reflects, times_times, times_one}
 
 -- ---- floors and ceilings
 
@@ -79,3 +80,9 @@ pub min_is : (P : ℤ → Type 0) (a b : ℤ) → (a ≤ℤ b → P a) → (b �
 min_is P a b l r = by_lt_z b a
     (λ lt. subst P (let e : b ≡ int_min a b = omega (arith, ints, clamps) in e) (r (omega (arith, ints))))
     (λ ge. subst P (let e : a ≡ int_min a b = omega (arith, ints, clamps) in e) (l ge))
+
+-- ---- factors
+
+-- two factors, exchanged
+pub exchanged : (S k : ℕ) (z : ℤ) → pos k *ℤ (pos S *ℤ z) ≡ pos S *ℤ (pos k *ℤ z)
+exchanged S k z = times_times k S z ∙ ap (λ (n : ℕ). pos n *ℤ z) (mul_comm k S) ∙ sym (times_times S k z)

@@ -1,11 +1,13 @@
 -- A text has at most as many rows as bytes.
-use Rattle.std.proofs.Common.{◌≡◌, ℕ, suc, ◌+◌, ◌==◌, ◌≤◌, Bool, false, List, [], ◌∷◌, length, refl, arith, inl, inr, lit≤, length-append}
+use Rattle.std.proofs.Common.{filter, nat_le, true, false, ◌<◌, Option, Some, None, IfSome, slice_get, sym, ◌≡◌, ℕ, suc, ◌+◌, ◌==◌, ◌≤◌, Bool, false, List, [], ◌∷◌, length, refl, arith, inl, inr, lit≤, length-append}
 use Rattle.std.specs.List.{slice_split, onto_first}
 use Rattle.std.specs.Str.Lines.{strip_carriage_return}
 use Rattle.std.proofs.lemmas.Bool.{cases_Bool}
 use Rattle.std.proofs.lemmas.Bool.Decides.{nat_tests}
 use Rattle.std.proofs.lemmas.List.{length-map}
-use Rattle.hyd_lex.specs.Bytes.{is_line_feed, without_empty_end, text_lines}
+use Rattle.std.proofs.lemmas.Option.{slice_get_within}
+use denote.Ref.{Bor}
+use Rattle.hyd_lex.specs.Bytes.{is_line_feed, is_blank, without_empty_end, text_lines, words_in, text_of}
 use Rattle.hyd_lex.specs.Lines.{items, given, kind_of, region_after}
 use Rattle.hyd_lex.specs.declared.section.Region.{Region}
 use Rattle.hyd_lex.specs.declared.section.Kind.{Kind}
@@ -44,3 +46,40 @@ few_items region n (line ∷ lines) =
       few_items (region_after region (kind_of region line)) (n + 1) lines,
       length-append (given (kind_of region line) n line) (items (region_after region (kind_of region line)) (n + 1) lines),
     )
+
+-- ---- a body has at most as many words as bytes
+
+is_word : List ℕ → Bool
+is_word piece = nat_le 1 (length piece)
+
+filled : (x : ℕ) (xs : List ℕ) → is_word (x ∷ xs) ≡ true
+unfolding is_word
+filled x xs = let some : 1 ≤ suc (length xs) = omega arith in grind (arith, nat_tests)
+
+longer_word : (x : ℕ) (parts : List (List ℕ)) → length (filter is_word (onto_first x parts)) ≤ suc (length (filter is_word parts))
+longer_word x [] = rw (filled x []) (lit≤ tt)
+longer_word x (part ∷ parts) = elim (cases_Bool (is_word part)) [
+  | inl t ↦ rw (t, filled x part) (omega arith)
+  | inr f ↦ rw (f, filled x part) (omega arith)
+]
+
+few_filled : (p : ℕ → Bool) (t : List ℕ) → length (filter is_word (slice_split p t)) ≤ length t
+unfolding is_word
+few_filled p [] = lit≤ tt
+few_filled p (x ∷ xs) = elim (cases_Bool (p x)) [
+  | inl t ↦ rw t (omega (arith, few_filled p xs))
+  | inr f ↦ (let e : length (filter is_word (onto_first x (slice_split p xs))) ≤ suc (length xs) = omega (arith, longer_word x (slice_split p xs), few_filled p xs) in
+      rw f e)
+]
+
+pub few_words : (body : List ℕ) → length (words_in body) ≤ length body
+unfolding words_in is_word
+few_words body = few_filled is_blank body
+
+-- a word that is there has a number below the bytes of its body
+pub word_within : (body : List ℕ) (k most : ℕ) (word : Option (Bor (List ℕ))) → text_of word ≡ slice_get (words_in body) k → length body ≤ most
+    → IfSome word (λ w. k < most)
+word_within body k most None e l = tt
+word_within body k most (Some w) e l =
+    let n : k < length (words_in body) = slice_get_within (words_in body) k w.now (sym e) in
+    omega (arith, few_words body, n, l)

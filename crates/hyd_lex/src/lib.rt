@@ -13,6 +13,3 @@ pub use fault::{LexCause, LexFault};
 pub use line::Line;
 pub use lines::Lines;
 pub use section::Section;
-
-#[cfg(test)]
-mod tests;

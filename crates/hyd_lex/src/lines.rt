@@ -166,11 +166,12 @@ impl<'a> Lines<'a> {
         None
     }
 
-    /// The word of a line by its number, counted from 0. `None` comes exactly where the line has no such word. The line
-    /// is read anew for each word.
+    /// The word of a line by its number, counted from 0. `None` comes exactly where the line has no such word; a text
+    /// of 64 MiB has fewer words than bytes. The line is read anew for each word.
     pub fn word(&self, line: &Line, number: u32) -> Option<&'a [u8]>
         requires { LiesIn self.now.text line.now }
-        ensures { text_of result ≡ slice_get (row_of self.now.text line.now).words number }
+        ensures word { text_of result ≡ slice_get (row_of self.now.text line.now).words number }
+        ensures few { IfSome result (λ word. number < 2 ^ 26) }
     {
         word(&self.text[line.from as usize..line.to as usize], number)
     }

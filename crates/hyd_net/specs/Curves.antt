@@ -1,7 +1,7 @@
 -- Curves by straight lines between their points, and what is asked of the points of each kind of curve.
 -- Source: EPANET 2.2 User Manual, chapter 3 (curves) and appendix C ([CURVES]); the lines before the first and after the last point,
 -- and the ranges, are this program's.
-use Rattle.std.specs.Prelude.{◌≡◌, ℕ, ◌^◌, ◌≤◌, List, [], ◌∷◌, length, map, All, AllPairs, HoldsAt, IsTrue, ℤ, pos, ◌+ℤ◌, ◌-ℤ◌, ◌*ℤ◌, ◌≤ℤ◌, ◌<ℤ◌, int_lt, unsigned_abs, if◌then◌else◌}
+use Rattle.std.specs.Prelude.{◌≡◌, ℕ, ◌*◌, ◌^◌, ◌≤◌, List, [], ◌∷◌, length, map, All, AllPairs, HoldsAt, IsTrue, ℤ, pos, ◌+ℤ◌, ◌-ℤ◌, ◌*ℤ◌, ◌≤ℤ◌, ◌<ℤ◌, int_lt, unsigned_abs, if◌then◌else◌}
 use Rattle.hyd_num.specs.Rational.{Rational, whole, is_at_most, floor}
 use Rattle.hyd_net.specs.Ranges.{Lies, IsHead, IsFlow}
 use Rattle.hyd_net.specs.declared.curves.VolumePoint.{VolumePoint}
@@ -17,10 +17,10 @@ pub record Knot : Type 0 where
 -- what the line through two knots has at x, the second knot's place being the greater; x and the result are S-th parts of ticks
 abbrev pub on_line : ℕ → Knot → Knot → ℤ → Rational
 on_line S first second x =
-    let width = second.place -ℤ first.place in
+    let width = unsigned_abs (second.place -ℤ first.place) in
     record {
-      num = ((pos S *ℤ first.value) *ℤ width) +ℤ ((second.value -ℤ first.value) *ℤ (x -ℤ (pos S *ℤ first.place)));
-      den = unsigned_abs width;
+      num = (pos (S * width) *ℤ first.value) +ℤ ((second.value -ℤ first.value) *ℤ (x -ℤ (pos S *ℤ first.place)));
+      den = width;
     }
 
 -- what two neighbours have at x: where their places are one, the first knot's value before it and the second's from it on

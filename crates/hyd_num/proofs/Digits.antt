@@ -47,7 +47,8 @@ fold_from a (d ∷ ds) =
     let g : 10 ^ suc (length ds) ≡ 10 ^ length ds * 10 = pow-suc 10 (length ds) in
     let r : fold step (10 * a + (d - 48)) ds ≡ a * 10 ^ suc (length ds) + fold step (10 * 0 + (d - 48)) ds = omega (arith, e, f, ap (λ x. a * x) g) in r
 
-below_power : (ds : List ℕ) → list_all is_digit ds ≡ true → number ds < 10 ^ length ds
+-- n digits write a number below the n-th power of ten
+pub below_power : (ds : List ℕ) → list_all is_digit ds ≡ true → number ds < 10 ^ length ds
 below_power [] h = lit< tt
 below_power (d ∷ ds) h =
     let p : (is_digit d ≡ true) × (list_all is_digit ds ≡ true) = and_parts (is_digit d) (list_all is_digit ds) h in

@@ -9,3 +9,4 @@ pub mod Roots
 pub mod Decimals
 pub mod Rational
 pub mod Refusal
+pub mod Wide

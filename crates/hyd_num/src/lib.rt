@@ -15,6 +15,7 @@ mod quotients;
 mod roots;
 mod scaled_roots;
 mod units;
+mod wide;
 
 pub use binary::Scaled;
 pub use capacities::{Capacity, Origin};
@@ -27,3 +28,4 @@ pub use quotients::{mul_div_ceil, mul_div_floor};
 pub use roots::isqrt;
 pub use scaled_roots::{sqrt_down, sqrt_up};
 pub use units::FlowUnit;
+pub use wide::compare_squares;

@@ -1,12 +1,13 @@
 -- The exact law of a link or an emitter: which flow belongs to a head difference, stated without
 -- roots as two relations: the exact flow is at least a, the exact flow is at most a.
 -- Source: EPANET 2.2 User Manual, chapter 3 (pipes, pumps, valves, emitters); the linear law of a valve without loss
--- coefficient is this program's.
-use Rattle.std.specs.Prelude.{ℕ, ◌*◌, ◌^◌, ℤ, pos, negsuc, neg_ℤ, unsigned_abs, ◌*ℤ◌, ◌+ℤ◌, ◌-ℤ◌, ◌≤ℤ◌, ◌⊎◌, suc, ⊤, Bool}
+-- coefficient, and the bounds between which a flow is held, are this program's.
+use Rattle.std.specs.Prelude.{ℕ, ◌*◌, ◌^◌, ℤ, pos, negsuc, neg_ℤ, unsigned_abs, ◌*ℤ◌, ◌+ℤ◌, ◌-ℤ◌, ◌≤ℤ◌, ◌⊎◌, suc, ⊤, Bool, List}
 use Rattle.hyd_num.specs.Fraction.{Fraction, fraction, over, power}
 use Rattle.hyd_num.specs.Quantity.{is_us_unit, billionths, head_ticks, flow_fraction, pressure_fraction}
 use Rattle.hyd_spec.specs.Types.{Decimal, FlowUnit, Origin, Pipe, Valve, Pump, Emitter, PressureDemand, Capacity}
 use Rattle.hyd_num.specs.Rational.{Rational}
+use Rattle.hyd_net.specs.Curves.{Knot, value_at}
 use Rattle.hyd_spec.specs.Scale.{at_scale, tolerance}
 use Rattle.hyd_spec.specs.Loss.{PipeLossAtMost, PipeLossAtLeast, ValveLossAtMost, ValveLossAtLeast, SquareLossAtMost, SquareLossAtLeast}
 
@@ -81,7 +82,8 @@ loss_at_least (PressureDemand demand minimum required us) = SquareLossAtLeast (p
 
 -- The law of a link: closed; a loss of the kind that a capacity's numbers give; the valve without
 -- loss coefficient, which loses 10^-6 feet for a cubic foot a second; a law lifted by a pump's head;
--- a law that passes one way only; a law held at or below a setting (flow ticks).
+-- a law that passes one way only; a law held at or below a setting (flow ticks); the straight lines between knots, the flow
+-- (flow ticks) by the head difference (head ticks); a law held between a least and a greatest flow (flow ticks).
 pub data Law : Type 0 where
   Shut : Law
   QuadraticLaw : Capacity → Law
@@ -90,6 +92,8 @@ pub data Law : Type 0 where
   ForwardOnly : Law → Law
   ReverseOnly : Law → Law
   Capped : ℤ → Law → Law
+  Bent : List Knot → Law
+  Held : ℤ → ℤ → Law → Law
 
 -- A law R at the head difference x plus the lift: at a scale finer by the lift's denominator both
 -- are whole.
@@ -99,7 +103,7 @@ lifted lift R S x a =
 
 -- The exact flow at head difference x is at least a.
 -- Forward only: it is the greater of 0 and the inner flow. Reverse only: the lesser. Capped: the
--- lesser of the setting and the inner flow.
+-- lesser of the setting and the inner flow. Held: the inner flow, the least where that is less, the greatest where it is more.
 abbrev pub flow_at_least : Law → Relation
 flow_at_least Shut S x a = a ≤ℤ pos 0
 flow_at_least (QuadraticLaw capacity) S x a = odd_at_least (loss_at_most capacity.origin) (loss_at_least capacity.origin) S x a
@@ -108,6 +112,8 @@ flow_at_least (Lifted lift law) S x a = lifted lift (flow_at_least law) S x a
 flow_at_least (ForwardOnly law) S x a = (a ≤ℤ pos 0) ⊎ flow_at_least law S x a
 flow_at_least (ReverseOnly law) S x a = (a ≤ℤ pos 0) × flow_at_least law S x a
 flow_at_least (Capped setting law) S x a = (a ≤ℤ at_scale S setting) × flow_at_least law S x a
+flow_at_least (Bent knots) S x a = (pos (value_at S knots x).den *ℤ a) ≤ℤ (value_at S knots x).num
+flow_at_least (Held least greatest law) S x a = (a ≤ℤ at_scale S least) ⊎ ((a ≤ℤ at_scale S greatest) × flow_at_least law S x a)
 
 -- The exact flow at head difference x is at most a.
 abbrev pub flow_at_most : Law → Relation
@@ -118,6 +124,8 @@ flow_at_most (Lifted lift law) S x a = lifted lift (flow_at_most law) S x a
 flow_at_most (ForwardOnly law) S x a = (pos 0 ≤ℤ a) × flow_at_most law S x a
 flow_at_most (ReverseOnly law) S x a = (pos 0 ≤ℤ a) ⊎ flow_at_most law S x a
 flow_at_most (Capped setting law) S x a = (at_scale S setting ≤ℤ a) ⊎ flow_at_most law S x a
+flow_at_most (Bent knots) S x a = (value_at S knots x).num ≤ℤ (pos (value_at S knots x).den *ℤ a)
+flow_at_most (Held least greatest law) S x a = (at_scale S greatest ≤ℤ a) ⊎ ((at_scale S least ≤ℤ a) × flow_at_most law S x a)
 
 -- A head difference and a flow follow a law: the law's exact flow is within the tolerance of the flow,
 -- that is, at least the flow less the tolerance and at most the flow plus it.

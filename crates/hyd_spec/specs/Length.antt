@@ -5,16 +5,17 @@ use Rattle.hyd_spec.specs.Types.{Project, Tank, TankState, Full, Empty, Control,
 use Rattle.hyd_spec.specs.Lists.{map_from}
 use Rattle.hyd_num.specs.Rational.{Rational, whole}
 use Rattle.hyd_spec.specs.Assignment.{Assignment, node_heads}
-use Rattle.hyd_spec.specs.Tank.{exact_level, carried_level, reaches, is_at_maximum, is_at_minimum, tank_inflow}
+use Rattle.hyd_spec.specs.Tank.{Stock, walls_of, content_bounds, exact_content, carried_level, watched_level, has_reached, reaches, is_at_maximum, is_at_minimum, tank_inflow}
 use Rattle.hyd_spec.specs.Start.{clock_at}
 use Rattle.hyd_spec.specs.Rules.{Readings, rule_values, rule_changes}
 
--- A period of a history: when it begins, how long it lasts (seconds), and what holds throughout it. Levels are those
--- of its beginning, in S-th parts of a head tick.
+-- A period of a history: when it begins, how long it lasts (seconds), and what holds throughout it. Levels and volumes are
+-- those of its beginning, in S-th parts of a head tick and of a volume tick, for each tank.
 pub record Period : Type 0 where
   pub time : ℕ
   pub length : ℕ
   pub levels : List ℤ
+  pub volumes : List ℤ
   pub tanks : List TankState
   pub links : List LinkState
   pub assignment : Assignment
@@ -26,12 +27,11 @@ pub record IsLeast (P : ℕ → Type 0) (e : ℕ) : Type 0 where
 
 -- ---- by the clock
 
--- A period that begins at `time` ends at e at the latest: a hydraulic step later, at the end of the run, where a step of the
--- patterns begins, at a report time, or where a control acts by time or clock. The end of the run lies after `time` in
--- every period but the last.
+-- The clock ends a period that begins at `time` at e or before; e is one of these instants after its start: a hydraulic step
+-- later, the end of the run, where a step of the patterns begins, a report time, or where a control acts by time or clock.
 pub data EndsByClock (network : Project) (time e : ℕ) : Type 0 where
-  step : e ≡ time + network.times.hydraulic → EndsByClock network time e
-  duration : e ≡ network.times.duration → EndsByClock network time e
+  step : time < e → e ≡ time + network.times.hydraulic → EndsByClock network time e
+  duration : time < e → e ≡ network.times.duration → EndsByClock network time e
   pattern : time < e → (e + network.times.pattern_start) % network.times.pattern ≡ 0 → EndsByClock network time e
   report : time < e → network.times.report_start ≤ e
       → (e - network.times.report_start) % network.times.report ≡ 0 → EndsByClock network time e
@@ -46,23 +46,43 @@ pub data EndsByClock (network : Project) (time e : ℕ) : Type 0 where
 abbrev pub level_at_start : Period → ℕ → ℤ
 level_at_start period k = slice_index_or period.levels k (pos 0)
 
--- Its exact level some seconds after the start (S-th parts of a head tick), by the period's flows.
+-- The stock of a tank at the start.
+abbrev pub stock_at_start : Period → ℕ → Stock
+stock_at_start period k = record { level = level_at_start period k; volume = slice_index_or period.volumes k (pos 0) }
+
+-- Its exact content some seconds after the start, by the period's flows.
 abbrev pub exact_after : Project → Period → ℕ → Tank → ℕ → Rational
 exact_after network period k tank seconds =
-    exact_level tank (level_at_start period k) (tank_inflow network k period.assignment.flows) seconds
+    exact_content (walls_of network tank) (stock_at_start period k) (tank_inflow network k period.assignment.flows) seconds
 
--- The period may end `seconds` after its start: a tank that wasn't full reaches its maximum, one that wasn't empty its
--- minimum, or a level control that didn't hold at the start does.
+-- Its carried level then (S-th parts of a head tick).
+abbrev pub carried_after : Project → ℕ → Period → ℕ → Tank → ℕ → Rational
+carried_after network S period k tank seconds =
+    carried_level S (walls_of network tank) tank (stock_at_start period k) (tank_inflow network k period.assignment.flows) seconds
+
+-- The level then that the levels of controls are compared with (S-th parts of a head tick).
+abbrev pub watched_after : Project → ℕ → Period → ℕ → Tank → ℕ → Rational
+watched_after network S period k tank seconds =
+    watched_level S (walls_of network tank) tank (stock_at_start period k) (tank_inflow network k period.assignment.flows) seconds
+
+-- It has reached a target level (head ticks) then, from below or from above.
+abbrev pub reached_after : Project → ℕ → Period → ℕ → Tank → Bool → ℤ → ℕ → Bool
+reached_after network S period k tank above target seconds =
+    has_reached S (walls_of network tank) tank (stock_at_start period k) (tank_inflow network k period.assignment.flows)
+    above target seconds
+
+-- The period may end `seconds` after its start: the exact content of a tank that wasn't full reaches that of its maximum, of one
+-- that wasn't empty that of its minimum, or the level of a control that didn't hold at the start is reached.
 pub data EndsByLevel (network : Project) (S : ℕ) (period : Period) (seconds : ℕ) : Type 0 where
   full : (k : ℕ) (tank : Tank) → slice_get network.tanks.list k ≡ Some tank → slice_get period.tanks k ≢ Some Full
-      → IsTrue (is_at_maximum S tank (exact_after network period k tank seconds)) → EndsByLevel network S period seconds
+      → IsTrue (is_at_maximum S (content_bounds (walls_of network tank) tank) (exact_after network period k tank seconds)) → EndsByLevel network S period seconds
   empty : (k : ℕ) (tank : Tank) → slice_get network.tanks.list k ≡ Some tank → slice_get period.tanks k ≢ Some Empty
-      → IsTrue (is_at_minimum S tank (exact_after network period k tank seconds)) → EndsByLevel network S period seconds
+      → IsTrue (is_at_minimum S (content_bounds (walls_of network tank) tank) (exact_after network period k tank seconds)) → EndsByLevel network S period seconds
   control : (control : Control) (k : ℕ) (above : Bool) (ticks : ℤ) (tank : Tank)
       → Contains network.controls.list control → control.when ≡ AtLevel k above ticks
       → slice_get network.tanks.list k ≡ Some tank
       → IsFalse (reaches S above ticks (whole (level_at_start period k)))
-      → IsTrue (reaches S above ticks (exact_after network period k tank seconds)) → EndsByLevel network S period seconds
+      → IsTrue (reached_after network S period k tank above ticks seconds) → EndsByLevel network S period seconds
 
 -- ---- by rules
 
@@ -70,8 +90,7 @@ pub data EndsByLevel (network : Project) (S : ℕ) (period : Period) (seconds : 
 abbrev pub readings_after : Project → ℕ → Period → ℕ → Readings
 readings_after network S period seconds = record {
   heads = node_heads network S period.time period.levels period.assignment.heads;
-  levels = map_from (λ k tank. carried_level S tank (level_at_start period k) (tank_inflow network k period.assignment.flows) seconds)
-      0 network.tanks.list;
+  levels = map_from (λ k tank. carried_after network S period k tank seconds) 0 network.tanks.list;
   flows = map unsigned_abs period.assignment.flows;
   links = period.links;
 }

@@ -1,32 +1,52 @@
 -- The exact law of a link in its state, between tanks that may be full or empty.
--- Source: EPANET 2.2 User Manual, chapter 3 (pipes, pumps, valves; tanks); the reverse flow of a flow-control valve is
--- this program's.
-use Rattle.std.specs.Prelude.{ℕ, Bool, true, false, ◌&&◌, ◌||◌, List, slice_get, if◌then◌else◌}
+-- Source: EPANET 2.2 User Manual, chapter 3 (pipes, pumps, valves; tanks) and appendix C ([TANKS], overflow); the reverse flow
+-- of a flow-control valve, and the greatest flow by a curve of straight lines, are this program's.
+use Rattle.std.specs.Prelude.{ℕ, ◌^◌, ℤ, pos, neg_ℤ, Bool, true, false, ◌&&◌, ◌||◌, not, List, slice_get, if◌then◌else◌}
 use Rattle.std.specs.Option.{option_map_or}
-use Rattle.hyd_spec.specs.Types.{Project, Link, LinkKind, PipeLink, CheckPipe, PumpLink, Tcv, Fcv, OpenValve, Quadratic, Linear, LinkState, Open, Speed, Throttle, Limit, TankState, Full, Empty, Between}
+use Rattle.hyd_net.specs.ListView.{ListView}
+use Rattle.hyd_spec.specs.Types.{Project, Tank, Link, HeadPoint, LinkKind, PipeLink, CheckPipe, PumpLink, CurvePump, Tcv, Fcv, Gpv, OpenValve, Quadratic, Linear, LinkState, Open, Closed, Speed, Throttle, Limit, TankState, Full, Empty, Between}
 use Rattle.hyd_spec.specs.Network.{is_tank, tank_number}
-use Rattle.hyd_spec.specs.Quantity.{is_us, lift_of}
-use Rattle.hyd_spec.specs.Law.{Law, Shut, QuadraticLaw, LinearLaw, Lifted, ForwardOnly, ReverseOnly, Capped}
+use Rattle.hyd_spec.specs.Quantity.{is_us, lift_of, points_of, pump_knots, valve_knots}
+use Rattle.hyd_spec.specs.Law.{Law, Shut, QuadraticLaw, LinearLaw, Lifted, ForwardOnly, ReverseOnly, Capped, Bent, Held}
 
 -- A valve that is fully open.
 abbrev pub valve_law : OpenValve → Law
 valve_law (Quadratic capacity) = QuadraticLaw capacity
 valve_law Linear = LinearLaw
 
+-- What a curve by straight lines passes at most, either way (flow ticks): 10^10 cubic metres a day.
+abbrev pub greatest_flow : ℤ
+greatest_flow = pos (10 ^ 17)
+
 -- The law of a link of this kind in this state, whatever the tanks at its ends allow.
--- A running pump passes forward only, what its curve gives at the head difference plus its lift; a
--- throttled valve is a valve whose coefficient is the setting; a flow-control valve passes at most
--- its setting. A pump's state is closed or a speed, a pipe's open or closed: a kind and a state that
--- don't go together have the law of a closed link.
-abbrev pub own_law : Bool → LinkKind → LinkState → Law
-own_law us (PipeLink capacity) Open = QuadraticLaw capacity
-own_law us (CheckPipe capacity) Open = ForwardOnly (QuadraticLaw capacity)
-own_law us (PumpLink capacity shutoff head pattern) (Speed speed) = ForwardOnly (Lifted (lift_of us head speed) (QuadraticLaw capacity))
-own_law us (Tcv valve) Open = valve_law valve
-own_law us (Tcv valve) (Throttle setting law) = valve_law law
-own_law us (Fcv valve) Open = valve_law valve
-own_law us (Fcv valve) (Limit setting ticks) = Capped ticks (valve_law valve)
-own_law us kind state = Shut
+-- A running pump passes forward only, what its curve gives at the head difference plus its lift, or what the straight lines
+-- between its points give at its speed; a throttled valve is a valve whose coefficient is the setting; a flow-control valve
+-- passes at most its setting; an open general purpose valve follows its curve. A kind and a state that don't go together
+-- have the law of a closed link.
+abbrev pub own_law : Bool → List (ListView HeadPoint) → LinkKind → LinkState → Law
+own_law us bends (PipeLink capacity) Open = QuadraticLaw capacity
+own_law us bends (PipeLink capacity) Closed = Shut
+own_law us bends (PipeLink capacity) other = Shut
+own_law us bends (CheckPipe capacity) Open = ForwardOnly (QuadraticLaw capacity)
+own_law us bends (CheckPipe capacity) Closed = Shut
+own_law us bends (CheckPipe capacity) other = Shut
+own_law us bends (PumpLink capacity shutoff head pattern) (Speed speed) = ForwardOnly (Lifted (lift_of us head speed) (QuadraticLaw capacity))
+own_law us bends (PumpLink capacity shutoff head pattern) Closed = Shut
+own_law us bends (PumpLink capacity shutoff head pattern) other = Shut
+own_law us bends (CurvePump bend pattern) (Speed speed) = Held (pos 0) greatest_flow (Bent (pump_knots (points_of bends bend) speed))
+own_law us bends (CurvePump bend pattern) Closed = Shut
+own_law us bends (CurvePump bend pattern) other = Shut
+own_law us bends (Tcv valve) Open = valve_law valve
+own_law us bends (Tcv valve) (Throttle setting law) = valve_law law
+own_law us bends (Tcv valve) Closed = Shut
+own_law us bends (Tcv valve) other = Shut
+own_law us bends (Fcv valve) Open = valve_law valve
+own_law us bends (Fcv valve) (Limit setting ticks) = Capped ticks (valve_law valve)
+own_law us bends (Fcv valve) Closed = Shut
+own_law us bends (Fcv valve) other = Shut
+own_law us bends (Gpv bend) Open = Held (neg_ℤ greatest_flow) greatest_flow (Bent (valve_knots (points_of bends bend)))
+own_law us bends (Gpv bend) Closed = Shut
+own_law us bends (Gpv bend) other = Shut
 
 -- ---- full and empty tanks
 
@@ -52,20 +72,30 @@ abbrev pub is_empty_tank : Project → List TankState → ℕ → Bool
 is_empty_tank network tanks node =
     is_tank network node && option_map_or is_empty (slice_get tanks (tank_number network node)) false
 
--- Nothing flows from the first node of the link to the second: into a full tank or out of an empty one.
+-- The node is a tank that overflows: where it is full it takes further inflow, which is spilled.
+abbrev pub overflows : Project → ℕ → Bool
+overflows network node =
+    is_tank network node && option_map_or (λ (tank : Tank). tank.overflow) (slice_get network.tanks.list (tank_number network node)) false
+
+-- Nothing flows into the node: it is a full tank that doesn't overflow.
+abbrev pub takes_nothing : Project → List TankState → ℕ → Bool
+takes_nothing network tanks node = is_full_tank network tanks node && not (overflows network node)
+
+-- Nothing flows from the first node of the link to the second: into a full tank that doesn't overflow, or out of an empty
+-- one.
 abbrev pub forbids_forward : Project → List TankState → Link → Bool
 forbids_forward network tanks link =
-    is_full_tank network tanks link.to || is_empty_tank network tanks link.from
+    takes_nothing network tanks link.to || is_empty_tank network tanks link.from
 
 -- Nothing flows from the second node of the link to the first.
 abbrev pub forbids_reverse : Project → List TankState → Link → Bool
 forbids_reverse network tanks link =
-    is_full_tank network tanks link.from || is_empty_tank network tanks link.to
+    takes_nothing network tanks link.from || is_empty_tank network tanks link.to
 
 -- The law of a link in its state, between the tanks in theirs: where its own flow would go a forbidden
 -- way, it is 0.
 abbrev pub law_of : Project → List TankState → Link → LinkState → Law
 law_of network tanks link state =
-    let own = own_law (is_us network) link.kind state in
+    let own = own_law (is_us network) network.bends.list link.kind state in
     let one_way = (if forbids_forward network tanks link then ReverseOnly own else own) in
     if forbids_reverse network tanks link then ForwardOnly one_way else one_way

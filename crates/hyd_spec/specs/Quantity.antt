@@ -3,10 +3,12 @@
 -- billionths of the file's unit, or of a plain number.
 -- Source: EPANET 2.2 User Manual, chapter 3 (the network model) and appendix C (sections [DEMANDS],
 -- [PATTERNS], [RESERVOIRS], [CURVES], [TIMES]).
-use Rattle.std.specs.Prelude.{ℕ, ◌+◌, ◌*◌, ◌/◌, ◌%◌, ◌^◌, ℤ, pos, ◌*ℤ◌, Bool, List, [], length, map, slice_get, slice_index_or}
+use Rattle.std.specs.Prelude.{ℕ, ◌+◌, ◌*◌, ◌/◌, ◌%◌, ◌^◌, ℤ, pos, neg_ℤ, unsigned_abs, ◌*ℤ◌, Bool, List, [], ◌++◌, length, map, reverse, slice_get, slice_index_or}
 use Rattle.std.specs.Option.{option_map_or, option_or}
 use Rattle.hyd_num.specs.Quantity.{is_us_unit, head_ticks, pressure_numerator, pressure_denominator}
-use Rattle.hyd_spec.specs.Types.{Project, Junction, Demand, Reservoir, Decimal, ShutoffHead, FourThirds, Given}
+use Rattle.hyd_net.specs.ListView.{ListView}
+use Rattle.hyd_net.specs.Curves.{Knot}
+use Rattle.hyd_spec.specs.Types.{Project, Junction, Demand, Reservoir, Decimal, ShutoffHead, FourThirds, Given, HeadPoint}
 use Rattle.hyd_num.specs.Rational.{Rational}
 use Rattle.hyd_spec.specs.Scale.{cut, total}
 
@@ -69,6 +71,26 @@ abbrev pub lift_of : Bool → ShutoffHead → ℤ → Rational
 lift_of us head speed =
     let shutoff = shutoff_head us head in
     record { num = (speed *ℤ speed) *ℤ shutoff.num; den = 10 ^ 18 * shutoff.den }
+
+-- The points of a curve by straight lines; none where there is no such curve.
+abbrev pub points_of : List (ListView HeadPoint) → ℕ → List HeadPoint
+points_of bends bend = option_map_or (λ (b : ListView HeadPoint). b.list) (slice_get bends bend) []
+
+-- The knots of a pump's curve at a speed (in nano, at least 0), its flow (flow ticks) by the head difference (head ticks): the
+-- squared speed times a point's head, below 0, and the speed times its flow, each cut to whole ticks.
+abbrev pub pump_knots : List HeadPoint → ℤ → List Knot
+pump_knots points speed =
+    let w = unsigned_abs speed in
+    map (λ (p : HeadPoint). record {
+      place = cut (neg_ℤ (pos (w * w) *ℤ p.head)) (10 ^ 18);
+      value = cut (pos w *ℤ p.flow) (10 ^ 9);
+    }) points
+
+-- The knots of a general purpose valve's curve: the flow at each loss, and in reverse their negatives.
+abbrev pub valve_knots : List HeadPoint → List Knot
+valve_knots points =
+    map (λ (p : HeadPoint). record { place = neg_ℤ p.head; value = neg_ℤ p.flow }) (reverse points)
+    ++ map (λ (p : HeadPoint). record { place = p.head; value = p.flow }) points
 
 -- A pressure of the file in head ticks.
 abbrev pub pressure_value : Bool → Decimal → Rational

@@ -5,10 +5,10 @@
 use Rattle.std.specs.Prelude.{ℕ, suc, ◌+◌, ◌*◌, ◌-◌, ◌%◌, ℤ, pos, ◌-ℤ◌, Bool, true, false, ◌&&◌, not, nat_lt, nat_le, List, [], ◌∷◌, ◌++◌, Option, Some, None, map, slice_get, slice_index_or, int_lt, int_le, unsigned_abs, if◌then◌else◌, ◌==◌}
 use Rattle.std.specs.List.{list_any, list_all}
 use Rattle.std.specs.Option.{option_map_or, option_and_then}
-use Rattle.hyd_spec.specs.Types.{Project, Rule, RuleClause, Joined, And, Or, Clause, What, Head, Pressure, Level, Flow, Setting, Status, Time, Clock, Relation, Less, NotMore, More, NotLess, Equal, Unequal, Value, Amount, ValueOpen, ValueClosed, ValueActive, Action, LinkState, Open, Closed, Speed, Throttle, Limit}
+use Rattle.hyd_spec.specs.Types.{Project, Rule, RuleClause, Joined, And, Or, Clause, What, Head, Pressure, Level, Flow, Setting, Status, Time, Clock, Relation, Less, NotMore, More, NotLess, Equal, Unequal, Value, Amount, ValueOpen, ValueClosed, ValueActive, Action, LinkState, Open, Closed, Speed, Throttle, Limit, Change, ByRule}
 use Rattle.hyd_spec.specs.Lists.{map_from, present}
 use Rattle.hyd_num.specs.Rational.{Rational, whole, total_of, is_less, is_at_most}
-use Rattle.hyd_spec.specs.Scale.{at_scale}
+use Rattle.hyd_spec.specs.Scale.{at_scale, is_same_number}
 use Rattle.hyd_spec.specs.Network.{is_tank, tank_number}
 use Rattle.hyd_spec.specs.Quantity.{is_us, pressure_value}
 use Rattle.hyd_spec.specs.Start.{day, clock_at}
@@ -37,18 +37,18 @@ setting_of (Speed speed) = speed
 setting_of (Throttle setting law) = setting
 setting_of (Limit setting ticks) = setting
 
--- Two numbers are equal.
-abbrev pub is_same_number : ℤ → ℤ → Bool
-is_same_number a b = int_le a b && int_le b a
-
 -- Two commanded states of one link are the same.
 abbrev pub is_same_state : LinkState → LinkState → Bool
 is_same_state Open Open = true
+is_same_state Open other = false
 is_same_state Closed Closed = true
+is_same_state Closed other = false
 is_same_state (Speed a) (Speed b) = is_same_number a b
+is_same_state (Speed a) other = false
 is_same_state (Throttle a law) (Throttle b other) = is_same_number a b
+is_same_state (Throttle a law) other = false
 is_same_state (Limit a ticks) (Limit b other) = is_same_number a b
-is_same_state a b = false
+is_same_state (Limit a ticks) other = false
 
 -- The state of a link; one that isn't there is closed.
 abbrev pub state_of_link : List LinkState → ℕ → LinkState
@@ -147,11 +147,11 @@ abbrev pub seconds_of : Value → ℕ
 seconds_of (Amount span number) = unsigned_abs span.lo
 seconds_of value = 0
 
--- A time has come within the last rule step.
+-- The time v has come within the last rule step at the second s: s less the rule step is below v, and v is at most s.
 abbrev pub has_come : Project → ℕ → ℕ → Bool
 has_come network time at = nat_le at time && nat_lt time (at + network.times.rule)
 
--- A time of day has come within the last rule step, where the clock shows `now`.
+-- The same of a time of day, modulo a day, where the clock shows `now`.
 abbrev pub has_come_today : Project → ℕ → ℕ → Bool
 has_come_today network now at = nat_lt ((now + day - at % day) % day) network.times.rule
 
@@ -248,17 +248,11 @@ best_offer link (offer ∷ offers) =
 
 -- ---- changes
 
--- A change of a link's state by a control or a rule, whose number counts from 0.
-pub record Change : Type 0 where
-  pub by : ℕ
-  pub link : ℕ
-  pub to : LinkState
-
 -- What an offer changes, if it changes the state of its link.
 abbrev pub change_by : LinkState → Offer → Option Change
 change_by state offer =
     if is_same_state state offer.to then None
-    else Some (record { by = offer.rule; link = offer.link; to = offer.to })
+    else Some (record { source = ByRule offer.rule; link = offer.link; to = offer.to })
 
 -- What the rules change of a link: its state becomes that of the offer of highest rank to it.
 abbrev pub change_of : Project → List Bool → ℕ → LinkState → Option Change

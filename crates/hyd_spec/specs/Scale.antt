@@ -1,7 +1,7 @@
 -- The scale of a history, and what its flows may miss. A scale S is at least 1. At scale S heads and levels are whole numbers
 -- of S-th parts of a head tick (10^-13 m), flows of S-th parts of a flow tick (10^-7 cubic metres a day).
 -- Source: this program's.
-use Rattle.std.specs.Prelude.{ℕ, ℤ, pos, ◌+ℤ◌, ◌*ℤ◌, int_div, List, [], ◌∷◌}
+use Rattle.std.specs.Prelude.{ℕ, ℤ, pos, ◌+ℤ◌, ◌*ℤ◌, int_div, int_le, Bool, ◌&&◌, List, [], ◌∷◌}
 
 -- A whole number of ticks, in S-th parts of a tick.
 abbrev pub at_scale : ℕ → ℤ → ℤ
@@ -19,3 +19,7 @@ total (x ∷ rest) = x +ℤ total rest
 -- z / d cut toward zero.
 abbrev pub cut : ℤ → ℕ → ℤ
 cut z d = int_div z (pos d)
+
+-- Two numbers are equal.
+abbrev pub is_same_number : ℤ → ℤ → Bool
+is_same_number a b = int_le a b && int_le b a

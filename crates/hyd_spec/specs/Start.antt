@@ -1,8 +1,8 @@
 -- The start of a period: pump patterns, then simple controls.
 -- Source: EPANET 2.2 User Manual, chapter 3 (controls) and appendix C ([CONTROLS], [PUMPS]); that a pump takes its
 -- pattern's multiplier at time 0 and where a step of the patterns begins, and at no other time, is this program's.
-use Rattle.std.specs.Prelude.{ℕ, ◌+◌, ◌%◌, ℤ, pos, Bool, ◌||◌, ◌==◌, List, [], ◌∷◌, Some, fold, slice_set, slice_index_or, int_le, if◌then◌else◌}
-use Rattle.hyd_spec.specs.Types.{Project, Link, LinkKind, PumpLink, LinkState, Closed, Speed, When, AtLevel, AtTime, AtClock}
+use Rattle.std.specs.Prelude.{ℕ, ◌+◌, ◌%◌, ℤ, pos, Bool, ◌||◌, ◌==◌, List, [], ◌∷◌, Option, Some, None, fold, slice_set, slice_index_or, int_le, if◌then◌else◌}
+use Rattle.hyd_spec.specs.Types.{Project, Link, LinkKind, PipeLink, CheckPipe, PumpLink, CurvePump, Tcv, Fcv, Gpv, LinkState, Closed, Speed, When, AtLevel, AtTime, AtClock}
 use Rattle.hyd_num.specs.Rational.{whole}
 use Rattle.hyd_spec.specs.Tank.{reaches}
 use Rattle.hyd_spec.specs.Quantity.{multiplier_at}
@@ -33,9 +33,18 @@ is_pattern_boundary network time =
 abbrev pub patterned_state : Project → ℕ → Link → LinkState → LinkState
 patterned_state network time link state = by_kind link.kind
   where
+    by_pattern : Option ℕ → LinkState
+    by_pattern (Some pattern) = speed_state (multiplier_at network pattern time)
+    by_pattern None = state
+
     by_kind : LinkKind → LinkState
-    by_kind (PumpLink capacity shutoff head (Some pattern)) = speed_state (multiplier_at network pattern time)
-    by_kind kind = state
+    by_kind (PipeLink capacity) = state
+    by_kind (CheckPipe capacity) = state
+    by_kind (PumpLink capacity shutoff head pattern) = by_pattern pattern
+    by_kind (CurvePump bend pattern) = by_pattern pattern
+    by_kind (Tcv valve) = state
+    by_kind (Fcv valve) = state
+    by_kind (Gpv bend) = state
 
 -- The states of all links at such a time.
 abbrev pub after_patterns : Project → ℕ → List Link → List LinkState → List LinkState

@@ -40,5 +40,8 @@ pub use Rattle.hyd_net.specs.declared.rules.Relation.TheVariants.{Less, AtMost a
 pub use Rattle.hyd_net.specs.declared.rules.Value.{Value}
 pub use Rattle.hyd_net.specs.declared.rules.Value.TheVariants.{Amount, Open as ValueOpen, Closed as ValueClosed, Active as ValueActive}
 pub use Rattle.hyd_net.specs.declared.rules.Action.{Action}
+pub use Rattle.hyd_spec.specs.declared.Source.{Source}
+pub use Rattle.hyd_spec.specs.declared.Source.TheVariants.{Control as ByControl, Rule as ByRule}
+pub use Rattle.hyd_spec.specs.declared.Change.{Change}
 pub use Rattle.hyd_spec.specs.declared.TankState.{TankState}
 pub use Rattle.hyd_spec.specs.declared.TankState.TheVariants.{Empty, Between, Full}

@@ -2,6 +2,8 @@
 //! body.
 #![tactic(auto)]
 
+use hyd_net::LinkState;
+
 /// How full a tank is at the start of a period (EPANET 2.2 User Manual, chapter 3, tanks).
 #[derive(Debug, Clone, Copy, PartialEq, Eq, Drop)]
 pub enum TankState {
@@ -11,4 +13,24 @@ pub enum TankState {
     Between,
     /// At or near its maximum level: nothing flows in.
     Full,
+}
+
+/// What changed the state of a link (EPANET 2.2 User Manual, chapter 3, controls). Numbers count from 0.
+#[derive(Debug, Clone, Copy, PartialEq, Eq, Drop)]
+pub enum Source {
+    /// The simple control of this number.
+    Control(u32),
+    /// The rule of this number.
+    Rule(u32),
+}
+
+/// A change of the state of a link.
+#[derive(Debug, Clone, Copy, PartialEq, Eq, Drop)]
+pub struct Change {
+    /// What changed it.
+    pub source: Source,
+    /// The number of the link, counted from 0.
+    pub link: u32,
+    /// The state that it was given.
+    pub to: LinkState,
 }

@@ -6,3 +6,6 @@ pub mod Single
 pub mod Forms
 pub mod Histories
 pub mod Tanks
+pub mod Curves
+pub mod Cylinders
+pub mod Flask

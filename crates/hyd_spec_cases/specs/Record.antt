@@ -19,6 +19,7 @@ standing = record {
   number = 1;
   time = 60;
   levels = record { lo = pos 30; hi = pos 41 } ∷ [];
+  volumes = record { lo = pos 0; hi = pos 0 } ∷ [];
   tanks = Between ∷ [];
   commanded = Open ∷ Closed ∷ Speed (pos 900000000) ∷ Throttle (pos 5) Linear ∷ Limit (pos 6) (pos 7) ∷ [];
   finished = false;

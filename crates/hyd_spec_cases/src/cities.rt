@@ -1,7 +1,7 @@
 //! A small network with a link of each kind, all of realistic size: its laws, heads, net outflows and boxes.
 #![tactic(auto)]
 
-ghost use Rattle.std.specs.Prelude.{◌≡◌, ℕ, pos, neg_ℤ, [], ◌∷◌, map, length, Option};
+ghost use Rattle.std.specs.Prelude.{◌≡◌, ℕ, pos, neg_ℤ, [], ◌∷◌, map, length, Option, true, false};
 ghost use Rattle.hyd_num.specs.declared.decimals.Span.{Span};
 ghost use Rattle.hyd_spec.specs.Types.{Project, Decimal, Tank, Origin, Cmd};
 ghost use Rattle.hyd_spec.specs.Types.{PipeLink, CheckPipe, PumpLink, Tcv, Fcv, Quadratic, Linear, FourThirds, Open, Speed, Throttle, Limit};
@@ -15,7 +15,7 @@ ghost use Rattle.hyd_spec_certificates.specs.Boxes.{flow_box, out_box, inflow_bo
 ghost use Rattle.hyd_spec_cases.specs.City.{CityParts, city, first, second, pipe, check_pipe, pump, throttle_valve, control_valve};
 ghost use Rattle.hyd_spec_cases.specs.City.{upper, lower, pinned_upper, pinned_lower, apart, sunk};
 
-/// The laws of all links, with the tank between, full and empty.
+/// The laws of all links, with the tank between, full, full and overflowing, and empty.
 pub fn laws()
     ensures between { (network : Project) (parts : CityParts) (shutoff : Span) (head : Decimal) (pattern : Option ℕ)
         → network.options.unit ≡ Cmd → length network.junctions.list ≡ 2 → length network.reservoirs.list ≡ 1 → head.nano ≡ pos 40000000000
@@ -26,8 +26,9 @@ pub fn laws()
         ∷ record { from = 1; to = 3; kind = Fcv (Quadratic parts.control); start = Open } ∷ []) (Open ∷ Open ∷ Speed (pos 900000000)
         ∷ Throttle (pos 100000000000) (Quadratic parts.valve) ∷ Limit (pos 500000000000) (pos 5000000000) ∷ [])
         ≡ (city parts).links }
-    ensures full { (network : Project) (parts : CityParts) (shutoff : Span) (head : Decimal) (pattern : Option ℕ)
+    ensures full { (network : Project) (parts : CityParts) (shutoff : Span) (head : Decimal) (pattern : Option ℕ) (tank : Tank)
         → network.options.unit ≡ Cmd → length network.junctions.list ≡ 2 → length network.reservoirs.list ≡ 1 → head.nano ≡ pos 40000000000
+        → network.tanks.list ≡ tank ∷ [] → tank.overflow ≡ false
         → grid_links network (Full ∷ []) (record { from = 2; to = 0; kind = PipeLink parts.pipe; start = Open }
         ∷ record { from = 0; to = 1; kind = CheckPipe parts.check; start = Open }
         ∷ record { from = 2; to = 1; kind = PumpLink parts.pump shutoff (FourThirds head) pattern; start = Open }
@@ -36,6 +37,16 @@ pub fn laws()
         ∷ Throttle (pos 100000000000) (Quadratic parts.valve) ∷ Limit (pos 500000000000) (pos 5000000000) ∷ [])
         ≡ pipe parts ∷ check_pipe parts ∷ pump parts ∷ record { from = 0; to = 3; law = ReverseOnly (QuadraticLaw parts.valve) }
         ∷ record { from = 1; to = 3; law = ReverseOnly (Capped (pos 5000000000) (QuadraticLaw parts.control)) } ∷ [] }
+    ensures overflowing { (network : Project) (parts : CityParts) (shutoff : Span) (head : Decimal) (pattern : Option ℕ) (tank : Tank)
+        → network.options.unit ≡ Cmd → length network.junctions.list ≡ 2 → length network.reservoirs.list ≡ 1 → head.nano ≡ pos 40000000000
+        → network.tanks.list ≡ tank ∷ [] → tank.overflow ≡ true
+        → grid_links network (Full ∷ []) (record { from = 2; to = 0; kind = PipeLink parts.pipe; start = Open }
+        ∷ record { from = 0; to = 1; kind = CheckPipe parts.check; start = Open }
+        ∷ record { from = 2; to = 1; kind = PumpLink parts.pump shutoff (FourThirds head) pattern; start = Open }
+        ∷ record { from = 0; to = 3; kind = Tcv Linear; start = Open }
+        ∷ record { from = 1; to = 3; kind = Fcv (Quadratic parts.control); start = Open } ∷ []) (Open ∷ Open ∷ Speed (pos 900000000)
+        ∷ Throttle (pos 100000000000) (Quadratic parts.valve) ∷ Limit (pos 500000000000) (pos 5000000000) ∷ [])
+        ≡ (city parts).links }
     ensures empty { (network : Project) (parts : CityParts) (shutoff : Span) (head : Decimal) (pattern : Option ℕ)
         → network.options.unit ≡ Cmd → length network.junctions.list ≡ 2 → length network.reservoirs.list ≡ 1 → head.nano ≡ pos 40000000000
         → grid_links network (Empty ∷ []) (record { from = 2; to = 0; kind = PipeLink parts.pipe; start = Open }

@@ -1,11 +1,12 @@
 //! What a record of a small network leaves decided and open.
 #![tactic(auto)]
 
-ghost use Rattle.std.specs.Prelude.{◌≡◌, pos, neg_ℤ, [], ◌∷◌, map, length};
+ghost use Rattle.std.specs.Prelude.{◌≡◌, pos, neg_ℤ, [], ◌∷◌, map, length, ℤ};
 ghost use Rattle.hyd_num.specs.declared.decimals.Span.{Span};
-ghost use Rattle.hyd_spec.specs.Types.{Project, Decimal, Tank, Rule, And, Or, Less, NotMore, More, NotLess, Head, Level, Flow, Amount};
-ghost use Rattle.hyd_spec_certificates.specs.Truth.{Yes, No, Unknown};
+ghost use Rattle.hyd_spec.specs.Types.{Project, Decimal, Rule, And, Or, Less, NotMore, More, NotLess, Head, Level, Flow, Amount};
+ghost use Rattle.hyd_spec_certificates.specs.Verdict.{Yes, No, Unknown};
 ghost use Rattle.hyd_spec_certificates.specs.Decided.{flow_boxes, inflow_boxes, carried_at, clause_truth, rule_truth, heads_below, heads_above};
+ghost use Rattle.hyd_spec_cases.specs.Cylinders.{cylinder};
 ghost use Rattle.hyd_spec_cases.specs.Sample.{sample};
 ghost use Rattle.hyd_spec_cases.specs.Record.{row, standing};
 
@@ -27,8 +28,8 @@ pub fn boxes()
 
 /// The carried level interval two minutes after the start.
 pub fn carried()
-    ensures { (network : Project) (tank : Tank) → length network.junctions.list ≡ 2 → length network.reservoirs.list ≡ 1
-        → network.tanks.list ≡ tank ∷ [] → tank.minimum ≡ pos 0 → tank.maximum ≡ pos 10000000000000 → tank.area ≡ pos 10000000000
+    ensures { (network : Project) (bottom initial : ℤ) (diameter : Decimal) → length network.junctions.list ≡ 2 → length network.reservoirs.list ≡ 1
+        → network.tanks.list ≡ cylinder bottom initial diameter ∷ []
         → carried_at network sample standing row 120 ≡ (record { lo = pos 0; hi = pos 96993791 }) ∷ [] }
 {}
 
@@ -62,33 +63,33 @@ pub fn clauses()
         → map (λ relation. clause_truth network sample standing row 120 (record { what = Head 0; relation = relation; value = Amount span number })) (Less
         ∷ NotMore ∷ More ∷ NotLess ∷ [])
         ≡ Yes ∷ Yes ∷ No ∷ No ∷ [] }
-    ensures level_0 { (network : Project) (tank : Tank) (span : Span) (number : Decimal) → network.tanks.list ≡ tank
-        ∷ [] → length network.junctions.list ≡ 2 → length network.reservoirs.list ≡ 1 → span.lo ≡ pos 0 → tank.area ≡ pos 10000000000 → tank.maximum ≡ pos 10000000000000 → tank.minimum ≡ pos 0
+    ensures level_0 { (network : Project) (bottom initial : ℤ) (diameter : Decimal) (span : Span) (number : Decimal)
+        → network.tanks.list ≡ cylinder bottom initial diameter ∷ [] → length network.junctions.list ≡ 2 → length network.reservoirs.list ≡ 1 → span.lo ≡ pos 0
         → map (λ relation. clause_truth network sample standing row 120 (record { what = Level 0; relation = relation; value = Amount span number })) (Less
         ∷ NotMore ∷ More ∷ NotLess ∷ [])
         ≡ No ∷ Unknown ∷ Unknown ∷ Yes ∷ [] }
-    ensures level_1 { (network : Project) (tank : Tank) (span : Span) (number : Decimal) → network.tanks.list ≡ tank
-        ∷ [] → length network.junctions.list ≡ 2 → length network.reservoirs.list ≡ 1 → span.lo ≡ pos 1 → tank.area ≡ pos 10000000000 → tank.maximum ≡ pos 10000000000000 → tank.minimum ≡ pos 0
+    ensures level_1 { (network : Project) (bottom initial : ℤ) (diameter : Decimal) (span : Span) (number : Decimal)
+        → network.tanks.list ≡ cylinder bottom initial diameter ∷ [] → length network.junctions.list ≡ 2 → length network.reservoirs.list ≡ 1 → span.lo ≡ pos 1
         → map (λ relation. clause_truth network sample standing row 120 (record { what = Level 0; relation = relation; value = Amount span number })) (Less
         ∷ NotMore ∷ More ∷ NotLess ∷ [])
         ≡ Unknown ∷ Unknown ∷ Unknown ∷ Unknown ∷ [] }
-    ensures level_96993791 { (network : Project) (tank : Tank) (span : Span) (number : Decimal) → network.tanks.list ≡ tank
-        ∷ [] → length network.junctions.list ≡ 2 → length network.reservoirs.list ≡ 1 → span.lo ≡ pos 96993791 → tank.area ≡ pos 10000000000 → tank.maximum ≡ pos 10000000000000 → tank.minimum ≡ pos 0
+    ensures level_96993791 { (network : Project) (bottom initial : ℤ) (diameter : Decimal) (span : Span) (number : Decimal)
+        → network.tanks.list ≡ cylinder bottom initial diameter ∷ [] → length network.junctions.list ≡ 2 → length network.reservoirs.list ≡ 1 → span.lo ≡ pos 96993791
         → map (λ relation. clause_truth network sample standing row 120 (record { what = Level 0; relation = relation; value = Amount span number })) (Less
         ∷ NotMore ∷ More ∷ NotLess ∷ [])
         ≡ Unknown ∷ Yes ∷ No ∷ Unknown ∷ [] }
-    ensures tank_head_20 { (network : Project) (tank : Tank) (span : Span) (number : Decimal) → network.tanks.list ≡ tank
-        ∷ [] → length network.junctions.list ≡ 2 → length network.reservoirs.list ≡ 1 → span.lo ≡ pos 20 → tank.bottom ≡ pos 20 → tank.area ≡ pos 10000000000 → tank.maximum ≡ pos 10000000000000 → tank.minimum ≡ pos 0
+    ensures tank_head_20 { (network : Project) (initial : ℤ) (diameter : Decimal) (span : Span) (number : Decimal)
+        → network.tanks.list ≡ cylinder (pos 20) initial diameter ∷ [] → length network.junctions.list ≡ 2 → length network.reservoirs.list ≡ 1 → span.lo ≡ pos 20
         → map (λ relation. clause_truth network sample standing row 120 (record { what = Head 3; relation = relation; value = Amount span number })) (Less
         ∷ NotMore ∷ More ∷ NotLess ∷ [])
         ≡ No ∷ Unknown ∷ Unknown ∷ Yes ∷ [] }
-    ensures tank_head_96993811 { (network : Project) (tank : Tank) (span : Span) (number : Decimal) → network.tanks.list ≡ tank
-        ∷ [] → length network.junctions.list ≡ 2 → length network.reservoirs.list ≡ 1 → span.lo ≡ pos 96993811 → tank.bottom ≡ pos 20 → tank.area ≡ pos 10000000000 → tank.maximum ≡ pos 10000000000000 → tank.minimum ≡ pos 0
+    ensures tank_head_96993811 { (network : Project) (initial : ℤ) (diameter : Decimal) (span : Span) (number : Decimal)
+        → network.tanks.list ≡ cylinder (pos 20) initial diameter ∷ [] → length network.junctions.list ≡ 2 → length network.reservoirs.list ≡ 1 → span.lo ≡ pos 96993811
         → map (λ relation. clause_truth network sample standing row 120 (record { what = Head 3; relation = relation; value = Amount span number })) (Less
         ∷ NotMore ∷ More ∷ NotLess ∷ [])
         ≡ Unknown ∷ Yes ∷ No ∷ Unknown ∷ [] }
-    ensures tank_head_96993812 { (network : Project) (tank : Tank) (span : Span) (number : Decimal) → network.tanks.list ≡ tank
-        ∷ [] → length network.junctions.list ≡ 2 → length network.reservoirs.list ≡ 1 → span.lo ≡ pos 96993812 → tank.bottom ≡ pos 20 → tank.area ≡ pos 10000000000 → tank.maximum ≡ pos 10000000000000 → tank.minimum ≡ pos 0
+    ensures tank_head_96993812 { (network : Project) (initial : ℤ) (diameter : Decimal) (span : Span) (number : Decimal)
+        → network.tanks.list ≡ cylinder (pos 20) initial diameter ∷ [] → length network.junctions.list ≡ 2 → length network.reservoirs.list ≡ 1 → span.lo ≡ pos 96993812
         → map (λ relation. clause_truth network sample standing row 120 (record { what = Head 3; relation = relation; value = Amount span number })) (Less
         ∷ NotMore ∷ More ∷ NotLess ∷ [])
         ≡ Yes ∷ Yes ∷ No ∷ No ∷ [] }

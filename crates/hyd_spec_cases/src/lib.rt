@@ -7,9 +7,11 @@
 pub mod capacities;
 pub mod certificates;
 pub mod cities;
+pub mod curves;
 pub mod decisions;
 pub mod enclosing;
 pub mod forms;
+pub mod held;
 pub mod histories;
 pub mod levels;
 pub mod links;
@@ -21,4 +23,5 @@ pub mod parts;
 pub mod quantities;
 pub mod rules;
 pub mod starts;
+pub mod stocks;
 pub mod texts;

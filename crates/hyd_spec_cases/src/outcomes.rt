@@ -11,8 +11,10 @@ ghost use Rattle.hyd_spec_reports.specs.declared.StatusWord.TheVariants.{Open as
 ghost use Rattle.hyd_spec_certificates.specs.Enclosing.{low, high};
 ghost use Rattle.hyd_spec.specs.LinkLaw.{law_of};
 ghost use Rattle.hyd_spec.specs.Rules.{measured, holds_on};
-ghost use Rattle.hyd_spec_reports.specs.Report.{by_drive, by_setting, status_of, tank_event, control_event};
+ghost use Rattle.hyd_spec_reports.specs.Report.{by_drive, by_setting, status_of, tank_event, control_event, event_line};
+ghost use Rattle.hyd_spec_reports.specs.declared.EventKind.TheVariants.{Full as BecomesFull, Empty as BecomesEmpty, Control as ReachesLevel};
 ghost use Rattle.hyd_spec_reports.specs.ReportLine.{FilledLine, EmptiedLine, ReachedLine};
+ghost use Rattle.hyd_spec_cases.specs.Tanks.{HasTanks};
 
 /// Status words by the interval of the head difference: of a check valve, a flow control valve and pumps, whose curve
 /// has a shutoff head of 50 m, or gives it as four thirds of 50 m.
@@ -24,30 +26,30 @@ pub fn statuses()
     ensures settings { map (by_setting (pos 5)) ((record { lo = pos 5; hi = pos 9 }) ∷ (record { lo = pos 4; hi = pos 4 })
         ∷ (record { lo = pos 4; hi = pos 5 }) ∷ (record { lo = neg_ℤ (pos 9); hi = pos 4 }) ∷ [])
         ≡ WordActive ∷ WordOpen ∷ WordUnsure ∷ WordOpen ∷ [] }
-    ensures closed { map (status_of false (Tcv Linear) (Closed)) ((record { lo = pos 1; hi = pos 2 }) ∷ [])
+    ensures closed { map (status_of false [] (Tcv Linear) (Closed)) ((record { lo = pos 1; hi = pos 2 }) ∷ [])
         ≡ WordClosed ∷ [] }
-    ensures open { map (status_of false (Tcv Linear) (Open)) ((record { lo = neg_ℤ (pos 1); hi = pos 2 }) ∷ [])
+    ensures open { map (status_of false [] (Tcv Linear) (Open)) ((record { lo = neg_ℤ (pos 1); hi = pos 2 }) ∷ [])
         ≡ WordOpen ∷ [] }
-    ensures throttled { map (status_of false (Tcv Linear) (Throttle (pos 5) Linear)) ((record { lo = neg_ℤ (pos 1); hi = pos 2 }) ∷ [])
+    ensures throttled { map (status_of false [] (Tcv Linear) (Throttle (pos 5) Linear)) ((record { lo = neg_ℤ (pos 1); hi = pos 2 }) ∷ [])
         ≡ WordActive ∷ [] }
-    ensures check_valve { (capacity : Capacity) → map (status_of false (CheckPipe capacity) (Open)) ((record { lo = pos 1; hi = pos 5 })
+    ensures check_valve { (capacity : Capacity) → map (status_of false [] (CheckPipe capacity) (Open)) ((record { lo = pos 1; hi = pos 5 })
         ∷ (record { lo = pos 0; hi = pos 5 }) ∷ (record { lo = neg_ℤ (pos 5); hi = pos 1 })
         ∷ (record { lo = neg_ℤ (pos 5); hi = pos 0 }) ∷ (record { lo = neg_ℤ (pos 5); hi = neg_ℤ (pos 1) })
         ∷ (record { lo = pos 3; hi = pos 3 }) ∷ [])
         ≡ WordOpen ∷ WordUnsure ∷ WordUnsure ∷ WordClosed ∷ WordClosed ∷ WordOpen ∷ [] }
-    ensures flow_control { map (status_of false (Fcv Linear) (Limit (pos 2000000) (pos 20000))) ((record { lo = pos 0; hi = pos 0 })
+    ensures flow_control { map (status_of false [] (Fcv Linear) (Limit (pos 2000000) (pos 20000))) ((record { lo = pos 0; hi = pos 0 })
         ∷ (record { lo = pos 1; hi = pos 2 }) ∷ (record { lo = pos 2; hi = pos 3 }) ∷ (record { lo = pos 3; hi = pos 9 })
         ∷ (record { lo = neg_ℤ (pos 5); hi = pos 1 }) ∷ (record { lo = neg_ℤ (pos 5); hi = pos 3 }) ∷ [])
         ≡ WordOpen ∷ WordOpen ∷ WordUnsure ∷ WordActive ∷ WordOpen ∷ WordUnsure ∷ [] }
     ensures pump_given { (capacity : Capacity) (shutoff : Span) (head : Decimal) → head.nano ≡ pos 50000000000
-        → map (status_of false (PumpLink capacity shutoff (Given head) None) (Speed (pos 1000000000))) ((record { lo = neg_ℤ (pos 500000000000001); hi = pos 0 })
+        → map (status_of false [] (PumpLink capacity shutoff (Given head) None) (Speed (pos 1000000000))) ((record { lo = neg_ℤ (pos 500000000000001); hi = pos 0 })
         ∷ (record { lo = neg_ℤ (pos 500000000000000); hi = pos 0 }) ∷ (record { lo = neg_ℤ (pos 499999999999999); hi = pos 0 })
         ∷ (record { lo = neg_ℤ (pos 600000000000000); hi = neg_ℤ (pos 500000000000000) })
         ∷ (record { lo = neg_ℤ (pos 600000000000000); hi = neg_ℤ (pos 500000000000001) })
         ∷ (record { lo = neg_ℤ (pos 600000000000000); hi = neg_ℤ (pos 499999999999999) }) ∷ [])
         ≡ WordUnsure ∷ WordUnsure ∷ WordOpen ∷ WordClosed ∷ WordClosed ∷ WordUnsure ∷ [] }
     ensures pump_four_thirds { (capacity : Capacity) (shutoff : Span) (head : Decimal) → head.nano ≡ pos 50000000000
-        → map (status_of false (PumpLink capacity shutoff (FourThirds head) None) (Speed (pos 1000000000))) ((record { lo = neg_ℤ (pos 670000000000000); hi = pos 0 })
+        → map (status_of false [] (PumpLink capacity shutoff (FourThirds head) None) (Speed (pos 1000000000))) ((record { lo = neg_ℤ (pos 670000000000000); hi = pos 0 })
         ∷ (record { lo = neg_ℤ (pos 666666666666667); hi = pos 0 }) ∷ (record { lo = neg_ℤ (pos 666666666666666); hi = pos 0 })
         ∷ (record { lo = neg_ℤ (pos 700000000000000); hi = neg_ℤ (pos 666666666666667) })
         ∷ (record { lo = neg_ℤ (pos 700000000000000); hi = neg_ℤ (pos 666666666666666) }) ∷ [])
@@ -57,48 +59,56 @@ pub fn statuses()
 /// A tank that wasn't full, or empty, and whose whole level interval stands at the bound.
 pub fn events()
     ensures full { (tank : Tank) → tank.minimum ≡ pos 100 → tank.maximum ≡ pos 200
-        → map (tank_event 60 0 tank Full) ((record { lo = pos 200; hi = pos 200 }) ∷ (record { lo = pos 199; hi = pos 200 })
+        → map (tank_event 0 tank Full) ((record { lo = pos 200; hi = pos 200 }) ∷ (record { lo = pos 199; hi = pos 200 })
         ∷ (record { lo = pos 100; hi = pos 100 }) ∷ (record { lo = pos 100; hi = pos 101 })
         ∷ (record { lo = pos 150; hi = pos 160 }) ∷ [])
-        ≡ ([]) ∷ ([]) ∷ (EmptiedLine 60 0 ∷ []) ∷ ([]) ∷ ([]) ∷ [] }
+        ≡ ([]) ∷ ([]) ∷ (record { tank = 0; what = BecomesEmpty } ∷ []) ∷ ([]) ∷ ([]) ∷ [] }
     ensures empty { (tank : Tank) → tank.minimum ≡ pos 100 → tank.maximum ≡ pos 200
-        → map (tank_event 60 0 tank Empty) ((record { lo = pos 200; hi = pos 200 }) ∷ (record { lo = pos 199; hi = pos 200 })
+        → map (tank_event 0 tank Empty) ((record { lo = pos 200; hi = pos 200 }) ∷ (record { lo = pos 199; hi = pos 200 })
         ∷ (record { lo = pos 100; hi = pos 100 }) ∷ (record { lo = pos 100; hi = pos 101 })
         ∷ (record { lo = pos 150; hi = pos 160 }) ∷ [])
-        ≡ (FilledLine 60 0 ∷ []) ∷ ([]) ∷ ([]) ∷ ([]) ∷ ([]) ∷ [] }
+        ≡ (record { tank = 0; what = BecomesFull } ∷ []) ∷ ([]) ∷ ([]) ∷ ([]) ∷ ([]) ∷ [] }
     ensures between { (tank : Tank) → tank.minimum ≡ pos 100 → tank.maximum ≡ pos 200
-        → map (tank_event 60 0 tank Between) ((record { lo = pos 200; hi = pos 200 }) ∷ (record { lo = pos 199; hi = pos 200 })
+        → map (tank_event 0 tank Between) ((record { lo = pos 200; hi = pos 200 }) ∷ (record { lo = pos 199; hi = pos 200 })
         ∷ (record { lo = pos 100; hi = pos 100 }) ∷ (record { lo = pos 100; hi = pos 101 })
         ∷ (record { lo = pos 150; hi = pos 160 }) ∷ [])
-        ≡ (FilledLine 60 0 ∷ []) ∷ ([]) ∷ (EmptiedLine 60 0 ∷ []) ∷ ([]) ∷ ([]) ∷ [] }
+        ≡ (record { tank = 0; what = BecomesFull } ∷ []) ∷ ([]) ∷ (record { tank = 0; what = BecomesEmpty } ∷ []) ∷ ([]) ∷ ([]) ∷ [] }
 {}
 
 /// A level control that didn't hold, and whose level the whole level interval has reached.
 pub fn control_events()
-    ensures { (control_event 60 ((record { lo = pos 120; hi = pos 140 }) ∷ []) ((record { lo = pos 150; hi = pos 160 })
+    ensures { (control_event ((record { lo = pos 120; hi = pos 140 }) ∷ []) ((record { lo = pos 150; hi = pos 160 })
         ∷ []) 4 (record { link = 0; to = Open; when = AtLevel 0 true (pos 150) })
-        ∷ control_event 60 ((record { lo = pos 120; hi = pos 140 }) ∷ []) ((record { lo = pos 149; hi = pos 160 })
+        ∷ control_event ((record { lo = pos 120; hi = pos 140 }) ∷ []) ((record { lo = pos 149; hi = pos 160 })
         ∷ []) 4 (record { link = 0; to = Open; when = AtLevel 0 true (pos 150) })
-        ∷ control_event 60 ((record { lo = pos 150; hi = pos 150 }) ∷ []) ((record { lo = pos 150; hi = pos 160 })
+        ∷ control_event ((record { lo = pos 150; hi = pos 150 }) ∷ []) ((record { lo = pos 150; hi = pos 160 })
         ∷ []) 4 (record { link = 0; to = Open; when = AtLevel 0 true (pos 150) }) ∷ [])
-        ≡ Some (ReachedLine 60 0 4) ∷ None ∷ None ∷ [] }
+        ≡ Some (record { tank = 0; what = ReachesLevel 4 }) ∷ None ∷ None ∷ [] }
 {}
 
-/// A valve between a junction and tanks, or two tanks: nothing flows into a full tank or out of an empty one.
+/// The line of each kind of event.
+pub fn event_lines()
+    ensures { map (event_line 60) ((record { tank = 3; what = BecomesFull }) ∷ (record { tank = 3; what = BecomesEmpty })
+        ∷ (record { tank = 3; what = ReachesLevel 4 }) ∷ [])
+        ≡ FilledLine 60 3 ∷ EmptiedLine 60 3 ∷ ReachedLine 60 3 4 ∷ [] }
+{}
+
+/// A valve between a junction and tanks, or two tanks: nothing flows into a full tank that doesn't overflow, or out of an
+/// empty one.
 pub fn tank_laws()
-    ensures out_of_full_low { (network : Project) → length network.junctions.list ≡ 1 → length network.reservoirs.list ≡ 0
+    ensures out_of_full_low { (network : Project) → length network.junctions.list ≡ 1 → length network.reservoirs.list ≡ 0 → HasTanks network false false
         → map (low (law_of network (Full ∷ Between
         ∷ []) (record { from = 1; to = 0; kind = Tcv Linear; start = Open }) Open)) (neg_ℤ (pos 125) ∷ pos 0 ∷ pos 125 ∷ [])
         ≡ pos 0 ∷ pos 0 ∷ pos 1003352 ∷ [] }
-    ensures out_of_full_high { (network : Project) → length network.junctions.list ≡ 1 → length network.reservoirs.list ≡ 0
+    ensures out_of_full_high { (network : Project) → length network.junctions.list ≡ 1 → length network.reservoirs.list ≡ 0 → HasTanks network false false
         → map (high (law_of network (Full ∷ Between
         ∷ []) (record { from = 1; to = 0; kind = Tcv Linear; start = Open }) Open)) (neg_ℤ (pos 125) ∷ pos 0 ∷ pos 125 ∷ [])
         ≡ pos 0 ∷ pos 0 ∷ pos 1003353 ∷ [] }
-    ensures into_full_low { (network : Project) → length network.junctions.list ≡ 1 → length network.reservoirs.list ≡ 0
+    ensures into_full_low { (network : Project) → length network.junctions.list ≡ 1 → length network.reservoirs.list ≡ 0 → HasTanks network false false
         → map (low (law_of network (Full ∷ Between
         ∷ []) (record { from = 0; to = 1; kind = Tcv Linear; start = Open }) Open)) (neg_ℤ (pos 125) ∷ pos 0 ∷ pos 125 ∷ [])
         ≡ neg_ℤ (pos 1003353) ∷ pos 0 ∷ pos 0 ∷ [] }
-    ensures into_full_high { (network : Project) → length network.junctions.list ≡ 1 → length network.reservoirs.list ≡ 0
+    ensures into_full_high { (network : Project) → length network.junctions.list ≡ 1 → length network.reservoirs.list ≡ 0 → HasTanks network false false
         → map (high (law_of network (Full ∷ Between
         ∷ []) (record { from = 0; to = 1; kind = Tcv Linear; start = Open }) Open)) (neg_ℤ (pos 125) ∷ pos 0 ∷ pos 125 ∷ [])
         ≡ neg_ℤ (pos 1003352) ∷ pos 0 ∷ pos 0 ∷ [] }
@@ -118,27 +128,27 @@ pub fn tank_laws()
         → map (high (law_of network (Empty ∷ Between
         ∷ []) (record { from = 0; to = 1; kind = Tcv Linear; start = Open }) Open)) (neg_ℤ (pos 125) ∷ pos 0 ∷ pos 125 ∷ [])
         ≡ pos 0 ∷ pos 0 ∷ pos 1003353 ∷ [] }
-    ensures full_to_full_low { (network : Project) → length network.junctions.list ≡ 1 → length network.reservoirs.list ≡ 0
+    ensures full_to_full_low { (network : Project) → length network.junctions.list ≡ 1 → length network.reservoirs.list ≡ 0 → HasTanks network false false
         → map (low (law_of network (Full ∷ Full
         ∷ []) (record { from = 1; to = 2; kind = Tcv Linear; start = Open }) Open)) (neg_ℤ (pos 125) ∷ pos 0 ∷ pos 125 ∷ [])
         ≡ pos 0 ∷ pos 0 ∷ pos 0 ∷ [] }
-    ensures full_to_full_high { (network : Project) → length network.junctions.list ≡ 1 → length network.reservoirs.list ≡ 0
+    ensures full_to_full_high { (network : Project) → length network.junctions.list ≡ 1 → length network.reservoirs.list ≡ 0 → HasTanks network false false
         → map (high (law_of network (Full ∷ Full
         ∷ []) (record { from = 1; to = 2; kind = Tcv Linear; start = Open }) Open)) (neg_ℤ (pos 125) ∷ pos 0 ∷ pos 125 ∷ [])
         ≡ pos 0 ∷ pos 0 ∷ pos 0 ∷ [] }
-    ensures empty_to_full_low { (network : Project) → length network.junctions.list ≡ 1 → length network.reservoirs.list ≡ 0
+    ensures empty_to_full_low { (network : Project) → length network.junctions.list ≡ 1 → length network.reservoirs.list ≡ 0 → HasTanks network false false
         → map (low (law_of network (Empty ∷ Full
         ∷ []) (record { from = 1; to = 2; kind = Tcv Linear; start = Open }) Open)) (neg_ℤ (pos 125) ∷ pos 0 ∷ pos 125 ∷ [])
         ≡ neg_ℤ (pos 1003353) ∷ pos 0 ∷ pos 0 ∷ [] }
-    ensures empty_to_full_high { (network : Project) → length network.junctions.list ≡ 1 → length network.reservoirs.list ≡ 0
+    ensures empty_to_full_high { (network : Project) → length network.junctions.list ≡ 1 → length network.reservoirs.list ≡ 0 → HasTanks network false false
         → map (high (law_of network (Empty ∷ Full
         ∷ []) (record { from = 1; to = 2; kind = Tcv Linear; start = Open }) Open)) (neg_ℤ (pos 125) ∷ pos 0 ∷ pos 125 ∷ [])
         ≡ neg_ℤ (pos 1003352) ∷ pos 0 ∷ pos 0 ∷ [] }
-    ensures full_to_empty_low { (network : Project) → length network.junctions.list ≡ 1 → length network.reservoirs.list ≡ 0
+    ensures full_to_empty_low { (network : Project) → length network.junctions.list ≡ 1 → length network.reservoirs.list ≡ 0 → HasTanks network false false
         → map (low (law_of network (Full ∷ Empty
         ∷ []) (record { from = 1; to = 2; kind = Tcv Linear; start = Open }) Open)) (neg_ℤ (pos 125) ∷ pos 0 ∷ pos 125 ∷ [])
         ≡ pos 0 ∷ pos 0 ∷ pos 1003352 ∷ [] }
-    ensures full_to_empty_high { (network : Project) → length network.junctions.list ≡ 1 → length network.reservoirs.list ≡ 0
+    ensures full_to_empty_high { (network : Project) → length network.junctions.list ≡ 1 → length network.reservoirs.list ≡ 0 → HasTanks network false false
         → map (high (law_of network (Full ∷ Empty
         ∷ []) (record { from = 1; to = 2; kind = Tcv Linear; start = Open }) Open)) (neg_ℤ (pos 125) ∷ pos 0 ∷ pos 125 ∷ [])
         ≡ pos 0 ∷ pos 0 ∷ pos 1003353 ∷ [] }
@@ -150,6 +160,18 @@ pub fn tank_laws()
         → map (high (law_of network (Between ∷ Between
         ∷ []) (record { from = 1; to = 2; kind = Tcv Linear; start = Open }) Open)) (neg_ℤ (pos 125) ∷ pos 0 ∷ pos 125 ∷ [])
         ≡ neg_ℤ (pos 1003352) ∷ pos 0 ∷ pos 1003353 ∷ [] }
+    ensures into_overflowing_low { (network : Project) → length network.junctions.list ≡ 1 → length network.reservoirs.list ≡ 0 → HasTanks network true false
+        → map (low (law_of network (Full ∷ Between
+        ∷ []) (record { from = 0; to = 1; kind = Tcv Linear; start = Open }) Open)) (neg_ℤ (pos 125) ∷ pos 0 ∷ pos 125 ∷ [])
+        ≡ neg_ℤ (pos 1003353) ∷ pos 0 ∷ pos 1003352 ∷ [] }
+    ensures into_overflowing_high { (network : Project) → length network.junctions.list ≡ 1 → length network.reservoirs.list ≡ 0 → HasTanks network true false
+        → map (high (law_of network (Full ∷ Between
+        ∷ []) (record { from = 0; to = 1; kind = Tcv Linear; start = Open }) Open)) (neg_ℤ (pos 125) ∷ pos 0 ∷ pos 125 ∷ [])
+        ≡ neg_ℤ (pos 1003352) ∷ pos 0 ∷ pos 1003353 ∷ [] }
+    ensures overflowing_to_full_low { (network : Project) → length network.junctions.list ≡ 1 → length network.reservoirs.list ≡ 0 → HasTanks network true false
+        → map (low (law_of network (Full ∷ Full
+        ∷ []) (record { from = 1; to = 2; kind = Tcv Linear; start = Open }) Open)) (neg_ℤ (pos 125) ∷ pos 0 ∷ pos 125 ∷ [])
+        ≡ neg_ℤ (pos 1003353) ∷ pos 0 ∷ pos 0 ∷ [] }
 {}
 
 /// Clauses on a pressure about the amount, which in pounds a square inch isn't a whole number of head ticks.

@@ -48,25 +48,25 @@ pub fn driven()
 
 /// What valves without loss coefficient pass in each state.
 pub fn valves()
-    ensures closed_low { map (low (own_law false (Tcv Linear) (Closed))) (neg_ℤ (pos 125) ∷ pos 0 ∷ pos 3 ∷ pos 125 ∷ [])
+    ensures closed_low { map (low (own_law false [] (Tcv Linear) (Closed))) (neg_ℤ (pos 125) ∷ pos 0 ∷ pos 3 ∷ pos 125 ∷ [])
         ≡ pos 0 ∷ pos 0 ∷ pos 0 ∷ pos 0 ∷ [] }
-    ensures closed_high { map (high (own_law false (Tcv Linear) (Closed))) (neg_ℤ (pos 125) ∷ pos 0 ∷ pos 3 ∷ pos 125 ∷ [])
+    ensures closed_high { map (high (own_law false [] (Tcv Linear) (Closed))) (neg_ℤ (pos 125) ∷ pos 0 ∷ pos 3 ∷ pos 125 ∷ [])
         ≡ pos 0 ∷ pos 0 ∷ pos 0 ∷ pos 0 ∷ [] }
-    ensures open_low { map (low (own_law false (Tcv Linear) (Open))) (neg_ℤ (pos 125) ∷ pos 0 ∷ pos 3 ∷ pos 125 ∷ [])
+    ensures open_low { map (low (own_law false [] (Tcv Linear) (Open))) (neg_ℤ (pos 125) ∷ pos 0 ∷ pos 3 ∷ pos 125 ∷ [])
         ≡ neg_ℤ (pos 1003353) ∷ pos 0 ∷ pos 24080 ∷ pos 1003352 ∷ [] }
-    ensures open_high { map (high (own_law false (Tcv Linear) (Open))) (neg_ℤ (pos 125) ∷ pos 0 ∷ pos 3 ∷ pos 125 ∷ [])
+    ensures open_high { map (high (own_law false [] (Tcv Linear) (Open))) (neg_ℤ (pos 125) ∷ pos 0 ∷ pos 3 ∷ pos 125 ∷ [])
         ≡ neg_ℤ (pos 1003352) ∷ pos 0 ∷ pos 24081 ∷ pos 1003353 ∷ [] }
-    ensures throttled_low { map (low (own_law false (Tcv Linear) (Throttle (pos 0) Linear))) (neg_ℤ (pos 125) ∷ pos 0 ∷ pos 3 ∷ pos 125 ∷ [])
+    ensures throttled_low { map (low (own_law false [] (Tcv Linear) (Throttle (pos 0) Linear))) (neg_ℤ (pos 125) ∷ pos 0 ∷ pos 3 ∷ pos 125 ∷ [])
         ≡ neg_ℤ (pos 1003353) ∷ pos 0 ∷ pos 24080 ∷ pos 1003352 ∷ [] }
-    ensures throttled_high { map (high (own_law false (Tcv Linear) (Throttle (pos 0) Linear))) (neg_ℤ (pos 125) ∷ pos 0 ∷ pos 3 ∷ pos 125 ∷ [])
+    ensures throttled_high { map (high (own_law false [] (Tcv Linear) (Throttle (pos 0) Linear))) (neg_ℤ (pos 125) ∷ pos 0 ∷ pos 3 ∷ pos 125 ∷ [])
         ≡ neg_ℤ (pos 1003352) ∷ pos 0 ∷ pos 24081 ∷ pos 1003353 ∷ [] }
-    ensures limited_low { map (low (own_law false (Fcv Linear) (Limit (pos 2000000) (pos 20000)))) (neg_ℤ (pos 125) ∷ pos 0 ∷ pos 3 ∷ pos 125 ∷ [])
+    ensures limited_low { map (low (own_law false [] (Fcv Linear) (Limit (pos 2000000) (pos 20000)))) (neg_ℤ (pos 125) ∷ pos 0 ∷ pos 3 ∷ pos 125 ∷ [])
         ≡ neg_ℤ (pos 1003353) ∷ pos 0 ∷ pos 20000 ∷ pos 20000 ∷ [] }
-    ensures limited_high { map (high (own_law false (Fcv Linear) (Limit (pos 2000000) (pos 20000)))) (neg_ℤ (pos 125) ∷ pos 0 ∷ pos 3 ∷ pos 125 ∷ [])
+    ensures limited_high { map (high (own_law false [] (Fcv Linear) (Limit (pos 2000000) (pos 20000)))) (neg_ℤ (pos 125) ∷ pos 0 ∷ pos 3 ∷ pos 125 ∷ [])
         ≡ neg_ℤ (pos 1003352) ∷ pos 0 ∷ pos 20000 ∷ pos 20000 ∷ [] }
-    ensures limit_closed_low { map (low (own_law false (Fcv Linear) (Closed))) (neg_ℤ (pos 125) ∷ pos 0 ∷ pos 3 ∷ pos 125 ∷ [])
+    ensures limit_closed_low { map (low (own_law false [] (Fcv Linear) (Closed))) (neg_ℤ (pos 125) ∷ pos 0 ∷ pos 3 ∷ pos 125 ∷ [])
         ≡ pos 0 ∷ pos 0 ∷ pos 0 ∷ pos 0 ∷ [] }
-    ensures limit_closed_high { map (high (own_law false (Fcv Linear) (Closed))) (neg_ℤ (pos 125) ∷ pos 0 ∷ pos 3 ∷ pos 125 ∷ [])
+    ensures limit_closed_high { map (high (own_law false [] (Fcv Linear) (Closed))) (neg_ℤ (pos 125) ∷ pos 0 ∷ pos 3 ∷ pos 125 ∷ [])
         ≡ pos 0 ∷ pos 0 ∷ pos 0 ∷ pos 0 ∷ [] }
 {}
 
@@ -136,12 +136,13 @@ pub fn start()
         ∷ (record { from = 2; to = 0; kind = Tcv Linear; start = Open })
         ∷ (record { from = 1; to = 0; kind = Tcv Linear; start = Throttle (pos 5) Linear }) ∷ []
         → a.initial ≡ pos 6096000000 → b.initial ≡ neg_ℤ (pos 5)
-        → a.minimum ≡ pos 0 → a.maximum ≡ pos 15240000000 → b.minimum ≡ neg_ℤ (pos 5) → b.maximum ≡ pos 4572000000
+        → a.minimum ≡ pos 0 → a.maximum ≡ pos 15240000000 → b.minimum ≡ neg_ℤ (pos 5) → b.maximum ≡ pos 4572000000 → a.shape ≡ None → b.shape ≡ None
         → initial_standing network ≡ record {
           number = 0;
           time = 0;
           levels = (record { lo = pos 6096000000; hi = pos 6096000000 })
               ∷ (record { lo = neg_ℤ (pos 5); hi = neg_ℤ (pos 5) }) ∷ [];
+          volumes = (record { lo = pos 0; hi = pos 0 }) ∷ (record { lo = pos 0; hi = pos 0 }) ∷ [];
           tanks = Between ∷ Empty ∷ [];
           commanded = Open ∷ Closed ∷ Open ∷ Throttle (pos 5) Linear ∷ [];
           finished = false;

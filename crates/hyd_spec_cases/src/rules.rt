@@ -5,7 +5,8 @@ ghost use Rattle.std.specs.Prelude.{◌≡◌, pos, neg_ℤ, true, false, [], �
 ghost use Rattle.hyd_num.specs.Rational.{whole};
 ghost use Rattle.hyd_num.specs.declared.decimals.Span.{Span};
 ghost use Rattle.hyd_spec.specs.Types.{Project, Decimal, Rule, Clause, And, Or, Less, NotMore, More, NotLess, Equal, Unequal, Time, Clock, Amount, ValueOpen, ValueClosed, ValueActive, Linear, Open, Closed, Speed, Throttle, Limit};
-ghost use Rattle.hyd_spec_certificates.specs.Truth.{Yes, No, Unknown, at_both_ends, some_holds, all_hold};
+ghost use Rattle.hyd_spec.specs.declared.Source.TheVariants.{Rule as ByRule};
+ghost use Rattle.hyd_spec_certificates.specs.Verdict.{Yes, No, Unknown, at_both_ends, some_holds, all_hold};
 ghost use Rattle.hyd_spec.specs.Rules.{IsOpen, IsClosed, IsActive, state_word, setting_of, is_same_state, compares, status_holds, holds_on, Readings, parts_of, groups_in, is_above, rule_changes, acted};
 ghost use Rattle.hyd_spec_certificates.specs.Decided.{least_magnitude, greatest_magnitude};
 
@@ -134,7 +135,7 @@ pub fn premises()
         ≡ (a ∷ b ∷ []) ∷ (c ∷ []) ∷ (d ∷ e ∷ []) ∷ [] }
 {}
 
-/// Truth in three values: what is so at both ends, of some clauses, and of all groups.
+/// Verdict in three values: what is so at both ends, of some clauses, and of all groups.
 pub fn truths()
     ensures ends { map (at_both_ends true) (true ∷ false ∷ []) ≡ Yes ∷ Unknown ∷ [] }
     ensures other_ends { map (at_both_ends false) (true ∷ false ∷ []) ≡ Unknown ∷ No ∷ [] }
@@ -183,11 +184,11 @@ pub fn changes()
         → c.no.list ≡ []
         → map (λ values. rule_changes network values (Open ∷ Speed (pos 1000000000) ∷ Closed ∷ [])) ((true ∷ true ∷ true ∷ []) ∷ (true
         ∷ false ∷ true ∷ []) ∷ (false ∷ false ∷ false ∷ []) ∷ (false ∷ true ∷ true ∷ []) ∷ (true ∷ false ∷ false ∷ []) ∷ [])
-        ≡ ((record { by = 1; link = 0; to = Speed (pos 700000000) }) ∷ (record { by = 1; link = 1; to = Closed }) ∷ [])
-        ∷ ((record { by = 2; link = 0; to = Closed }) ∷ (record { by = 1; link = 1; to = Open }) ∷ [])
-        ∷ ((record { by = 1; link = 1; to = Open }) ∷ []) ∷ ((record { by = 1; link = 0; to = Speed (pos 700000000) })
-        ∷ (record { by = 1; link = 1; to = Closed }) ∷ []) ∷ ((record { by = 0; link = 0; to = Closed })
-        ∷ (record { by = 1; link = 1; to = Open }) ∷ []) ∷ [] }
+        ≡ ((record { source = ByRule 1; link = 0; to = Speed (pos 700000000) }) ∷ (record { source = ByRule 1; link = 1; to = Closed }) ∷ [])
+        ∷ ((record { source = ByRule 2; link = 0; to = Closed }) ∷ (record { source = ByRule 1; link = 1; to = Open }) ∷ [])
+        ∷ ((record { source = ByRule 1; link = 1; to = Open }) ∷ []) ∷ ((record { source = ByRule 1; link = 0; to = Speed (pos 700000000) })
+        ∷ (record { source = ByRule 1; link = 1; to = Closed }) ∷ []) ∷ ((record { source = ByRule 0; link = 0; to = Closed })
+        ∷ (record { source = ByRule 1; link = 1; to = Open }) ∷ []) ∷ [] }
     ensures acted { (network : Project) (a b c : Rule) → network.rules.list ≡ a ∷ b ∷ c ∷ []
         → a.priority ≡ None → b.priority ≡ Some (pos 5) → c.priority ≡ Some (pos 5)
         → a.yes.list ≡ (record { link = 0; to = Closed }) ∷ (record { link = 1; to = Speed (pos 1000000000) }) ∷ []

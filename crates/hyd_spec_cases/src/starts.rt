@@ -5,7 +5,8 @@ ghost use Rattle.std.specs.Prelude.{◌≡◌, pos, neg_ℤ, true, false, List, 
 ghost use Rattle.hyd_spec.specs.Types.{Project, Capacity, ShutoffHead, Control, PumpLink, Tcv, Linear, Open, Closed, Speed, AtLevel, AtTime, AtClock};
 ghost use Rattle.hyd_spec.specs.Quantity.{multipliers_of};
 ghost use Rattle.hyd_spec.specs.Start.{clock_at, speed_state, is_pattern_boundary, patterned, controlled};
-ghost use Rattle.hyd_spec_certificates.specs.Truth.{Yes, No, Unknown};
+ghost use Rattle.hyd_spec.specs.declared.Source.TheVariants.{Control as ByControl};
+ghost use Rattle.hyd_spec_certificates.specs.Verdict.{Yes, No, Unknown};
 ghost use Rattle.hyd_spec_certificates.specs.Decided.{control_truth, acts_on};
 ghost use Rattle.hyd_spec_reports.specs.Report.{control_changes, is_report_time};
 ghost use Rattle.hyd_num.specs.declared.decimals.Span.{Span};
@@ -79,12 +80,12 @@ pub fn changes()
         ∷ control_changes network 7201 (acts_on ((record { lo = pos 50; hi = pos 50 }) ∷ [])) 0 controls (Open ∷ Open ∷ [])
         ∷ control_changes network 7200 (acts_on ((record { lo = pos 51; hi = pos 89 }) ∷ [])) 0 controls (Open ∷ Open ∷ [])
         ∷ control_changes network 7201 (acts_on ((record { lo = pos 90; hi = pos 90 }) ∷ [])) 0 controls (Open ∷ Open ∷ []) ∷ []
-        ≡ ((record { by = 0; link = 0; to = Closed }) ∷ (record { by = 1; link = 0; to = Speed (pos 900000000) })
-        ∷ (record { by = 2; link = 1; to = Closed }) ∷ (record { by = 4; link = 1; to = Open }) ∷ [])
-        ∷ ((record { by = 0; link = 0; to = Closed }) ∷ (record { by = 2; link = 1; to = Closed })
-        ∷ (record { by = 3; link = 0; to = Open }) ∷ (record { by = 4; link = 1; to = Open }) ∷ [])
-        ∷ ((record { by = 1; link = 0; to = Speed (pos 900000000) }) ∷ []) ∷ ((record { by = 0; link = 0; to = Closed })
-        ∷ (record { by = 2; link = 1; to = Closed }) ∷ (record { by = 4; link = 1; to = Open }) ∷ []) ∷ ([]) ∷ [] }
+        ≡ ((record { source = ByControl 0; link = 0; to = Closed }) ∷ (record { source = ByControl 1; link = 0; to = Speed (pos 900000000) })
+        ∷ (record { source = ByControl 2; link = 1; to = Closed }) ∷ (record { source = ByControl 4; link = 1; to = Open }) ∷ [])
+        ∷ ((record { source = ByControl 0; link = 0; to = Closed }) ∷ (record { source = ByControl 2; link = 1; to = Closed })
+        ∷ (record { source = ByControl 3; link = 0; to = Open }) ∷ (record { source = ByControl 4; link = 1; to = Open }) ∷ [])
+        ∷ ((record { source = ByControl 1; link = 0; to = Speed (pos 900000000) }) ∷ []) ∷ ((record { source = ByControl 0; link = 0; to = Closed })
+        ∷ (record { source = ByControl 2; link = 1; to = Closed }) ∷ (record { source = ByControl 4; link = 1; to = Open }) ∷ []) ∷ ([]) ∷ [] }
 {}
 
 /// A level control on a level interval: it acts at all levels, at none, or it is open.

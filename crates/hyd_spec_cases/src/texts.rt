@@ -8,14 +8,15 @@ ghost use Rattle.hyd_spec_certificates.specs.declared.Side.TheVariants.{Upper, L
 ghost use Rattle.hyd_spec.specs.declared.TankState.TheVariants.{Between};
 ghost use Rattle.hyd_spec_reports.specs.declared.StatusWord.TheVariants.{Active as WordActive};
 ghost use Rattle.hyd_spec_reports.specs.CertificateText.{words, certificate_text};
-ghost use Rattle.hyd_spec_reports.specs.Stops.{DemandOutOfRange, NoCertificate, RoundsSpent, RuleOpen, EventOpen, TankOpen, ControlOpen};
-ghost use Rattle.hyd_spec_reports.specs.ReportLine.{state_words, line_text, ControlLine, TimeLine, JunctionLine, ReservoirLine, TankLine, LinkLine, FilledLine, EmptiedLine, ReachedLine, RuleLine, stop_line, done_line, partial_line, report_text};
+ghost use Rattle.hyd_spec_reports.specs.declared.StopCause.TheVariants.{Demand as DemandOutOfRange, NoCertificate, RoundsSpent, RuleOpen, EventOpen, TankOpen, ControlOpen};
+ghost use Rattle.hyd_spec_reports.specs.declared.CertRefused.TheVariants.{Place, Demand as DemandRefused, Fails, Open as MatterOpen, Length, After};
+ghost use Rattle.hyd_spec_reports.specs.ReportLine.{state_words, line_text, ControlLine, TimeLine, JunctionLine, ReservoirLine, TankLine, LinkLine, FilledLine, EmptiedLine, ReachedLine, RuleLine, stop_line, done_line, partial_line, refused_line, refused_end_line, report_text};
 
 /// The text of a certificate: without records, of one record with two heads, and of two records with a tank.
 pub fn certificates()
-    ensures empty { certificate_text 3 0 ([]) 0 false
+    ensures empty { certificate_text 1 3 0 ([]) 0 false
         ≡ codes "HYDCERT 1 3 0\nEND 0 STOPPED\n" }
-    ensures heads { certificate_text 2 0 ((record {
+    ensures heads { certificate_text 1 2 0 ((record {
       number = 0;
       time = 0;
       length = 0;
@@ -27,7 +28,7 @@ pub fn certificates()
       pinned = [];
     }) ∷ []) 1 true
         ≡ codes "HYDCERT 1 2 0\nPERIOD 0 0 0\nMU 5\nMU -1000000000000000000\nML 0\nML -7\nEND 1 FINISHED\n" }
-    ensures tank { certificate_text 1 1 ((record {
+    ensures tank { certificate_text 1 1 1 ((record {
       number = 0;
       time = 0;
       length = 3600;
@@ -104,31 +105,43 @@ pub fn lines()
 /// The last line of a run that stopped, for each cause.
 pub fn stops()
     ensures no_certificate { (network : Project) → network.node_ids ≡ codes "J1" ∷ codes "R" ∷ codes "T" ∷ []
-        → stop_line network 3 3725 (NoCertificate Main Upper 0)
+        → stop_line network 3725 (NoCertificate 3 Main Upper 0)
         ≡ codes "STOP period 3 time 1:02:05 NOCERT MAIN UPPER JUNCTION J1\n" }
     ensures no_certificate_pinned { (network : Project) → network.node_ids ≡ codes "J1" ∷ codes "R" ∷ codes "T"
         ∷ [] → length network.junctions.list ≡ 1 → length network.reservoirs.list ≡ 1
-        → stop_line network 3 3725 (NoCertificate (Pinned 0) Lower 0)
+        → stop_line network 3725 (NoCertificate 3 (Pinned 0) Lower 0)
         ≡ codes "STOP period 3 time 1:02:05 NOCERT PINNED T LOWER JUNCTION J1\n" }
     ensures rounds { (network : Project)
-        → stop_line network 3 3725 (RoundsSpent Main Lower 200)
+        → stop_line network 3725 (RoundsSpent 3 Main Lower 200)
         ≡ codes "STOP period 3 time 1:02:05 ROUNDS MAIN LOWER 200\n" }
     ensures demand { (network : Project) → network.node_ids ≡ codes "J1" ∷ codes "R" ∷ codes "T" ∷ []
-        → stop_line network 3 3725 (DemandOutOfRange 0 (neg_ℤ (pos 1000000000000001)))
+        → stop_line network 3725 (DemandOutOfRange 3 0 (neg_ℤ (pos 1000000000000001)))
         ≡ codes "STOP period 3 time 1:02:05 DEMAND J1 -1000000000000001\n" }
     ensures event { (network : Project)
-        → stop_line network 3 3725 (EventOpen 107 108)
+        → stop_line network 3725 (EventOpen 3 107 108)
         ≡ codes "STOP period 3 time 1:02:05 EVENT 107 108\n" }
     ensures tank { (network : Project) → network.node_ids ≡ codes "J1" ∷ codes "R" ∷ codes "T"
         ∷ [] → length network.junctions.list ≡ 1 → length network.reservoirs.list ≡ 1
-        → stop_line network 3 3725 (TankOpen 0 (record { lo = neg_ℤ (pos 3); hi = pos 1524000001 }))
+        → stop_line network 3725 (TankOpen 3 0 (neg_ℤ (pos 3)) (pos 1524000001))
         ≡ codes "STOP period 3 time 1:02:05 TANK T -3 1524000001\n" }
     ensures control { (network : Project)
-        → stop_line network 3 3725 (ControlOpen 2 (record { lo = pos 99; hi = pos 101 }))
+        → stop_line network 3725 (ControlOpen 3 2 (pos 99) (pos 101))
         ≡ codes "STOP period 3 time 1:02:05 CONTROL 3 99 101\n" }
     ensures rule { (network : Project) (rule : Rule) → network.rules.list ≡ rule ∷ [] → rule.id.list ≡ codes "U1"
-        → stop_line network 3 3725 (RuleOpen (record { rule = 0; clause = 1; lo = neg_ℤ (pos 9); hi = pos 12 }))
+        → stop_line network 3725 (RuleOpen 3 0 1 (neg_ℤ (pos 9)) (pos 12))
         ≡ codes "STOP period 3 time 1:02:05 RULE U1 CLAUSE 2 -9 12\n" }
+{}
+
+/// The last line of a check that refused a record, for each cause, or the end line.
+pub fn refusals()
+    ensures place { (network : Project) → refused_line network (Place 0) ≡ codes "BADCERT period 0 PLACE\n" }
+    ensures demand { (network : Project) → refused_line network (DemandRefused 2) ≡ codes "BADCERT period 2 DEMAND\n" }
+    ensures fails { (network : Project) → network.node_ids ≡ codes "J" ∷ codes "R" ∷ []
+        → refused_line network (Fails 0 Main Upper 0) ≡ codes "BADCERT period 0 FAILS MAIN UPPER JUNCTION J\n" }
+    ensures open { (network : Project) → refused_line network (MatterOpen 7) ≡ codes "BADCERT period 7 OPEN\n" }
+    ensures length { (network : Project) → refused_line network (Length 0) ≡ codes "BADCERT period 0 LENGTH\n" }
+    ensures after { (network : Project) → refused_line network (After 1) ≡ codes "BADCERT period 1 AFTER\n" }
+    ensures end { refused_end_line 5 ≡ codes "BADCERT line 5 END\n" }
 {}
 
 /// The last lines of the others, and a whole report of one line.

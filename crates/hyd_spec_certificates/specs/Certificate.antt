@@ -1,7 +1,7 @@
 -- Certificates: vectors of heads that lie above, or below, the heads of every assignment; and raises, which
 -- lead to the tight ones.
 -- Source: Ortega and Rheinboldt 1970 (supersolutions and subsolutions), made strict by a margin.
-use Rattle.std.specs.Prelude.{◌≡◌, ℕ, suc, ◌^◌, ◌==◌, ℤ, pos, neg_ℤ, ◌+ℤ◌, ◌≤ℤ◌, List, length, All, slice_set, Option, Some, None, MatchBool}
+use Rattle.std.specs.Prelude.{◌≡◌, ℕ, suc, ◌<◌, ◌^◌, ◌==◌, ℤ, pos, neg_ℤ, ◌+ℤ◌, ◌≤ℤ◌, List, length, All, slice_get, slice_set, Option, Some, None, MatchBool}
 use Rattle.hyd_spec_certificates.specs.declared.Problem.{Problem}
 use Rattle.hyd_spec_certificates.specs.declared.Side.{Side}
 use Rattle.hyd_spec_certificates.specs.declared.Side.TheVariants.{Upper, Lower}
@@ -39,6 +39,17 @@ pub record IsCertificateHolding (held : Option HeldJunction) (grid : Grid) (prob
   pub one_each : length u ≡ length grid.junctions
   pub in_box : All IsInBox u
   pub passes : Each grid.junctions (Suits held grid problem side u)
+
+-- A vector that isn't one fails first at a junction: the first whose head lies outside the box; where all lie inside, the
+-- first at which what is asked of it doesn't hold.
+pub data FailsFirst (held : Option HeldJunction) (grid : Grid) (problem : Problem) (side : Side) (u : List ℤ)
+    : ℕ → Type 0 where
+  outside : {i : ℕ} → i < length u → (IsInBox (head_at u i) → ⊥)
+      → ((k : ℕ) → k < i → IsInBox (head_at u k)) → FailsFirst held grid problem side u i
+  fails : {i : ℕ} (junction : GridJunction) → All IsInBox u → slice_get grid.junctions i ≡ Some junction
+      → (Suits held grid problem side u i junction → ⊥)
+      → ((k : ℕ) (before : GridJunction) → k < i → slice_get grid.junctions k ≡ Some before
+      → Suits held grid problem side u k before) → FailsFirst held grid problem side u i
 
 -- ---- raises
 

@@ -6,22 +6,25 @@ use Rattle.std.specs.Int.{int_max}
 use Rattle.std.specs.List.{list_any}
 use Rattle.hyd_spec.specs.Types.{Project, Tank, LinkState, Control, When, AtLevel, Rule, RuleClause, Clause}
 use Rattle.hyd_spec.specs.declared.TankState.{TankState}
+use Rattle.hyd_spec.specs.declared.Change.{Change}
 use Rattle.hyd_spec_certificates.specs.declared.Problem.TheVariants.{Main}
 use Rattle.hyd_spec_certificates.specs.declared.Side.TheVariants.{Upper, Lower}
+use Rattle.hyd_spec_certificates.specs.declared.Truth.{Truth}
+use Rattle.hyd_spec_certificates.specs.declared.Truth.TheVariants.{True, False, Open}
 use Rattle.hyd_spec.specs.Lists.{map_from, present}
 use Rattle.hyd_num.specs.Rational.{whole, floor, ceiling}
 use Rattle.hyd_spec_certificates.specs.Interval.{Interval, exactly}
 use Rattle.hyd_spec.specs.Network.{tank_node}
-use Rattle.hyd_spec.specs.Tank.{reaches}
+use Rattle.hyd_spec.specs.Tank.{Walls, walls_of, reaches}
 use Rattle.hyd_spec.specs.LinkLaw.{is_full, is_empty}
 use Rattle.hyd_spec.specs.Start.{started}
-use Rattle.hyd_spec.specs.Rules.{Readings, Change, clause_holds, groups_of, rule_changes, measured}
+use Rattle.hyd_spec.specs.Rules.{Readings, clause_holds, groups_of, rule_changes, measured}
 use Rattle.hyd_spec.specs.Length.{IsLeast, EndsByClock}
 use Rattle.hyd_spec_certificates.specs.Grid.{Grid, all_heads}
 use Rattle.hyd_spec_certificates.specs.Boxes.{flow_box, inflow_box}
 use Rattle.hyd_spec_certificates.specs.Record.{Record, Standing}
-use Rattle.hyd_spec_certificates.specs.Levels.{carried_levels, may_reach, must_reach}
-use Rattle.hyd_spec_certificates.specs.Truth.{Truth, at_both_ends, is_yes, is_unknown, some_holds, all_hold}
+use Rattle.hyd_spec_certificates.specs.Stocks.{Stocks, carried_levels, may_reach, must_reach}
+use Rattle.hyd_spec_certificates.specs.Verdict.{Verdict, Yes, No, Unknown, at_both_ends, is_yes, is_unknown, some_holds, all_hold}
 
 -- ---- intervals of a period
 
@@ -50,6 +53,10 @@ nowhere = exactly (pos 0)
 abbrev pub level_of_tank : Standing → ℕ → Interval
 level_of_tank standing k = slice_index_or standing.levels k nowhere
 
+-- The stocks of tank number k at the start.
+abbrev pub stocks_of_tank : Standing → ℕ → Stocks
+stocks_of_tank standing k = record { level = level_of_tank standing k; volume = slice_index_or standing.volumes k nowhere }
+
 -- The inflow interval (flow ticks) of tank number k.
 abbrev pub inflow_of_tank : Project → Grid → Record → ℕ → Interval
 inflow_of_tank network grid row k = slice_index_or (inflow_boxes network grid row) k nowhere
@@ -57,7 +64,7 @@ inflow_of_tank network grid row k = slice_index_or (inflow_boxes network grid ro
 -- ---- level controls
 
 -- A level control on a level interval.
-abbrev pub control_truth : Interval → Bool → ℤ → Truth
+abbrev pub control_truth : Interval → Bool → ℤ → Verdict
 control_truth level above ticks = at_both_ends (reaches 1 above ticks (whole level.lo)) (reaches 1 above ticks (whole level.hi))
 
 -- Whether a level control acts at the level intervals of a standing, where it is decided.
@@ -102,16 +109,16 @@ watches network standing =
     tank_watches 0 network.tanks.list standing.tanks
     ++ present (map (watch_of standing.levels) network.controls.list)
 
--- A watched level reaches its target some seconds after the start, by a test of its tank, of the intervals of its
--- level and inflow, of the target and its direction, and of the seconds.
-pub record SomeReaches (test : Tank → Interval → Interval → ℤ → Bool → ℕ → Bool)
+-- A watched level reaches its target some seconds after the start, by a test of its tank's walls, of the tank, of its stocks
+-- and inflow, of the target and its direction, and of the seconds.
+pub record SomeReaches (test : Walls → Tank → Stocks → Interval → ℤ → Bool → ℕ → Bool)
     (network : Project) (grid : Grid) (standing : Standing) (row : Record) (seconds : ℕ) : Type 0 where
   pub watch : Watch
   pub is_watched : Contains (watches network standing) watch
   pub tank : Tank
   pub is_tank : slice_get network.tanks.list watch.tank ≡ Some tank
-  pub reached : IsTrue (test tank (level_of_tank standing watch.tank) (inflow_of_tank network grid row watch.tank)
-      watch.target watch.rising seconds)
+  pub reached : IsTrue (test (walls_of network tank) tank (stocks_of_tank standing watch.tank)
+      (inflow_of_tank network grid row watch.tank) watch.target watch.rising seconds)
 
 -- A watched level may have reached its target some seconds after the start.
 abbrev pub SomeMayReach : Project → Grid → Standing → Record → ℕ → Type 0
@@ -151,7 +158,8 @@ greatest_magnitude x = unsigned_abs (int_max x.hi (neg_ℤ x.lo))
 -- The carried level intervals some seconds after the start.
 abbrev pub carried_at : Project → Grid → Standing → Record → ℕ → List Interval
 carried_at network grid standing row seconds =
-    map_from (λ k tank. carried_levels tank (level_of_tank standing k) (inflow_of_tank network grid row k) seconds) 0 network.tanks.list
+    map_from (λ k tank. carried_levels (walls_of network tank) tank (stocks_of_tank standing k) (inflow_of_tank network grid row k) seconds)
+    0 network.tanks.list
 
 -- What the rules look at, from below.
 abbrev pub readings_below : Project → Grid → Standing → Record → ℕ → Readings
@@ -171,20 +179,48 @@ readings_above network grid standing row seconds = record {
   links = links_at network standing;
 }
 
--- A clause at an instant, `seconds` after the start. Comparisons go one way, so that both ends decide.
-abbrev pub clause_truth : Project → Grid → Standing → Record → ℕ → Clause → Truth
-clause_truth network grid standing row seconds clause =
-    at_both_ends
-    (clause_holds network 1 (standing.time + seconds) (readings_below network grid standing row seconds) clause)
-    (clause_holds network 1 (standing.time + seconds) (readings_above network grid standing row seconds) clause)
+-- A clause at a time, where what the rules look at lies between two readings. Comparisons go one way, so that both ends
+-- decide.
+abbrev pub clause_between : Project → ℕ → Readings → Readings → Clause → Verdict
+clause_between network time below above clause =
+    at_both_ends (clause_holds network 1 time below clause) (clause_holds network 1 time above clause)
 
--- The truth of a rule some seconds after the start, by three-valued logic over its groups.
-abbrev pub rule_truth : Project → Grid → Standing → Record → ℕ → Rule → Truth
+-- A rule there, by three-valued logic over its groups.
+abbrev pub rule_between : Project → ℕ → Readings → Readings → Rule → Verdict
+rule_between network time below above rule =
+    all_hold (map (λ group. some_holds (map (clause_between network time below above) group)) (groups_of rule))
+
+-- The clause of a rule that is open there, the first by itself, and what it measures from below and above, in head or
+-- flow ticks, of a flow its magnitude, rounded outward to whole ticks.
+pub record IsOpenClause (network : Project) (time : ℕ) (below above : Readings) (rule : Rule) (clause : ℕ) (lo hi : ℤ) : Type 0 where
+  pub first_clause : position (λ each. is_unknown (clause_between network time below above each.clause)) rule.clauses.list
+      ≡ Some clause
+  pub each : RuleClause
+  pub is_clause : slice_get rule.clauses.list clause ≡ Some each
+  pub lo_is : lo ≡ floor (measured network 1 below each.clause.what)
+  pub hi_is : hi ≡ ceiling (measured network 1 above each.clause.what)
+
+-- What is known of a rule there: it is true, it is false, or it is open by a clause.
+abbrev pub IsTruthBetween : Project → ℕ → Readings → Readings → Rule → Truth → Type 0
+IsTruthBetween network time below above rule True = rule_between network time below above rule ≡ Yes
+IsTruthBetween network time below above rule False = rule_between network time below above rule ≡ No
+IsTruthBetween network time below above rule (Open clause lo hi) =
+    (rule_between network time below above rule ≡ Unknown) × IsOpenClause network time below above rule clause lo hi
+
+-- A clause at an instant, `seconds` after the start.
+abbrev pub clause_truth : Project → Grid → Standing → Record → ℕ → Clause → Verdict
+clause_truth network grid standing row seconds clause =
+    clause_between network (standing.time + seconds) (readings_below network grid standing row seconds)
+    (readings_above network grid standing row seconds) clause
+
+-- A rule some seconds after the start.
+abbrev pub rule_truth : Project → Grid → Standing → Record → ℕ → Rule → Verdict
 rule_truth network grid standing row seconds rule =
-    all_hold (map (λ group. some_holds (map (clause_truth network grid standing row seconds) group)) (groups_of rule))
+    rule_between network (standing.time + seconds) (readings_below network grid standing row seconds)
+    (readings_above network grid standing row seconds) rule
 
 -- The truths of all rules, in order.
-abbrev pub rule_truths : Project → Grid → Standing → Record → ℕ → List Truth
+abbrev pub rule_truths : Project → Grid → Standing → Record → ℕ → List Verdict
 rule_truths network grid standing row seconds =
     map (rule_truth network grid standing row seconds) network.rules.list
 
@@ -206,8 +242,8 @@ pub record RulesMatter (network : Project) (grid : Grid) (standing : Standing) (
 
 -- ---- the end of a period
 
--- A rule that is open: the first open rule, its first clause that is open by itself, and what that clause
--- measures from below and above, in head or flow ticks, of a flow its magnitude.
+-- A rule that is open: the first open rule, its first clause that is open by itself, and the two ends of what that clause
+-- measures.
 pub record OpenRule : Type 0 where
   pub rule : ℕ
   pub clause : ℕ
@@ -219,12 +255,8 @@ pub record IsOpenRule (network : Project) (grid : Grid) (standing : Standing) (r
   pub first_rule : position is_unknown (rule_truths network grid standing row seconds) ≡ Some open_rule.rule
   pub rule : Rule
   pub is_rule : slice_get network.rules.list open_rule.rule ≡ Some rule
-  pub first_clause : position (λ each. is_unknown (clause_truth network grid standing row seconds each.clause)) rule.clauses.list
-      ≡ Some open_rule.clause
-  pub each : RuleClause
-  pub is_clause : slice_get rule.clauses.list open_rule.clause ≡ Some each
-  pub below : open_rule.lo ≡ floor (measured network 1 (readings_below network grid standing row seconds) each.clause.what)
-  pub above : open_rule.hi ≡ ceiling (measured network 1 (readings_above network grid standing row seconds) each.clause.what)
+  pub clause_is : IsOpenClause network (standing.time + seconds) (readings_below network grid standing row seconds)
+      (readings_above network grid standing row seconds) rule open_rule.clause open_rule.lo open_rule.hi
 
 -- How a period that doesn't begin at the end of the run ends: after so many seconds, by the rules or without them;
 -- or it is open by a rule, or between two seconds.

@@ -1,5 +1,5 @@
--- Enclosing functions: for each law, a whole number of flow ticks below and one above the exact
--- flow at a head difference of a whole number of head ticks. Both never fall as the difference rises.
+-- Enclosing functions: for each law and at a head difference of whole head ticks, a whole number of flow ticks that is at most
+-- the exact flow, and one that is at least it. Neither falls as the difference rises.
 -- Source: interval arithmetic with outward rounding (Moore 1966, Interval Analysis), for the laws of EPANET 2.2 User
 -- Manual, chapter 3.
 use Rattle.std.specs.Prelude.{ℕ, zero, suc, ◌*◌, ◌^◌, ℤ, pos, negsuc, neg_ℤ, ◌+ℤ◌, ◌-ℤ◌, ◌*ℤ◌, nat_le, int_le, ◌==◌, ◌+◌, if◌then◌else◌, Option}
@@ -8,7 +8,8 @@ use Rattle.std.specs.Option.{option_map_or}
 use Rattle.hyd_num.specs.Scaled.{numerator, denominator}
 use Rattle.hyd_spec.specs.Types.{Capacity}
 use Rattle.hyd_num.specs.Rational.{Rational, floor, ceiling}
-use Rattle.hyd_spec.specs.Law.{Law, Shut, QuadraticLaw, LinearLaw, Lifted, ForwardOnly, ReverseOnly, Capped}
+use Rattle.hyd_net.specs.Curves.{value_at}
+use Rattle.hyd_spec.specs.Law.{Law, Shut, QuadraticLaw, LinearLaw, Lifted, ForwardOnly, ReverseOnly, Capped, Bent, Held}
 
 -- ---- roots
 
@@ -53,6 +54,8 @@ low (Lifted lift law) d = low law (d +ℤ floor lift)
 low (ForwardOnly law) d = int_max (pos 0) (low law d)
 low (ReverseOnly law) d = int_min (pos 0) (low law d)
 low (Capped setting law) d = int_min setting (low law d)
+low (Bent knots) d = floor (value_at 1 knots d)
+low (Held least greatest law) d = int_max least (int_min greatest (low law d))
 
 -- At least the exact flow.
 abbrev pub high : Law → ℤ → ℤ
@@ -63,6 +66,8 @@ high (Lifted lift law) d = high law (d +ℤ ceiling lift)
 high (ForwardOnly law) d = int_max (pos 0) (high law d)
 high (ReverseOnly law) d = int_min (pos 0) (high law d)
 high (Capped setting law) d = int_min setting (high law d)
+high (Bent knots) d = ceiling (value_at 1 knots d)
+high (Held least greatest law) d = int_max least (int_min greatest (high law d))
 
 -- ---- outflows
 

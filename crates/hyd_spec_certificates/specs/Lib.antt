@@ -4,10 +4,12 @@ pub mod Grid
 pub mod NetOutflow
 pub mod Certificate
 pub mod Climbing
+pub mod HeldBoxes
 pub mod Boxes
-pub mod Levels
-pub mod Truth
+pub mod Stocks
+pub mod Verdict
 pub mod Record
+pub mod FirstSeconds
 pub mod Decided
 pub mod Valid
 pub mod Narrow

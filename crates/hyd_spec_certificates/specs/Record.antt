@@ -1,14 +1,14 @@
 -- Records of a certificate, and what is carried from one period to the next.
 -- Source: this program's.
 use Rattle.std.specs.Prelude.{ℕ, ℤ, Bool, false, List, [], map, slice_index_or}
-use Rattle.hyd_spec.specs.Types.{Project, LinkState}
+use Rattle.hyd_spec.specs.Types.{Project, Tank, LinkState}
 use Rattle.hyd_spec.specs.declared.TankState.{TankState}
 use Rattle.hyd_spec_certificates.specs.declared.Problem.{Problem}
 use Rattle.hyd_spec_certificates.specs.declared.Problem.TheVariants.{Main, Pinned}
 use Rattle.hyd_spec_certificates.specs.declared.Side.{Side}
 use Rattle.hyd_spec_certificates.specs.declared.Side.TheVariants.{Upper, Lower}
 use Rattle.hyd_spec_certificates.specs.Interval.{Interval, exactly}
-use Rattle.hyd_spec.specs.Tank.{tank_state}
+use Rattle.hyd_spec.specs.Tank.{tank_state, walls_of, kept_volume}
 
 -- The two vectors of a problem, in head ticks.
 pub record Vectors : Type 0 where
@@ -42,13 +42,14 @@ vector_on Lower vectors = vectors.lower
 abbrev pub vector_of : Record → Problem → Side → List ℤ
 vector_of row problem side = vector_on side (vectors_of row problem)
 
--- What is known when a period begins: its number and time (seconds), an interval for each tank's level (head ticks), the
--- tanks' states, and the states that links were last commanded to be in. `finished` says that the period at the end of
--- the run is over.
+-- What is known when a period begins: its number and time (seconds), an interval for each tank's level (head ticks) and for
+-- its volume (volume ticks; 0 to 0 without a curve), the tanks' states, and the states that links were last commanded to
+-- be in. `finished` says that the period at the end of the run is over.
 pub record Standing : Type 0 where
   pub number : ℕ
   pub time : ℕ
   pub levels : List Interval
+  pub volumes : List Interval
   pub tanks : List TankState
   pub commanded : List LinkState
   pub finished : Bool
@@ -59,6 +60,7 @@ initial_standing network = record {
   number = 0;
   time = 0;
   levels = map (λ tank. exactly tank.initial) network.tanks.list;
+  volumes = map (λ (tank : Tank). exactly (kept_volume (walls_of network tank) tank.initial)) network.tanks.list;
   tanks = map (λ tank. tank_state 1 tank tank.initial) network.tanks.list;
   commanded = map (λ link. link.start) network.links.list;
   finished = false;

@@ -1,7 +1,7 @@
 -- Valid records: what a record claims at a standing, and the standing that it leads on to.
 -- Source: this program's.
 use Rattle.std.specs.Prelude.{◌≡◌, ◌≢◌, ℕ, suc, ◌+◌, ◌<◌, ◌≤◌, ◌^◌, ℤ, Bool, true, false, IsFalse, List, [], ◌∷◌, Some, map, length, slice_index_or, unsigned_abs, All, Contains, ⊤}
-use Rattle.hyd_spec.specs.Types.{Project, LinkState, Control, AtLevel}
+use Rattle.hyd_spec.specs.Types.{Project, Tank, LinkState, Control, AtLevel}
 use Rattle.hyd_spec.specs.declared.TankState.{TankState}
 use Rattle.hyd_spec_certificates.specs.declared.Problem.{Problem}
 use Rattle.hyd_spec_certificates.specs.declared.Problem.TheVariants.{Main, Pinned}
@@ -14,9 +14,10 @@ use Rattle.hyd_spec.specs.Rules.{acted}
 use Rattle.hyd_spec_certificates.specs.Grid.{Grid, IsGrid}
 use Rattle.hyd_spec_certificates.specs.Certificate.{IsCertificate}
 use Rattle.hyd_spec_certificates.specs.Record.{Record, Standing, vector_of, initial_standing}
-use Rattle.hyd_spec_certificates.specs.Levels.{next_levels, state_of}
-use Rattle.hyd_spec_certificates.specs.Truth.{is_yes, is_unknown}
-use Rattle.hyd_spec_certificates.specs.Decided.{links_at, level_of_tank, inflow_of_tank, nowhere, control_truth, rule_truths, EndsBy, ByRules, WithoutRules}
+use Rattle.hyd_spec.specs.Tank.{walls_of}
+use Rattle.hyd_spec_certificates.specs.Stocks.{Stocks, next_stocks, state_of}
+use Rattle.hyd_spec_certificates.specs.Verdict.{is_yes, is_unknown}
+use Rattle.hyd_spec_certificates.specs.Decided.{links_at, stocks_of_tank, inflow_of_tank, nowhere, control_truth, rule_truths, EndsBy, ByRules, WithoutRules}
 
 -- ---- the vectors
 
@@ -56,10 +57,20 @@ pub data LeavesLinks (network : Project) (grid : Grid) (standing : Standing) (ro
   by_clock : {seconds : ℕ} → EndsBy network grid standing row (WithoutRules seconds)
       → LeavesLinks network grid standing row seconds (links_at network standing)
 
+-- The stocks of tank number k at the end of a period of some length.
+abbrev pub stocks_next : Project → Grid → Standing → Record → ℕ → ℕ → Tank → Stocks
+stocks_next network grid standing row seconds k tank =
+    next_stocks (walls_of network tank) tank (stocks_of_tank standing k) (inflow_of_tank network grid row k) seconds
+
 -- The level intervals at the end of a period of some length.
 abbrev pub levels_next : Project → Grid → Standing → Record → ℕ → List Interval
 levels_next network grid standing row seconds =
-    map_from (λ k tank. next_levels tank (level_of_tank standing k) (inflow_of_tank network grid row k) seconds) 0 network.tanks.list
+    map_from (λ k tank. (stocks_next network grid standing row seconds k tank).level) 0 network.tanks.list
+
+-- The volume intervals there.
+abbrev pub volumes_next : Project → Grid → Standing → Record → ℕ → List Interval
+volumes_next network grid standing row seconds =
+    map_from (λ k tank. (stocks_next network grid standing row seconds k tank).volume) 0 network.tanks.list
 
 -- Each tank's state is decided at its level interval.
 abbrev pub AreStates : Project → List Interval → List TankState → Type 0
@@ -79,13 +90,14 @@ pub record Continues (network : Project) (grid : Grid) (standing : Standing) (ro
   pub not_last : standing.time ≢ network.times.duration
   pub leaves_links : LeavesLinks network grid standing row row.length next.commanded
   pub levels : next.levels ≡ levels_next network grid standing row row.length
+  pub volumes : next.volumes ≡ volumes_next network grid standing row row.length
   pub tanks : AreStates network next.levels next.tanks
   pub controls : ControlsAreDecided network next.levels
   pub number : next.number ≡ suc standing.number
   pub time : next.time ≡ standing.time + row.length
   pub unfinished : next.finished ≡ false
 
--- At the end of the run a record has length 0 and no matters: the levels, the states and the commands stay, and nothing
+-- At the end of the run a record has length 0 and no matters: the stocks, the states and the commands stay, and nothing
 -- follows.
 pub record Finishes (network : Project) (standing : Standing) (row : Record) (next : Standing) : Type 0 where
   pub is_last : standing.time ≡ network.times.duration

@@ -30,3 +30,21 @@ pub struct HeldJunction {
     /// The head that it is held at, in head ticks.
     pub head: i64,
 }
+
+/// What a period's intervals leave of a rule at an instant.
+#[derive(Debug, Clone, Copy, PartialEq, Eq, Drop)]
+pub enum Truth {
+    /// It is true, whatever the exact values are.
+    True,
+    /// It is false, whatever they are.
+    False,
+    /// It is open.
+    Open {
+        /// The first of its clauses that is open by itself, counted from 0.
+        clause: u32,
+        /// At most what that clause measures, in head or flow ticks, of a flow its magnitude.
+        lo: i128,
+        /// At least it.
+        hi: i128,
+    },
+}

@@ -1,12 +1,16 @@
 -- Curves: what pumps, general purpose valves and tanks ask of theirs.
 -- Source: EPANET 2.2 User Manual, chapter 3 (pumps, valves, tanks) and appendix C ([CURVES]); which curves are accepted is
 -- this program's choice.
-use Rattle.std.specs.Prelude.{ℕ, ◌*◌, ◌^◌, Bool, true, false, ◌&&◌, nat_le, List, [], ◌∷◌, length, map, ℤ, pos, neg_ℤ, ◌+ℤ◌, ◌*ℤ◌, ◌-ℤ◌, int_div, if◌then◌else◌}
+use Rattle.std.specs.Prelude.{ℕ, ◌*◌, ◌^◌, Bool, true, false, ◌&&◌, nat_le, List, [], ◌∷◌, length, map, ℤ, pos, neg_ℤ, ◌*ℤ◌, ◌-ℤ◌, int_div}
 use Rattle.std.specs.Ordering.{int_eq}
 use Rattle.std.specs.List.{list_all}
 use lib.Signed.{le_z, lt_z}
 use Rattle.hyd_num.specs.Quantity.{head_ticks, flow_ticks}
+use Rattle.hyd_num.specs.Rational.{whole, is_at_most}
 use Rattle.hyd_num.specs.declared.units.FlowUnit.{FlowUnit}
+use Rattle.hyd_net.specs.Curves.{value_at, head_knots, volume_at}
+use Rattle.hyd_net.specs.declared.curves.VolumePoint.{VolumePoint}
+use Rattle.hyd_net.specs.declared.curves.HeadPoint.{HeadPoint}
 use Rattle.hyd_spec_input.specs.Tables.{Point}
 
 -- ---- ranges
@@ -25,49 +29,41 @@ is_flow unit nano = is_within (10 ^ 15) (flow_ticks unit nano)
 
 -- ---- points in ticks
 
--- a curve of flows and heads, in ticks
-abbrev pub flow_and_head : FlowUnit → Bool → Point → Point
-flow_and_head unit us point = record { x = flow_ticks unit point.x; y = head_ticks us point.y }
+-- a curve of flows and heads
+abbrev pub head_point : FlowUnit → Bool → Point → HeadPoint
+head_point unit us point = record { flow = flow_ticks unit point.x; head = head_ticks us point.y }
 
-abbrev pub flows_and_heads : FlowUnit → Bool → List Point → List Point
-flows_and_heads unit us points = map (flow_and_head unit us) points
+abbrev pub head_points : FlowUnit → Bool → List Point → List HeadPoint
+head_points unit us points = map (head_point unit us) points
 
 -- a volume of v billionths of a cubic foot or a cubic metre, in volume ticks of 10^-9 m^3, cut toward zero
 abbrev pub volume_ticks : Bool → ℤ → ℤ
 volume_ticks true v = int_div (pos 28316846592 *ℤ v) (pos (10 ^ 12))
 volume_ticks false v = v
 
--- a curve of levels and volumes, in ticks
-abbrev pub level_and_volume : Bool → Point → Point
-level_and_volume us point = record { x = head_ticks us point.x; y = volume_ticks us point.y }
+-- a curve of levels and volumes
+abbrev pub volume_point : Bool → Point → VolumePoint
+volume_point us point = record { level = head_ticks us point.x; volume = volume_ticks us point.y }
 
-abbrev pub levels_and_volumes : Bool → List Point → List Point
-levels_and_volumes us points = map (level_and_volume us) points
+abbrev pub volume_points : Bool → List Point → List VolumePoint
+volume_points us points = map (volume_point us) points
 
--- each point and the next one
-abbrev pub in_turn : (Point → Point → Bool) → List Point → Bool
+-- each item and the next one
+abbrev pub in_turn : {A : Type 0} → (A → A → Bool) → List A → Bool
 in_turn test [] = true
 in_turn test (a ∷ []) = true
-in_turn test (a ∷ b ∷ points) = test a b && in_turn test (b ∷ points)
+in_turn test (a ∷ b ∷ items) = test a b && in_turn test (b ∷ items)
 
-abbrev pub both_rise : Point → Point → Bool
-both_rise a b = lt_z a.x b.x && lt_z a.y b.y
+-- the last item passes
+abbrev pub at_end : {A : Type 0} → (A → Bool) → List A → Bool
+at_end test [] = false
+at_end test (a ∷ []) = test a
+at_end test (a ∷ b ∷ items) = at_end test (b ∷ items)
 
-abbrev pub rises_and_falls : Point → Point → Bool
-rises_and_falls a b = lt_z a.x b.x && lt_z b.y a.y
-
--- the first point, the last point
-abbrev pub nowhere : Point
-nowhere = record { x = pos 0; y = pos 0 }
-
-abbrev pub first_point : List Point → Point
-first_point [] = nowhere
-first_point (a ∷ points) = a
-
-abbrev pub last_point : List Point → Point
-last_point [] = nowhere
-last_point (a ∷ []) = a
-last_point (a ∷ b ∷ points) = last_point (b ∷ points)
+-- the first item passes
+abbrev pub at_start : {A : Type 0} → (A → Bool) → List A → Bool
+at_start test [] = false
+at_start test (a ∷ items) = test a
 
 -- ---- pump curves of one point and of three
 
@@ -113,48 +109,51 @@ drop_of (a ∷ b ∷ c ∷ []) = record { flow = b.x; drop = a.y -ℤ b.y; third
 drop_of (a ∷ points) = record { flow = a.x; drop = a.y; thirds = 3 }
 drop_of [] = record { flow = pos 0; drop = pos 0; thirds = 3 }
 
--- ---- curves of straight lines, in ticks
+-- ---- curves by straight lines, in ticks
 
--- the line of two points has a head of at most 10^16 ticks at flow 0: h0 + (h0 - h1) q0 / (q1 - q0), q1 being above q0
-abbrev pub starts_low : Point → Point → Bool
-starts_low a b = le_z ((a.y -ℤ b.y) *ℤ a.x) ((pos (10 ^ 16) -ℤ a.y) *ℤ (b.x -ℤ a.x))
+-- a flow rises and a head falls
+abbrev pub is_slower : HeadPoint → HeadPoint → Bool
+is_slower a b = lt_z a.flow b.flow && lt_z b.head a.head
 
-abbrev pub is_low_at_0 : List Point → Bool
-is_low_at_0 (a ∷ b ∷ points) = starts_low a b
-is_low_at_0 _ = false
+-- a flow and a loss rise
+abbrev pub is_faster : HeadPoint → HeadPoint → Bool
+is_faster a b = lt_z a.flow b.flow && lt_z a.head b.head
 
--- a pump's curve of four and more points: flows of at least 0 that rise, heads that fall to at least 0
-abbrev pub is_pump_bend : List Point → Bool
+abbrev pub has_flow : HeadPoint → Bool
+has_flow point = is_within (10 ^ 15) point.flow
+
+-- a pump's curve of four and more points: flows of at least 0 that rise, heads that fall to at least 0, and at flow 0, by the line of
+-- the first two points, a head of at most 10^16 ticks
+abbrev pub is_pump_bend : List HeadPoint → Bool
 is_pump_bend points =
-    (list_all (λ point. is_within (10 ^ 15) point.x) points && in_turn rises_and_falls points)
-    && ((le_z (pos 0) (first_point points).x && le_z (pos 0) (last_point points).y) && is_low_at_0 points)
+    (list_all has_flow points && in_turn is_slower points)
+    && ((at_start (λ point. le_z (pos 0) point.flow) points && at_end (λ point. le_z (pos 0) point.head) points)
+    && is_at_most (value_at 1 (head_knots points) (pos 0)) (whole (pos (10 ^ 16))))
 
--- the curve of a general purpose valve: two points at least, from (0, 0) in the file's numbers, flows and losses that rise
+-- the curve of a general purpose valve begins at no flow and no loss, in the file's numbers
 abbrev pub begins_at_0 : List Point → Bool
-begins_at_0 points = int_eq (first_point points).x (pos 0) && int_eq (first_point points).y (pos 0)
+begins_at_0 points = at_start (λ (point : Point). int_eq point.x (pos 0) && int_eq point.y (pos 0)) points
 
-abbrev pub is_valve_bend : List Point → Bool
+-- it has two points at least, and its flows and losses rise
+abbrev pub is_valve_bend : List HeadPoint → Bool
 is_valve_bend points =
-    (nat_le 2 (length points) && in_turn both_rise points)
-    && list_all (λ point. is_within (10 ^ 15) point.x && is_head point.y) points
+    (nat_le 2 (length points) && in_turn is_faster points) && list_all (λ point. has_flow point && is_head point.head) points
 
 -- ---- volume curves, in ticks
 
--- the volume at a level by the line of two points, cut down
-abbrev pub on_line : Point → Point → ℤ → ℤ
-on_line a b level = a.y +ℤ int_div ((b.y -ℤ a.y) *ℤ (level -ℤ a.x)) (b.x -ℤ a.x)
+-- a level and a volume rise
+abbrev pub is_fuller : VolumePoint → VolumePoint → Bool
+is_fuller a b = lt_z a.level b.level && lt_z a.volume b.volume
 
--- the volume at a level between the first and the last point
-abbrev pub volume_at : List Point → ℤ → ℤ
-volume_at [] level = pos 0
-volume_at (a ∷ []) level = a.y
-volume_at (a ∷ b ∷ points) level = if le_z level b.x then on_line a b level else volume_at (b ∷ points) level
+-- the curve covers these levels
+abbrev pub covers : ℤ → ℤ → List VolumePoint → Bool
+covers minimum maximum points =
+    at_start (λ point. le_z point.level minimum) points && at_end (λ point. le_z maximum point.level) points
 
 -- levels in range and volumes that rise, from at least 0 to at most 10^18 ticks, over all levels of the tank; between its minimum and
--- maximum there are 10^6 volume ticks at least
-abbrev pub is_volume_curve : ℤ → ℤ → List Point → Bool
+-- its maximum there are 10^6 volume ticks at least
+abbrev pub is_volume_curve : ℤ → ℤ → List VolumePoint → Bool
 is_volume_curve minimum maximum points =
-    ((nat_le 2 (length points) && (list_all (λ point. is_head point.x) points && in_turn both_rise points))
-    && (le_z (pos 0) (first_point points).y && le_z (last_point points).y (pos (10 ^ 18))))
-    && ((le_z (first_point points).x minimum && le_z maximum (last_point points).x)
-    && le_z (pos (10 ^ 6)) (volume_at points maximum -ℤ volume_at points minimum))
+    ((nat_le 2 (length points) && (list_all (λ point. is_head point.level) points && in_turn is_fuller points))
+    && (at_start (λ point. le_z (pos 0) point.volume) points && at_end (λ point. le_z point.volume (pos (10 ^ 18))) points))
+    && (covers minimum maximum points && le_z (pos (10 ^ 6)) (volume_at points maximum -ℤ volume_at points minimum))

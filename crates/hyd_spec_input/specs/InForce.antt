@@ -98,6 +98,13 @@ pattern_step rows = seconds_of 3600 (codes "PATTERN") (codes "TIMESTEP") rows
 abbrev pub report_step : List Row → ℕ
 report_step rows = seconds_of 3600 (codes "REPORT") (codes "TIMESTEP") rows
 
+-- the time of patterns at the start, and the first report
+abbrev pub pattern_start : List Row → ℕ
+pattern_start rows = seconds_of 0 (codes "PATTERN") (codes "START") rows
+
+abbrev pub report_start : List Row → ℕ
+report_start rows = seconds_of 0 (codes "REPORT") (codes "START") rows
+
 -- the hydraulic step is reduced to the pattern step and the report step
 abbrev pub hydraulic_step : List Row → ℕ
 hydraulic_step rows = min (written_step rows) (min (pattern_step rows) (report_step rows))

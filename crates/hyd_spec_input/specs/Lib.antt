@@ -14,3 +14,5 @@ pub mod Curves
 pub mod WithOthers
 pub mod Capacities
 pub mod Faults
+pub mod Network
+pub mod Project

@@ -115,13 +115,17 @@ value (Some Status) k words =
     first (needed (one_of (codes "OPEN" ∷ codes "CLOSED" ∷ codes "ACTIVE" ∷ [])) k words ∷ ends (k + 1) words ∷ [])
 value _ k words = first (needed number k words ∷ ends (k + 1) words ∷ [])
 
+-- the word of a clause's attribute: the system has no ID before it
+abbrev pub attribute_place : ObjectWord → ℕ
+attribute_place System = 2
+attribute_place object = 3
+
 -- attribute, relation and value, from a word on
 abbrev pub comparison : ObjectWord → ℕ → List (List ℕ) → Option Cause
 comparison object k words =
     first (needed (attribute object) k words ∷ needed (relation (attribute_word (word k words))) (k + 1) words
     ∷ value (attribute_word (word k words)) (k + 2) words ∷ [])
 
--- the system has no ID
 abbrev pub clause_about : Option ObjectWord → List (List ℕ) → Option Cause
 clause_about None words = Some Syntax
 clause_about (Some System) words = comparison System 2 words

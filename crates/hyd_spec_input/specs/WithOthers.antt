@@ -17,7 +17,7 @@ use Rattle.hyd_spec_input.specs.DataRows.{multipliers}
 use Rattle.hyd_spec_input.specs.RuleRows.{begins_with, stage_after, is_acting, is_rule}
 use Rattle.hyd_spec_input.specs.Tables.{is_of, rows_of, words_of, own_id, node_rows, link_rows, has_id, node_named, link_named, distinct, allows_node, allows_link, pattern_named, curve_named}
 use Rattle.hyd_spec_input.specs.InForce.{unit, depends_on_pressure, minimum_pressure, required_pressure, pressure_line}
-use Rattle.hyd_spec_input.specs.Curves.{is_within, is_head, is_flow, is_bent, is_pump_curve, are_flows, has_shutoff, is_pump_bend, begins_at_0, is_valve_bend, is_volume_curve, flows_and_heads, levels_and_volumes}
+use Rattle.hyd_spec_input.specs.Curves.{is_within, is_head, is_flow, is_bent, is_pump_curve, are_flows, has_shutoff, is_pump_bend, begins_at_0, is_valve_bend, is_volume_curve, head_points, volume_points}
 use Rattle.hyd_spec_input.specs.declared.ObjectWord.{ObjectWord}
 use Rattle.hyd_spec_input.specs.declared.ObjectWord.TheVariants.{Node as NodeObject, Link as LinkObject}
 use Rattle.hyd_spec_input.specs.declared.LinkWord.{LinkWord}
@@ -114,7 +114,7 @@ volume_curve rows row None = None
 volume_curve rows row (Some name) =
     unless
     (is_volume_curve (head_ticks (us rows) (amount 3 row.words)) (head_ticks (us rows) (amount 4 row.words))
-    (levels_and_volumes (us rows) (curve_named rows name)))
+    (volume_points (us rows) (curve_named rows name)))
     Range
 
 -- maximum and minimum level are a tenth of a foot apart at least
@@ -146,7 +146,7 @@ ends rows k row = first (ends_faults rows k row)
 abbrev pub pump_curve_range : List Row → List ℕ → Option Cause
 pump_curve_range rows name =
     if is_bent (curve_named rows name)
-    then unless (is_pump_bend (flows_and_heads (unit rows) (us rows) (curve_named rows name))) Range
+    then unless (is_pump_bend (head_points (unit rows) (us rows) (curve_named rows name))) Range
     else unless (are_flows (unit rows) (curve_named rows name) && has_shutoff (us rows) (curve_named rows name)) Range
 
 abbrev pub curve_of_pump : List Row → Option (List ℕ) → Option Cause
@@ -172,7 +172,7 @@ curve_of_valve rows None = None
 curve_of_valve rows (Some name) =
     unless
     (begins_at_0 (curve_named rows name)
-    && is_valve_bend (flows_and_heads (unit rows) (us rows) (curve_named rows name)))
+    && is_valve_bend (head_points (unit rows) (us rows) (curve_named rows name)))
     Range
 
 -- the setting of a flow control valve is a flow

@@ -47,11 +47,11 @@ heads_between network S time intervals levels tanks links assignment grid below 
 -- ---- links
 
 -- a link of the grid, and the flow that follows its law
-record IsFollowed (S : ℕ) (heads : List ℤ) (link : GridLink) (q : ℤ) : Type 0 where
-  sound : IsSoundLaw link.law
-  follows : Follows link.law S (head_at heads link.from -ℤ head_at heads link.to) q
+pub record IsFollowed (S : ℕ) (heads : List ℤ) (link : GridLink) (q : ℤ) : Type 0 where
+  pub sound : IsSoundLaw link.law
+  pub follows : Follows link.law S (head_at heads link.from -ℤ head_at heads link.to) q
 
-followed_at : (network : Project) (tanks : List TankState) (S : ℕ) (heads : List ℤ) (links : List Link) (states : List LinkState) (flows : List ℤ)
+pub followed_at : (network : Project) (tanks : List TankState) (S : ℕ) (heads : List ℤ) (links : List Link) (states : List LinkState) (flows : List ℤ)
     → LinksFollow network tanks S heads links states flows → AllByRecursion (λ (link : GridLink). IsSoundLaw link.law) (grid_links network tanks links states)
     → (l : ℕ) (link : GridLink) → slice_get (grid_links network tanks links states) l ≡ Some link → IsFollowed S heads link (flow_at flows l)
 followed_at network tanks S heads [] [] [] f sound l link is = absurd (cc)

@@ -1,5 +1,5 @@
 -- The lines of a certificate text are read in one way.
-use Rattle.std.proofs.Common.{subst, ◌≡◌, ℕ, suc, ◌^◌, ◌<◌, ℤ, pos, negsuc, Bool, true, false, List, [], ◌∷◌, ◌++◌, length, map, codes, refl, sym, ap, ap₂, ◌∙◌, append_assoc, arith}
+use Rattle.std.proofs.Common.{subst, ◌≡◌, ℕ, suc, ◌^◌, ◌<◌, ℤ, pos, negsuc, Bool, true, false, List, [], ◌∷◌, ◌++◌, length, map, codes, refl, sym, ap, ap₂, ◌∙◌, append_assoc, arith, ◌⊎◌, inl, inr}
 use Rattle.std.specs.Prelude.{All, if◌then◌else◌}
 use Rattle.std.specs.Fmt.{decimal, signed_decimal}
 use Rattle.std.specs.Str.Parse.{AllDigits, digits_value}
@@ -190,42 +190,49 @@ rows-same junctions tanks (row ∷ rows) (other ∷ others) are_rows are_others 
 
 -- ---- the whole text
 
-header-words : (junctions tanks : ℕ) → junctions < 10 ^ 64 → tanks < 10 ^ 64
-    → AreWords (codes "HYDCERT" ∷ (decimal 1 ∷ (decimal junctions ∷ (decimal tanks ∷ []))))
-header-words junctions tanks short_junctions short_tanks =
-    (search arith, (decimal-word 1 (omega arith), (decimal-word junctions short_junctions, (decimal-word tanks short_tanks, tt))))
+header-words : (version junctions tanks : ℕ) → version < 10 ^ 64 → junctions < 10 ^ 64 → tanks < 10 ^ 64
+    → AreWords (codes "HYDCERT" ∷ (decimal version ∷ (decimal junctions ∷ (decimal tanks ∷ []))))
+header-words version junctions tanks short_version short_junctions short_tanks =
+    (search arith, (decimal-word version short_version, (decimal-word junctions short_junctions, (decimal-word tanks short_tanks, tt))))
 
 small : (n : ℕ) → n < 2 ^ 32 → n < 10 ^ 64
 small n le = omega arith
 
-pub counts-same : (text : List ℕ) (junctions junctions' tanks tanks' periods periods' : ℕ) (rows rows' : List Record) (finished finished' : Bool)
-    → IsCertificateText text junctions tanks rows periods finished → IsCertificateText text junctions' tanks' rows' periods' finished'
-    → (junctions ≡ junctions') × (tanks ≡ tanks')
-counts-same text junctions junctions' tanks tanks' periods periods' rows rows' finished finished' a b =
+known-small : (version : ℕ) → (version ≡ 1) ⊎ (version ≡ 2) → version < 10 ^ 64
+known-small version (inl is) = omega (arith, is)
+known-small version (inr is) = omega (arith, is)
+
+pub counts-same : (text : List ℕ) (version version' junctions junctions' tanks tanks' periods periods' : ℕ) (rows rows' : List Record) (finished finished' : Bool)
+    → IsCertificateText text version junctions tanks rows periods finished → IsCertificateText text version' junctions' tanks' rows' periods' finished'
+    → (version ≡ version') × ((junctions ≡ junctions') × (tanks ≡ tanks'))
+counts-same text version version' junctions junctions' tanks tanks' periods periods' rows rows' finished finished' a b =
+    let v = known-small version a.known in
+    let v' = known-small version' b.known in
     let n = small junctions a.junctions_fit in
     let n' = small junctions' b.junctions_fit in
     let k = small tanks a.tanks_fit in
     let k' = small tanks' b.tanks_fit in
-    let words = (line-same (codes "HYDCERT") (codes "HYDCERT") (decimal 1 ∷ (decimal junctions ∷ (decimal tanks ∷ [])))
-    (decimal 1 ∷ (decimal junctions' ∷ (decimal tanks' ∷ [])))
+    let words = (line-same (codes "HYDCERT") (codes "HYDCERT") (decimal version ∷ (decimal junctions ∷ (decimal tanks ∷ [])))
+    (decimal version' ∷ (decimal junctions' ∷ (decimal tanks' ∷ [])))
     (joined (map record_text rows) ++ end_line periods finished) (joined (map record_text rows') ++ end_line periods' finished')
-    (header-words junctions tanks n k) (header-words junctions' tanks' n' k') (sym a.is_text ∙ b.is_text)).0 in
-    (decimal-same junctions junctions' n n' (cc), decimal-same tanks tanks' k k' (cc))
+    (header-words version junctions tanks v n k) (header-words version' junctions' tanks' v' n' k') (sym a.is_text ∙ b.is_text)).0 in
+    (decimal-same version version' v v' (cc), (decimal-same junctions junctions' n n' (cc), decimal-same tanks tanks' k k' (cc)))
 
--- with the same counts
-same-contents : (text : List ℕ) (junctions tanks periods periods' : ℕ) (rows rows' : List Record) (finished finished' : Bool)
-    → IsCertificateText text junctions tanks rows periods finished → IsCertificateText text junctions tanks rows' periods' finished'
+-- with the same header
+same-contents : (text : List ℕ) (version junctions tanks periods periods' : ℕ) (rows rows' : List Record) (finished finished' : Bool)
+    → IsCertificateText text version junctions tanks rows periods finished → IsCertificateText text version junctions tanks rows' periods' finished'
     → (rows ≡ rows') × ((periods ≡ periods') × (finished ≡ finished'))
-same-contents text junctions tanks periods periods' rows rows' finished finished' a b =
+same-contents text version junctions tanks periods periods' rows rows' finished finished' a b =
     rows-same junctions tanks rows rows' a.rows_fit b.rows_fit periods periods' finished finished' a.periods_fit b.periods_fit
-    (append_cancel_left (header_line junctions tanks) (joined (map record_text rows) ++ end_line periods finished)
+    (append_cancel_left (header_line version junctions tanks) (joined (map record_text rows) ++ end_line periods finished)
     (joined (map record_text rows') ++ end_line periods' finished') (sym a.is_text ∙ b.is_text))
 
-pub contents-same : (text : List ℕ) (junctions junctions' tanks tanks' periods periods' : ℕ) (rows rows' : List Record) (finished finished' : Bool)
-    → IsCertificateText text junctions tanks rows periods finished → IsCertificateText text junctions' tanks' rows' periods' finished'
+pub contents-same : (text : List ℕ) (version version' junctions junctions' tanks tanks' periods periods' : ℕ) (rows rows' : List Record) (finished finished' : Bool)
+    → IsCertificateText text version junctions tanks rows periods finished → IsCertificateText text version' junctions' tanks' rows' periods' finished'
     → (rows ≡ rows') × ((periods ≡ periods') × (finished ≡ finished'))
-contents-same text junctions junctions' tanks tanks' periods periods' rows rows' finished finished' a b =
-    let counts = counts-same text junctions junctions' tanks tanks' periods periods' rows rows' finished finished' a b in
-    same-contents text junctions tanks periods periods' rows rows' finished finished' a
-    (subst (λ (n : ℕ). IsCertificateText text n tanks rows' periods' finished') (sym counts.0)
-    (subst (λ (k : ℕ). IsCertificateText text junctions' k rows' periods' finished') (sym counts.1) b))
+contents-same text version version' junctions junctions' tanks tanks' periods periods' rows rows' finished finished' a b =
+    let counts = counts-same text version version' junctions junctions' tanks tanks' periods periods' rows rows' finished finished' a b in
+    same-contents text version junctions tanks periods periods' rows rows' finished finished' a
+    (subst (λ (v : ℕ). IsCertificateText text v junctions tanks rows' periods' finished') (sym counts.0)
+    (subst (λ (n : ℕ). IsCertificateText text version' n tanks rows' periods' finished') (sym counts.1.0)
+    (subst (λ (k : ℕ). IsCertificateText text version' junctions' k rows' periods' finished') (sym counts.1.1) b)))

@@ -16,6 +16,7 @@ use Rattle.hyd_spec.specs.Lists.{Each}
 use Rattle.hyd_spec_certificates.specs.Interval.{Interval}
 use Rattle.hyd_spec.specs.Scale.{at_scale}
 use Rattle.hyd_spec.specs.Quantity.{reservoir_head, demand_of}
+use Rattle.hyd_spec.specs.Outflow.{FollowsDemand, FollowsEmitter}
 use Rattle.hyd_spec_certificates.specs.Enclosing.{low, high}
 use Rattle.hyd_spec.specs.Assignment.{Assignment, JunctionObeys, head_at, flow_at, net_outflow, node_heads, tank_heads}
 use Rattle.hyd_spec_certificates.specs.Grid.{Grid, GridLink, GridJunction, IsGrid, IsJunctionOf, all_heads, fixed_heads}
@@ -28,29 +29,47 @@ use Rattle.hyd_spec_laws.proofs.Outflows.{emitter-below, emitter-above, demand-b
 
 -- ---- one junction
 
+pub outflow-follows-below : (network : Project) (time S : ℕ) (junction : Junction) (here : GridJunction) (h height demand emitter : ℤ) → 0 < S
+    → IsJunctionOf network time junction here → IfSome here.emitter IsSoundCapacity → (pos S *ℤ h) ≤ℤ height
+    → FollowsDemand network time junction S (height -ℤ at_scale S junction.elevation) demand
+    → FollowsEmitter junction S (height -ℤ at_scale S junction.elevation) emitter
+    → (pos S *ℤ outflow_low here h) ≤ℤ ((demand +ℤ emitter) +ℤ pos (S * 20))
+outflow-follows-below network time S junction here h height demand emitter some is sound le takes gives =
+    let p : (pos S *ℤ (h -ℤ here.elevation)) ≤ℤ (height -ℤ (pos S *ℤ junction.elevation)) =
+    rw times_minus (rw is.elevation (omega (arith, ints, le))) in
+    let a = demand-below network (demand_of network time junction) here.demand S (h -ℤ here.elevation) (height -ℤ (pos S *ℤ junction.elevation)) demand
+    is.demand some p takes in
+    let b = emitter-below junction here.emitter S (h -ℤ here.elevation) (height -ℤ (pos S *ℤ junction.elevation)) emitter
+    is.emitter sound some p gives in
+    rw times_plus (omega (arith, ints, a, b))
+
+pub outflow-follows-above : (network : Project) (time S : ℕ) (junction : Junction) (here : GridJunction) (h height demand emitter : ℤ) → 0 < S
+    → IsJunctionOf network time junction here → IfSome here.emitter IsSoundCapacity → height ≤ℤ (pos S *ℤ h)
+    → FollowsDemand network time junction S (height -ℤ at_scale S junction.elevation) demand
+    → FollowsEmitter junction S (height -ℤ at_scale S junction.elevation) emitter
+    → (demand +ℤ emitter) ≤ℤ ((pos S *ℤ outflow_high here h) +ℤ pos (S * 20))
+outflow-follows-above network time S junction here h height demand emitter some is sound le takes gives =
+    let p : (height -ℤ (pos S *ℤ junction.elevation)) ≤ℤ (pos S *ℤ (h -ℤ here.elevation)) =
+    rw times_minus (rw is.elevation (omega (arith, ints, le))) in
+    let a = demand-above network (demand_of network time junction) here.demand S (h -ℤ here.elevation) (height -ℤ (pos S *ℤ junction.elevation)) demand
+    is.demand some p takes in
+    let b = emitter-above junction here.emitter S (h -ℤ here.elevation) (height -ℤ (pos S *ℤ junction.elevation)) emitter
+    is.emitter sound some p gives in
+    rw times_plus (omega (arith, ints, a, b))
+
 pub outflow-below : (network : Project) (time S : ℕ) (assignment : Assignment) (j : ℕ) (junction : Junction) (here : GridJunction) (h : ℤ) → 0 < S
     → IsJunctionOf network time junction here → IfSome here.emitter IsSoundCapacity → (pos S *ℤ h) ≤ℤ head_at assignment.heads j → JunctionObeys network time S assignment j junction
     → (pos S *ℤ outflow_low here h) ≤ℤ ((flow_at assignment.demands j +ℤ flow_at assignment.emitters j) +ℤ pos (S * 20))
 outflow-below network time S assignment j junction here h some is sound le obeys =
-    let p : (pos S *ℤ (h -ℤ here.elevation)) ≤ℤ (head_at assignment.heads j -ℤ (pos S *ℤ junction.elevation)) =
-    rw times_minus (rw is.elevation (omega (arith, ints, le))) in
-    let a = demand-below network (demand_of network time junction) here.demand S (h -ℤ here.elevation) (head_at assignment.heads j -ℤ (pos S *ℤ junction.elevation)) (flow_at assignment.demands j)
-    is.demand some p obeys.demand in
-    let b = emitter-below junction here.emitter S (h -ℤ here.elevation) (head_at assignment.heads j -ℤ (pos S *ℤ junction.elevation)) (flow_at assignment.emitters j)
-    is.emitter sound some p obeys.emitter in
-    rw times_plus (omega (arith, ints, a, b))
+    outflow-follows-below network time S junction here h (head_at assignment.heads j) (flow_at assignment.demands j)
+    (flow_at assignment.emitters j) some is sound le obeys.demand obeys.emitter
 
 pub outflow-above : (network : Project) (time S : ℕ) (assignment : Assignment) (j : ℕ) (junction : Junction) (here : GridJunction) (h : ℤ) → 0 < S
     → IsJunctionOf network time junction here → IfSome here.emitter IsSoundCapacity → head_at assignment.heads j ≤ℤ (pos S *ℤ h) → JunctionObeys network time S assignment j junction
     → (flow_at assignment.demands j +ℤ flow_at assignment.emitters j) ≤ℤ ((pos S *ℤ outflow_high here h) +ℤ pos (S * 20))
 outflow-above network time S assignment j junction here h some is sound le obeys =
-    let p : (head_at assignment.heads j -ℤ (pos S *ℤ junction.elevation)) ≤ℤ (pos S *ℤ (h -ℤ here.elevation)) =
-    rw times_minus (rw is.elevation (omega (arith, ints, le))) in
-    let a = demand-above network (demand_of network time junction) here.demand S (h -ℤ here.elevation) (head_at assignment.heads j -ℤ (pos S *ℤ junction.elevation)) (flow_at assignment.demands j)
-    is.demand some p obeys.demand in
-    let b = emitter-above junction here.emitter S (h -ℤ here.elevation) (head_at assignment.heads j -ℤ (pos S *ℤ junction.elevation)) (flow_at assignment.emitters j)
-    is.emitter sound some p obeys.emitter in
-    rw times_plus (omega (arith, ints, a, b))
+    outflow-follows-above network time S junction here h (head_at assignment.heads j) (flow_at assignment.demands j)
+    (flow_at assignment.emitters j) some is sound le obeys.demand obeys.emitter
 
 -- what passes leaves a net outflow that no balance allows
 too_much : (S ends : ℕ) (n o out flows : ℤ) → 0 < S → (pos S *ℤ n) ≤ℤ (out +ℤ pos (ends * (S * 10))) → (pos S *ℤ o) ≤ℤ (flows +ℤ pos (S * 20))

@@ -1,26 +1,28 @@
 -- The laws of capacities, of valves without loss coefficient, and of every sound law.
-use Rattle.std.proofs.Common.{◌≡◌, ℕ, zero, suc, ◌*◌, ◌^◌, ◌<◌, ℤ, pos, negsuc, ◌-ℤ◌, ◌*ℤ◌, ◌≤ℤ◌, refl, sym, ap, ◌∙◌, arith}
-use Rattle.std.proofs.Math.Nat.{mul_comm}
+use Rattle.std.proofs.Common.{◌≡◌, ℕ, zero, suc, ◌*◌, ◌^◌, ◌<◌, ℤ, pos, negsuc, List, ◌-ℤ◌, ◌*ℤ◌, ◌≤ℤ◌, refl, arith}
 use Rattle.std.proofs.lemmas.Int.{ints}
 use Rattle.hyd_num.specs.Scaled.{numerator, denominator}
 use Rattle.hyd_num.specs.Rational.{Rational, floor, ceiling}
-use Rattle.hyd_num.proofs.Integers.{times_rises, times_reflects, times_times}
+use Rattle.hyd_num.proofs.Integers.{times_rises, times_reflects}
 use Rattle.hyd_num.specs.Chain.{IsMade, StandsFor, IsFrictionPair, IsPipePairWith}
 use Rattle.hyd_num.specs.declared.decimals.Decimal.{Decimal}
 use Rattle.hyd_num.specs.declared.pairs.Pair.{Pair}
 use Rattle.hyd_num.specs.Quantity.{billionths, feet, feet_across, is_us_unit, head_ticks, pressure_fraction}
 use borrow.Author.Differences.{up}
 use Rattle.std.specs.Prelude.{Bool, true, false, unsigned_abs}
+use Rattle.hyd_net.specs.Curves.{Knot, value_at}
 use Rattle.hyd_lemmas.proofs.Enclosures.{IsEnclosure-made}
 use Rattle.hyd_lemmas.proofs.SquaredFlows.{ratio-above}
 use Rattle.hyd_spec.specs.Types.{Capacity, Origin, Pipe, Valve, Pump, Emitter, PressureDemand}
 use Rattle.hyd_spec_certificates.specs.Enclosing.{quadratic_low, quadratic_high, low, high}
-use Rattle.hyd_spec.specs.Law.{Law, Shut, QuadraticLaw, LinearLaw, Lifted, ForwardOnly, ReverseOnly, Capped, odd_at_least, odd_at_most, flow_at_least, flow_at_most, loss_at_most, loss_at_least}
+use Rattle.hyd_spec.specs.Law.{Law, Shut, QuadraticLaw, LinearLaw, Lifted, ForwardOnly, ReverseOnly, Capped, Bent, Held, odd_at_least, odd_at_most, flow_at_least, flow_at_most, loss_at_most, loss_at_least}
 use Rattle.hyd_lemmas.proofs.Enclosing.{numerator_above, denominator_above}
-use Rattle.hyd_spec_laws.specs.Laws.{IsLaw, IsSoundCapacity, IsSoundLaw, HasPositiveNumbers}
-use Rattle.hyd_lemmas.proofs.Integers.{floor_low, ceiling_high, floor_greatest, ceiling_least, floor_at_most_ceiling}
+use Rattle.hyd_spec_laws.specs.Laws.{IsLaw, IsSoundCapacity, IsSoundLaw, AreInOrder, HasPositiveNumbers}
+use Rattle.hyd_lemmas.proofs.Integers.{exchanged, floor_low, ceiling_high, floor_greatest, ceiling_least, floor_at_most_ceiling}
 use Rattle.hyd_spec_laws.proofs.LossLaws.{IsLossLaw-origin}
-use Rattle.hyd_spec_laws.proofs.LinkLaws.{IsLaw-shut, IsLaw-forward, IsLaw-reverse, IsLaw-capped, IsLaw-lifted, odd-consistent, odd-downward, odd-upward, quad-below, quad-above, low-rises, high-rises, roots-ordered, roots_low, roots_high}
+use Rattle.hyd_spec_laws.proofs.Leading.{Leads, raised, lowered, above-too, below-too}
+use Rattle.hyd_spec_laws.proofs.RisingLines.{value-den, value-rises}
+use Rattle.hyd_spec_laws.proofs.LinkLaws.{IsLaw-shut, IsLaw-forward, IsLaw-reverse, IsLaw-capped, IsLaw-held, IsLaw-lifted, odd-consistent, odd-downward, odd-upward, quad-below, quad-above, low-rises, high-rises, roots-ordered, roots_low, roots_high}
 
 pub low_is : (c : Capacity) (d : ℤ) → quadratic_low c d ≡ roots_low (numerator c.lo) (denominator c.lo) (numerator c.hi) (denominator c.hi) d
 low_is c (pos d) = refl
@@ -48,9 +50,6 @@ IsLaw-quad c sound = record {
 }
 
 -- ---- the valve without loss coefficient, which passes g / k ticks for a head tick
-
-pub exchanged : (S k : ℕ) (z : ℤ) → pos k *ℤ (pos S *ℤ z) ≡ pos S *ℤ (pos k *ℤ z)
-exchanged S k z = times_times k S z ∙ ap (λ (n : ℕ). pos n *ℤ z) (mul_comm k S) ∙ sym (times_times S k z)
 
 abbrev passed : ℕ → ℕ → ℤ → Rational
 passed g k d = record { num = pos g *ℤ d; den = k }
@@ -90,6 +89,36 @@ IsLaw-passed g k above = record {
 pub IsLaw-straight : IsLaw (flow_at_least LinearLaw) (flow_at_most LinearLaw) (low LinearLaw) (high LinearLaw)
 IsLaw-straight = IsLaw-passed 8026822656 (10 ^ 6) (omega arith)
 
+-- ---- straight lines between knots
+
+pub IsLaw-bent : (knots : List Knot) → AreInOrder knots → IsLaw (flow_at_least (Bent knots)) (flow_at_most (Bent knots)) (low (Bent knots)) (high (Bent knots))
+IsLaw-bent knots order = record {
+  low_rises = λ c d le. floor_greatest (F d) (floor (F c)) (above d) (above-too (floor (F c)) (F c) (F d) (above c) (level c d le) (floor_low (F c) (above c)));
+  high_rises = λ c d le. ceiling_least (F c) (ceiling (F d)) (above c) (below-too (ceiling (F d)) (F c) (F d) (above d) (level c d le) (ceiling_high (F d) (above d)));
+  ordered = λ d. floor_at_most_ceiling (F d) (above d);
+  encloses_below = λ S d x some le. raised S (floor (F d)) (F d) (value_at S knots x) (above d) (under S d x le) (floor_low (F d) (above d));
+  encloses_above = λ S d x some le. lowered S (ceiling (F d)) (F d) (value_at S knots x) (above d) (over S d x some le) (ceiling_high (F d) (above d));
+  consistent = λ S x a b some least most. times_reflects (value_at S knots x).den a b (value-den S knots x)
+      (let l : (pos (value_at S knots x).den *ℤ a) ≤ℤ (pos (value_at S knots x).den *ℤ b) = omega (arith, ints, least, most) in l);
+  downward = λ S x a b some le least. let l = times_rises (value_at S knots x).den b a le in omega (arith, ints, l, least);
+  upward = λ S x a b some le most. let l = times_rises (value_at S knots x).den a b le in omega (arith, ints, l, most);
+}
+  where
+    F : ℤ → Rational
+    F d = value_at 1 knots d
+
+    above : (d : ℤ) → 0 < (value_at 1 knots d).den
+    above d = value-den 1 knots d
+
+    level : (c d : ℤ) → c ≤ℤ d → Leads 1 1 (value_at 1 knots c) (value_at 1 knots d)
+    level c d le = value-rises 1 1 knots c d (omega arith) order (let l : (pos 1 *ℤ c) ≤ℤ (pos 1 *ℤ d) = omega (arith, ints, le) in l)
+
+    under : (S : ℕ) (d x : ℤ) → (pos S *ℤ d) ≤ℤ x → Leads 1 S (value_at 1 knots d) (value_at S knots x)
+    under S d x le = value-rises 1 S knots d x (omega arith) order (let l : (pos S *ℤ d) ≤ℤ (pos 1 *ℤ x) = omega (arith, ints, le) in l)
+
+    over : (S : ℕ) (d x : ℤ) → 0 < S → x ≤ℤ (pos S *ℤ d) → Leads S 1 (value_at S knots x) (value_at 1 knots d)
+    over S d x some le = value-rises S 1 knots x d some order (let l : (pos 1 *ℤ x) ≤ℤ (pos S *ℤ d) = omega (arith, ints, le) in l)
+
 -- every sound law
 pub IsLaw-each : (law : Law) → IsSoundLaw law → IsLaw (flow_at_least law) (flow_at_most law) (low law) (high law)
 IsLaw-each Shut sound = IsLaw-shut
@@ -99,6 +128,8 @@ IsLaw-each (Lifted lift law) sound = IsLaw-lifted lift (flow_at_least law) (flow
 IsLaw-each (ForwardOnly law) sound = IsLaw-forward (flow_at_least law) (flow_at_most law) (low law) (high law) (IsLaw-each law sound)
 IsLaw-each (ReverseOnly law) sound = IsLaw-reverse (flow_at_least law) (flow_at_most law) (low law) (high law) (IsLaw-each law sound)
 IsLaw-each (Capped setting law) sound = IsLaw-capped setting (flow_at_least law) (flow_at_most law) (low law) (high law) (IsLaw-each law sound)
+IsLaw-each (Bent knots) sound = IsLaw-bent knots sound
+IsLaw-each (Held least greatest law) sound = IsLaw-held least greatest (flow_at_least law) (flow_at_most law) (low law) (high law) sound.0 (IsLaw-each law sound.1)
 
 -- ---- capacities that are made of a file's numbers
 

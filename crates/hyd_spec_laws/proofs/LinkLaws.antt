@@ -115,6 +115,45 @@ IsLaw-capped c A B l h law = record {
   ];
 }
 
+pub IsLaw-held : (c e : ℤ) (A B : Relation) (l h : ℤ → ℤ) → c ≤ℤ e → IsLaw A B l h
+    → IsLaw (λ S x a. (a ≤ℤ at_scale S c) ⊎ ((a ≤ℤ at_scale S e) × A S x a)) (λ S x a. (at_scale S e ≤ℤ a) ⊎ ((at_scale S c ≤ℤ a) × B S x a))
+    (λ d. int_max c (int_min e (l d))) (λ d. int_max c (int_min e (h d)))
+IsLaw-held c e A B l h ends law = record {
+  low_rises = λ x d le. max_rises c (int_min e (l x)) (int_min e (l d)) (min_rises e (l x) (l d) (law.low_rises x d le));
+  high_rises = λ x d le. max_rises c (int_min e (h x)) (int_min e (h d)) (min_rises e (h x) (h d) (law.high_rises x d le));
+  ordered = λ d. max_rises c (int_min e (l d)) (int_min e (h d)) (min_rises e (l d) (h d) (law.ordered d));
+  encloses_below = λ S d x some le. max_is (λ z. ((pos S *ℤ z) ≤ℤ (pos S *ℤ c)) ⊎ (((pos S *ℤ z) ≤ℤ (pos S *ℤ e)) × A S x (pos S *ℤ z))) c (int_min e (l d))
+      (λ f. inl (let m : (pos S *ℤ c) ≤ℤ (pos S *ℤ c) = omega (arith, ints) in m))
+      (λ f. inr (
+        times_rises S (int_min e (l d)) e (min_left e (l d)),
+        law.downward S x (pos S *ℤ l d) (pos S *ℤ int_min e (l d)) some (times_rises S (int_min e (l d)) (l d) (min_right e (l d))) (law.encloses_below S d x some le),
+      ));
+  encloses_above = λ S d x some le. min_is (λ m. ((pos S *ℤ e) ≤ℤ (pos S *ℤ int_max c m)) ⊎ (((pos S *ℤ c) ≤ℤ (pos S *ℤ int_max c m)) × B S x (pos S *ℤ int_max c m))) e (h d)
+      (λ f. inl (times_rises S e (int_max c e) (max_right c e)))
+      (λ f. inr (
+        times_rises S c (int_max c (h d)) (max_left c (h d)),
+        law.upward S x (pos S *ℤ h d) (pos S *ℤ int_max c (h d)) some (times_rises S (h d) (int_max c (h d)) (max_right c (h d))) (law.encloses_above S d x some le),
+      ));
+  consistent = λ S x a b some least most. elim least [
+    | inl down ↦ elim most [
+      | inl up ↦ let m : a ≤ℤ (pos S *ℤ c) = down in let n : (pos S *ℤ e) ≤ℤ b = up in let k = times_rises S c e ends in omega (arith, ints, m, n, k)
+      | inr more ↦ let m : a ≤ℤ (pos S *ℤ c) = down in let n : (pos S *ℤ c) ≤ℤ b = more.0 in omega (arith, ints, m, n)
+    ]
+    | inr less ↦ elim most [
+      | inl up ↦ let m : a ≤ℤ (pos S *ℤ e) = less.0 in let n : (pos S *ℤ e) ≤ℤ b = up in omega (arith, ints, m, n)
+      | inr more ↦ law.consistent S x a b some less.1 more.1
+    ]
+  ];
+  downward = λ S x a b some le least. elim least [
+    | inl down ↦ inl (let m : a ≤ℤ (pos S *ℤ c) = down in let n : b ≤ℤ (pos S *ℤ c) = omega (arith, ints, m, le) in n)
+    | inr less ↦ inr (let m : a ≤ℤ (pos S *ℤ e) = less.0 in let n : b ≤ℤ (pos S *ℤ e) = omega (arith, ints, m, le) in n, law.downward S x a b some le less.1)
+  ];
+  upward = λ S x a b some le most. elim most [
+    | inl up ↦ inl (let m : (pos S *ℤ e) ≤ℤ a = up in let n : (pos S *ℤ e) ≤ℤ b = omega (arith, ints, m, le) in n)
+    | inr more ↦ inr (let m : (pos S *ℤ c) ≤ℤ a = more.0 in let n : (pos S *ℤ c) ≤ℤ b = omega (arith, ints, m, le) in n, law.upward S x a b some le more.1)
+  ];
+}
+
 -- the factors of a finer scale
 pub finer : (S d : ℕ) (z : ℤ) → pos d *ℤ (pos S *ℤ z) ≡ pos (S * d) *ℤ z
 finer S d z = times_times d S z ∙ ap (λ (n : ℕ). pos n *ℤ z) (mul_comm d S)

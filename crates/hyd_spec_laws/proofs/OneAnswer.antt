@@ -8,7 +8,7 @@ use Rattle.hyd_spec.specs.Length.{IsLeast}
 use Rattle.hyd_spec_certificates.specs.Grid.{Grid}
 use Rattle.hyd_spec.specs.Rules.{measured}
 use Rattle.hyd_spec_certificates.specs.Record.{Record, Standing}
-use Rattle.hyd_spec_certificates.specs.Truth.{Unknown, is_unknown}
+use Rattle.hyd_spec_certificates.specs.Verdict.{Unknown, is_unknown}
 use Rattle.hyd_num.specs.Rational.{floor, ceiling}
 use Rattle.hyd_spec_certificates.specs.Decided.{OpenRule, IsOpenRule, IsFirstMatter, NoRuleMatters, rule_truths, readings_below, readings_above, End, ByRules, WithoutRules, RuleIsOpen, EventIsOpen, EndsBy, by_rules, rule_is_open, by_clock, event_is_open}
 use Rattle.hyd_lemmas.proofs.Trials.{or-left, or-right}
@@ -48,10 +48,10 @@ module _ (network : Project) (grid : Grid) (standing : Standing) (row : Record) 
   same_rule s a b x y =
       let rule : a.rule ≡ b.rule = (let p = x.first_rule in let q = y.first_rule in cc) in
       let rules : x.rule ≡ y.rule = (let p = x.is_rule in let q = y.is_rule in cc) in
-      let clause : a.clause ≡ b.clause = (let p = x.first_clause in let q = y.first_clause in cc) in
-      let each : x.each ≡ y.each = (let p = x.is_clause in let q = y.is_clause in cc) in
-      let lo : a.lo ≡ b.lo = x.below ∙ (ap (λ (c : RuleClause). floor (measured network 1 (readings_below network grid standing row s) c.clause.what)) each ∙ sym y.below) in
-      let hi : a.hi ≡ b.hi = x.above ∙ (ap (λ (c : RuleClause). ceiling (measured network 1 (readings_above network grid standing row s) c.clause.what)) each ∙ sym y.above) in
+      let clause : a.clause ≡ b.clause = (let p = x.clause_is.first_clause in let q = y.clause_is.first_clause in cc) in
+      let each : x.clause_is.each ≡ y.clause_is.each = (let p = x.clause_is.is_clause in let q = y.clause_is.is_clause in cc) in
+      let lo : a.lo ≡ b.lo = x.clause_is.lo_is ∙ (ap (λ (c : RuleClause). floor (measured network 1 (readings_below network grid standing row s) c.clause.what)) each ∙ sym y.clause_is.lo_is) in
+      let hi : a.hi ≡ b.hi = x.clause_is.hi_is ∙ (ap (λ (c : RuleClause). ceiling (measured network 1 (readings_above network grid standing row s) c.clause.what)) each ∙ sym y.clause_is.hi_is) in
       λ i. record { rule = rule i; clause = clause i; lo = lo i; hi = hi i }
 
   pub one_end : (a b : End) → Ends a → Ends b → a ≡ b

@@ -64,11 +64,7 @@ module _ (network : Project) (grid : Grid) (standing : Standing) where
     first_rule = is.first_rule;
     rule = is.rule;
     is_rule = is.is_rule;
-    first_clause = is.first_clause;
-    each = is.each;
-    is_clause = is.is_clause;
-    below = is.below;
-    above = is.above;
+    clause_is = is.clause_is;
   }
 
   ends_again : (row : Record) (m : ℕ) (e : End) → EndsBy network grid standing row e → EndsBy network grid standing (again row m) e

@@ -1,5 +1,5 @@
 -- A record has one report.
-use Rattle.std.proofs.Common.{◌≡◌, ◌≢◌, ℕ, suc, ℤ, ◌-ℤ◌, Bool, true, false, MatchBool, List, [], ◌∷◌, ◌++◌, refl, sym, ap, subst, ◌∙◌, arith}
+use Rattle.std.proofs.Common.{◌≡◌, ◌≢◌, ℕ, suc, ℤ, ◌-ℤ◌, Bool, true, false, MatchBool, List, [], ◌∷◌, ◌++◌, refl, sym, ap, subst, ◌∙◌, ◌+◌, map, arith}
 use Rattle.std.proofs.lemmas.Int.{ints}
 use Rattle.hyd_num.specs.Rational.{Rational}
 use Rattle.hyd_num.specs.Roots.{IsFloor, IsCeiling}
@@ -12,8 +12,10 @@ use Rattle.hyd_spec_certificates.specs.Grid.{Grid, GridLink, GridJunction}
 use Rattle.hyd_spec_certificates.specs.Boxes.{difference, out_box}
 use Rattle.hyd_spec_certificates.specs.Record.{Record, Standing}
 use Rattle.hyd_spec_certificates.specs.Decided.{heads_below, heads_above, links_at, End, EndsBy, ByRules, WithoutRules, by_rules, rule_is_open, by_clock, event_is_open}
+use Rattle.hyd_spec.specs.declared.Change.{Change}
+use Rattle.hyd_spec_reports.specs.declared.Event.{Event}
 use Rattle.hyd_spec_reports.specs.ReportLine.{ReportLine, TimeLine, JunctionLine, ReservoirLine, TankLine, LinkLine}
-use Rattle.hyd_spec_reports.specs.Report.{Prints, LineEach, IsJunctionLine, IsReservoirLine, IsTankLine, IsLinkLine, status_of, AreStateLines, is_report_time, control_lines, AreEndLines, at_end, by_rules as ended_by_rules, by_clock as ended_by_clock, IsReport}
+use Rattle.hyd_spec_reports.specs.Report.{Prints, LineEach, IsJunctionLine, IsReservoirLine, IsTankLine, IsLinkLine, status_of, AreStateLines, is_report_time, control_lines, EndBrings, at_end, by_rules as ended_by_rules, by_clock as ended_by_clock, AreEndLines, event_line, change_line, IsReport}
 use Rattle.hyd_spec_laws.proofs.OneAnswer.{one_end}
 
 -- ---- printed numbers
@@ -76,7 +78,7 @@ module _ (network : Project) (grid : Grid) (standing : Standing) (row : Record) 
       let box : y.box ≡ x.box = (let p = x.box_is in let q = y.box_is in cc) in
       let flow = one_print (flow_quantity network.options.unit) x.box x.flow y.flow x.flow_is
       (subst (λ (b : Interval). Prints (flow_quantity network.options.unit) b y.flow) box y.flow_is) in
-      let line = λ (f : Interval) (p : GridLink). LinkLine k f (status_of (is_us network) link.kind (state_of_link (links_at network standing) k)
+      let line = λ (f : Interval) (p : GridLink). LinkLine k f (status_of (is_us network) network.bends.list link.kind (state_of_link (links_at network standing) k)
       (difference p (heads_below grid row) (heads_above grid row))) in
       let same : line x.flow x.place ≡ line y.flow y.place = λ i. line (flow i) (place i) in
       x.is_line ∙ (same ∙ sym y.is_line)
@@ -103,16 +105,29 @@ module _ (network : Project) (grid : Grid) (standing : Standing) (row : Record) 
   differ : (n : ℕ) → EndsBy network grid standing row (ByRules n) → EndsBy network grid standing row (WithoutRules n) → ⊥
   differ n e f = let same = one_end network grid standing row (ByRules n) (WithoutRules n) e f in cc
 
-  one_end_lines : (ls ms : List ReportLine) → AreEndLines network grid standing row ls → AreEndLines network grid standing row ms → ls ≡ ms
-  one_end_lines _ _ (at_end e) (at_end f) = refl
-  one_end_lines _ _ (at_end e) (ended_by_rules f) = absurd (not_last (ByRules row.length) f e)
-  one_end_lines _ _ (at_end e) (ended_by_clock f) = absurd (not_last (WithoutRules row.length) f e)
-  one_end_lines _ _ (ended_by_rules f) (at_end e) = absurd (not_last (ByRules row.length) f e)
-  one_end_lines _ _ (ended_by_rules e) (ended_by_rules f) = refl
-  one_end_lines _ _ (ended_by_rules e) (ended_by_clock f) = absurd (differ row.length e f)
-  one_end_lines _ _ (ended_by_clock f) (at_end e) = absurd (not_last (WithoutRules row.length) f e)
-  one_end_lines _ _ (ended_by_clock e) (ended_by_rules f) = absurd (differ row.length f e)
-  one_end_lines _ _ (ended_by_clock e) (ended_by_clock f) = refl
+  abbrev AreSame : List Event → List Event → List Change → List Change → Type 0
+  AreSame e f c d = (e ≡ f) × (c ≡ d)
+
+  one_brings : (e f : List Event) (c d : List Change) → EndBrings network grid standing row e c
+      → EndBrings network grid standing row f d → AreSame e f c d
+  one_brings _ _ _ _ (at_end e) (at_end f) = (refl, refl)
+  one_brings _ _ _ _ (at_end e) (ended_by_rules f) = absurd (not_last (ByRules row.length) f e)
+  one_brings _ _ _ _ (at_end e) (ended_by_clock f) = absurd (not_last (WithoutRules row.length) f e)
+  one_brings _ _ _ _ (ended_by_rules f) (at_end e) = absurd (not_last (ByRules row.length) f e)
+  one_brings _ _ _ _ (ended_by_rules e) (ended_by_rules f) = (refl, refl)
+  one_brings _ _ _ _ (ended_by_rules e) (ended_by_clock f) = absurd (differ row.length e f)
+  one_brings _ _ _ _ (ended_by_clock f) (at_end e) = absurd (not_last (WithoutRules row.length) f e)
+  one_brings _ _ _ _ (ended_by_clock e) (ended_by_rules f) = absurd (differ row.length f e)
+  one_brings _ _ _ _ (ended_by_clock e) (ended_by_clock f) = (refl, refl)
+
+  one_end_lines : (ls ms : List ReportLine) → AreEndLines network grid standing row ls
+      → AreEndLines network grid standing row ms → ls ≡ ms
+  one_end_lines ls ms x y =
+      let same = one_brings x.events y.events x.changes y.changes x.brings y.brings in
+      let lines = λ (e : List Event) (c : List Change). map (event_line (standing.time + row.length)) e
+      ++ map (change_line (standing.time + row.length)) c in
+      let alike : lines x.events x.changes ≡ lines y.events y.changes = λ i. lines (same.0 i) (same.1 i) in
+      x.lines_are ∙ (alike ∙ sym y.lines_are)
 
   -- ---- the report
 

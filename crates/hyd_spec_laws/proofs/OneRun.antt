@@ -1,41 +1,46 @@
--- Where no demand depends on the pressure, a network has one tight run of each number of periods.
-use Rattle.std.proofs.Common.{◌≡◌, ℕ, suc, ◌<◌, ℤ, pos, Bool, false, MatchBool, List, [], ◌∷◌, length, int_le, refl, sym, ap, subst, ◌∙◌, arith}
+-- A standing has one grid, and a network one tight run of each number of periods.
+use Rattle.std.proofs.Common.{◌≡◌, ℕ, suc, ◌<◌, ℤ, pos, Bool, true, false, MatchBool, List, [], ◌∷◌, length, int_le, refl, sym, ap, subst, ◌∙◌, arith}
 use Rattle.std.specs.Prelude.{slice_index_or}
 use Rattle.std.specs.List.{AllZip, AllByRecursion}
-use Rattle.hyd_spec.specs.Types.{Project, Junction}
+use Rattle.hyd_spec.specs.Types.{Project, Junction, Capacity}
 use Rattle.hyd_spec_certificates.specs.declared.Problem.{Problem}
 use Rattle.hyd_spec_certificates.specs.declared.Problem.TheVariants.{Main, Pinned}
 use Rattle.hyd_spec_certificates.specs.declared.Side.{Side}
 use Rattle.hyd_spec_certificates.specs.declared.Side.TheVariants.{Upper, Lower}
-use Rattle.hyd_spec.specs.Quantity.{demand_of}
+use Rattle.hyd_spec.specs.Quantity.{demand_of, minimum_pressure, required_pressure}
 use Rattle.hyd_spec.specs.Outflow.{is_pressure_driven}
-use Rattle.hyd_spec_certificates.specs.Enclosing.{DemandLaw, Fixed}
+use Rattle.hyd_spec_certificates.specs.Enclosing.{DemandLaw, Fixed, Driven}
 use Rattle.hyd_spec_certificates.specs.Grid.{Grid, GridJunction, IsDriven, IsDemandLaw, IsJunctionOf}
 use Rattle.hyd_spec_certificates.specs.Certificate.{IsTight}
 use Rattle.hyd_spec_certificates.specs.Record.{Record, Vectors, Standing, no_vectors, vector_of}
 use Rattle.hyd_spec_certificates.specs.Valid.{IsProblem, IsGridAt, LeadsOn, IsValid}
 use Rattle.hyd_spec_reports.specs.ReportLine.{ReportLine}
 use Rattle.hyd_spec_reports.specs.Report.{IsReport}
-use Rattle.hyd_spec_reports.specs.Headline.{Found, IsFound, IsRunFrom, more, IsTightThroughout}
+use Rattle.hyd_spec_reports.specs.Headline.{Found, IsFound, IsRunFrom, none, more, IsTightThroughout}
 use Rattle.hyd_spec_laws.proofs.OneLength.{one_length}
 use Rattle.hyd_spec_laws.proofs.OneStanding.{one_standing, one_vector}
 use Rattle.hyd_spec_laws.proofs.OneReport.{one_report}
-use Rattle.hyd_lemmas.proofs.Trials.{same_either_way}
+use Rattle.hyd_spec_laws.proofs.OneCapacity.{one_capacity}
 
-module _ (network : Project) (fixed : network.options.pda ≡ false) where
+module _ (network : Project) where
   -- ---- grids
 
-  undriven : (demand : ℤ) → is_pressure_driven network demand ≡ false
-  undriven demand = rw fixed (same_either_way (int_le demand (pos 0)))
-
-  fixed_law : (demand : ℤ) (law : DemandLaw) → IsDemandLaw network demand law → law ≡ Fixed demand
-  fixed_law demand law is = subst (λ (b : Bool). MatchBool b (IsDriven network demand law) (law ≡ Fixed demand)) (undriven demand) is
+  -- a demand has one law: the capacity of given numbers is one
+  one_law : (demand : ℤ) (x y : DemandLaw) → IsDemandLaw network demand x → IsDemandLaw network demand y → x ≡ y
+  one_law demand x y is other = by_case (is_pressure_driven network demand) is other
+    where
+      by_case : (driven : Bool) → MatchBool driven (IsDriven network demand x) (x ≡ Fixed demand)
+          → MatchBool driven (IsDriven network demand y) (y ≡ Fixed demand) → x ≡ y
+      by_case true p q =
+          let same = one_capacity p.capacity q.capacity (p.origin ∙ sym q.origin) p.made q.made in
+          p.is_law ∙ ap (λ (c : Capacity). Driven demand c (minimum_pressure network) (required_pressure network)) same ∙ sym q.is_law
+      by_case false p q = p ∙ sym q
 
   same_junction : (time : ℕ) (junction : Junction) (a b : GridJunction) → IsJunctionOf network time junction a → IsJunctionOf network time junction b → a ≡ b
   same_junction time junction a b x y =
       let elevation = x.elevation ∙ sym y.elevation in
       let takes = demand_of network time junction in
-      let demand = fixed_law takes a.demand x.demand ∙ sym (fixed_law takes b.demand y.demand) in
+      let demand = one_law takes a.demand b.demand x.demand y.demand in
       let emitter = x.emitter ∙ sym y.emitter in
       λ i. record { elevation = elevation i; demand = demand i; emitter = emitter i }
 
@@ -49,7 +54,7 @@ module _ (network : Project) (fixed : network.options.pda ≡ false) where
   same_junctions time (j ∷ js) (a ∷ xs) (b ∷ ys) x y =
       let first = same_junction time j a b x.0 y.0 in let rest = same_junctions time js xs ys x.1 y.1 in cc
 
-  one_grid : (standing : Standing) (a b : Grid) → IsGridAt network standing a → IsGridAt network standing b → a ≡ b
+  pub one_grid : (standing : Standing) (a b : Grid) → IsGridAt network standing a → IsGridAt network standing b → a ≡ b
   one_grid standing a b x y =
       let junctions = same_junctions standing.time network.junctions.list a.junctions b.junctions x.junctions y.junctions in
       let reservoirs = x.reservoirs ∙ sym y.reservoirs in
@@ -148,3 +153,18 @@ module _ (network : Project) (fixed : network.options.pda ≡ false) where
       let on = subst (λ (n : Standing). IsRunFrom network n ys other) (ap (λ (f : Found). f.next) (sym first)) t.goes_on in
       let rest = one_run a.next xs ys last other s.goes_on on tight.1 too.1 (omega (arith, e)) in
       cc
+
+  -- and it leaves one standing
+  ends_here : (start last : Standing) → IsRunFrom network start [] last → start ≡ last
+  ends_here start last run = over start [] last run refl
+    where
+      over : (s : Standing) (fs : List Found) (l : Standing) → IsRunFrom network s fs l → fs ≡ [] → s ≡ l
+      over _ _ l none e = refl
+      over _ _ l (more is on) e = absurd (cc)
+
+  one_last : (start : Standing) (xs : List Found) (last other : Standing) → IsRunFrom network start xs last → IsRunFrom network start xs other → last ≡ other
+  one_last start [] last other x y = sym (ends_here start last x) ∙ ends_here start other y
+  one_last start (a ∷ xs) last other x y = one_last a.next xs last other (steps start a xs last x).goes_on (steps start a xs other y).goes_on
+
+  pub one_left : (start : Standing) (xs ys : List Found) (last other : Standing) → IsRunFrom network start xs last → IsRunFrom network start ys other → xs ≡ ys → last ≡ other
+  one_left start xs ys last other x y same = one_last start xs last other x (subst (λ (fs : List Found). IsRunFrom network start fs other) (sym same) y)

@@ -38,11 +38,12 @@ module _ (network : Project) (grid : Grid) (standing : Standing) (row : Record) 
   one_standing a b (continues c) (continues d) =
       let commanded = one_command row.length a.commanded b.commanded c.leaves_links d.leaves_links in
       let levels = c.levels ∙ sym d.levels in
+      let volumes = c.volumes ∙ sym d.volumes in
       let tanks = some_of TankState a.tanks b.tanks (sym c.tanks ∙ subst (λ (ls : List Interval). AreStates network ls b.tanks) (sym levels) d.tanks) in
       let number = c.number ∙ sym d.number in
       let time = c.time ∙ sym d.time in
       let finished = c.unfinished ∙ sym d.unfinished in
-      λ i. record { number = number i; time = time i; levels = levels i; tanks = tanks i; commanded = commanded i; finished = finished i }
+      λ i. record { number = number i; time = time i; levels = levels i; volumes = volumes i; tanks = tanks i; commanded = commanded i; finished = finished i }
   one_standing a b (continues c) (finishes f) = absurd (c.not_last f.is_last)
   one_standing a b (finishes f) (continues c) = absurd (c.not_last f.is_last)
   one_standing a b (finishes f) (finishes g) = f.next_is ∙ sym g.next_is
@@ -58,11 +59,11 @@ same_heads (x ∷ u) (y ∷ v) e each =
     let rest = same_heads u v (omega (arith, e)) (λ j le. each (suc j) (omega (arith, le))) in
     cc
 
-record IsThere (X : Type 0) (xs : List X) (j : ℕ) : Type 0 where
-  item : X
-  is_item : slice_get xs j ≡ Some item
+pub record IsThere (X : Type 0) (xs : List X) (j : ℕ) : Type 0 where
+  pub item : X
+  pub is_item : slice_get xs j ≡ Some item
 
-there : (X : Type 0) (xs : List X) (j : ℕ) → j < length xs → IsThere X xs j
+pub there : (X : Type 0) (xs : List X) (j : ℕ) → j < length xs → IsThere X xs j
 there X [] j le = absurd (omega (arith, le))
 there X (x ∷ xs) zero le = record { item = x; is_item = refl }
 there X (x ∷ xs) (suc j) le = let t = there X xs j (omega (arith, le)) in record { item = t.item; is_item = t.is_item }

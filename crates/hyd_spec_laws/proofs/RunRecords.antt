@@ -4,7 +4,7 @@ use Rattle.std.specs.Prelude.{Some}
 use Rattle.hyd_spec.specs.Types.{Project}
 use Rattle.hyd_spec.specs.Network.{junction_count, tank_count}
 use Rattle.hyd_spec_certificates.specs.Record.{Standing}
-use Rattle.hyd_spec_reports.specs.CertificateText.{IsCertificateText}
+use Rattle.hyd_spec_reports.specs.CertificateText.{IsCertificateText, version_of}
 use Rattle.hyd_spec_reports.specs.ReportLine.{report_text}
 use Rattle.hyd_spec_certificates.specs.Valid.{AreValidFrom, none as no_record, more as more_records}
 use Rattle.hyd_spec_reports.specs.Headline.{Found, IsRunFrom, none, more, rows_of, lines_of, Sharpness, Outcome, Finished, Stopped, is_finished, EndsSo, RunWrites, RunBreaksOff, CheckAccepts, accepted_line}
@@ -43,7 +43,7 @@ accepts network rounds sharpness outcome certificate report run = record {
   founds = run.founds;
   left = run.left;
   is_run = run.is_run;
-  certificate = subst (λ (finished : Bool). IsCertificateText certificate (junction_count network) (tank_count network) (rows_of run.founds) (length run.founds) finished)
+  certificate = subst (λ (finished : Bool). IsCertificateText certificate (version_of network) (junction_count network) (tank_count network) (rows_of run.founds) (length run.founds) finished)
       (last_word network run.left rounds outcome run.ends_so) run.certificate;
   report = refl;
   every_history = run.every_history;

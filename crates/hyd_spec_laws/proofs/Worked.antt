@@ -13,7 +13,7 @@ use Rattle.hyd_spec.specs.Scale.{at_scale}
 use Rattle.hyd_spec.specs.Quantity.{category_demand, multipliers_of}
 use Rattle.hyd_spec.specs.Loss.{head_in_feet, flow_in_cfs, PipeLossAtMost, PipeLossAtLeast, ValveLossAtMost, ValveLossAtLeast}
 use Rattle.hyd_spec.specs.Law.{Law, Capped, flow_at_least, flow_at_most}
-use Rattle.hyd_spec.specs.Tank.{exact_level, reaches}
+use Rattle.hyd_spec.specs.Tank.{Cylinder, exact_content, reaches}
 use Rattle.hyd_spec.specs.Length.{IsLeast}
 use Rattle.hyd_spec_laws.proofs.Outflows.{le-yes}
 
@@ -48,7 +48,8 @@ early s le = elim (cases_Bool (filled (pos 314159265400) s)) [
 ]
 
 pub first_filled : (tank : Tank) → tank.area ≡ pos 314159265400
-    → IsLeast (λ s. IsTrue (reaches 1 true (pos (5 * 10 ^ 13)) (exact_level tank (pos 0) (pos (5 * 10 ^ 10)) s))) 27144
+    → IsLeast (λ s. IsTrue (reaches 1 true (pos (5 * 10 ^ 13))
+    (exact_content (Cylinder (unsigned_abs tank.area)) (record { level = pos 0; volume = pos 0 }) (pos (5 * 10 ^ 10)) s))) 27144
 first_filled tank area = record {
   holds = subst (λ (z : ℤ). IsTrue (filled z 27144)) (sym area) refl;
   least = λ k held. elim (cases_lt k 27144) [

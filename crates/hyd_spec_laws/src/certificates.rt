@@ -1,7 +1,7 @@
 //! The comparison of certificates with the heads of assignments.
 #![tactic(auto)]
 
-ghost use Rattle.std.specs.Prelude.{◌≡◌, ℕ, ℤ, List, ◌<ℤ◌, ◌+ℤ◌, Some, slice_get};
+ghost use Rattle.std.specs.Prelude.{◌≡◌, ℕ, ◌<◌, ℤ, List, length, ◌≤ℤ◌, ◌<ℤ◌, ◌+ℤ◌, Some, slice_get};
 ghost use Rattle.hyd_spec.specs.Types.{Project, LinkState};
 ghost use Rattle.hyd_spec.specs.declared.TankState.{TankState};
 ghost use Rattle.hyd_spec_certificates.specs.declared.Side.TheVariants.{Upper, Lower};
@@ -14,8 +14,10 @@ ghost use Rattle.hyd_spec_certificates.specs.Grid.{Grid, GridLink, GridJunction,
 ghost use Rattle.hyd_spec.specs.Network.{tank_node};
 ghost use Rattle.hyd_spec.specs.Tank.{tank_inflow};
 ghost use Rattle.hyd_spec_certificates.specs.Boxes.{flow_box, out_box, inflow_box};
-ghost use Rattle.hyd_spec_certificates.specs.Certificate.{IsCertificate};
-ghost use Rattle.hyd_spec_laws.specs.Laws.{IsCompared, LiesIn, LieBetween, IsSoundGrid, AreCapacitiesMade};
+ghost use Rattle.hyd_spec_certificates.specs.declared.HeldJunction.{HeldJunction};
+ghost use Rattle.hyd_spec_certificates.specs.Certificate.{IsCertificate, IsCertificateHolding};
+ghost use Rattle.hyd_spec_certificates.specs.HeldBoxes.{held_in, held_flow_box, passing_draw};
+ghost use Rattle.hyd_spec_laws.specs.Laws.{IsCompared, IsComparedDrawing, LiesIn, LieBetween, IsSoundGrid, AreCapacitiesMade};
 
 /// At every scale a certificate with all tanks alike lies strictly on its side of the heads of
 /// each assignment whose tank levels lie in the intervals (supersolutions and subsolutions of
@@ -66,4 +68,37 @@ pub fn inflows()
         (k : ℕ) (below above : List ℤ) → IsCompared network S time intervals levels tanks links assignment grid
         → IsCertificate grid (Pinned k) Lower below → IsCertificate grid (Pinned k) Upper above
         → LiesIn S (inflow_box grid k (tank_node network k) below above) (tank_inflow network k assignment.flows) }
+{}
+
+/// The flow of a link between two junctions lies in the box of the vectors that hold its first node: the UPPER one at the
+/// LOWER head of the certificates with none held, the LOWER one at their UPPER head.
+pub fn held_flows()
+    ensures flow { (network : Project) (S time : ℕ) (intervals : List Interval) (levels : List ℤ)
+        (tanks : List TankState) (links : List LinkState) (assignment : Assignment) (grid : Grid)
+        (below above held_below held_above : List ℤ) (l : ℕ) (link : GridLink)
+        → IsCompared network S time intervals levels tanks links assignment grid
+        → IsCertificate grid Main Lower below → IsCertificate grid Main Upper above
+        → slice_get grid.links l ≡ Some link → link.from < length grid.junctions → link.to < length grid.junctions
+        → IsCertificateHolding (Some (held_in above link.from)) grid Main Lower held_below
+        → IsCertificateHolding (Some (held_in below link.from)) grid Main Upper held_above
+        → LiesIn S (held_flow_box link held_below held_above) (flow_at assignment.flows l) }
+{}
+
+/// Where water is drawn at a junction besides, and a vector holds that junction: with the draw with which the junction of a
+/// LOWER vector would pass, or less, its head lies above the held one; with that of an UPPER vector, or more, below.
+pub fn draws()
+    ensures enough_head { (network : Project) (S time : ℕ) (intervals : List Interval) (levels : List ℤ)
+        (tanks : List TankState) (links : List LinkState) (held : HeldJunction) (q : ℤ) (assignment : Assignment)
+        (grid : Grid) (u : List ℤ) (here : GridJunction)
+        → IsComparedDrawing network S time intervals levels tanks links held.junction q assignment grid
+        → IsCertificateHolding (Some held) grid Main Lower u → slice_get grid.junctions held.junction ≡ Some here
+        → q ≤ℤ at_scale S (passing_draw grid Lower u held.junction here)
+        → at_scale S held.head <ℤ head_at assignment.heads held.junction }
+    ensures too_little_head { (network : Project) (S time : ℕ) (intervals : List Interval) (levels : List ℤ)
+        (tanks : List TankState) (links : List LinkState) (held : HeldJunction) (q : ℤ) (assignment : Assignment)
+        (grid : Grid) (u : List ℤ) (here : GridJunction)
+        → IsComparedDrawing network S time intervals levels tanks links held.junction q assignment grid
+        → IsCertificateHolding (Some held) grid Main Upper u → slice_get grid.junctions held.junction ≡ Some here
+        → at_scale S (passing_draw grid Upper u held.junction here) ≤ℤ q
+        → head_at assignment.heads held.junction <ℤ at_scale S held.head }
 {}

@@ -1,17 +1,20 @@
 //! What the ends of intervals decide.
 #![tactic(auto)]
 
-ghost use Rattle.std.specs.Prelude.{◌≡◌, ◌<◌, ℕ, ℤ, Bool, true, List, map};
+ghost use Rattle.std.specs.Prelude.{◌≡◌, ◌<◌, ◌≤◌, ◌⊎◌, ℕ, ℤ, Bool, true, List, map};
 ghost use Rattle.std.specs.List.{AllByRecursion, list_any, list_all};
 ghost use Rattle.hyd_num.specs.Rational.{Rational, whole};
-ghost use Rattle.hyd_spec.specs.Types.{Tank, Clause, Relation};
+ghost use Rattle.hyd_spec.specs.Types.{Project, Tank, Clause, Relation};
 ghost use Rattle.hyd_spec_certificates.specs.Interval.{Interval};
-ghost use Rattle.hyd_spec.specs.Tank.{exact_level, reaches};
+ghost use Rattle.hyd_spec.specs.Tank.{Walls, Stock, reaches, has_reached};
+ghost use Rattle.hyd_spec.specs.Length.{IsLeast};
+ghost use Rattle.hyd_spec_certificates.specs.Grid.{Grid};
+ghost use Rattle.hyd_spec_certificates.specs.Record.{Record, Standing};
 ghost use Rattle.hyd_spec.specs.Rules.{compares};
-ghost use Rattle.hyd_spec_certificates.specs.Levels.{may_reach, must_reach};
-ghost use Rattle.hyd_spec_certificates.specs.Truth.{Truth, at_both_ends, some_holds, all_hold};
-ghost use Rattle.hyd_spec_certificates.specs.Decided.{control_truth};
-ghost use Rattle.hyd_spec_laws.specs.Laws.{LiesIn, IsAtMost, IsOneWay, Tells};
+ghost use Rattle.hyd_spec_certificates.specs.Stocks.{Stocks, may_reach, must_reach};
+ghost use Rattle.hyd_spec_certificates.specs.Verdict.{Verdict, at_both_ends, some_holds, all_hold};
+ghost use Rattle.hyd_spec_certificates.specs.Decided.{control_truth, SomeReaches, IsClockLength};
+ghost use Rattle.hyd_spec_laws.specs.Laws.{LiesIn, StockLies, IsVessel, SomeReachesFirst, NoneReachesBefore, IsAtMost, IsOneWay, Tells};
 
 /// A comparison or a level control that both ends of an interval decide is decided so at each
 /// point between them.
@@ -23,20 +26,33 @@ pub fn comparisons()
         → Tells (control_truth level above ticks) (reaches S above ticks (whole z)) }
 {}
 
-/// A level that has reached its target may have, and one that must have has.
+/// A tank that has reached its target may have, and one that must have has.
 pub fn events()
-    ensures may { (S : ℕ) (tank : Tank) (level inflow : Interval) (target : ℤ) (rising : Bool) (seconds : ℕ) (z q : ℤ) → 0 < S
-        → LiesIn S level z → LiesIn S inflow q → reaches S rising target (exact_level tank z q seconds) ≡ true
-        → may_reach tank level inflow target rising seconds ≡ true }
-    ensures must { (S : ℕ) (tank : Tank) (level inflow : Interval) (target : ℤ) (rising : Bool) (seconds : ℕ) (z q : ℤ)
-        → LiesIn S level z → LiesIn S inflow q → must_reach tank level inflow target rising seconds ≡ true
-        → reaches S rising target (exact_level tank z q seconds) ≡ true }
+    ensures may { (S : ℕ) (walls : Walls) (tank : Tank) (stocks : Stocks) (inflow : Interval) (target : ℤ) (rising : Bool)
+        (seconds : ℕ) (stock : Stock) (q : ℤ) → 0 < S → IsVessel walls tank → StockLies S stocks stock → LiesIn S inflow q
+        → has_reached S walls tank stock q rising target seconds ≡ true
+        → may_reach walls tank stocks inflow target rising seconds ≡ true }
+    ensures must { (S : ℕ) (walls : Walls) (tank : Tank) (stocks : Stocks) (inflow : Interval) (target : ℤ) (rising : Bool)
+        (seconds : ℕ) (stock : Stock) (q : ℤ) → 0 < S → IsVessel walls tank → StockLies S stocks stock → LiesIn S inflow q
+        → must_reach walls tank stocks inflow target rising seconds ≡ true
+        → has_reached S walls tank stock q rising target seconds ≡ true }
+{}
+
+/// The earliest (latest) end of a period is the least of the length that the clock allows and of the earliest (latest)
+/// first seconds of the watched levels, one by one, with that length as cap: for the test of levels that may, or must, have
+/// reached their targets.
+pub fn ends()
+    ensures { (test : Walls → Tank → Stocks → Interval → ℤ → Bool → ℕ → Bool) (network : Project) (grid : Grid)
+        (standing : Standing) (row : Record) (cap : ℕ) → IsClockLength network standing.time cap
+        → (second : ℕ) → NoneReachesBefore test network grid standing row cap second
+        → (second ≡ cap) ⊎ SomeReachesFirst test network grid standing row cap second
+        → IsLeast (λ s. IsClockLength network standing.time s ⊎ ((1 ≤ s) × SomeReaches test network grid standing row s)) second }
 {}
 
 /// Where the truth of each clause tells whether it holds, the truth of a rule tells whether the
 /// rule does.
 pub fn rules()
-    ensures { (truth : Clause → Truth) (test : Clause → Bool) (groups : List (List Clause))
+    ensures { (truth : Clause → Verdict) (test : Clause → Bool) (groups : List (List Clause))
         → AllByRecursion (AllByRecursion (λ (c : Clause). Tells (truth c) (test c))) groups
         → Tells (all_hold (map (λ group. some_holds (map truth group)) groups)) (list_all (list_any test) groups) }
 {}

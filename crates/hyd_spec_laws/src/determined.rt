@@ -1,18 +1,19 @@
-//! What a record decides is one, in every network: the tight vectors of a grid, the end of the period, the standing that it
-//! leads on to, and the lines of its report. So, where no demand depends on the pressure, a tight run that the relations
-//! accept is the only tight one of as many periods.
+//! What a record decides is one, in every network: the grid of a standing and its tight vectors, the end of the period, the
+//! standing that it leads on to, and the lines of its report. So a tight run that the relations accept is the only tight
+//! one of as many periods.
 #![tactic(auto)]
 
-ghost use Rattle.std.specs.Prelude.{◌≡◌, ℕ, ℤ, false, List, length};
+ghost use Rattle.std.specs.Prelude.{◌≡◌, ℕ, ℤ, List, length};
 ghost use Rattle.std.specs.List.{AllByRecursion};
-ghost use Rattle.hyd_spec.specs.Types.{Project};
+ghost use Rattle.hyd_num.specs.Chain.{IsMade};
+ghost use Rattle.hyd_spec.specs.Types.{Project, Capacity};
 ghost use Rattle.hyd_spec_certificates.specs.declared.Problem.{Problem};
 ghost use Rattle.hyd_spec_certificates.specs.declared.Side.{Side};
 ghost use Rattle.hyd_spec_certificates.specs.Grid.{Grid};
 ghost use Rattle.hyd_spec_certificates.specs.Certificate.{IsTight};
 ghost use Rattle.hyd_spec_certificates.specs.Record.{Record, Standing};
 ghost use Rattle.hyd_spec_certificates.specs.Decided.{End, EndsBy};
-ghost use Rattle.hyd_spec_certificates.specs.Valid.{LeadsOn};
+ghost use Rattle.hyd_spec_certificates.specs.Valid.{LeadsOn, IsGridAt};
 ghost use Rattle.hyd_spec_reports.specs.ReportLine.{ReportLine};
 ghost use Rattle.hyd_spec_reports.specs.Report.{IsReport};
 ghost use Rattle.hyd_spec_reports.specs.Headline.{Found, IsRun, IsTightThroughout};
@@ -47,9 +48,20 @@ pub fn lengths()
         → LeadsOn network grid standing row a → LeadsOn network grid standing (record row { length = other }) b → row.length ≡ other }
 {}
 
-/// Where no demand depends on the pressure, two tight runs of as many periods are the same.
+/// Given numbers have one capacity.
+pub fn capacities()
+    ensures { (a b : Capacity) → a.origin ≡ b.origin → IsMade a → IsMade b → a ≡ b }
+{}
+
+/// A standing has one grid.
+pub fn grids()
+    ensures { (network : Project) (standing : Standing) (a b : Grid) → IsGridAt network standing a
+        → IsGridAt network standing b → a ≡ b }
+{}
+
+/// Two tight runs of as many periods are the same, and leave the same standing.
 pub fn runs()
-    ensures { (network : Project) → network.options.pda ≡ false → (a b : List Found) (last other : Standing)
+    ensures { (network : Project) → (a b : List Found) (last other : Standing)
         → IsRun network a last → IsRun network b other → AllByRecursion (IsTightThroughout network) a
-        → AllByRecursion (IsTightThroughout network) b → length a ≡ length b → a ≡ b }
+        → AllByRecursion (IsTightThroughout network) b → length a ≡ length b → (a ≡ b) × (last ≡ other) }
 {}

@@ -1,13 +1,13 @@
 //! Worked examples of the definitions.
 #![tactic(auto)]
 
-ghost use Rattle.std.specs.Prelude.{◌≡◌, ◌^◌, ◌*◌, ℕ, ℤ, pos, IsTrue, true, false, [], ◌∷◌, Some};
+ghost use Rattle.std.specs.Prelude.{◌≡◌, ◌^◌, ◌*◌, ℕ, ℤ, pos, IsTrue, true, false, [], ◌∷◌, Some, unsigned_abs};
 ghost use Rattle.hyd_spec.specs.Types.{Project, Decimal, Tank, Clause, And, Or, Demand};
 ghost use Rattle.hyd_spec.specs.Scale.{at_scale};
 ghost use Rattle.hyd_spec.specs.Quantity.{category_demand, multipliers_of};
 ghost use Rattle.hyd_spec.specs.Loss.{PipeLossAtMost, PipeLossAtLeast, ValveLossAtMost, ValveLossAtLeast};
 ghost use Rattle.hyd_spec.specs.Law.{Law, Capped, flow_at_least, flow_at_most};
-ghost use Rattle.hyd_spec.specs.Tank.{exact_level, reaches};
+ghost use Rattle.hyd_spec.specs.Tank.{Cylinder, exact_content, reaches};
 ghost use Rattle.hyd_spec.specs.Length.{IsLeast};
 ghost use Rattle.hyd_spec.specs.Rules.{parts_of, groups_in};
 
@@ -35,7 +35,8 @@ pub fn pipe()
 /// the first whole second at which it has is 27144.
 pub fn filling()
     ensures { (tank : Tank) → tank.area ≡ pos 314159265400
-        → IsLeast (λ s. IsTrue (reaches 1 true (pos (5 * 10 ^ 13)) (exact_level tank (pos 0) (pos (5 * 10 ^ 10)) s))) 27144 }
+        → IsLeast (λ s. IsTrue (reaches 1 true (pos (5 * 10 ^ 13))
+        (exact_content (Cylinder (unsigned_abs tank.area)) (record { level = pos 0; volume = pos 0 }) (pos (5 * 10 ^ 10)) s))) 27144 }
 {}
 
 /// A premise `a OR b AND c` is (a or b) and c.

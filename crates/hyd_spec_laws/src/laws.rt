@@ -1,12 +1,19 @@
 //! Laws of losses and of the laws of links.
 #![tactic(auto)]
 
-ghost use Rattle.std.specs.Prelude.{ℕ, ◌<◌, Option};
+ghost use Rattle.std.specs.Prelude.{ℕ, ◌<◌, ℤ, Bool, List, Option};
 ghost use Rattle.hyd_num.specs.Roots.{IsSquareRootDown, IsSquareRootUp};
-ghost use Rattle.hyd_spec.specs.Types.{Origin, Capacity};
+ghost use Rattle.hyd_num.specs.declared.units.FlowUnit.{FlowUnit};
+ghost use Rattle.hyd_net.specs.ListView.{ListView};
+ghost use Rattle.hyd_net.specs.Sizes.{HasSizes};
+ghost use Rattle.hyd_net.specs.Made.{IsKindMade};
+ghost use Rattle.hyd_spec.specs.Types.{Origin, Capacity, Pattern, HeadPoint, LinkKind, LinkState};
+ghost use Rattle.hyd_spec_certificates.specs.Interval.{Interval};
+ghost use Rattle.hyd_spec_reports.specs.Report.{status_of};
+ghost use Rattle.hyd_spec_reports.specs.Claims.{StatusHolds};
 ghost use Rattle.hyd_spec.specs.Law.{Law, loss_at_most, loss_at_least, flow_at_least, flow_at_most};
 ghost use Rattle.hyd_spec_certificates.specs.Enclosing.{low, high, root_down, root_up, DemandLaw, demand_low, demand_high, emitter_low, emitter_high};
-ghost use Rattle.hyd_spec_laws.specs.Laws.{IsLossLaw, HasPositiveNumbers, IsLaw, IsSoundLaw, AreRising, IsSoundDemand};
+ghost use Rattle.hyd_spec_laws.specs.Laws.{IsLossLaw, HasPositiveNumbers, IsLaw, IsSoundLaw, AreRising, IsSoundDemand, LiesIn};
 
 /// What is lost in pipes, valves, pumps, emitters and by demands that depend on the pressure
 /// rises with the flow: one that loses at most a head is at most one that loses at least it.
@@ -17,6 +24,13 @@ pub fn losses()
 /// Each sound law of a link is a law, and its enclosing functions enclose it.
 pub fn link_laws()
     ensures each { (law : Law) → IsSoundLaw law → IsLaw (flow_at_least law) (flow_at_most law) (low law) (high law) }
+{}
+
+/// The status word of a link holds at each head difference of the interval by which it was chosen.
+pub fn status_words()
+    ensures each { (unit : FlowUnit) (us : Bool) (patterns : List Pattern) (bends : List (ListView HeadPoint)) (kind : LinkKind)
+        (state : LinkState) (S : ℕ) (d : Interval) (x : ℤ) → 0 < S → IsKindMade unit kind → HasSizes unit patterns bends kind
+        → LiesIn S d x → StatusHolds us bends (status_of us bends kind state d) kind state S x }
 {}
 
 /// The whole roots of the enclosing functions are the greatest number whose square is at most a

@@ -1,27 +1,77 @@
-//! Laws of level intervals.
+//! Laws of intervals of stocks. Beside them, what runs need of tanks is only that levels stay within their bounds.
 #![tactic(auto)]
 
-ghost use Rattle.std.specs.Prelude.{◌≡◌, ◌<◌, ◌≤ℤ◌, ℕ, ℤ, pos, Some};
-ghost use Rattle.hyd_spec.specs.Types.{Tank};
+ghost use Rattle.std.specs.Prelude.{◌≡◌, ◌<◌, ◌≤◌, ◌≤ℤ◌, ℕ, ℤ, Bool, Some};
+ghost use Rattle.hyd_net.specs.Sound.{Sound};
+ghost use Rattle.hyd_spec.specs.Types.{Project, Tank};
 ghost use Rattle.hyd_spec.specs.declared.TankState.{TankState};
+ghost use Rattle.hyd_spec.specs.Lists.{Each};
 ghost use Rattle.hyd_spec_certificates.specs.Interval.{Interval};
-ghost use Rattle.hyd_spec.specs.Tank.{IsNextLevel, tank_state};
-ghost use Rattle.hyd_spec_certificates.specs.Levels.{levels_after, next_levels, state_of};
-ghost use Rattle.hyd_spec_laws.specs.Laws.{LiesIn, IsVessel, IsInside};
+ghost use Rattle.hyd_spec.specs.Tank.{Walls, walls_of, Stock, level_bounds, carried_level, has_reached, IsNextStock, tank_state};
+ghost use Rattle.hyd_spec_certificates.specs.Stocks.{Stocks, carried_levels, next_stocks, state_of, may_reach, must_reach};
+ghost use Rattle.hyd_spec_certificates.specs.FirstSeconds.{IsFirstSecond};
+ghost use Rattle.hyd_spec_laws.specs.Laws.{LiesIn, LiesAround, StockLies, IsVessel, IsInside, AreInside, IsWithin, HasStock};
 
-/// Each level at which a next period may begin lies in the next level interval, and lesser
-/// intervals lead into lesser ones.
-pub fn levels()
-    ensures holds { (S : ℕ) (tank : Tank) (level inflow : Interval) (seconds : ℕ) (z q next : ℤ) → 0 < S → IsVessel tank
-        → LiesIn S level z → LiesIn S inflow q → IsNextLevel S tank z q seconds next
-        → LiesIn S (next_levels tank level inflow seconds) next }
-    ensures nests { (room : ℤ) (tank : Tank) (level inflow wider more : Interval) (seconds : ℕ) → pos 0 ≤ℤ room → IsVessel tank
-        → IsInside level wider → IsInside inflow more
-        → IsInside (levels_after room tank level inflow seconds) (levels_after room tank wider more seconds) }
+/// The tanks of a sound network hold water, and their bounds are in order.
+pub fn vessels()
+    ensures { (network : Project) → Sound network → Each network.tanks.list (λ k tank. IsVessel (walls_of network tank) tank) }
 {}
 
-/// The state that both ends of a level interval have is that of each level between them.
+/// Each stock with which a next period may begin lies in the next stocks, lesser stocks lead into lesser ones, and
+/// stocks that are there lead into stocks that are.
+pub fn next_stock()
+    ensures holds { (S : ℕ) (walls : Walls) (tank : Tank) (stocks : Stocks) (inflow : Interval) (seconds : ℕ) (stock : Stock)
+        (q : ℤ) (next : Stock) → 0 < S → IsVessel walls tank → StockLies S stocks stock → LiesIn S inflow q
+        → IsNextStock S walls tank stock q seconds next → StockLies S (next_stocks walls tank stocks inflow seconds) next }
+    ensures nests { (walls : Walls) (tank : Tank) (stocks wider : Stocks) (inflow more : Interval) (seconds : ℕ) → IsVessel walls tank
+        → AreInside stocks wider → IsInside inflow more
+        → AreInside (next_stocks walls tank stocks inflow seconds) (next_stocks walls tank wider more seconds) }
+    ensures bounded { (walls : Walls) (tank : Tank) (stocks : Stocks) (inflow : Interval) (seconds : ℕ) → IsVessel walls tank
+        → IsWithin (level_bounds tank) (next_stocks walls tank stocks inflow seconds).level }
+    ensures there { (walls : Walls) (tank : Tank) (stocks : Stocks) (inflow : Interval) (seconds : ℕ) → IsVessel walls tank
+        → HasStock stocks → inflow.lo ≤ℤ inflow.hi → HasStock (next_stocks walls tank stocks inflow seconds) }
+{}
+
+/// Each carried level lies in the interval of carried levels, lesser stocks have lesser intervals, and stocks that are
+/// there have some carried level.
+pub fn carried()
+    ensures holds { (S : ℕ) (walls : Walls) (tank : Tank) (stocks : Stocks) (inflow : Interval) (seconds : ℕ) (stock : Stock)
+        (q : ℤ) → 0 < S → IsVessel walls tank → StockLies S stocks stock → LiesIn S inflow q
+        → LiesAround S (carried_levels walls tank stocks inflow seconds) (carried_level S walls tank stock q seconds) }
+    ensures nests { (walls : Walls) (tank : Tank) (stocks wider : Stocks) (inflow more : Interval) (seconds : ℕ) → IsVessel walls tank
+        → AreInside stocks wider → IsInside inflow more
+        → IsInside (carried_levels walls tank stocks inflow seconds) (carried_levels walls tank wider more seconds) }
+    ensures bounded { (walls : Walls) (tank : Tank) (stocks : Stocks) (inflow : Interval) (seconds : ℕ) → IsVessel walls tank
+        → IsWithin (level_bounds tank) (carried_levels walls tank stocks inflow seconds) }
+    ensures there { (walls : Walls) (tank : Tank) (stocks : Stocks) (inflow : Interval) (seconds : ℕ) → IsVessel walls tank
+        → HasStock stocks → inflow.lo ≤ℤ inflow.hi
+        → (carried_levels walls tank stocks inflow seconds).lo ≤ℤ (carried_levels walls tank stocks inflow seconds).hi }
+{}
+
+/// The state that both ends of a level interval have is that of each level between them, and of
+/// each interval inside that has a number.
 pub fn states()
-    ensures { (S : ℕ) (tank : Tank) (level : Interval) (z : ℤ) (s : TankState) → 0 < S → LiesIn S level z
+    ensures holds { (S : ℕ) (tank : Tank) (level : Interval) (z : ℤ) (s : TankState) → 0 < S → LiesIn S level z
         → state_of tank level ≡ Some s → tank_state S tank z ≡ s }
+    ensures nests { (tank : Tank) (level wider : Interval) (s : TankState) → level.lo ≤ℤ level.hi → IsInside level wider
+        → state_of tank wider ≡ Some s → state_of tank level ≡ Some s }
+{}
+
+/// The first second at which a tank reaches a target lies between the earliest and the latest one
+/// of its stocks and inflow, or is the cap; lesser stocks and inflows have both inside.
+pub fn seconds()
+    ensures holds { (S : ℕ) (walls : Walls) (tank : Tank) (stocks : Stocks) (inflow : Interval) (target : ℤ) (rising : Bool)
+        (cap : ℕ) (stock : Stock) (q : ℤ) (earliest latest first : ℕ) → 0 < S → IsVessel walls tank
+        → StockLies S stocks stock → LiesIn S inflow q
+        → IsFirstSecond (may_reach walls tank stocks inflow target rising) cap earliest
+        → IsFirstSecond (must_reach walls tank stocks inflow target rising) cap latest
+        → IsFirstSecond (has_reached S walls tank stock q rising target) cap first
+        → (earliest ≤ first) × (first ≤ latest) }
+    ensures nests { (walls : Walls) (tank : Tank) (stocks wider : Stocks) (inflow more : Interval) (target : ℤ) (rising : Bool)
+        (cap earliest latest sooner later : ℕ) → IsVessel walls tank → AreInside stocks wider → IsInside inflow more
+        → IsFirstSecond (may_reach walls tank stocks inflow target rising) cap earliest
+        → IsFirstSecond (must_reach walls tank stocks inflow target rising) cap latest
+        → IsFirstSecond (may_reach walls tank wider more target rising) cap sooner
+        → IsFirstSecond (must_reach walls tank wider more target rising) cap later
+        → (sooner ≤ earliest) × (latest ≤ later) }
 {}

@@ -21,7 +21,7 @@ use Rattle.hyd_spec_laws.proofs.Nodes.{head_front, IsGreatestBelow, greatest_bel
 use Rattle.hyd_spec_laws.specs.Laws.{IsSteady}
 use Rattle.hyd_spec_laws.proofs.NetRising.{item-at, IsTop, net-rises, low-rises, high-rises, net-ordered, outflow-rises, demand-at}
 use Rattle.hyd_spec_certificates.specs.Climbing.{LiesBeyond, IsStart, IsOrderedHolding}
-use Rattle.hyd_spec_raises.specs.Sides.{along}
+use Rattle.hyd_spec_laws.specs.Sides.{along}
 use Rattle.hyd_spec_raises.proofs.Leading.{beyond-is, is-beyond, lead, suits-nearer}
 use Rattle.hyd_spec_raises.proofs.Raising.{beyond-self, by-beyond, set-here, set-there, set-one, set-in-box, along-floor}
 use Rattle.hyd_spec_raises.proofs.Sweeping.{vector-self}

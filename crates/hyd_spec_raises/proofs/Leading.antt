@@ -14,7 +14,7 @@ use Rattle.hyd_spec_certificates.specs.Climbing.{LiesBeyond, Fails}
 use Rattle.hyd_spec_laws.specs.Laws.{IsSteady}
 use Rattle.hyd_spec_laws.proofs.Nodes.{head_front}
 use Rattle.hyd_spec_laws.proofs.NetRising.{IsTop, net-rises, low-rises, high-rises, outflow-low-rises, outflow-high-rises, demand-at}
-use Rattle.hyd_spec_raises.specs.Sides.{along}
+use Rattle.hyd_spec_laws.specs.Sides.{along}
 
 -- ---- the two sides
 

@@ -16,7 +16,7 @@ use Rattle.hyd_spec_certificates.specs.declared.HeldJunction.{HeldJunction}
 use Rattle.hyd_spec_certificates.specs.Certificate.{box_limit, IsInBox, Passes, Suits, IsBeyond, IsCertificateHolding, IsCandidateHolding, IsRaisedHolding, IsTightHolding}
 use Rattle.hyd_spec_laws.specs.Laws.{IsSteady}
 use Rattle.hyd_spec_certificates.specs.Climbing.{LiesBeyond, IsStart}
-use Rattle.hyd_spec_raises.specs.Sides.{along}
+use Rattle.hyd_spec_laws.specs.Sides.{along}
 use Rattle.hyd_spec_raises.proofs.Leading.{beyond-is, is-beyond, suits-nearer}
 use Rattle.hyd_spec_raises.proofs.Searching.{first-below, each-or-lacks}
 

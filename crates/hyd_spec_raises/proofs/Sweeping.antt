@@ -13,7 +13,7 @@ use Rattle.hyd_spec_laws.proofs.Nodes.{greatest_below}
 use Rattle.hyd_spec_laws.specs.Laws.{IsSteady}
 use Rattle.hyd_spec_certificates.specs.Climbing.{LiesBeyond, IsStart, IsLeap, Climbs, done, raised, leapt, HasParts, no_more, part, HasRounds}
 use Rattle.hyd_spec_laws.proofs.NetRising.{item-at}
-use Rattle.hyd_spec_raises.specs.Sides.{along}
+use Rattle.hyd_spec_laws.specs.Sides.{along}
 use Rattle.hyd_spec_raises.proofs.Leading.{beyond-is, lead, fails-leading, suits-nearer}
 use Rattle.hyd_spec_raises.proofs.Searching.{choose}
 use Rattle.hyd_spec_raises.proofs.Raising.{beyond-trans, beyond-self, along-one, by-beyond, set-here, set-on, raise-or-none, one-raise, candidate-of, candidate-nearer, inside-of, start-raised}

@@ -1,7 +1,9 @@
 -- The text of a certificate: a header, the records in order, and an end line. Each line ends by a line feed.
 -- Source: this program's format.
-use Rattle.std.specs.Prelude.{◌≡◌, ℕ, ◌<◌, ◌^◌, ℤ, Bool, List, [], ◌∷◌, ◌++◌, length, map, All, codes, if◌then◌else◌}
+use Rattle.std.specs.Prelude.{◌≡◌, ℕ, ◌+◌, ◌<◌, ◌^◌, ◌==◌, ℤ, Bool, ◌||◌, ◌⊎◌, is_some, List, [], ◌∷◌, ◌++◌, length, map, All, codes, if◌then◌else◌}
 use Rattle.std.specs.Fmt.{decimal, signed_decimal}
+use Rattle.std.specs.List.{list_any}
+use Rattle.hyd_spec.specs.Types.{Project, Tank}
 use Rattle.hyd_spec.specs.Lists.{joined}
 use Rattle.hyd_spec_certificates.specs.Certificate.{IsInBox}
 use Rattle.hyd_spec_certificates.specs.Record.{Record, Vectors}
@@ -18,9 +20,15 @@ line parts = words parts ++ (10 ∷ [])
 
 -- ---- lines
 
--- `HYDCERT 1 n k`: the format's number, and the counts of junctions and tanks.
-abbrev pub header_line : ℕ → ℕ → List ℕ
-header_line junctions tanks = line (codes "HYDCERT" ∷ (decimal 1 ∷ (decimal junctions ∷ (decimal tanks ∷ []))))
+-- The version of a network's certificates: 2 where a tank has a volume curve or overflows, else 1.
+abbrev pub version_of : Project → ℕ
+version_of network =
+    if list_any (λ (tank : Tank). is_some tank.shape || tank.overflow) network.tanks.list then 2 else 1
+
+-- `HYDCERT v n k`: the version, and the counts of junctions and tanks.
+abbrev pub header_line : ℕ → ℕ → ℕ → List ℕ
+header_line version junctions tanks =
+    line (codes "HYDCERT" ∷ (decimal version ∷ (decimal junctions ∷ (decimal tanks ∷ []))))
 
 -- `PERIOD p t s`: number, start and length of a period.
 abbrev pub period_line : Record → List ℕ
@@ -46,10 +54,15 @@ abbrev pub end_line : ℕ → Bool → List ℕ
 end_line periods finished =
     line (codes "END" ∷ (decimal periods ∷ ((if finished then codes "FINISHED" else codes "STOPPED") ∷ [])))
 
--- A header for so many junctions and tanks, the records, and the end line.
-abbrev pub certificate_text : ℕ → ℕ → List Record → ℕ → Bool → List ℕ
-certificate_text junctions tanks rows periods finished =
-    header_line junctions tanks ++ (joined (map record_text rows) ++ end_line periods finished)
+-- The number of line feeds of a text.
+abbrev pub line_feeds : List ℕ → ℕ
+line_feeds [] = 0
+line_feeds (code ∷ rest) = (if code == 10 then 1 else 0) + line_feeds rest
+
+-- A header of a version for so many junctions and tanks, the records, and the end line.
+abbrev pub certificate_text : ℕ → ℕ → ℕ → List Record → ℕ → Bool → List ℕ
+certificate_text version junctions tanks rows periods finished =
+    header_line version junctions tanks ++ (joined (map record_text rows) ++ end_line periods finished)
 
 -- ---- readings
 
@@ -70,11 +83,12 @@ pub record IsRow (junctions tanks : ℕ) (row : Record) : Type 0 where
   pub pinned_upper : All (λ vectors. IsVector junctions vectors.upper) row.pinned
   pub pinned_lower : All (λ vectors. IsVector junctions vectors.lower) row.pinned
 
--- The text is that of these counts and records, and of an end line with this number and word. All numbers but heads are
--- below 2^32, so that no line has more than 64 bytes.
-pub record IsCertificateText (text : List ℕ) (junctions tanks : ℕ) (rows : List Record) (periods : ℕ) (finished : Bool) : Type 0 where
+-- The text is that of this version, 1 or 2, of these counts and records, and of an end line with this number and word. All
+-- numbers but heads are below 2^32, so that no line has more than 64 bytes.
+pub record IsCertificateText (text : List ℕ) (version junctions tanks : ℕ) (rows : List Record) (periods : ℕ) (finished : Bool) : Type 0 where
+  pub known : (version ≡ 1) ⊎ (version ≡ 2)
   pub junctions_fit : junctions < 2 ^ 32
   pub tanks_fit : tanks < 2 ^ 32
   pub rows_fit : All (IsRow junctions tanks) rows
   pub periods_fit : periods < 2 ^ 32
-  pub is_text : text ≡ certificate_text junctions tanks rows periods finished
+  pub is_text : text ≡ certificate_text version junctions tanks rows periods finished

@@ -3,21 +3,25 @@
 use Rattle.std.specs.Prelude.{◌≡◌, ℕ, ◌+◌, ◌*◌, ◌^◌, ℤ, pos, ◌+ℤ◌, ◌-ℤ◌, ◌<ℤ◌, ◌≤ℤ◌, ◌*ℤ◌, IsTrue, Bool, true, false, List, Some, slice_get, ⊤, Contains, ◌≢◌, ◌%◌, IsFalse}
 use Rattle.hyd_num.specs.Rational.{Rational, is_at_most, whole}
 use Rattle.hyd_num.specs.Decimals.{head_quantity, pressure_quantity, flow_quantity}
-use Rattle.hyd_spec.specs.Types.{Project, Junction, Reservoir, Tank, Link, LinkKind, CheckPipe, PumpLink, Fcv, OpenValve, LinkState, Open, Closed, Speed, Throttle, Limit, Control, AtLevel}
+use Rattle.hyd_net.specs.ListView.{ListView}
+use Rattle.hyd_net.specs.Curves.{value_at}
+use Rattle.hyd_spec.specs.Types.{Project, Junction, Reservoir, Tank, Link, LinkKind, PipeLink, CheckPipe, PumpLink, CurvePump, Tcv, Fcv, Gpv, HeadPoint, OpenValve, LinkState, Open, Closed, Speed, Throttle, Limit, Control, AtLevel}
 use Rattle.hyd_spec.specs.declared.TankState.{TankState}
 use Rattle.hyd_spec.specs.declared.TankState.TheVariants.{Full, Empty}
+use Rattle.hyd_spec.specs.declared.Change.{Change}
+use Rattle.hyd_spec.specs.declared.Source.TheVariants.{Control as ByControl, Rule as ByRule}
 use Rattle.hyd_spec_reports.specs.declared.StatusWord.{StatusWord}
 use Rattle.hyd_spec_reports.specs.declared.StatusWord.TheVariants.{Open as WordOpen, Closed as WordClosed, Active as WordActive, Unsure as WordUnsure}
 use Rattle.hyd_spec_certificates.specs.Interval.{Interval}
 use Rattle.hyd_spec.specs.Scale.{at_scale}
-use Rattle.hyd_spec.specs.Quantity.{is_us, lift_of, reservoir_head}
+use Rattle.hyd_spec.specs.Quantity.{is_us, lift_of, points_of, pump_knots, reservoir_head}
 use Rattle.hyd_spec.specs.Law.{flow_at_least}
 use Rattle.hyd_spec.specs.LinkLaw.{valve_law}
 use Rattle.hyd_spec.specs.Assignment.{node_heads, head_at, flow_at}
 use Rattle.hyd_spec.specs.Tank.{tank_inflow, reaches}
 use Rattle.hyd_spec.specs.Start.{acts_at}
-use Rattle.hyd_spec.specs.Rules.{Change, rule_changes}
-use Rattle.hyd_spec.specs.Length.{Period, level_at_start, exact_after, values_at}
+use Rattle.hyd_spec.specs.Rules.{rule_changes}
+use Rattle.hyd_spec.specs.Length.{Period, level_at_start, watched_after, values_at}
 use Rattle.hyd_spec_reports.specs.Report.{start_changes}
 use Rattle.hyd_spec_reports.specs.ReportLine.{ReportLine, ControlLine, TimeLine, JunctionLine, ReservoirLine, TankLine, LinkLine, FilledLine, EmptiedLine, ReachedLine, RuleLine}
 
@@ -99,18 +103,50 @@ SettingIs WordUnsure valve S x setting = ⊤
 
 -- The commanded state: closed where the word is CLOSED, throttled where it is ACTIVE, open where it is OPEN.
 abbrev pub StateIs : StatusWord → LinkState → Type 0
-StateIs WordClosed Closed = ⊤
-StateIs WordActive (Throttle setting law) = ⊤
 StateIs WordOpen Open = ⊤
+StateIs WordOpen Closed = ⊥
+StateIs WordOpen (Speed speed) = ⊥
+StateIs WordOpen (Throttle setting law) = ⊥
+StateIs WordOpen (Limit setting ticks) = ⊥
+StateIs WordClosed Open = ⊥
+StateIs WordClosed Closed = ⊤
+StateIs WordClosed (Speed speed) = ⊥
+StateIs WordClosed (Throttle setting law) = ⊥
+StateIs WordClosed (Limit setting ticks) = ⊥
+StateIs WordActive Open = ⊥
+StateIs WordActive Closed = ⊥
+StateIs WordActive (Speed speed) = ⊥
+StateIs WordActive (Throttle setting law) = ⊤
+StateIs WordActive (Limit setting ticks) = ⊥
 StateIs WordUnsure state = ⊤
-StateIs word state = ⊥
 
--- What a status word says of a link in its state, at the head difference x.
-abbrev pub StatusHolds : Bool → StatusWord → LinkKind → LinkState → ℕ → ℤ → Type 0
-StatusHolds us word (CheckPipe capacity) Open S x = DriveIs word x
-StatusHolds us word (PumpLink capacity shutoff head pattern) (Speed speed) S x = DriveIs word (drive_of S (lift_of us head speed) x)
-StatusHolds us word (Fcv valve) (Limit setting ticks) S x = SettingIs word valve S x ticks
-StatusHolds us word kind state S x = StateIs word state
+-- What a status word says of a link in its state, at the head difference x. UNSURE says nothing, and so it is with a kind and a
+-- state that don't go together. Of a running pump whose curve is one by straight lines OPEN and CLOSED tell the sign of the exact
+-- flow, as of other running pumps that of the driving difference.
+abbrev pub StatusHolds : Bool → List (ListView HeadPoint) → StatusWord → LinkKind → LinkState → ℕ → ℤ → Type 0
+StatusHolds us bends word (PipeLink capacity) Open S x = StateIs word Open
+StatusHolds us bends word (PipeLink capacity) Closed S x = StateIs word Closed
+StatusHolds us bends word (PipeLink capacity) other S x = StateIs word other
+StatusHolds us bends word (CheckPipe capacity) Open S x = DriveIs word x
+StatusHolds us bends word (CheckPipe capacity) Closed S x = StateIs word Closed
+StatusHolds us bends word (CheckPipe capacity) other S x = StateIs word other
+StatusHolds us bends word (PumpLink capacity shutoff head pattern) (Speed speed) S x = DriveIs word (drive_of S (lift_of us head speed) x)
+StatusHolds us bends word (PumpLink capacity shutoff head pattern) Closed S x = StateIs word Closed
+StatusHolds us bends word (PumpLink capacity shutoff head pattern) other S x = StateIs word other
+StatusHolds us bends word (CurvePump bend pattern) (Speed speed) S x = DriveIs word (value_at S (pump_knots (points_of bends bend) speed) x).num
+StatusHolds us bends word (CurvePump bend pattern) Closed S x = StateIs word Closed
+StatusHolds us bends word (CurvePump bend pattern) other S x = StateIs word other
+StatusHolds us bends word (Tcv valve) Open S x = StateIs word Open
+StatusHolds us bends word (Tcv valve) (Throttle setting law) S x = StateIs word (Throttle setting law)
+StatusHolds us bends word (Tcv valve) Closed S x = StateIs word Closed
+StatusHolds us bends word (Tcv valve) other S x = StateIs word other
+StatusHolds us bends word (Fcv valve) Open S x = StateIs word Open
+StatusHolds us bends word (Fcv valve) (Limit setting ticks) S x = SettingIs word valve S x ticks
+StatusHolds us bends word (Fcv valve) Closed S x = StateIs word Closed
+StatusHolds us bends word (Fcv valve) other S x = StateIs word other
+StatusHolds us bends word (Gpv bend) Open S x = StateIs word Open
+StatusHolds us bends word (Gpv bend) Closed S x = StateIs word Closed
+StatusHolds us bends word (Gpv bend) other S x = StateIs word other
 
 -- Link number l: its flow lies between the printed ends, and its status word holds.
 pub record LinkLies (network : Project) (S : ℕ) (period : Period) (l : ℕ) (flow : Interval) (word : StatusWord) : Type 0 where
@@ -119,16 +155,17 @@ pub record LinkLies (network : Project) (S : ℕ) (period : Period) (l : ℕ) (f
   pub state : LinkState
   pub is_state : slice_get period.links l ≡ Some state
   pub flow_lies : FlowLies network S flow (flow_at period.assignment.flows l)
-  pub status_holds : StatusHolds (is_us network) word link.kind state S (difference_along network S period link)
+  pub status_holds : StatusHolds (is_us network) network.bends.list word link.kind state S (difference_along network S period link)
 
 -- ---- events, controls, rules
 
--- At the second of the period's end the tank's exact level is at or beyond a target.
+-- At the second of the period's end the tank's level, the exact one of a cylinder and the carried one of a tank with a curve, is
+-- at or beyond a target.
 pub record ReachesAtEnd (network : Project) (S : ℕ) (period : Period) (time k : ℕ) (above : Bool) (target : ℤ) : Type 0 where
   pub at_end : time ≡ period.time + period.length
   pub tank : Tank
   pub is_tank : slice_get network.tanks.list k ≡ Some tank
-  pub reached : IsTrue (reaches S above target (exact_after network period k tank period.length))
+  pub reached : IsTrue (reaches S above target (watched_after network S period k tank period.length))
 
 -- The tank, which wasn't full at the start, reaches its maximum.
 pub record Fills (network : Project) (S : ℕ) (period : Period) (time k : ℕ) : Type 0 where
@@ -170,7 +207,7 @@ pub record IsEndChange (network : Project) (S : ℕ) (period : Period) (time : �
 -- The line holds of a period of a history at scale S, before which the links were commanded so.
 abbrev pub LineHolds : Project → ℕ → List LinkState → Period → ReportLine → Type 0
 LineHolds network S commanded period (ControlLine time number link state) =
-    IsStartChange network S commanded period time (record { by = number; link = link; to = state })
+    IsStartChange network S commanded period time (record { source = ByControl number; link = link; to = state })
 LineHolds network S commanded period (TimeLine time) = period.time ≡ time
 LineHolds network S commanded period (JunctionLine j head pressure outflow) = JunctionLies network S period j head pressure outflow
 LineHolds network S commanded period (ReservoirLine r head) = ReservoirLies network S period r head
@@ -180,4 +217,4 @@ LineHolds network S commanded period (FilledLine time k) = Fills network S perio
 LineHolds network S commanded period (EmptiedLine time k) = Empties network S period time k
 LineHolds network S commanded period (ReachedLine time k number) = ReachesControl network S period time k number
 LineHolds network S commanded period (RuleLine time rule link state) =
-    IsEndChange network S period time (record { by = rule; link = link; to = state })
+    IsEndChange network S period time (record { source = ByRule rule; link = link; to = state })

@@ -1,6 +1,6 @@
 -- The headline: what a run's certificate and report promise of every history.
 -- Source: this program's.
-use Rattle.std.specs.Prelude.{◌≡◌, ℕ, ◌≤◌, ℤ, ◌<ℤ◌, ◌⊎◌, Bool, true, false, MatchBool, List, [], ◌∷◌, ◌++◌, length, map, ⊤, Option, MatchOption}
+use Rattle.std.specs.Prelude.{◌≡◌, ℕ, ◌≤◌, ℤ, ◌<ℤ◌, ◌⊎◌, Bool, true, false, MatchBool, List, [], ◌∷◌, ◌++◌, length, map, All, ⊤, Option, MatchOption}
 use Rattle.std.specs.Option.{option_map_or}
 use Rattle.std.specs.List.{AllByRecursion}
 use Rattle.hyd_spec.specs.Types.{Project, LinkState}
@@ -18,10 +18,14 @@ use Rattle.hyd_spec_certificates.specs.Record.{Record, Standing, initial_standin
 use Rattle.hyd_spec_certificates.specs.Decided.{links_at}
 use Rattle.hyd_spec_certificates.specs.Valid.{IsValid, IsProblem}
 use Rattle.hyd_spec_certificates.specs.Narrow.{IsNarrow}
-use Rattle.hyd_spec_reports.specs.CertificateText.{IsCertificateText, header_line, record_text, end_line}
-use Rattle.hyd_spec_reports.specs.Stops.{StopCause, DemandOutOfRange, RoundsSpent, Stops}
+use Rattle.hyd_spec_reports.specs.CertificateText.{IsCertificateText, IsRow, version_of, header_line, record_text, end_line, line_feeds}
+use Rattle.hyd_spec_reports.specs.declared.StopCause.{StopCause}
+use Rattle.hyd_spec_reports.specs.declared.StopCause.TheVariants.{Demand as DemandOutOfRange, RoundsSpent}
+use Rattle.hyd_spec_reports.specs.declared.CertRefused.{CertRefused}
+use Rattle.hyd_spec_reports.specs.Stops.{Stops}
+use Rattle.hyd_spec_reports.specs.Refusals.{IsRefused}
 use Rattle.hyd_spec_reports.specs.Report.{IsReport}
-use Rattle.hyd_spec_reports.specs.ReportLine.{ReportLine, report_text, stop_line, done_line, partial_line}
+use Rattle.hyd_spec_reports.specs.ReportLine.{ReportLine, report_text, stop_line, done_line, partial_line, refused_line, refused_end_line}
 use Rattle.hyd_spec_reports.specs.Claims.{LineHolds}
 
 -- ---- a run
@@ -112,7 +116,7 @@ pub data Outcome : Type 0 where
 -- The last line of a run's report, after n records.
 abbrev pub last_line : Project → Standing → ℕ → Outcome → List ℕ
 last_line network standing n Finished = done_line n
-last_line network standing n (Stopped cause) = stop_line network standing.number standing.time cause
+last_line network standing n (Stopped cause) = stop_line network standing.time cause
 
 -- The run has finished.
 abbrev pub is_finished : Outcome → Bool
@@ -132,8 +136,8 @@ pub record RunWrites (network : Project) (rounds : ℕ) (sharpness : Sharpness) 
   pub is_run : IsRun network founds left
   pub sharp : AllByRecursion (IsSharpFound network sharpness) founds
   pub ends_so : EndsSo network left rounds outcome
-  pub certificate : IsCertificateText written (junction_count network) (tank_count network) (rows_of founds)
-      (length founds) (is_finished outcome)
+  pub certificate : IsCertificateText written (version_of network) (junction_count network) (tank_count network)
+      (rows_of founds) (length founds) (is_finished outcome)
   pub report : printed ≡ report_text network (lines_of founds) (last_line network left (length founds) outcome)
   pub every_history : EveryHistoryAgrees network founds
 
@@ -141,8 +145,8 @@ pub record RunWrites (network : Project) (rounds : ℕ) (sharpness : Sharpness) 
 -- 6 for every other cause.
 abbrev pub outcome_number : Outcome → ℕ
 outcome_number Finished = 0
-outcome_number (Stopped (RoundsSpent problem side spent)) = 7
-outcome_number (Stopped (DemandOutOfRange junction demand)) = 8
+outcome_number (Stopped (RoundsSpent period problem side spent)) = 7
+outcome_number (Stopped (DemandOutOfRange period junction demand)) = 8
 outcome_number (Stopped cause) = 6
 
 -- ---- what was put out before a fault
@@ -150,7 +154,7 @@ outcome_number (Stopped cause) = 6
 -- The certificate as far as some records go, with its end line where the run's end is known.
 abbrev pub certificate_so_far : Project → List Found → Option Outcome → List ℕ
 certificate_so_far network founds last =
-    header_line (junction_count network) (tank_count network)
+    header_line (version_of network) (junction_count network) (tank_count network)
     ++ (joined (map record_text (rows_of founds))
     ++ option_map_or (λ outcome. end_line (length founds) (is_finished outcome)) last [])
 
@@ -186,7 +190,38 @@ pub record CheckAccepts (network : Project) (text printed : List ℕ) : Type 0 w
   pub founds : List Found
   pub left : Standing
   pub is_run : IsRun network founds left
-  pub certificate : IsCertificateText text (junction_count network) (tank_count network) (rows_of founds)
-      (length founds) left.finished
+  pub certificate : IsCertificateText text (version_of network) (junction_count network) (tank_count network)
+      (rows_of founds) (length founds) left.finished
   pub report : printed ≡ report_text network (lines_of founds) (accepted_line (length founds) left.finished)
+  pub every_history : EveryHistoryAgrees network founds
+
+-- ---- what a check refuses
+
+-- What was read begins as a certificate of a run, with one more record that is refused, whatever comes after it; what was
+-- printed is the report of the records before it, with the refusal as its last line.
+pub record CheckRefuses (network : Project) (text printed : List ℕ) (cause : CertRefused) : Type 0 where
+  pub founds : List Found
+  pub left : Standing
+  pub is_run : IsRun network founds left
+  pub row : Record
+  pub refused : IsRefused network left row cause
+  pub rows_fit : All (IsRow (junction_count network) (tank_count network)) (rows_of founds ++ (row ∷ []))
+  pub unread : List ℕ
+  pub is_text : text ≡ header_line (version_of network) (junction_count network) (tank_count network)
+      ++ (joined (map record_text (rows_of founds ++ (row ∷ []))) ++ unread)
+  pub report : printed ≡ report_text network (lines_of founds) (refused_line network cause)
+  pub every_history : EveryHistoryAgrees network founds
+
+-- What was read is the certificate text of a run but for its end line, which doesn't have the number of its records or doesn't
+-- say whether it is finished; what was printed is the report of all its records, with that refusal as its last line.
+pub record CheckRefusesEnd (network : Project) (text printed : List ℕ) : Type 0 where
+  pub founds : List Found
+  pub left : Standing
+  pub is_run : IsRun network founds left
+  pub periods : ℕ
+  pub finished : Bool
+  pub certificate : IsCertificateText text (version_of network) (junction_count network) (tank_count network)
+      (rows_of founds) periods finished
+  pub other_end : ((periods ≡ length founds) × (finished ≡ left.finished)) → ⊥
+  pub report : printed ≡ report_text network (lines_of founds) (refused_end_line (line_feeds text))
   pub every_history : EveryHistoryAgrees network founds

@@ -4,22 +4,30 @@
 use Rattle.std.specs.Prelude.{◌≡◌, ℕ, suc, ◌+◌, ◌-◌, ◌%◌, ℤ, pos, ◌+ℤ◌, ◌-ℤ◌, Bool, ◌&&◌, not, ◌==◌, nat_le, List, [], ◌∷◌, ◌++◌, Option, Some, None, map, slice_get, slice_set, slice_index_or, if◌then◌else◌, int_le, int_lt, ⊤, MatchBool}
 use Rattle.hyd_num.specs.Rational.{Rational, floor, ceiling}
 use Rattle.hyd_num.specs.Decimals.{head_quantity, pressure_quantity, flow_quantity, IsRoundedDown, IsRoundedUp}
-use Rattle.hyd_spec.specs.Types.{Project, Link, LinkKind, CheckPipe, PumpLink, Fcv, LinkState, Open, Closed, Speed, Throttle, Limit, Tank, Control, When, AtLevel}
+use Rattle.hyd_net.specs.ListView.{ListView}
+use Rattle.hyd_net.specs.Curves.{Knot, value_at}
+use Rattle.hyd_spec.specs.Types.{Project, Link, LinkKind, PipeLink, CheckPipe, PumpLink, CurvePump, Tcv, Fcv, Gpv, HeadPoint, LinkState, Open, Closed, Speed, Throttle, Limit, Tank, Control, When, AtLevel}
 use Rattle.hyd_spec.specs.declared.TankState.{TankState}
+use Rattle.hyd_spec.specs.declared.Change.{Change}
+use Rattle.hyd_spec.specs.declared.Source.{Source}
+use Rattle.hyd_spec.specs.declared.Source.TheVariants.{Control as ByControl, Rule as ByRule}
+use Rattle.hyd_spec_reports.specs.declared.Event.{Event}
+use Rattle.hyd_spec_reports.specs.declared.EventKind.{EventKind}
+use Rattle.hyd_spec_reports.specs.declared.EventKind.TheVariants.{Full as BecomesFull, Empty as BecomesEmpty, Control as ReachesLevel}
 use Rattle.hyd_spec_reports.specs.declared.StatusWord.{StatusWord}
 use Rattle.hyd_spec_reports.specs.declared.StatusWord.TheVariants.{Open as WordOpen, Closed as WordClosed, Active as WordActive, Unsure as WordUnsure}
 use Rattle.hyd_spec.specs.Lists.{map_from, present}
 use Rattle.hyd_spec_certificates.specs.Interval.{Interval, exactly, shifted}
-use Rattle.hyd_spec.specs.Quantity.{is_us, lift_of}
+use Rattle.hyd_spec.specs.Quantity.{is_us, lift_of, points_of, pump_knots}
 use Rattle.hyd_spec.specs.Assignment.{head_at}
 use Rattle.hyd_spec.specs.LinkLaw.{valve_law, is_full, is_empty}
 use Rattle.hyd_spec.specs.Start.{patterned, control_acts}
-use Rattle.hyd_spec.specs.Rules.{Change, is_same_state, state_of_link}
+use Rattle.hyd_spec.specs.Rules.{is_same_state, state_of_link}
 use Rattle.hyd_spec_certificates.specs.Enclosing.{low, high}
 use Rattle.hyd_spec_certificates.specs.Grid.{Grid, GridLink, GridJunction}
 use Rattle.hyd_spec_certificates.specs.Boxes.{difference, out_box}
 use Rattle.hyd_spec_certificates.specs.Record.{Record, Standing}
-use Rattle.hyd_spec_certificates.specs.Truth.{is_yes}
+use Rattle.hyd_spec_certificates.specs.Verdict.{is_yes}
 use Rattle.hyd_spec_certificates.specs.Decided.{heads_below, heads_above, flow_boxes, carried_at, level_of_tank, inflow_of_tank, links_at, acts_on, control_truth, nowhere, decided_changes, EndsBy, ByRules, WithoutRules}
 use Rattle.hyd_spec_reports.specs.ReportLine.{ReportLine, ControlLine, TimeLine, JunctionLine, ReservoirLine, TankLine, LinkLine, FilledLine, EmptiedLine, ReachedLine, RuleLine}
 
@@ -39,7 +47,7 @@ control_changes network time acts k [] links = []
 control_changes network time acts k (control ∷ rest) links =
     if control_acts network time acts control.when
     then (if is_same_state (state_of_link links control.link) control.to then []
-    else record { by = k; link = control.link; to = control.to } ∷ [])
+    else record { source = ByControl k; link = control.link; to = control.to } ∷ [])
     ++ control_changes network time acts (suc k) rest (slice_set links control.link control.to)
     else control_changes network time acts (suc k) rest links
 
@@ -48,11 +56,21 @@ abbrev pub start_changes : Project → ℕ → (ℕ → Bool → ℤ → Bool) �
 start_changes network time acts commanded =
     control_changes network time acts 0 network.controls.list (patterned network time commanded)
 
+-- The line of a change at a time.
+abbrev pub change_line : ℕ → Change → ReportLine
+change_line time change = by_source change.source
+  where
+    by_source : Source → ReportLine
+    by_source (ByControl number) = ControlLine time number change.link change.to
+    by_source (ByRule rule) = RuleLine time rule change.link change.to
+
+-- What the controls change at the start of the period that begins at a standing.
+abbrev pub changes_at : Project → Standing → List Change
+changes_at network standing = start_changes network standing.time (acts_on standing.levels) standing.commanded
+
 -- One line for each change by a control at the start of a period, in order of the controls.
 abbrev pub control_lines : Project → Standing → List ReportLine
-control_lines network standing =
-    map (λ change. ControlLine standing.time change.by change.link change.to)
-    (start_changes network standing.time (acts_on standing.levels) standing.commanded)
+control_lines network standing = map (change_line standing.time) (changes_at network standing)
 
 -- ---- nodes and links at a report time
 
@@ -61,7 +79,8 @@ abbrev pub is_report_time : Project → ℕ → Bool
 is_report_time network time =
     nat_le network.times.report_start time && ((time - network.times.report_start) % network.times.report == 0)
 
--- Line after line says something of one of some items, from number k on.
+-- There is one line for each item of a list, in order: P holds of the item's number, the item and its line. The first item has
+-- the number k.
 abbrev pub LineEach : {X : Type 0} → (ℕ → X → ReportLine → Type 0) → ℕ → List X → List ReportLine → Type 0
 LineEach P k [] [] = ⊤
 LineEach P k (x ∷ xs) (l ∷ ls) = P k x l × LineEach P (suc k) xs ls
@@ -113,16 +132,38 @@ by_setting setting flow =
     else if int_lt flow.hi setting then WordOpen
     else WordUnsure
 
--- The status word of a link in its state, by the interval of its head difference. It speaks of the link's own law.
-abbrev pub status_of : Bool → LinkKind → LinkState → Interval → StatusWord
-status_of us kind Closed d = WordClosed
-status_of us (CheckPipe capacity) Open d = by_drive d
-status_of us (PumpLink capacity shutoff head pattern) (Speed speed) d =
+-- The status of a running pump by the straight lines of its curve: by the sign of the exact flow at either end.
+abbrev pub by_knots : List Knot → Interval → StatusWord
+by_knots knots d = by_drive (record { lo = (value_at 1 knots d.lo).num; hi = (value_at 1 knots d.hi).num })
+
+-- The status word of a link in its state, by the interval of its head difference. It speaks of the link's own law. A kind and
+-- a state that don't go together have the word UNSURE.
+abbrev pub status_of : Bool → List (ListView HeadPoint) → LinkKind → LinkState → Interval → StatusWord
+status_of us bends (PipeLink capacity) Open d = WordOpen
+status_of us bends (PipeLink capacity) Closed d = WordClosed
+status_of us bends (PipeLink capacity) other d = WordUnsure
+status_of us bends (CheckPipe capacity) Open d = by_drive d
+status_of us bends (CheckPipe capacity) Closed d = WordClosed
+status_of us bends (CheckPipe capacity) other d = WordUnsure
+status_of us bends (PumpLink capacity shutoff head pattern) (Speed speed) d =
     by_drive (record { lo = d.lo +ℤ floor (lift_of us head speed); hi = d.hi +ℤ ceiling (lift_of us head speed) })
-status_of us (Fcv valve) (Limit setting ticks) d =
+status_of us bends (PumpLink capacity shutoff head pattern) Closed d = WordClosed
+status_of us bends (PumpLink capacity shutoff head pattern) other d = WordUnsure
+status_of us bends (CurvePump bend pattern) (Speed speed) d = by_knots (pump_knots (points_of bends bend) speed) d
+status_of us bends (CurvePump bend pattern) Closed d = WordClosed
+status_of us bends (CurvePump bend pattern) other d = WordUnsure
+status_of us bends (Tcv valve) Open d = WordOpen
+status_of us bends (Tcv valve) (Throttle setting law) d = WordActive
+status_of us bends (Tcv valve) Closed d = WordClosed
+status_of us bends (Tcv valve) other d = WordUnsure
+status_of us bends (Fcv valve) Open d = WordOpen
+status_of us bends (Fcv valve) (Limit setting ticks) d =
     by_setting ticks (record { lo = low (valve_law valve) d.lo; hi = high (valve_law valve) d.hi })
-status_of us kind (Throttle setting law) d = WordActive
-status_of us kind state d = WordOpen
+status_of us bends (Fcv valve) Closed d = WordClosed
+status_of us bends (Fcv valve) other d = WordUnsure
+status_of us bends (Gpv bend) Open d = WordOpen
+status_of us bends (Gpv bend) Closed d = WordClosed
+status_of us bends (Gpv bend) other d = WordUnsure
 
 -- The line of link number l: its flow box and its status word.
 pub record IsLinkLine (network : Project) (grid : Grid) (standing : Standing) (row : Record) (l : ℕ) (link : Link) (each : ReportLine) : Type 0 where
@@ -133,7 +174,7 @@ pub record IsLinkLine (network : Project) (grid : Grid) (standing : Standing) (r
   pub flow : Interval
   pub flow_is : Prints (flow_quantity network.options.unit) box flow
   pub is_line : each ≡ LinkLine l flow
-      (status_of (is_us network) link.kind (state_of_link (links_at network standing) l)
+      (status_of (is_us network) network.bends.list link.kind (state_of_link (links_at network standing) l)
       (difference place (heads_below grid row) (heads_above grid row)))
 
 -- The lines of a report time: the time, junctions, reservoirs, tanks and links in order.
@@ -151,51 +192,64 @@ pub record AreStateLines (network : Project) (grid : Grid) (standing : Standing)
 -- ---- events and rules at the end
 
 -- A tank that wasn't full (empty) and whose whole interval of carried levels stands at its maximum (minimum).
-abbrev pub tank_event : ℕ → ℕ → Tank → TankState → Interval → List ReportLine
-tank_event time k tank state level =
-    if not (is_full state) && int_le tank.maximum level.lo then FilledLine time k ∷ []
-    else if not (is_empty state) && int_le level.hi tank.minimum then EmptiedLine time k ∷ []
+abbrev pub tank_event : ℕ → Tank → TankState → Interval → List Event
+tank_event k tank state level =
+    if not (is_full state) && int_le tank.maximum level.lo then record { tank = k; what = BecomesFull } ∷ []
+    else if not (is_empty state) && int_le level.hi tank.minimum then record { tank = k; what = BecomesEmpty } ∷ []
     else []
 
 -- The events of tanks, from tank number k on, at their intervals of carried levels.
-abbrev pub tank_events : ℕ → ℕ → List Tank → List TankState → List Interval → List ReportLine
-tank_events time k (tank ∷ tanks) (state ∷ states) (level ∷ levels) =
-    tank_event time k tank state level ++ tank_events time (suc k) tanks states levels
-tank_events time k tanks states levels = []
+abbrev pub tank_events : ℕ → List Tank → List TankState → List Interval → List Event
+tank_events k (tank ∷ tanks) (state ∷ states) (level ∷ levels) =
+    tank_event k tank state level ++ tank_events (suc k) tanks states levels
+tank_events k tanks states levels = []
 
 -- A level control that didn't hold, and whose level the tank's whole interval of carried levels has reached.
-abbrev pub control_event : ℕ → List Interval → List Interval → ℕ → Control → Option ReportLine
-control_event time before carried number control = by_when control.when
+abbrev pub control_event : List Interval → List Interval → ℕ → Control → Option Event
+control_event before carried number control = by_when control.when
   where
-    by_when : When → Option ReportLine
+    by_when : When → Option Event
     by_when (AtLevel tank above ticks) =
         if not (acts_on before tank above ticks) && is_yes (control_truth (slice_index_or carried tank nowhere) above ticks)
-        then Some (ReachedLine time tank number)
+        then Some (record { tank = tank; what = ReachesLevel number })
         else None
     by_when when = None
 
 -- The events at the end of a period: those of tanks in order, then those of level controls in order.
-abbrev pub event_lines : Project → Grid → Standing → Record → List ReportLine
-event_lines network grid standing row =
+abbrev pub events_of : Project → Grid → Standing → Record → List Event
+events_of network grid standing row =
     let carried = carried_at network grid standing row row.length in
-    let time = standing.time + row.length in
-    tank_events time 0 network.tanks.list standing.tanks carried
-    ++ present (map_from (control_event time standing.levels carried) 0 network.controls.list)
+    tank_events 0 network.tanks.list standing.tanks carried
+    ++ present (map_from (control_event standing.levels carried) 0 network.controls.list)
 
--- One line for each change by a rule at the end of a period, in order of the links.
-abbrev pub rule_lines : Project → Grid → Standing → Record → List ReportLine
-rule_lines network grid standing row =
-    map (λ change. RuleLine (standing.time + row.length) change.by change.link change.to)
-    (decided_changes network grid standing row row.length)
-
--- The lines of a period's end. The period at the end of the run has none, one that the clock or an event ends has no
--- lines of rules.
-pub data AreEndLines (network : Project) (grid : Grid) (standing : Standing) (row : Record) : List ReportLine → Type 0 where
-  at_end : standing.time ≡ network.times.duration → AreEndLines network grid standing row []
+-- What a period's end brings: its events, and what rules change there. The period at the end of the run brings nothing, one
+-- that the clock or an event ends no changes.
+pub data EndBrings (network : Project) (grid : Grid) (standing : Standing) (row : Record) : List Event → List Change
+    → Type 0 where
+  at_end : standing.time ≡ network.times.duration → EndBrings network grid standing row [] []
   by_rules : EndsBy network grid standing row (ByRules row.length)
-      → AreEndLines network grid standing row (event_lines network grid standing row ++ rule_lines network grid standing row)
+      → EndBrings network grid standing row (events_of network grid standing row)
+      (decided_changes network grid standing row row.length)
   by_clock : EndsBy network grid standing row (WithoutRules row.length)
-      → AreEndLines network grid standing row (event_lines network grid standing row)
+      → EndBrings network grid standing row (events_of network grid standing row) []
+
+-- The line of an event at a time.
+abbrev pub event_line : ℕ → Event → ReportLine
+event_line time event = by_kind event.what
+  where
+    by_kind : EventKind → ReportLine
+    by_kind BecomesFull = FilledLine time event.tank
+    by_kind BecomesEmpty = EmptiedLine time event.tank
+    by_kind (ReachesLevel control) = ReachedLine time event.tank control
+
+-- The lines of a period's end: one for each event, then one for each change by a rule, in order of the links.
+pub record AreEndLines (network : Project) (grid : Grid) (standing : Standing) (row : Record)
+    (lines : List ReportLine) : Type 0 where
+  pub events : List Event
+  pub changes : List Change
+  pub brings : EndBrings network grid standing row events changes
+  pub lines_are : lines ≡ map (event_line (standing.time + row.length)) events
+      ++ map (change_line (standing.time + row.length)) changes
 
 -- ---- a period's lines
 

@@ -14,11 +14,15 @@ use Rattle.hyd_spec_certificates.specs.declared.Side.{Side}
 use Rattle.hyd_spec_certificates.specs.declared.Side.TheVariants.{Upper, Lower}
 use Rattle.hyd_spec_reports.specs.declared.StatusWord.{StatusWord}
 use Rattle.hyd_spec_reports.specs.declared.StatusWord.TheVariants.{Open as WordOpen, Closed as WordClosed, Active as WordActive, Unsure as WordUnsure}
+use Rattle.hyd_spec_reports.specs.declared.StopCause.{StopCause}
+use Rattle.hyd_spec_reports.specs.declared.StopCause.TheVariants.{Demand as DemandOutOfRange, NoCertificate, RoundsSpent, RuleOpen, EventOpen, TankOpen, ControlOpen}
+use Rattle.hyd_spec_reports.specs.declared.CertRefused.{CertRefused}
+use Rattle.hyd_spec_reports.specs.declared.CertRefused.TheVariants.{Place, Demand, Fails, Open as MatterOpen, Length, After}
 use Rattle.hyd_spec.specs.Lists.{joined}
 use Rattle.hyd_spec_certificates.specs.Interval.{Interval}
 use Rattle.hyd_spec.specs.Network.{tank_node, junction_count}
 use Rattle.hyd_spec_reports.specs.CertificateText.{line}
-use Rattle.hyd_spec_reports.specs.Stops.{StopCause, DemandOutOfRange, NoCertificate, RoundsSpent, RuleOpen, EventOpen, TankOpen, ControlOpen}
+use Rattle.hyd_spec_reports.specs.Stops.{period_of}
 
 -- A line of a report, the first and the last one aside.
 pub data ReportLine : Type 0 where
@@ -157,29 +161,28 @@ abbrev pub side_word : Side → List ℕ
 side_word Upper = codes "UPPER"
 side_word Lower = codes "LOWER"
 
--- The two ends of an interval of ticks.
-abbrev pub tick_words : Interval → List (List ℕ)
-tick_words x = signed_decimal x.lo ∷ (signed_decimal x.hi ∷ [])
-
 -- The words of a stop's cause; clauses and controls are counted from 1 in print.
 abbrev pub cause_words : Project → StopCause → List (List ℕ)
-cause_words network (NoCertificate problem side junction) =
+cause_words network (NoCertificate period problem side junction) =
     codes "NOCERT" ∷ (problem_words network problem ++ (side_word side ∷ (codes "JUNCTION" ∷ (node_id network junction ∷ []))))
-cause_words network (TankOpen tank level) = codes "TANK" ∷ (tank_id network tank ∷ tick_words level)
-cause_words network (RuleOpen rule) =
-    codes "RULE" ∷ (rule_id network rule.rule ∷ (codes "CLAUSE" ∷ (decimal (rule.clause + 1) ∷
-    (signed_decimal rule.lo ∷ (signed_decimal rule.hi ∷ [])))))
-cause_words network (ControlOpen control level) = codes "CONTROL" ∷ (decimal (control + 1) ∷ tick_words level)
-cause_words network (EventOpen earliest latest) = codes "EVENT" ∷ (decimal earliest ∷ (decimal latest ∷ []))
-cause_words network (RoundsSpent problem side rounds) =
+cause_words network (TankOpen period tank lo hi) =
+    codes "TANK" ∷ (tank_id network tank ∷ (signed_decimal lo ∷ (signed_decimal hi ∷ [])))
+cause_words network (RuleOpen period rule clause lo hi) =
+    codes "RULE" ∷ (rule_id network rule ∷ (codes "CLAUSE" ∷ (decimal (clause + 1) ∷
+    (signed_decimal lo ∷ (signed_decimal hi ∷ [])))))
+cause_words network (ControlOpen period control lo hi) =
+    codes "CONTROL" ∷ (decimal (control + 1) ∷ (signed_decimal lo ∷ (signed_decimal hi ∷ [])))
+cause_words network (EventOpen period earliest latest) = codes "EVENT" ∷ (decimal earliest ∷ (decimal latest ∷ []))
+cause_words network (RoundsSpent period problem side rounds) =
     codes "ROUNDS" ∷ (problem_words network problem ++ (side_word side ∷ (decimal rounds ∷ [])))
-cause_words network (DemandOutOfRange junction demand) =
+cause_words network (DemandOutOfRange period junction demand) =
     codes "DEMAND" ∷ (node_id network junction ∷ (signed_decimal demand ∷ []))
 
 -- `STOP period p time h:mm:ss` and the cause.
-abbrev pub stop_line : Project → ℕ → ℕ → StopCause → List ℕ
-stop_line network number time cause =
-    line (codes "STOP" ∷ (codes "period" ∷ (decimal number ∷ (codes "time" ∷ (clock_text time ∷ cause_words network cause)))))
+abbrev pub stop_line : Project → ℕ → StopCause → List ℕ
+stop_line network time cause =
+    line (codes "STOP" ∷ (codes "period" ∷ (decimal (period_of cause)
+    ∷ (codes "time" ∷ (clock_text time ∷ cause_words network cause)))))
 
 -- `DONE n` after a finished run; n counts the records.
 abbrev pub done_line : ℕ → List ℕ
@@ -188,6 +191,35 @@ done_line records = line (codes "DONE" ∷ (decimal records ∷ []))
 -- `PARTIAL n` after the certificate of a stopped run was accepted; n counts the records.
 abbrev pub partial_line : ℕ → List ℕ
 partial_line records = line (codes "PARTIAL" ∷ (decimal records ∷ []))
+
+-- The period that a refusal names.
+abbrev pub refused_period : CertRefused → ℕ
+refused_period (Place period) = period
+refused_period (Demand period) = period
+refused_period (Fails period problem side junction) = period
+refused_period (MatterOpen period) = period
+refused_period (Length period) = period
+refused_period (After period) = period
+
+-- The words of a refusal.
+abbrev pub refusal_words : Project → CertRefused → List (List ℕ)
+refusal_words network (Place period) = codes "PLACE" ∷ []
+refusal_words network (Demand period) = codes "DEMAND" ∷ []
+refusal_words network (Fails period problem side junction) =
+    codes "FAILS" ∷ (problem_words network problem ++ (side_word side ∷
+    (codes "JUNCTION" ∷ (node_id network junction ∷ []))))
+refusal_words network (MatterOpen period) = codes "OPEN" ∷ []
+refusal_words network (Length period) = codes "LENGTH" ∷ []
+refusal_words network (After period) = codes "AFTER" ∷ []
+
+-- `BADCERT period p` and why the record was refused.
+abbrev pub refused_line : Project → CertRefused → List ℕ
+refused_line network cause =
+    line (codes "BADCERT" ∷ (codes "period" ∷ (decimal (refused_period cause) ∷ refusal_words network cause)))
+
+-- `BADCERT line N END` where the end line, the line of that number, counted from 1, says what isn't so.
+abbrev pub refused_end_line : ℕ → List ℕ
+refused_end_line number = line (codes "BADCERT" ∷ (codes "line" ∷ (decimal number ∷ (codes "END" ∷ []))))
 
 -- The report of some lines and a last one: it begins with the line `HYD 1`.
 abbrev pub report_text : Project → List ReportLine → List ℕ → List ℕ

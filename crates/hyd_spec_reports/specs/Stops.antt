@@ -6,6 +6,8 @@ use Rattle.hyd_spec_certificates.specs.declared.Problem.{Problem}
 use Rattle.hyd_spec_certificates.specs.declared.Problem.TheVariants.{Main, Pinned}
 use Rattle.hyd_spec_certificates.specs.declared.Side.{Side}
 use Rattle.hyd_spec_certificates.specs.declared.Side.TheVariants.{Upper, Lower}
+use Rattle.hyd_spec_reports.specs.declared.StopCause.{StopCause}
+use Rattle.hyd_spec_reports.specs.declared.StopCause.TheVariants.{Demand as DemandOutOfRange, NoCertificate, RoundsSpent, RuleOpen, EventOpen, TankOpen, ControlOpen}
 use Rattle.hyd_spec.specs.Lists.{map_from}
 use Rattle.hyd_spec_certificates.specs.Interval.{Interval}
 use Rattle.hyd_spec.specs.Network.{junction_count}
@@ -13,28 +15,10 @@ use Rattle.hyd_spec.specs.Quantity.{demand_of}
 use Rattle.hyd_spec_certificates.specs.Grid.{Grid}
 use Rattle.hyd_spec_certificates.specs.Certificate.{box_limit, IsCertificate, AreRounds, IsTight}
 use Rattle.hyd_spec_certificates.specs.Record.{Record, Standing, vector_of}
-use Rattle.hyd_spec_certificates.specs.Levels.{state_of}
-use Rattle.hyd_spec_certificates.specs.Truth.{is_unknown}
+use Rattle.hyd_spec_certificates.specs.Stocks.{state_of}
+use Rattle.hyd_spec_certificates.specs.Verdict.{is_unknown}
 use Rattle.hyd_spec_certificates.specs.Decided.{OpenRule, EndsBy, RuleIsOpen, EventIsOpen, nowhere, control_truth}
 use Rattle.hyd_spec_certificates.specs.Valid.{IsProblem, IsGridAt, DemandsAreInRange, demand_limit, LeavesLinks, levels_next}
-
--- Junctions, tanks, rules, clauses and controls are counted from 0; levels are in head ticks, demands in flow
--- ticks, times in seconds after the start of the period.
-pub data StopCause : Type 0 where
-  -- a demand is out of range: the first such junction, and its demand
-  DemandOutOfRange : ℕ → ℤ → StopCause
-  -- no vector is a certificate of the problem and side; a junction is named
-  NoCertificate : Problem → Side → ℕ → StopCause
-  -- so many rounds don't lead to a certificate of the problem and side
-  RoundsSpent : Problem → Side → ℕ → StopCause
-  -- the first open rule at an instant
-  RuleOpen : OpenRule → StopCause
-  -- the end is open between two seconds
-  EventOpen : ℕ → ℕ → StopCause
-  -- the first tank whose state at the end is open, and its level interval there
-  TankOpen : ℕ → Interval → StopCause
-  -- the first level control that is open at the end, and its tank's level interval there
-  ControlOpen : ℕ → Interval → StopCause
 
 -- ---- demands
 
@@ -160,15 +144,35 @@ pub record LeavesControlOpen (network : Project) (standing : Standing) (number :
 
 -- ---- the condition
 
--- The cause holds at a standing, for this number of rounds. Every problem and side before one that is named has a certificate;
--- where a matter is named, all have tight vectors and it is the first open one (that so many rounds find them isn't
--- said). Whether the run is over there is said elsewhere.
-abbrev pub Stops : Project → Standing → ℕ → StopCause → Type 0
-Stops network standing rounds (DemandOutOfRange junction demand) = IsFirstDemand network standing.time junction demand
-Stops network standing rounds (NoCertificate problem side junction) =
+-- The period that a cause names.
+abbrev pub period_of : StopCause → ℕ
+period_of (DemandOutOfRange period junction demand) = period
+period_of (NoCertificate period problem side junction) = period
+period_of (RoundsSpent period problem side rounds) = period
+period_of (RuleOpen period rule clause lo hi) = period
+period_of (EventOpen period earliest latest) = period
+period_of (TankOpen period tank lo hi) = period
+period_of (ControlOpen period control lo hi) = period
+
+-- What a cause says at a standing, for this number of rounds.
+abbrev pub HoldsAt : Project → Standing → ℕ → StopCause → Type 0
+HoldsAt network standing rounds (DemandOutOfRange period junction demand) =
+    IsFirstDemand network standing.time junction demand
+HoldsAt network standing rounds (NoCertificate period problem side junction) =
     (junction < junction_count network) × HasNoCertificate network standing problem side
-Stops network standing rounds (RoundsSpent problem side spent) = (spent ≡ rounds) × SpendsRounds network standing problem side rounds
-Stops network standing rounds (RuleOpen open_rule) = LeavesRuleOpen network standing open_rule
-Stops network standing rounds (EventOpen earliest latest) = LeavesEventOpen network standing earliest latest
-Stops network standing rounds (TankOpen tank level) = LeavesTankOpen network standing tank level
-Stops network standing rounds (ControlOpen control level) = LeavesControlOpen network standing control level
+HoldsAt network standing rounds (RoundsSpent period problem side spent) =
+    (spent ≡ rounds) × SpendsRounds network standing problem side rounds
+HoldsAt network standing rounds (RuleOpen period rule clause lo hi) =
+    LeavesRuleOpen network standing (record { rule = rule; clause = clause; lo = lo; hi = hi })
+HoldsAt network standing rounds (EventOpen period earliest latest) = LeavesEventOpen network standing earliest latest
+HoldsAt network standing rounds (TankOpen period tank lo hi) =
+    LeavesTankOpen network standing tank (record { lo = lo; hi = hi })
+HoldsAt network standing rounds (ControlOpen period control lo hi) =
+    LeavesControlOpen network standing control (record { lo = lo; hi = hi })
+
+-- The cause holds at a standing: it names the period that begins there, and what it says is so. Every problem and side before
+-- one that is named has a certificate; where a matter is named, all have tight vectors and it is the first open one (that so
+-- many rounds find them isn't said). Whether the run is over there is said elsewhere.
+pub record Stops (network : Project) (standing : Standing) (rounds : ℕ) (cause : StopCause) : Type 0 where
+  pub period_is : period_of cause ≡ standing.number
+  pub holds : HoldsAt network standing rounds cause

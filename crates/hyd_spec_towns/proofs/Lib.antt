@@ -12,9 +12,12 @@ pub mod VillageReports
 pub mod VillageTexts
 pub mod VillageAgreement
 pub mod VillageStops
+pub mod VillageRefusals
 pub mod VillageWhole
 pub mod ShallowRun
 pub mod ShallowHistory
 pub mod VillageSound
 pub mod NarrowRecords
 pub mod RoundsAre
+pub mod BasinRun
+pub mod BasinHistory

@@ -48,8 +48,8 @@ second = record {
 pub second_comes : ComesAfter (village_with shallow) 1000 period_0 period_1
 second_comes = record {
   not_last = λ is. omega (arith, is);
-  levels = next_level shallow period_0 _ refl;
-  begins = record { at_time = refl; at_levels = refl; tanks = refl; links = refl };
+  stocks = next_level shallow period_0 _ (refl, refl);
+  begins = record { at_time = refl; at_levels = refl; at_volumes = refl; tanks = refl; links = refl };
 }
 
 -- ---- agreement

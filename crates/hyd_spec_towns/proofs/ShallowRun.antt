@@ -25,7 +25,7 @@ use Rattle.hyd_spec_towns.proofs.VillageTight.{two_heads}
 -- ---- the tank fills
 
 clock_0 : IsClockLength (village_with shallow) 0 8
-clock_0 = clock_length shallow 0 8 (step refl) (omega arith) (omega arith) (λ m later e. omega arith)
+clock_0 = clock_length shallow 0 8 (step (omega arith) refl) (omega arith) (omega arith) (λ m later e. omega arith)
 
 abbrev filled : Watch
 filled = record { tank = 0; target = pos 20225000000000; rising = true }
@@ -45,7 +45,7 @@ first_ends = by_clock
 first_valid : IsValid (village_with shallow) standing_0 grid_0 row_0 standing_1
 first_valid = valid_at shallow standing_0 grid_0 row_0 standing_1 refl (omega arith) refl refl (in_range shallow 0 (lit≤ tt) (lit≤ tt))
     (grid_at shallow standing_0 _ _ _ _ refl refl refl refl) (certificates shallow grid_0 row_0 _ refl refl refl refl refl) (left_by_clock first_ends)
-    refl refl (controls_decided shallow _ refl) refl refl refl
+    refl refl refl (controls_decided shallow _ refl) refl refl refl
 
 first_state : AreStateLines (village_with shallow) grid_0 standing_0 row_0 (take 8 lines_0)
 first_state = record {
@@ -64,7 +64,7 @@ first_state = record {
 }
 
 first_report : IsReport (village_with shallow) grid_0 standing_0 row_0 lines_0
-first_report = record { state = take 8 lines_0; state_are = first_state; at_end = drop 8 lines_0; at_end_are = ended_by_clock first_ends; lines_are = refl }
+first_report = record { state = take 8 lines_0; state_are = first_state; at_end = drop 8 lines_0; at_end_are = record { events = _; changes = _; brings = ended_by_clock first_ends; lines_are = refl }; lines_are = refl }
 
 -- ---- the tank empties
 
@@ -89,10 +89,10 @@ second_ends = by_clock
 second_valid : IsValid (village_with shallow) standing_1 grid_1 row_1 left
 second_valid = valid_at shallow standing_1 grid_1 row_1 left refl (omega arith) refl refl (in_range shallow 1 (lit≤ tt) (lit≤ tt))
     (grid_at shallow standing_1 _ _ _ _ refl refl refl refl) (certificates shallow grid_1 row_1 _ refl refl refl refl refl) (left_by_clock second_ends)
-    refl refl (controls_decided shallow _ refl) refl refl refl
+    refl refl refl (controls_decided shallow _ refl) refl refl refl
 
 second_report : IsReport (village_with shallow) grid_1 standing_1 row_1 lines_1
-second_report = record { state = []; state_are = refl; at_end = lines_1; at_end_are = ended_by_clock second_ends; lines_are = refl }
+second_report = record { state = []; state_are = refl; at_end = lines_1; at_end_are = record { events = _; changes = _; brings = ended_by_clock second_ends; lines_are = refl }; lines_are = refl }
 
 pub is_run : IsRun (village_with shallow) founds left
 is_run =

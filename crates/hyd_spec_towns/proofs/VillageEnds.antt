@@ -9,16 +9,16 @@ use Rattle.hyd_lemmas.proofs.Trials.{from}
 
 -- the clock allows eight seconds from 0 and from 8 on, five from 11, two from 14
 clock_0 : IsClockLength village 0 8
-clock_0 = clock_length usual 0 8 (step refl) (omega arith) (omega arith) (λ m later e. omega arith)
+clock_0 = clock_length usual 0 8 (step (omega arith) refl) (omega arith) (omega arith) (λ m later e. omega arith)
 
 clock_1 : IsClockLength village 8 8
-clock_1 = clock_length usual 8 8 (step refl) (omega arith) (omega arith) (λ m later e. omega arith)
+clock_1 = clock_length usual 8 8 (step (omega arith) refl) (omega arith) (omega arith) (λ m later e. omega arith)
 
 clock_2 : IsClockLength village 11 5
-clock_2 = clock_length usual 11 5 (duration refl) (omega arith) (omega arith) (λ m later e. omega arith)
+clock_2 = clock_length usual 11 5 (duration (omega arith) refl) (omega arith) (omega arith) (λ m later e. omega arith)
 
 clock_3 : IsClockLength village 14 2
-clock_3 = clock_length usual 14 2 (duration refl) (omega arith) (omega arith) (λ m later e. omega arith)
+clock_3 = clock_length usual 14 2 (duration (omega arith) refl) (omega arith) (omega arith) (λ m later e. omega arith)
 
 -- by the clock
 pub first_ends : EndsBy village grid_0 standing_0 row_0 (WithoutRules 8)

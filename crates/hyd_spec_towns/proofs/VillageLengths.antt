@@ -11,10 +11,10 @@ use Rattle.hyd_spec.specs.declared.TankState.{TankState}
 use Rattle.hyd_spec.specs.declared.TankState.TheVariants.{Empty, Between, Full}
 use Rattle.hyd_spec.specs.LinkLaw.{is_full, is_empty}
 use Rattle.hyd_spec.specs.Lists.{Each}
-use Rattle.hyd_spec.specs.Tank.{reaches, is_at_maximum, is_at_minimum, IsNextLevel, tank_inflow}
+use Rattle.hyd_spec.specs.Tank.{walls_of, content_bounds, reaches, is_at_maximum, is_at_minimum, Stock, IsNextStock, tank_inflow}
 use Rattle.hyd_spec.specs.Rules.{rule_changes}
-use Rattle.hyd_spec.specs.Length.{Period, EndsByLevel, full, empty, control as at_control, EndsByRules, MayEnd, by_clock, by_level, by_rules, step, duration, HasItsLength, at_end, before_end, level_at_start, exact_after, values_at}
-use Rattle.hyd_spec.specs.History.{AreNextLevels, ComesAfter}
+use Rattle.hyd_spec.specs.Length.{Period, EndsByLevel, full, empty, control as at_control, EndsByRules, MayEnd, by_clock, by_level, by_rules, step, duration, HasItsLength, at_end, before_end, level_at_start, stock_at_start, exact_after, reached_after, values_at}
+use Rattle.hyd_spec.specs.History.{AreNextStocks, ComesAfter}
 use Rattle.hyd_spec_towns.specs.Village.{Choice, village_with, village, usual, tower, level_control}
 use Rattle.hyd_spec_towns.specs.VillageHistory.{period_0, period_1, period_2, period_3, period_4}
 use Rattle.hyd_spec_towns.proofs.VillageSeconds.{only_control, not_before, is_empty_list, some_change}
@@ -22,13 +22,13 @@ use Rattle.hyd_lemmas.proofs.Trials.{none_below, from, or-left, or-right, and-tr
 
 -- ---- by levels
 
-not_full : (o : Option TankState) → o ≢ Some Full → not (option_map_or is_full o false) ≡ true
+pub not_full : (o : Option TankState) → o ≢ Some Full → not (option_map_or is_full o false) ≡ true
 not_full None other = refl
 not_full (Some Full) other = absurd (other refl)
 not_full (Some Between) other = refl
 not_full (Some Empty) other = refl
 
-not_empty : (o : Option TankState) → o ≢ Some Empty → not (option_map_or is_empty o false) ≡ true
+pub not_empty : (o : Option TankState) → o ≢ Some Empty → not (option_map_or is_empty o false) ≡ true
 not_empty None other = refl
 not_empty (Some Full) other = refl
 not_empty (Some Between) other = refl
@@ -42,10 +42,10 @@ module _ (choice : Choice) (period : Period) where
   wasnt_empty = not (option_map_or is_empty (slice_get period.tanks 0) false)
 
   abbrev comes_to_maximum : ℕ → Bool
-  comes_to_maximum s = is_at_maximum 1000 choice.tank (exact_after (village_with choice) period 0 choice.tank s)
+  comes_to_maximum s = is_at_maximum 1000 (content_bounds (walls_of (village_with choice) choice.tank) choice.tank) (exact_after (village_with choice) period 0 choice.tank s)
 
   abbrev comes_to_minimum : ℕ → Bool
-  comes_to_minimum s = is_at_minimum 1000 choice.tank (exact_after (village_with choice) period 0 choice.tank s)
+  comes_to_minimum s = is_at_minimum 1000 (content_bounds (walls_of (village_with choice) choice.tank) choice.tank) (exact_after (village_with choice) period 0 choice.tank s)
 
   abbrev at_maximum : ℕ → Bool
   at_maximum s = wasnt_full && comes_to_maximum s
@@ -55,41 +55,41 @@ module _ (choice : Choice) (period : Period) where
 
   abbrev is_filled : ℕ → Bool
   is_filled s = not (reaches 1000 true choice.ticks (whole (level_at_start period 0)))
-      && reaches 1000 true choice.ticks (exact_after (village_with choice) period 0 choice.tank s)
+      && reached_after (village_with choice) 1000 period 0 choice.tank true choice.ticks s
 
   -- whether a level ends the period
   abbrev level_ends : ℕ → Bool
   level_ends s = at_maximum s || (at_minimum s || is_filled s)
 
   filled_by : (s : ℕ) (above : Bool) (ticks : ℤ) → true ≡ above → choice.ticks ≡ ticks
-      → reaches 1000 above ticks (whole (level_at_start period 0)) ≡ false → reaches 1000 above ticks (exact_after (village_with choice) period 0 choice.tank s) ≡ true
+      → reaches 1000 above ticks (whole (level_at_start period 0)) ≡ false → reached_after (village_with choice) 1000 period 0 choice.tank above ticks s ≡ true
       → is_filled s ≡ true
   filled_by s above ticks above_is ticks_are before reached =
       let started = reaches 1000 true choice.ticks (whole (level_at_start period 0)) in
-      let ended = reaches 1000 true choice.ticks (exact_after (village_with choice) period 0 choice.tank s) in
+      let ended = reached_after (village_with choice) 1000 period 0 choice.tank true choice.ticks s in
       and-true (not started) ended
       (ap not (subst (λ (b : Bool). reaches 1000 b choice.ticks (whole (level_at_start period 0)) ≡ false) (sym above_is)
       (subst (λ (z : ℤ). reaches 1000 above z (whole (level_at_start period 0)) ≡ false) (sym ticks_are) before)))
-      (subst (λ (b : Bool). reaches 1000 b choice.ticks (exact_after (village_with choice) period 0 choice.tank s) ≡ true) (sym above_is)
-      (subst (λ (z : ℤ). reaches 1000 above z (exact_after (village_with choice) period 0 choice.tank s) ≡ true) (sym ticks_are) reached))
+      (subst (λ (b : Bool). reached_after (village_with choice) 1000 period 0 choice.tank b choice.ticks s ≡ true) (sym above_is)
+      (subst (λ (z : ℤ). reached_after (village_with choice) 1000 period 0 choice.tank above z s ≡ true) (sym ticks_are) reached))
 
   level_test : (s : ℕ) → EndsByLevel (village_with choice) 1000 period s → level_ends s ≡ true
   level_test s (full zero tank is other reached) =
       let same : tank ≡ choice.tank = cc in
       or-left (at_maximum s) (at_minimum s || is_filled s) (and-true wasnt_full (comes_to_maximum s) (not_full (slice_get period.tanks 0) other)
-      (subst (λ (t : Tank). is_at_maximum 1000 t (exact_after (village_with choice) period 0 t s) ≡ true) same reached))
+      (subst (λ (t : Tank). is_at_maximum 1000 (content_bounds (walls_of (village_with choice) t) t) (exact_after (village_with choice) period 0 t s) ≡ true) same reached))
   level_test s (full (suc k) tank is other reached) = absurd (cc)
   level_test s (empty zero tank is other reached) =
       let same : tank ≡ choice.tank = cc in
       or-right (at_maximum s) (at_minimum s || is_filled s) (or-left (at_minimum s) (is_filled s)
       (and-true wasnt_empty (comes_to_minimum s) (not_empty (slice_get period.tanks 0) other)
-      (subst (λ (t : Tank). is_at_minimum 1000 t (exact_after (village_with choice) period 0 t s) ≡ true) same reached)))
+      (subst (λ (t : Tank). is_at_minimum 1000 (content_bounds (walls_of (village_with choice) t) t) (exact_after (village_with choice) period 0 t s) ≡ true) same reached)))
   level_test s (empty (suc k) tank is other reached) = absurd (cc)
   level_test s (at_control each zero above ticks tank contained is_level is before reached) =
       let same = only_control choice each contained in
       let own : tank ≡ choice.tank = cc in
       or-right (at_maximum s) (at_minimum s || is_filled s) (or-right (at_minimum s) (is_filled s)
-      (filled_by s above ticks (cc) (cc) before (subst (λ (t : Tank). reaches 1000 above ticks (exact_after (village_with choice) period 0 t s) ≡ true) own reached)))
+      (filled_by s above ticks (cc) (cc) before (subst (λ (t : Tank). reached_after (village_with choice) 1000 period 0 t above ticks s ≡ true) own reached)))
   level_test s (at_control each (suc k) above ticks tank contained is_level is before reached) = absurd (cc)
 
   -- ---- by rules
@@ -121,7 +121,7 @@ module _ (choice : Choice) (period : Period) where
 -- ---- the periods
 
 pub first_lasts : HasItsLength village 1000 period_0
-first_lasts = has_length usual period_0 (omega arith) (by_clock (step refl)) (omega arith) (omega arith) (λ m later e. omega arith) refl refl
+first_lasts = has_length usual period_0 (omega arith) (by_clock (step (omega arith) refl)) (omega arith) (omega arith) (λ m later e. omega arith) refl refl
 
 pub second_lasts : HasItsLength village 1000 period_1
 second_lasts = has_length usual period_1 (omega arith) (by_level 3 (omega arith) refl (at_control (level_control (pos 20080000000000)) 0 true (pos 20080000000000) tower (0, lit< tt, refl) refl refl refl refl))
@@ -132,7 +132,7 @@ third_lasts = has_length usual period_2 (omega arith) (by_rules (record { later 
     (omega arith) (omega arith) (λ m later e. omega arith) refl refl
 
 pub fourth_lasts : HasItsLength village 1000 period_3
-fourth_lasts = has_length usual period_3 (omega arith) (by_clock (duration refl)) (omega arith) (omega arith) (λ m later e. omega arith) refl refl
+fourth_lasts = has_length usual period_3 (omega arith) (by_clock (duration (omega arith) refl)) (omega arith) (omega arith) (λ m later e. omega arith) refl refl
 
 pub fifth_lasts : HasItsLength village 1000 period_4
 fifth_lasts = at_end refl refl
@@ -144,37 +144,40 @@ each_one X P x p zero y e = let same : x ≡ y = cc in subst (P 0) same p
 each_one X P x p (suc k) y e = absurd (cc)
 
 pub next_level : (choice : Choice) (period : Period) (level : ℤ)
-    → IsNextLevel 1000 choice.tank (level_at_start period 0) (tank_inflow (village_with choice) 0 period.assignment.flows) period.length level
-    → AreNextLevels (village_with choice) 1000 period (level ∷ [])
+    → IsNextStock 1000 (walls_of (village_with choice) choice.tank) choice.tank (stock_at_start period 0) (tank_inflow (village_with choice) 0 period.assignment.flows) period.length
+    (record { level = level; volume = pos 0 })
+    → AreNextStocks (village_with choice) 1000 period (level ∷ []) (pos 0 ∷ [])
 next_level choice period level next = record {
-  one_each = refl;
-  each = each_one Tank (λ k tank. IsNextLevel 1000 tank (level_at_start period k) (tank_inflow (village_with choice) k period.assignment.flows) period.length (slice_index_or (level ∷ []) k (pos 0))) choice.tank next;
+  level_each = refl;
+  volume_each = refl;
+  each = each_one Tank (λ k tank. IsNextStock 1000 (walls_of (village_with choice) tank) tank (stock_at_start period k) (tank_inflow (village_with choice) k period.assignment.flows) period.length
+      (record { level = slice_index_or (level ∷ []) k (pos 0); volume = slice_index_or (pos 0 ∷ []) k (pos 0) })) choice.tank next;
 }
 
 pub second_comes : ComesAfter village 1000 period_0 period_1
 second_comes = record {
   not_last = λ is. omega (arith, is);
-  levels = next_level usual period_0 _ (record { near_below = omega (arith, ints); near_above = omega (arith, ints); above_minimum = omega (arith, ints); below_maximum = omega (arith, ints) });
-  begins = record { at_time = refl; at_levels = refl; tanks = refl; links = refl };
+  stocks = next_level usual period_0 _ (record { near_below = omega (arith, ints); near_above = omega (arith, ints); above_least = omega (arith, ints); below_most = omega (arith, ints) }, refl);
+  begins = record { at_time = refl; at_levels = refl; at_volumes = refl; tanks = refl; links = refl };
 }
 
 pub third_comes : ComesAfter village 1000 period_1 period_2
 third_comes = record {
   not_last = λ is. omega (arith, is);
-  levels = next_level usual period_1 _ (record { near_below = omega (arith, ints); near_above = omega (arith, ints); above_minimum = omega (arith, ints); below_maximum = omega (arith, ints) });
-  begins = record { at_time = refl; at_levels = refl; tanks = refl; links = refl };
+  stocks = next_level usual period_1 _ (record { near_below = omega (arith, ints); near_above = omega (arith, ints); above_least = omega (arith, ints); below_most = omega (arith, ints) }, refl);
+  begins = record { at_time = refl; at_levels = refl; at_volumes = refl; tanks = refl; links = refl };
 }
 
 pub fourth_comes : ComesAfter village 1000 period_2 period_3
 fourth_comes = record {
   not_last = λ is. omega (arith, is);
-  levels = next_level usual period_2 _ (record { near_below = omega (arith, ints); near_above = omega (arith, ints); above_minimum = omega (arith, ints); below_maximum = omega (arith, ints) });
-  begins = record { at_time = refl; at_levels = refl; tanks = refl; links = refl };
+  stocks = next_level usual period_2 _ (record { near_below = omega (arith, ints); near_above = omega (arith, ints); above_least = omega (arith, ints); below_most = omega (arith, ints) }, refl);
+  begins = record { at_time = refl; at_levels = refl; at_volumes = refl; tanks = refl; links = refl };
 }
 
 pub fifth_comes : ComesAfter village 1000 period_3 period_4
 fifth_comes = record {
   not_last = λ is. omega (arith, is);
-  levels = next_level usual period_3 _ (record { near_below = omega (arith, ints); near_above = omega (arith, ints); above_minimum = omega (arith, ints); below_maximum = omega (arith, ints) });
-  begins = record { at_time = refl; at_levels = refl; tanks = refl; links = refl };
+  stocks = next_level usual period_3 _ (record { near_below = omega (arith, ints); near_above = omega (arith, ints); above_least = omega (arith, ints); below_most = omega (arith, ints) }, refl);
+  begins = record { at_time = refl; at_levels = refl; at_volumes = refl; tanks = refl; links = refl };
 }

@@ -5,9 +5,9 @@ use Rattle.std.proofs.lemmas.List.Elements.{All-nil, All-cons}
 use Rattle.hyd_spec.specs.Types.{Junction}
 use Rattle.hyd_spec_certificates.specs.Interval.{Interval}
 use Rattle.hyd_spec.specs.Quantity.{demand_of}
-use Rattle.hyd_spec_certificates.specs.Truth.{is_unknown}
+use Rattle.hyd_spec_certificates.specs.Verdict.{is_unknown}
 use Rattle.hyd_spec_certificates.specs.Decided.{nowhere, control_truth}
-use Rattle.hyd_spec_certificates.specs.Valid.{DemandsAreInRange, demand_limit, ControlsAreDecided, by_rules, by_clock, continues, finishes, IsValid, IsGridAt, AreCertificates, LeavesLinks, levels_next, AreStates}
+use Rattle.hyd_spec_certificates.specs.Valid.{DemandsAreInRange, demand_limit, ControlsAreDecided, by_rules, by_clock, continues, finishes, IsValid, IsGridAt, AreCertificates, LeavesLinks, levels_next, volumes_next, AreStates}
 use Rattle.hyd_spec_certificates.specs.Grid.{Grid}
 use Rattle.hyd_spec_certificates.specs.Record.{Record, Standing}
 use Rattle.hyd_spec_towns.specs.Village.{Choice, village_with, village, usual, mill, farm}
@@ -40,10 +40,11 @@ module _ (choice : Choice) where
       → row.number ≡ standing.number → row.time ≡ standing.time → DemandsAreInRange (village_with choice) standing.time
       → IsGridAt (village_with choice) standing grid → AreCertificates (village_with choice) grid row
       → LeavesLinks (village_with choice) grid standing row row.length next.commanded
-      → next.levels ≡ levels_next (village_with choice) grid standing row row.length → AreStates (village_with choice) next.levels next.tanks
+      → next.levels ≡ levels_next (village_with choice) grid standing row row.length
+      → next.volumes ≡ volumes_next (village_with choice) grid standing row row.length → AreStates (village_with choice) next.levels next.tanks
       → ControlsAreDecided (village_with choice) next.levels → next.number ≡ suc standing.number → next.time ≡ standing.time + row.length
       → next.finished ≡ false → IsValid (village_with choice) standing grid row next
-  valid_at standing grid row next begun early number time demands is_grid passed leaves levels tanks controls following later unfinished = record {
+  valid_at standing grid row next begun early number time demands is_grid passed leaves levels volumes tanks controls following later unfinished = record {
     unfinished = begun;
     number = number;
     time = time;
@@ -54,6 +55,7 @@ module _ (choice : Choice) where
       not_last = λ is. omega (arith, is, early);
       leaves_links = leaves;
       levels = levels;
+      volumes = volumes;
       tanks = tanks;
       controls = controls;
       number = following;
@@ -65,22 +67,22 @@ module _ (choice : Choice) where
 pub first_valid : IsValid village standing_0 grid_0 row_0 standing_1
 first_valid = valid_at usual standing_0 grid_0 row_0 standing_1 refl (omega arith) refl refl (in_range usual 0 (lit≤ tt) (lit≤ tt))
     (grid_at usual standing_0 _ _ _ _ refl refl refl refl) (certificates usual grid_0 row_0 _ refl refl refl refl refl) (by_clock first_ends)
-    refl refl (controls_decided usual _ refl) refl refl refl
+    refl refl refl (controls_decided usual _ refl) refl refl refl
 
 pub second_valid : IsValid village standing_1 grid_1 row_1 standing_2
 second_valid = valid_at usual standing_1 grid_1 row_1 standing_2 refl (omega arith) refl refl (in_range usual 8 (lit≤ tt) (lit≤ tt))
     (grid_at usual standing_1 _ _ _ _ refl refl refl refl) (certificates usual grid_1 row_1 _ refl refl refl refl refl) (by_clock second_ends)
-    refl refl (controls_decided usual _ refl) refl refl refl
+    refl refl refl (controls_decided usual _ refl) refl refl refl
 
 pub third_valid : IsValid village standing_2 grid_2 row_2 standing_3
 third_valid = valid_at usual standing_2 grid_2 row_2 standing_3 refl (omega arith) refl refl (in_range usual 11 (lit≤ tt) (lit≤ tt))
     (grid_at usual standing_2 _ _ _ _ refl refl refl refl) (certificates usual grid_2 row_2 _ refl refl refl refl refl) (by_rules third_ends)
-    refl refl (controls_decided usual _ refl) refl refl refl
+    refl refl refl (controls_decided usual _ refl) refl refl refl
 
 pub fourth_valid : IsValid village standing_3 grid_3 row_3 standing_4
 fourth_valid = valid_at usual standing_3 grid_3 row_3 standing_4 refl (omega arith) refl refl (in_range usual 14 (lit≤ tt) (lit≤ tt))
     (grid_at usual standing_3 _ _ _ _ refl refl refl refl) (certificates usual grid_3 row_3 _ refl refl refl refl refl) (by_clock fourth_ends)
-    refl refl (controls_decided usual _ refl) refl refl refl
+    refl refl refl (controls_decided usual _ refl) refl refl refl
 
 pub fifth_valid : IsValid village standing_4 grid_4 row_4 left
 fifth_valid = record {

@@ -23,7 +23,7 @@ use Rattle.hyd_lemmas.proofs.Trials.{le-yes, both-first, both-second}
 -- ---- printed numbers
 
 -- whether the ends print an interval of so many ticks for a ten-thousandth
-abbrev rounds : ℤ → Interval → Interval → Bool
+abbrev pub rounds : ℤ → Interval → Interval → Bool
 rounds unit ticks ends =
     (int_le (ends.lo *ℤ unit) ticks.lo && int_le (ticks.lo +ℤ pos 1) ((ends.lo +ℤ pos 1) *ℤ unit))
     && (int_le ticks.hi (ends.hi *ℤ unit) && int_le (((ends.hi -ℤ pos 1) *ℤ unit) +ℤ pos 1) ticks.hi)
@@ -50,7 +50,7 @@ rounded unit ticks ends e =
       no_lower = le-yes (((ends.hi -ℤ pos 1) *ℤ unit) +ℤ pos 1) ticks.hi (both-second c d above);
     }
 
-prints_heads : (ticks ends : Interval) → rounds (pos (10 ^ 9)) ticks ends ≡ true → Prints (head_quantity false) ticks ends
+pub prints_heads : (ticks ends : Interval) → rounds (pos (10 ^ 9)) ticks ends ≡ true → Prints (head_quantity false) ticks ends
 prints_heads ticks ends e =
     let r = rounded (pos (10 ^ 9)) ticks ends e in
     record {
@@ -58,7 +58,7 @@ prints_heads ticks ends e =
       up = record { at_least = omega (arith, ints, r.up); least = λ k le. omega (arith, ints, r.no_lower, le) };
     }
 
-prints_flows : (ticks ends : Interval) → rounds (pos 1000) ticks ends ≡ true → Prints (flow_quantity Cmd) ticks ends
+pub prints_flows : (ticks ends : Interval) → rounds (pos 1000) ticks ends ≡ true → Prints (flow_quantity Cmd) ticks ends
 prints_flows ticks ends e =
     let r = rounded (pos 1000) ticks ends e in
     record {
@@ -114,7 +114,7 @@ module _ (choice : Choice) (grid : Grid) (standing : Standing) (row : Record) wh
 
   pub link_line : (l : ℕ) (link : Link) (place : GridLink) (box flow : Interval) (word : StatusWord) → slice_get grid.links l ≡ Some place
       → slice_get (flow_boxes grid row) l ≡ Some box → rounds (pos 1000) box flow ≡ true
-      → status_of false link.kind (state_of_link (links_at (village_with choice) standing) l) (difference place (heads_below grid row) (heads_above grid row)) ≡ word
+      → status_of false [] link.kind (state_of_link (links_at (village_with choice) standing) l) (difference place (heads_below grid row) (heads_above grid row)) ≡ word
       → IsLinkLine (village_with choice) grid standing row l link (LinkLine l flow word)
   link_line l link place box flow word at boxed e is = record {
     place = place;
@@ -163,16 +163,16 @@ fifth_state = record {
 -- ---- reports
 
 pub first_report : IsReport village grid_0 standing_0 row_0 lines_0
-first_report = record { state = lines_0; state_are = first_state; at_end = []; at_end_are = by_clock first_ends; lines_are = refl }
+first_report = record { state = lines_0; state_are = first_state; at_end = []; at_end_are = record { events = _; changes = _; brings = by_clock first_ends; lines_are = refl }; lines_are = refl }
 
 pub second_report : IsReport village grid_1 standing_1 row_1 lines_1
-second_report = record { state = []; state_are = refl; at_end = lines_1; at_end_are = by_clock second_ends; lines_are = refl }
+second_report = record { state = []; state_are = refl; at_end = lines_1; at_end_are = record { events = _; changes = _; brings = by_clock second_ends; lines_are = refl }; lines_are = refl }
 
 pub third_report : IsReport village grid_2 standing_2 row_2 lines_2
-third_report = record { state = []; state_are = refl; at_end = drop 1 lines_2; at_end_are = by_rules third_ends; lines_are = refl }
+third_report = record { state = []; state_are = refl; at_end = drop 1 lines_2; at_end_are = record { events = _; changes = _; brings = by_rules third_ends; lines_are = refl }; lines_are = refl }
 
 pub fourth_report : IsReport village grid_3 standing_3 row_3 lines_3
-fourth_report = record { state = []; state_are = refl; at_end = []; at_end_are = by_clock fourth_ends; lines_are = refl }
+fourth_report = record { state = []; state_are = refl; at_end = []; at_end_are = record { events = _; changes = _; brings = by_clock fourth_ends; lines_are = refl }; lines_are = refl }
 
 pub fifth_report : IsReport village grid_4 standing_4 row_4 lines_4
-fifth_report = record { state = lines_4; state_are = fifth_state; at_end = []; at_end_are = at_end refl; lines_are = refl }
+fifth_report = record { state = lines_4; state_are = fifth_state; at_end = []; at_end_are = record { events = _; changes = _; brings = at_end refl; lines_are = refl }; lines_are = refl }

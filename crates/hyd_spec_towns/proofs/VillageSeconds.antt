@@ -7,10 +7,11 @@ use Rattle.hyd_spec.specs.Types.{Tank, Control}
 use Rattle.hyd_spec.specs.Length.{EndsByClock, step, duration, pattern, report, control_time, control_clock}
 use Rattle.hyd_spec_certificates.specs.Grid.{Grid}
 use Rattle.hyd_spec_certificates.specs.Record.{Record, Standing}
-use Rattle.hyd_spec_certificates.specs.Levels.{may_reach, must_reach}
-use Rattle.hyd_spec.specs.Rules.{Change}
-use Rattle.hyd_spec_certificates.specs.Truth.{is_unknown}
-use Rattle.hyd_spec_certificates.specs.Decided.{Watch, watches, SomeMayReach, SomeMustReach, level_of_tank, inflow_of_tank, IsClockLength, IsEarliestEnd, IsLatestEnd, rule_truths, decided_changes, RulesMatter, NoRuleMatters}
+use Rattle.hyd_spec.specs.Tank.{walls_of}
+use Rattle.hyd_spec_certificates.specs.Stocks.{may_reach, must_reach}
+use Rattle.hyd_spec.specs.declared.Change.{Change}
+use Rattle.hyd_spec_certificates.specs.Verdict.{is_unknown}
+use Rattle.hyd_spec_certificates.specs.Decided.{Watch, watches, SomeMayReach, SomeMustReach, stocks_of_tank, inflow_of_tank, IsClockLength, IsEarliestEnd, IsLatestEnd, rule_truths, decided_changes, RulesMatter, NoRuleMatters}
 use Rattle.hyd_spec_towns.specs.Village.{Choice, village_with, level_control}
 use Rattle.hyd_lemmas.proofs.Trials.{none_below, from, or-left, or-right, and-true, any_of}
 
@@ -27,8 +28,8 @@ module _ (choice : Choice) where
 
   pub not_before : (time end k : ℕ) → end ≤ time + 8 → end ≤ 16 → ((m : ℕ) → time < m → m % 8 ≡ 0 → end ≤ m)
       → EndsByClock (village_with choice) time k → end ≤ k
-  not_before time end k after last boundary (step e) = omega (arith, after, e)
-  not_before time end k after last boundary (duration e) = omega (arith, last, e)
+  not_before time end k after last boundary (step later e) = omega (arith, after, e)
+  not_before time end k after last boundary (duration later e) = omega (arith, last, e)
   not_before time end k after last boundary (pattern later e) = boundary k later (let m : k % 8 ≡ 0 = omega (arith, e) in m)
   not_before time end k after last boundary (report later begun e) = boundary k later (let m : k % 8 ≡ 0 = omega (arith, e) in m)
   not_before time end k after last boundary (control_time each is at later) = let same = only_control each is in absurd (cc)
@@ -46,10 +47,10 @@ module _ (choice : Choice) where
 
   module _ (grid : Grid) (standing : Standing) (row : Record) where
     abbrev may_be : ℕ → Watch → Bool
-    may_be s w = may_reach choice.tank (level_of_tank standing w.tank) (inflow_of_tank (village_with choice) grid row w.tank) w.target w.rising s
+    may_be s w = may_reach (walls_of (village_with choice) choice.tank) choice.tank (stocks_of_tank standing w.tank) (inflow_of_tank (village_with choice) grid row w.tank) w.target w.rising s
 
     abbrev must_be : ℕ → Watch → Bool
-    must_be s w = must_reach choice.tank (level_of_tank standing w.tank) (inflow_of_tank (village_with choice) grid row w.tank) w.target w.rising s
+    must_be s w = must_reach (walls_of (village_with choice) choice.tank) choice.tank (stocks_of_tank standing w.tank) (inflow_of_tank (village_with choice) grid row w.tank) w.target w.rising s
 
     -- whether a watched level may, or must, have reached its target
     abbrev pub may : ℕ → Bool
@@ -60,12 +61,12 @@ module _ (choice : Choice) where
 
     may_test : (s : ℕ) → SomeMayReach (village_with choice) grid standing row s → may s ≡ true
     may_test s is = any_of Watch (may_be s) (watches (village_with choice) standing) is.watch is.is_watched
-        (subst (λ (t : Tank). may_reach t (level_of_tank standing is.watch.tank) (inflow_of_tank (village_with choice) grid row is.watch.tank) is.watch.target is.watch.rising s ≡ true)
+        (subst (λ (t : Tank). may_reach (walls_of (village_with choice) t) t (stocks_of_tank standing is.watch.tank) (inflow_of_tank (village_with choice) grid row is.watch.tank) is.watch.target is.watch.rising s ≡ true)
         (only_tank is.watch.tank is.tank is.is_tank) is.reached)
 
     must_test : (s : ℕ) → SomeMustReach (village_with choice) grid standing row s → must s ≡ true
     must_test s is = any_of Watch (must_be s) (watches (village_with choice) standing) is.watch is.is_watched
-        (subst (λ (t : Tank). must_reach t (level_of_tank standing is.watch.tank) (inflow_of_tank (village_with choice) grid row is.watch.tank) is.watch.target is.watch.rising s ≡ true)
+        (subst (λ (t : Tank). must_reach (walls_of (village_with choice) t) t (stocks_of_tank standing is.watch.tank) (inflow_of_tank (village_with choice) grid row is.watch.tank) is.watch.target is.watch.rising s ≡ true)
         (only_tank is.watch.tank is.tank is.is_tank) is.reached)
 
     -- the first second at which the clock or a level may, or must, end the period

@@ -7,7 +7,7 @@ use Rattle.hyd_spec.specs.Length.{step}
 use Rattle.hyd_spec_certificates.specs.Grid.{Grid}
 use Rattle.hyd_spec_certificates.specs.Certificate.{IsCertificate, none}
 use Rattle.hyd_spec_certificates.specs.Record.{initial_standing}
-use Rattle.hyd_spec_certificates.specs.Decided.{Watch, IsClockLength, RulesMatter, IsFirstMatter, IsOpenRule, EndsBy, WithoutRules, rule_is_open, by_clock, event_is_open}
+use Rattle.hyd_spec_certificates.specs.Decided.{Watch, IsClockLength, RulesMatter, IsFirstMatter, IsOpenRule, EndsBy, WithoutRules, EventIsOpen, rule_is_open, by_clock, event_is_open}
 use Rattle.hyd_spec_certificates.specs.Valid.{IsGridAt, levels_next, by_clock as left_by_clock}
 use Rattle.hyd_spec_reports.specs.Stops.{IsFirstDemand, HasNoCertificate, SpendsRounds, IsTightRow, LeavesRuleOpen, LeavesEventOpen, LeavesTankOpen, LeavesControlOpen, EndsAtLevels}
 use Rattle.hyd_spec_towns.specs.Village.{Choice, usual, village, village_with, mill, farm, tower}
@@ -83,13 +83,13 @@ tight_row choice is = record { in_range = in_range choice 0 (lit≤ tt) (lit≤ 
 
 -- eight seconds by the clock
 clock : (choice : Choice) → IsClockLength (village_with choice) 0 8
-clock choice = clock_length choice 0 8 (step refl) (omega arith) (omega arith) (λ m later e. omega arith)
+clock choice = clock_length choice 0 8 (step (omega arith) refl) (omega arith) (omega arith) (λ m later e. omega arith)
 
 -- the rule
 unsure_rule_matters : RulesMatter (village_with unsure_rule) grid_0 standing_0 row_0 2
 unsure_rule_matters = record { tried = record { later = omega arith; is_multiple = refl }; matters = inl refl }
 
-unsure_rule_first : IsFirstMatter (village_with unsure_rule) grid_0 standing_0 row_0 2
+pub unsure_rule_first : IsFirstMatter (village_with unsure_rule) grid_0 standing_0 row_0 2
 unsure_rule_first = record {
   not_last = λ is. omega (arith, is);
   earliest = 8;
@@ -101,8 +101,8 @@ unsure_rule_first = record {
   };
 }
 
-rule_is : IsOpenRule (village_with unsure_rule) grid_0 standing_0 row_0 2 open_rule
-rule_is = record { first_rule = refl; rule = _; is_rule = refl; first_clause = refl; each = _; is_clause = refl; below = refl; above = refl }
+pub rule_is : IsOpenRule (village_with unsure_rule) grid_0 standing_0 row_0 2 open_rule
+rule_is = record { first_rule = refl; rule = _; is_rule = refl; clause_is = record { first_clause = refl; each = _; is_clause = refl; lo_is = refl; hi_is = refl } }
 
 pub rule_stops : LeavesRuleOpen (village_with unsure_rule) standing_0 open_rule
 rule_stops = record {
@@ -116,17 +116,20 @@ rule_stops = record {
 abbrev filled : Watch
 filled = record { tank = 0; target = pos 20036841430000; rising = true }
 
+pub event_ends : EndsBy (village_with unsure_event) grid_0 standing_0 row_0 (EventIsOpen 5 6)
+event_ends = event_is_open
+    (no_rule unsure_event grid_0 standing_0 row_0 5 (omega arith) (earliest_end unsure_event grid_0 standing_0 row_0 8 5 (clock unsure_event) (omega arith) refl
+    (inr (omega arith, record { watch = filled; is_watched = (2, lit< tt, refl); tank = tower; is_tank = refl; reached = refl }))) refl)
+    (latest_end unsure_event grid_0 standing_0 row_0 8 6 (clock unsure_event) (omega arith) refl
+    (inr (omega arith, record { watch = filled; is_watched = (2, lit< tt, refl); tank = tower; is_tank = refl; reached = refl })))
+    (λ same. omega (arith, same))
+
 pub event_stops : LeavesEventOpen (village_with unsure_event) standing_0 5 6
 event_stops = record {
   grid = grid_0;
   row = row_0;
   tight = tight_row unsure_event (grid_at unsure_event standing_0 _ _ _ _ refl refl refl refl);
-  is_open = event_is_open
-      (no_rule unsure_event grid_0 standing_0 row_0 5 (omega arith) (earliest_end unsure_event grid_0 standing_0 row_0 8 5 (clock unsure_event) (omega arith) refl
-      (inr (omega arith, record { watch = filled; is_watched = (2, lit< tt, refl); tank = tower; is_tank = refl; reached = refl }))) refl)
-      (latest_end unsure_event grid_0 standing_0 row_0 8 6 (clock unsure_event) (omega arith) refl
-      (inr (omega arith, record { watch = filled; is_watched = (2, lit< tt, refl); tank = tower; is_tank = refl; reached = refl })))
-      (λ same. omega (arith, same));
+  is_open = event_ends;
 }
 
 -- the end of the period, by the clock
@@ -144,7 +147,7 @@ ends_at choice is ends levels = record {
   levels_are = levels;
 }
 
-control_ends : EndsBy (village_with unsure_control) grid_0 standing_0 row_0 (WithoutRules 8)
+pub control_ends : EndsBy (village_with unsure_control) grid_0 standing_0 row_0 (WithoutRules 8)
 control_ends = by_clock
     (no_rule unsure_control grid_0 standing_0 row_0 8 (omega arith) (earliest_end unsure_control grid_0 standing_0 row_0 8 8 (clock unsure_control) (omega arith) refl (inl (clock unsure_control))) refl)
     (latest_end unsure_control grid_0 standing_0 row_0 8 8 (clock unsure_control) (omega arith) refl (inl (clock unsure_control)))
@@ -164,7 +167,7 @@ control_stops = record {
   level_is = refl;
 }
 
-tank_ends : EndsBy (village_with unsure_tank) grid_0 standing_0 row_0 (WithoutRules 8)
+pub tank_ends : EndsBy (village_with unsure_tank) grid_0 standing_0 row_0 (WithoutRules 8)
 tank_ends = by_clock
     (no_rule unsure_tank grid_0 standing_0 row_0 8 (omega arith) (earliest_end unsure_tank grid_0 standing_0 row_0 8 8 (clock unsure_tank) (omega arith) refl (inl (clock unsure_tank))) refl)
     (latest_end unsure_tank grid_0 standing_0 row_0 8 8 (clock unsure_tank) (omega arith) refl (inl (clock unsure_tank)))

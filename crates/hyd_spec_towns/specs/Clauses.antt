@@ -3,7 +3,7 @@
 use Rattle.std.specs.Prelude.{ℕ, pos, List, [], ◌∷◌}
 use Rattle.std.proofs.Common.{lit≤}
 use Rattle.hyd_spec.specs.Types.{Project, What, Relation, Value, Amount}
-use Rattle.hyd_spec_certificates.specs.Truth.{Truth}
+use Rattle.hyd_spec_certificates.specs.Verdict.{Verdict}
 use Rattle.hyd_spec_certificates.specs.Decided.{clause_truth}
 use Rattle.hyd_spec_certificates.specs.Interval.{Interval}
 use Rattle.hyd_spec_certificates.specs.Record.{Record, Standing}
@@ -14,7 +14,7 @@ use Rattle.hyd_spec_towns.specs.Hamlet.{standing_at_start, grid_at_start, row_at
 -- ---- the hamlet
 
 -- A clause after six minutes.
-abbrev pub hamlet_truth : Project → Standing → Record → What → Relation → Value → Truth
+abbrev pub hamlet_truth : Project → Standing → Record → What → Relation → Value → Verdict
 hamlet_truth network standing row what relation value =
     clause_truth network grid_at_start standing row 360 (compared what relation value)
 
@@ -65,11 +65,11 @@ levels_about_4_333 =
 -- ---- the town
 
 -- A clause a minute after 2:00, and one some seconds after a standing, with the flows of the period after that.
-abbrev pub truth_at_two : Project → Standing → Record → What → Relation → Value → Truth
+abbrev pub truth_at_two : Project → Standing → Record → What → Relation → Value → Verdict
 truth_at_two network standing row what relation value =
     clause_truth network grid_at_two standing row 60 (compared what relation value)
 
-abbrev pub town_truth : Project → Standing → ℕ → What → Relation → Value → Truth
+abbrev pub town_truth : Project → Standing → ℕ → What → Relation → Value → Verdict
 town_truth network standing seconds what relation value =
     clause_truth network grid_when_full standing row_when_full seconds (compared what relation value)
 

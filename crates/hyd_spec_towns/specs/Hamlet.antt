@@ -152,6 +152,7 @@ standing_at_start = record {
   number = 0;
   time = 0;
   levels = record { lo = pos 30480000000000; hi = pos 30480000000000 } ∷ [];
+  volumes = record { lo = pos 0; hi = pos 0 } ∷ [];
   tanks = Between ∷ [];
   commanded = hundred ∷ Throttle (pos 0) Linear ∷ [];
   finished = false;

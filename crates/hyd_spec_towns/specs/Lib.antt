@@ -11,5 +11,7 @@ pub mod VillageRun
 pub mod VillageHistory
 pub mod VillageTexts
 pub mod VillageStops
+pub mod VillageRefusals
 pub mod Shallow
 pub mod Rounds
+pub mod Basin

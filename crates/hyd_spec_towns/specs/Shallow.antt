@@ -1,6 +1,6 @@
 -- The shallow village: its tank fills and empties within a few seconds, and then the farm has no source. What an independent
 -- calculation gives for its two periods, a history of them at scale 1000, and what was written and printed.
-use Rattle.std.specs.Prelude.{ℕ, pos, List, [], ◌∷◌, codes}
+use Rattle.std.specs.Prelude.{ℕ, pos, false, None, List, [], ◌∷◌, codes}
 use Rattle.std.proofs.Common.{lit≤}
 use Rattle.hyd_spec.specs.Types.{Limit}
 use Rattle.hyd_spec.specs.declared.TankState.TheVariants.{Empty, Between, Full}

@@ -17,6 +17,7 @@ standing_at_start = record {
   time = 0;
   levels = record { lo = pos 45000000000000; hi = pos 45000000000000 }
       ∷ record { lo = pos 20000000000000; hi = pos 20000000000000 } ∷ [];
+  volumes = record { lo = pos 0; hi = pos 0 } ∷ record { lo = pos 0; hi = pos 0 } ∷ [];
   tanks = Between ∷ Between ∷ [];
   commanded = Speed (pos 1000000000) ∷ filling ∷ Open ∷ narrow_main ∷ unthrottled ∷ [];
   finished = false;
@@ -29,6 +30,7 @@ standing_at_one = record {
   time = 3600;
   levels = record { lo = pos 47461592504719; hi = pos 47461596784947 }
       ∷ record { lo = pos 17538402926983; hi = pos 17538407196600 } ∷ [];
+  volumes = record { lo = pos 0; hi = pos 0 } ∷ record { lo = pos 0; hi = pos 0 } ∷ [];
   tanks = Between ∷ Between ∷ [];
   commanded = Closed ∷ filling ∷ Open ∷ narrow_main ∷ unthrottled ∷ [];
   finished = false;
@@ -41,6 +43,7 @@ standing_at_two = record {
   time = 7200;
   levels = record { lo = pos 49923185009438; hi = pos 49923193569894 }
       ∷ record { lo = pos 15076805853966; hi = pos 15076814393200 } ∷ [];
+  volumes = record { lo = pos 0; hi = pos 0 } ∷ record { lo = pos 0; hi = pos 0 } ∷ [];
   tanks = Between ∷ Between ∷ [];
   commanded = Closed ∷ filling ∷ Open ∷ narrow_main ∷ unthrottled ∷ [];
   finished = false;
@@ -53,6 +56,7 @@ standing_when_full = record {
   time = 7313;
   levels = record { lo = pos 50000000000000; hi = pos 50000000000000 }
       ∷ record { lo = pos 15000000000000; hi = pos 15000000000000 } ∷ [];
+  volumes = record { lo = pos 0; hi = pos 0 } ∷ record { lo = pos 0; hi = pos 0 } ∷ [];
   tanks = Full ∷ Empty ∷ [];
   commanded = Closed ∷ filling ∷ Open ∷ narrow_main ∷ unthrottled ∷ [];
   finished = false;
@@ -65,6 +69,7 @@ standing_after_rules = record {
   time = 8640;
   levels = record { lo = pos 47653348085886; hi = pos 47653349663443 }
       ∷ record { lo = pos 15070398550686; hi = pos 15070400124527 } ∷ [];
+  volumes = record { lo = pos 0; hi = pos 0 } ∷ record { lo = pos 0; hi = pos 0 } ∷ [];
   tanks = Between ∷ Between ∷ [];
   commanded = Closed ∷ fast_filling ∷ Open ∷ night_main ∷ Open ∷ [];
   finished = false;
@@ -77,6 +82,7 @@ standing_at_three = record {
   time = 10800;
   levels = record { lo = pos 47610904458046; hi = pos 47610908603790 }
       ∷ record { lo = pos 15121327701446; hi = pos 15121331836790 } ∷ [];
+  volumes = record { lo = pos 0; hi = pos 0 } ∷ record { lo = pos 0; hi = pos 0 } ∷ [];
   tanks = Between ∷ Between ∷ [];
   commanded = Closed ∷ fast_filling ∷ Open ∷ night_main ∷ Open ∷ [];
   finished = false;

@@ -2,7 +2,7 @@
 use Rattle.std.specs.Prelude.{ℕ, ℤ, pos, false, [], ◌∷◌, None}
 use Rattle.hyd_spec.specs.Types.{LinkState, Linear, Throttle}
 use Rattle.hyd_spec.specs.declared.TankState.{TankState}
-use Rattle.hyd_spec_certificates.specs.Interval.{Interval}
+use Rattle.hyd_spec_certificates.specs.Interval.{Interval, exactly}
 use Rattle.hyd_spec.specs.Law.{Law, LinearLaw}
 use Rattle.hyd_spec_certificates.specs.Enclosing.{Fixed}
 use Rattle.hyd_spec.specs.Length.{Period}
@@ -15,6 +15,7 @@ village_standing number time level state feed = record {
   number = number;
   time = time;
   levels = level ∷ [];
+  volumes = exactly (pos 0) ∷ [];
   tanks = state ∷ [];
   commanded = Throttle (pos 0) Linear ∷ feed ∷ Throttle (pos 0) Linear ∷ [];
   finished = false;
@@ -53,6 +54,7 @@ village_period time length level state feed mill farm main fed dropped takes = r
   time = time;
   length = length;
   levels = level ∷ [];
+  volumes = pos 0 ∷ [];
   tanks = state ∷ [];
   links = Throttle (pos 0) Linear ∷ feed ∷ Throttle (pos 0) Linear ∷ [];
   assignment = record {

@@ -3,7 +3,7 @@
 
 ghost use Rattle.std.specs.Prelude.{◌≡◌, pos, neg_ℤ, [], ◌∷◌, map};
 ghost use Rattle.hyd_spec.specs.Types.{Project, Less, NotMore, More, NotLess, Equal, Unequal, Pressure, Setting, Status, Time, Clock, ValueOpen, ValueClosed, ValueActive};
-ghost use Rattle.hyd_spec_certificates.specs.Truth.{Yes, No, Unknown};
+ghost use Rattle.hyd_spec_certificates.specs.Verdict.{Yes, No, Unknown};
 ghost use Rattle.hyd_spec_certificates.specs.Grid.{grid_links};
 ghost use Rattle.hyd_spec_certificates.specs.Decided.{links_at, flow_boxes, inflow_boxes, rule_truths};
 ghost use Rattle.hyd_spec_towns.specs.Town.{IsTown, numbers, amount};

@@ -2,7 +2,9 @@
 //! definitions ask for, and they have histories. No function here has a body.
 #![tactic(auto)]
 
+pub mod basins;
 pub mod clauses;
+pub mod refusals;
 pub mod rounds;
 pub mod run_ends;
 pub mod shallow;

@@ -4,7 +4,7 @@
 ghost use Rattle.std.specs.Prelude.{◌≡◌, pos, true, false, [], ◌∷◌, map, take, codes, Some, None};
 ghost use Rattle.hyd_spec_certificates.specs.declared.Problem.TheVariants.{Main};
 ghost use Rattle.hyd_spec_certificates.specs.declared.Side.TheVariants.{Upper, Lower};
-ghost use Rattle.hyd_spec_reports.specs.Stops.{NoCertificate, RoundsSpent, RuleOpen, EventOpen, TankOpen, ControlOpen, DemandOutOfRange};
+ghost use Rattle.hyd_spec_reports.specs.declared.StopCause.TheVariants.{Demand as DemandOutOfRange, NoCertificate, RoundsSpent, RuleOpen, EventOpen, TankOpen, ControlOpen};
 ghost use Rattle.hyd_spec_reports.specs.Headline.{Finished, Stopped, outcome_number, is_finished, accepted_line, certificate_so_far, report_so_far};
 ghost use Rattle.hyd_spec_certificates.specs.Narrow.{widest, IsNarrow};
 ghost use Rattle.hyd_spec_towns.specs.Village.{village, village_with};
@@ -15,15 +15,15 @@ ghost use Rattle.hyd_spec_towns.specs.Shallow.{shallow, left as shallow_left, fo
 
 /// The exit statuses of the run that finishes and of each cause, as the independent program ends.
 pub fn statuses()
-    ensures { map outcome_number (Finished ∷ Stopped (NoCertificate Main Lower 1) ∷ Stopped (RuleOpen open_rule) ∷ Stopped (EventOpen 5 6)
-        ∷ Stopped (TankOpen 0 last_level) ∷ Stopped (ControlOpen 0 last_level) ∷ Stopped (RoundsSpent Main Upper 0)
-        ∷ Stopped (DemandOutOfRange 0 (pos 1200000000000000)) ∷ [])
+    ensures { map outcome_number (Finished ∷ Stopped (NoCertificate 0 Main Lower 1) ∷ Stopped (RuleOpen 0 open_rule.rule open_rule.clause open_rule.lo open_rule.hi) ∷ Stopped (EventOpen 0 5 6)
+        ∷ Stopped (TankOpen 0 0 last_level.lo last_level.hi) ∷ Stopped (ControlOpen 0 0 last_level.lo last_level.hi) ∷ Stopped (RoundsSpent 0 Main Upper 0)
+        ∷ Stopped (DemandOutOfRange 0 0 (pos 1200000000000000)) ∷ [])
         ≡ 0 ∷ 6 ∷ 6 ∷ 6 ∷ 6 ∷ 6 ∷ 7 ∷ 8 ∷ [] }
 {}
 
 /// Whether a run finished, and the last lines of a check that accepts its certificate.
 pub fn last_words()
-    ensures finished { map is_finished (Finished ∷ Stopped (EventOpen 5 6) ∷ []) ≡ true ∷ false ∷ [] }
+    ensures finished { map is_finished (Finished ∷ Stopped (EventOpen 0 5 6) ∷ []) ≡ true ∷ false ∷ [] }
     ensures accepted { (accepted_line 5 true ∷ accepted_line 2 false ∷ []) ≡ codes "DONE 5\n" ∷ codes "PARTIAL 2\n" ∷ [] }
 {}
 
@@ -33,9 +33,9 @@ pub fn fronts()
     ensures first_lines { report_so_far village standing_1 (found_0 ∷ []) None ≡ take 465 printed }
     ensures certificate { certificate_so_far village founds (Some Finished) ≡ written }
     ensures report { report_so_far village left founds (Some Finished) ≡ printed }
-    ensures stopped_certificate { certificate_so_far (village_with shallow) shallow_founds (Some (Stopped (NoCertificate Main Lower 1)))
+    ensures stopped_certificate { certificate_so_far (village_with shallow) shallow_founds (Some (Stopped (NoCertificate 2 Main Lower 1)))
         ≡ shallow_written }
-    ensures stopped_report { report_so_far (village_with shallow) shallow_left shallow_founds (Some (Stopped (NoCertificate Main Lower 1)))
+    ensures stopped_report { report_so_far (village_with shallow) shallow_left shallow_founds (Some (Stopped (NoCertificate 2 Main Lower 1)))
         ≡ shallow_printed }
 {}
 

@@ -7,7 +7,7 @@ ghost use Rattle.hyd_spec_certificates.specs.declared.Problem.TheVariants.{Main}
 ghost use Rattle.hyd_spec_certificates.specs.declared.Side.TheVariants.{Lower};
 ghost use Rattle.hyd_spec.specs.History.{IsHistory, initial_links};
 ghost use Rattle.hyd_spec_reports.specs.CertificateText.{IsCertificateText};
-ghost use Rattle.hyd_spec_reports.specs.Stops.{NoCertificate};
+ghost use Rattle.hyd_spec_reports.specs.declared.StopCause.TheVariants.{NoCertificate};
 ghost use Rattle.hyd_spec_reports.specs.ReportLine.{report_text};
 ghost use Rattle.hyd_spec_reports.specs.Headline.{IsRun, AllAgree, rows_of, lines_of, last_line, EndsSo, Stopped};
 ghost use Rattle.hyd_spec_towns.specs.Village.{village_with};
@@ -20,14 +20,14 @@ pub fn run()
 
 /// The run stops there.
 pub fn stop()
-    ensures { EndsSo (village_with shallow) left 200 (Stopped (NoCertificate Main Lower 1)) }
+    ensures { EndsSo (village_with shallow) left 200 (Stopped (NoCertificate 2 Main Lower 1)) }
 {}
 
 /// What was written is the certificate of the records, what was printed the report of the lines and of the stop.
 pub fn texts()
-    ensures certificate { IsCertificateText written 2 1 (rows_of founds) 2 false }
+    ensures certificate { IsCertificateText written 1 2 1 (rows_of founds) 2 false }
     ensures report { printed ≡ report_text (village_with shallow) (lines_of founds)
-        (last_line (village_with shallow) left 2 (Stopped (NoCertificate Main Lower 1))) }
+        (last_line (village_with shallow) left 2 (Stopped (NoCertificate 2 Main Lower 1))) }
 {}
 
 /// Heads and flows that may occur, over both periods.

@@ -9,7 +9,8 @@ ghost use Rattle.hyd_spec_certificates.specs.Grid.{grid_links, tank_intervals};
 ghost use Rattle.hyd_spec_certificates.specs.Decided.{links_at, flow_boxes, inflow_boxes, watch_of, tank_watches, watches, carried_at};
 ghost use Rattle.hyd_spec_certificates.specs.Valid.{levels_next, demand_limit};
 ghost use Rattle.hyd_spec_reports.specs.Stops.{open_states, is_open_control, beginning};
-ghost use Rattle.hyd_spec_reports.specs.Report.{tank_events, event_lines};
+ghost use Rattle.hyd_spec_reports.specs.Report.{tank_events, events_of, event_line};
+ghost use Rattle.hyd_spec_reports.specs.declared.EventKind.TheVariants.{Full as BecomesFull, Empty as BecomesEmpty};
 ghost use Rattle.hyd_spec_reports.specs.ReportLine.{FilledLine, EmptiedLine, ReachedLine, line_text};
 ghost use Rattle.hyd_spec_towns.specs.Town.{IsTown};
 ghost use Rattle.hyd_spec_towns.specs.TownPeriods.{standing_at_start, standing_at_two, standing_when_full, grid_at_two, grid_when_full, row_at_two, row_when_full};
@@ -141,27 +142,27 @@ pub fn carried()
 /// The tanks that became full or empty, at the carried levels.
 pub fn tanks()
     ensures at_two_112 { (network : Project) → IsTown network
-        → tank_events 7312 0 network.tanks.list standing_at_two.tanks (carried_at network grid_at_two standing_at_two row_at_two 112)
+        → tank_events 0 network.tanks.list standing_at_two.tanks (carried_at network grid_at_two standing_at_two row_at_two 112)
         ≡ [] }
     ensures at_two_113 { (network : Project) → IsTown network
-        → tank_events 7313 0 network.tanks.list standing_at_two.tanks (carried_at network grid_at_two standing_at_two row_at_two 113)
-        ≡ FilledLine 7313 0 ∷ EmptiedLine 7313 1 ∷ [] }
+        → tank_events 0 network.tanks.list standing_at_two.tanks (carried_at network grid_at_two standing_at_two row_at_two 113)
+        ≡ record { tank = 0; what = BecomesFull } ∷ record { tank = 1; what = BecomesEmpty } ∷ [] }
     ensures when_full_1327 { (network : Project) → IsTown network
-        → tank_events 8640 0 network.tanks.list standing_when_full.tanks (carried_at network grid_when_full standing_when_full row_when_full 1327)
+        → tank_events 0 network.tanks.list standing_when_full.tanks (carried_at network grid_when_full standing_when_full row_when_full 1327)
         ≡ [] }
 {}
 
 /// The lines of the events at the end of a period, and their texts.
 pub fn lines()
     ensures at_two { (network : Project) → IsTown network
-        → event_lines network grid_at_two standing_at_two row_at_two
+        → map (event_line 7313) (events_of network grid_at_two standing_at_two row_at_two)
         ≡ FilledLine 7313 0 ∷ EmptiedLine 7313 1 ∷ ReachedLine 7313 1 2 ∷ ReachedLine 7313 0 3 ∷ [] }
     ensures when_full { (network : Project) → IsTown network
-        → event_lines network grid_when_full standing_when_full row_when_full ≡ [] }
+        → map (event_line 8640) (events_of network grid_when_full standing_when_full row_when_full) ≡ [] }
     ensures before { (network : Project) → IsTown network
-        → event_lines network grid_at_two standing_at_two (record row_at_two { length = 112 }) ≡ [] }
+        → map (event_line 7312) (events_of network grid_at_two standing_at_two (record row_at_two { length = 112 })) ≡ [] }
     ensures text_at_two { (network : Project) → IsTown network
-        → map (line_text network) (event_lines network grid_at_two standing_at_two row_at_two)
+        → map (line_text network) (map (event_line 7313) (events_of network grid_at_two standing_at_two row_at_two))
         ≡ codes "EVENT 2:01:53 TANK NORTH FULL\n" ∷ codes "EVENT 2:01:53 TANK SOUTH EMPTY\n"
         ∷ codes "EVENT 2:01:53 TANK SOUTH CONTROL 3\n" ∷ codes "EVENT 2:01:53 TANK NORTH CONTROL 4\n" ∷ [] }
 {}

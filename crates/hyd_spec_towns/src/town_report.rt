@@ -10,7 +10,7 @@ ghost use Rattle.hyd_spec.specs.Quantity.{is_us};
 ghost use Rattle.hyd_spec.specs.Rules.{state_of_link};
 ghost use Rattle.hyd_spec_certificates.specs.Boxes.{difference, out_box};
 ghost use Rattle.hyd_spec_certificates.specs.Decided.{links_at, heads_below, heads_above};
-ghost use Rattle.hyd_spec_reports.specs.Report.{is_report_time, status_of, control_lines, event_lines};
+ghost use Rattle.hyd_spec_reports.specs.Report.{is_report_time, status_of, control_lines, events_of, event_line};
 ghost use Rattle.hyd_spec_reports.specs.ReportLine.{line_text, report_text, done_line};
 ghost use Rattle.hyd_spec_towns.specs.Town.{IsTown};
 ghost use Rattle.hyd_spec_towns.specs.TownPeriods.{east, west, standing_at_two, standing_when_full, grid_at_two, grid_when_full, row_at_two, row_when_full};
@@ -19,12 +19,12 @@ ghost use Rattle.hyd_spec_towns.specs.TownReport.{lift, lines_at_two};
 /// The status words of all links.
 pub fn statuses()
     ensures at_two { (network : Project) → IsTown network
-        → map_from (λ l link. status_of (is_us network) link.kind (state_of_link (links_at network standing_at_two) l)
+        → map_from (λ l link. status_of (is_us network) network.bends.list link.kind (state_of_link (links_at network standing_at_two) l)
         (difference (slice_index_or grid_at_two.links l lift) (heads_below grid_at_two row_at_two)
         (heads_above grid_at_two row_at_two))) 0 network.links.list
         ≡ WordClosed ∷ WordActive ∷ WordOpen ∷ WordActive ∷ WordActive ∷ [] }
     ensures when_full { (network : Project) → IsTown network
-        → map_from (λ l link. status_of (is_us network) link.kind (state_of_link (links_at network standing_when_full) l)
+        → map_from (λ l link. status_of (is_us network) network.bends.list link.kind (state_of_link (links_at network standing_when_full) l)
         (difference (slice_index_or grid_when_full.links l lift) (heads_below grid_when_full row_when_full)
         (heads_above grid_when_full row_when_full))) 0 network.links.list
         ≡ WordClosed ∷ WordClosed ∷ WordOpen ∷ WordActive ∷ WordActive ∷ [] }
@@ -64,7 +64,7 @@ pub fn texts()
         ∷ codes "LINK LOWER flow -6390.2924 7318.2919 status ACTIVE\n" ∷ [] }
     ensures text_report { (network : Project) → IsTown network
         → report_text network (control_lines network standing_at_two ++
-        (lines_at_two ++ event_lines network grid_at_two standing_at_two row_at_two)) (done_line 1)
+        (lines_at_two ++ map (event_line 7313) (events_of network grid_at_two standing_at_two row_at_two))) (done_line 1)
         ≡ joined (codes "HYD 1\n" ∷ codes "TIME 2:00:00\n"
         ∷ codes "JUNCTION EAST head 44.9923 44.9924 pressure 34.9923 34.9924 outflow 299.9999 300.0001\n"
         ∷ codes "JUNCTION WEST head 21.5076 21.5077 pressure 16.5076 16.5077 outflow 863.9999 864.0001\n"

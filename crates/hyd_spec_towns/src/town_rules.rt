@@ -3,11 +3,12 @@
 
 ghost use Rattle.std.specs.Prelude.{◌≡◌, pos, neg_ℤ, true, false, [], ◌∷◌, map, codes, Some, None};
 ghost use Rattle.hyd_num.specs.Rational.{whole};
+ghost use Rattle.hyd_spec.specs.declared.Source.TheVariants.{Rule as ByRule};
 ghost use Rattle.hyd_spec.specs.Types.{Project, Open, Closed, Speed};
-ghost use Rattle.hyd_spec_certificates.specs.Truth.{Yes, No, Unknown, is_yes};
+ghost use Rattle.hyd_spec_certificates.specs.Verdict.{Yes, No, Unknown, is_yes};
 ghost use Rattle.hyd_spec.specs.Rules.{head_of, pressure_of, state_of_link, rule_values, offers_from, best_offer, higher, change_of, rule_changes, acted};
 ghost use Rattle.hyd_spec_certificates.specs.Decided.{links_at, readings_below, readings_above, rule_truths, decided_changes};
-ghost use Rattle.hyd_spec_reports.specs.Report.{rule_lines};
+ghost use Rattle.hyd_spec_reports.specs.Report.{change_line};
 ghost use Rattle.hyd_spec_reports.specs.ReportLine.{RuleLine, line_text};
 ghost use Rattle.hyd_spec_towns.specs.Town.{IsTown, numbers, earlier, later, filling, fast_filling, narrow_main, night_main, wide_main, unthrottled};
 ghost use Rattle.hyd_spec_towns.specs.TownPeriods.{standing_at_one, standing_at_two, standing_when_full, grid_at_two, grid_when_full, row_at_two, row_when_full};
@@ -106,12 +107,12 @@ pub fn changes()
         → decided_changes network grid_when_full standing_when_full row_when_full 967 ≡ [] }
     ensures when_full_1327 { (network : Project) → IsTown network
         → decided_changes network grid_when_full standing_when_full row_when_full 1327
-        ≡ record { by = 0; link = 1; to = fast_filling } ∷ record { by = 1; link = 3; to = night_main }
-        ∷ record { by = 2; link = 4; to = Open } ∷ [] }
+        ≡ record { source = ByRule 0; link = 1; to = fast_filling } ∷ record { source = ByRule 1; link = 3; to = night_main }
+        ∷ record { source = ByRule 2; link = 4; to = Open } ∷ [] }
     ensures when_full_1687 { (network : Project) → IsTown network
         → decided_changes network grid_when_full standing_when_full row_when_full 1687
-        ≡ record { by = 0; link = 1; to = fast_filling } ∷ record { by = 1; link = 3; to = night_main }
-        ∷ record { by = 2; link = 4; to = Open } ∷ [] }
+        ≡ record { source = ByRule 0; link = 1; to = fast_filling } ∷ record { source = ByRule 1; link = 3; to = night_main }
+        ∷ record { source = ByRule 2; link = 4; to = Open } ∷ [] }
     ensures at_two_60 { (network : Project) → IsTown network
         → decided_changes network grid_at_two standing_at_two row_at_two 60 ≡ [] }
 {}
@@ -129,12 +130,12 @@ pub fn states()
 /// The lines of the rules at the end of a period, and their texts.
 pub fn lines()
     ensures when_full { (network : Project) → IsTown network
-        → rule_lines network grid_when_full standing_when_full row_when_full
+        → map (change_line 8640) (decided_changes network grid_when_full standing_when_full row_when_full row_when_full.length)
         ≡ RuleLine 8640 0 1 fast_filling ∷ RuleLine 8640 1 3 night_main ∷ RuleLine 8640 2 4 Open ∷ [] }
     ensures before { (network : Project) → IsTown network
-        → rule_lines network grid_when_full standing_when_full (record row_when_full { length = 967 }) ≡ [] }
+        → map (change_line 8280) (decided_changes network grid_when_full standing_when_full (record row_when_full { length = 967 }) 967) ≡ [] }
     ensures text_when_full { (network : Project) → IsTown network
-        → map (line_text network) (rule_lines network grid_when_full standing_when_full row_when_full)
+        → map (line_text network) (map (change_line 8640) (decided_changes network grid_when_full standing_when_full row_when_full row_when_full.length))
         ≡ codes "RULE LOW 2:24:00 LINK FILL SETTING 1400.000000000\n"
         ∷ codes "RULE NIGHT 2:24:00 LINK MAIN SETTING 880.000000000\n" ∷ codes "RULE REST 2:24:00 LINK LOWER OPEN\n" ∷ [] }
 {}
@@ -209,29 +210,29 @@ pub fn changed()
     ensures three { (network : Project) → IsTown network
         → map (λ link. change_of network (true ∷ true ∷ false ∷ false
         ∷ []) link (state_of_link (links_at network standing_when_full) link)) numbers
-        ≡ None ∷ Some (record { by = 0; link = 1; to = fast_filling }) ∷ None
-        ∷ Some (record { by = 1; link = 3; to = night_main }) ∷ Some (record { by = 2; link = 4; to = Open }) ∷ [] }
+        ≡ None ∷ Some (record { source = ByRule 0; link = 1; to = fast_filling }) ∷ None
+        ∷ Some (record { source = ByRule 1; link = 3; to = night_main }) ∷ Some (record { source = ByRule 2; link = 4; to = Open }) ∷ [] }
     ensures three_in_order { (network : Project) → IsTown network
         → rule_changes network (true ∷ true ∷ false ∷ false ∷ []) (links_at network standing_when_full)
-        ≡ record { by = 0; link = 1; to = fast_filling } ∷ record { by = 1; link = 3; to = night_main }
-        ∷ record { by = 2; link = 4; to = Open } ∷ [] }
+        ≡ record { source = ByRule 0; link = 1; to = fast_filling } ∷ record { source = ByRule 1; link = 3; to = night_main }
+        ∷ record { source = ByRule 2; link = 4; to = Open } ∷ [] }
     ensures all { (network : Project) → IsTown network
         → map (λ link. change_of network (true ∷ true ∷ true ∷ true
         ∷ []) link (state_of_link (links_at network standing_when_full) link)) numbers
-        ≡ Some (record { by = 3; link = 0; to = Speed (pos 500000000) })
-        ∷ Some (record { by = 0; link = 1; to = fast_filling }) ∷ None
-        ∷ Some (record { by = 1; link = 3; to = night_main }) ∷ None ∷ [] }
+        ≡ Some (record { source = ByRule 3; link = 0; to = Speed (pos 500000000) })
+        ∷ Some (record { source = ByRule 0; link = 1; to = fast_filling }) ∷ None
+        ∷ Some (record { source = ByRule 1; link = 3; to = night_main }) ∷ None ∷ [] }
     ensures all_in_order { (network : Project) → IsTown network
         → rule_changes network (true ∷ true ∷ true ∷ true ∷ []) (links_at network standing_when_full)
-        ≡ record { by = 3; link = 0; to = Speed (pos 500000000) } ∷ record { by = 0; link = 1; to = fast_filling }
-        ∷ record { by = 1; link = 3; to = night_main } ∷ [] }
+        ≡ record { source = ByRule 3; link = 0; to = Speed (pos 500000000) } ∷ record { source = ByRule 0; link = 1; to = fast_filling }
+        ∷ record { source = ByRule 1; link = 3; to = night_main } ∷ [] }
     ensures none { (network : Project) → IsTown network
         → map (λ link. change_of network (false ∷ false ∷ false ∷ false
         ∷ []) link (state_of_link (links_at network standing_when_full) link)) numbers
-        ≡ None ∷ None ∷ None ∷ None ∷ Some (record { by = 2; link = 4; to = Open }) ∷ [] }
+        ≡ None ∷ None ∷ None ∷ None ∷ Some (record { source = ByRule 2; link = 4; to = Open }) ∷ [] }
     ensures none_in_order { (network : Project) → IsTown network
         → rule_changes network (false ∷ false ∷ false ∷ false ∷ []) (links_at network standing_when_full)
-        ≡ record { by = 2; link = 4; to = Open } ∷ [] }
+        ≡ record { source = ByRule 2; link = 4; to = Open } ∷ [] }
 {}
 
 /// Of two offers to a link the one of higher rank, of equal ranks the earlier one.

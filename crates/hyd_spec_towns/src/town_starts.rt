@@ -2,6 +2,7 @@
 #![tactic(auto)]
 
 ghost use Rattle.std.specs.Prelude.{◌≡◌, pos, neg_ℤ, true, false, [], ◌∷◌, map, codes};
+ghost use Rattle.hyd_spec.specs.declared.Source.TheVariants.{Control as ByControl};
 ghost use Rattle.hyd_spec.specs.Types.{Project, Capacity, Open, Closed, Speed};
 ghost use Rattle.hyd_spec.specs.Start.{started, acts_at};
 ghost use Rattle.hyd_spec.specs.History.{initial_links, initial_levels};
@@ -48,12 +49,12 @@ pub fn changes()
         → start_changes network 0 (acts_on standing_at_start.levels) standing_at_start.commanded ≡ [] }
     ensures at_one { (network : Project) → IsTown network
         → start_changes network 3600 (acts_on standing_at_one.levels) standing_at_one.commanded
-        ≡ record { by = 0; link = 0; to = Speed (pos 1200000000) } ∷ record { by = 1; link = 0; to = Closed } ∷ [] }
+        ≡ record { source = ByControl 0; link = 0; to = Speed (pos 1200000000) } ∷ record { source = ByControl 1; link = 0; to = Closed } ∷ [] }
     ensures at_two { (network : Project) → IsTown network
         → start_changes network 7200 (acts_on standing_at_two.levels) standing_at_two.commanded ≡ [] }
     ensures when_full { (network : Project) → IsTown network
         → start_changes network 7313 (acts_on standing_when_full.levels) standing_when_full.commanded
-        ≡ record { by = 2; link = 3; to = wide_main } ∷ record { by = 3; link = 1; to = Closed } ∷ [] }
+        ≡ record { source = ByControl 2; link = 3; to = wide_main } ∷ record { source = ByControl 3; link = 1; to = Closed } ∷ [] }
     ensures after_rules { (network : Project) → IsTown network
         → start_changes network 8640 (acts_on standing_after_rules.levels) standing_after_rules.commanded ≡ [] }
     ensures at_three { (network : Project) → IsTown network

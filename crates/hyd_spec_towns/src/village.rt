@@ -96,7 +96,7 @@ pub fn only_run()
 
 /// What was written is the certificate of the records, what was printed the report of the lines.
 pub fn texts()
-    ensures certificate { IsCertificateText written 2 1 (rows_of founds) 5 true }
+    ensures certificate { IsCertificateText written 1 2 1 (rows_of founds) 5 true }
     ensures report { printed ≡ report_text village (lines_of founds) (done_line 5) }
 {}
 

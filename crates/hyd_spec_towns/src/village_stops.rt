@@ -5,7 +5,8 @@
 ghost use Rattle.std.specs.Prelude.{◌≡◌, pos, [], ◌∷◌, codes};
 ghost use Rattle.hyd_spec_certificates.specs.declared.Problem.TheVariants.{Main};
 ghost use Rattle.hyd_spec_certificates.specs.declared.Side.TheVariants.{Upper, Lower};
-ghost use Rattle.hyd_spec_reports.specs.Stops.{Stops, DemandOutOfRange, NoCertificate, RoundsSpent, RuleOpen, EventOpen, TankOpen, ControlOpen};
+ghost use Rattle.hyd_spec_reports.specs.Stops.{Stops};
+ghost use Rattle.hyd_spec_reports.specs.declared.StopCause.TheVariants.{Demand as DemandOutOfRange, NoCertificate, RoundsSpent, RuleOpen, EventOpen, TankOpen, ControlOpen};
 ghost use Rattle.hyd_spec_reports.specs.ReportLine.{stop_line};
 ghost use Rattle.hyd_spec_certificates.specs.Record.{initial_standing};
 ghost use Rattle.hyd_spec_towns.specs.Village.{village, village_with};
@@ -13,47 +14,47 @@ ghost use Rattle.hyd_spec_towns.specs.VillageStops.{thirsty, dry, unsure_rule, o
 
 /// A demand is out of range.
 pub fn demand()
-    ensures stops { Stops thirsty (initial_standing thirsty) 200 (DemandOutOfRange 0 (pos 1200000000000000)) }
-    ensures line { stop_line thirsty 0 0 (DemandOutOfRange 0 (pos 1200000000000000))
+    ensures stops { Stops thirsty (initial_standing thirsty) 200 (DemandOutOfRange 0 0 (pos 1200000000000000)) }
+    ensures line { stop_line thirsty 0 (DemandOutOfRange 0 0 (pos 1200000000000000))
         ≡ codes "STOP period 0 time 0:00:00 DEMAND Mill 1200000000000000\n" }
 {}
 
 /// A junction has no source.
 pub fn source()
-    ensures stops { Stops (village_with dry) (initial_standing (village_with dry)) 200 (NoCertificate Main Lower 1) }
-    ensures line { stop_line (village_with dry) 0 0 (NoCertificate Main Lower 1)
+    ensures stops { Stops (village_with dry) (initial_standing (village_with dry)) 200 (NoCertificate 0 Main Lower 1) }
+    ensures line { stop_line (village_with dry) 0 (NoCertificate 0 Main Lower 1)
         ≡ codes "STOP period 0 time 0:00:00 NOCERT MAIN LOWER JUNCTION Farm\n" }
 {}
 
 /// No rounds are allowed.
 pub fn rounds()
-    ensures stops { Stops village (initial_standing village) 0 (RoundsSpent Main Upper 0) }
-    ensures line { stop_line village 0 0 (RoundsSpent Main Upper 0) ≡ codes "STOP period 0 time 0:00:00 ROUNDS MAIN UPPER 0\n" }
+    ensures stops { Stops village (initial_standing village) 0 (RoundsSpent 0 Main Upper 0) }
+    ensures line { stop_line village 0 (RoundsSpent 0 Main Upper 0) ≡ codes "STOP period 0 time 0:00:00 ROUNDS MAIN UPPER 0\n" }
 {}
 
 /// A rule is open.
 pub fn rule()
-    ensures stops { Stops (village_with unsure_rule) (initial_standing (village_with unsure_rule)) 200 (RuleOpen open_rule) }
-    ensures line { stop_line (village_with unsure_rule) 0 0 (RuleOpen open_rule)
+    ensures stops { Stops (village_with unsure_rule) (initial_standing (village_with unsure_rule)) 200 (RuleOpen 0 open_rule.rule open_rule.clause open_rule.lo open_rule.hi) }
+    ensures line { stop_line (village_with unsure_rule) 0 (RuleOpen 0 open_rule.rule open_rule.clause open_rule.lo open_rule.hi)
         ≡ codes "STOP period 0 time 0:00:00 RULE Refill CLAUSE 2 20014736562746 20014736577608\n" }
 {}
 
 /// The end is open between two seconds.
 pub fn event()
-    ensures stops { Stops (village_with unsure_event) (initial_standing (village_with unsure_event)) 200 (EventOpen 5 6) }
-    ensures line { stop_line (village_with unsure_event) 0 0 (EventOpen 5 6) ≡ codes "STOP period 0 time 0:00:00 EVENT 5 6\n" }
+    ensures stops { Stops (village_with unsure_event) (initial_standing (village_with unsure_event)) 200 (EventOpen 0 5 6) }
+    ensures line { stop_line (village_with unsure_event) 0 (EventOpen 0 5 6) ≡ codes "STOP period 0 time 0:00:00 EVENT 5 6\n" }
 {}
 
 /// A level control is open at the end of the period.
 pub fn control()
-    ensures stops { Stops (village_with unsure_control) (initial_standing (village_with unsure_control)) 200 (ControlOpen 0 last_level) }
-    ensures line { stop_line (village_with unsure_control) 0 0 (ControlOpen 0 last_level)
+    ensures stops { Stops (village_with unsure_control) (initial_standing (village_with unsure_control)) 200 (ControlOpen 0 0 last_level.lo last_level.hi) }
+    ensures line { stop_line (village_with unsure_control) 0 (ControlOpen 0 0 last_level.lo last_level.hi)
         ≡ codes "STOP period 0 time 0:00:00 CONTROL 1 20058946250974 20058946310442\n" }
 {}
 
 /// The state of the tank is open at the end of the period.
 pub fn tank()
-    ensures stops { Stops (village_with unsure_tank) (initial_standing (village_with unsure_tank)) 200 (TankOpen 0 last_level) }
-    ensures line { stop_line (village_with unsure_tank) 0 0 (TankOpen 0 last_level)
+    ensures stops { Stops (village_with unsure_tank) (initial_standing (village_with unsure_tank)) 200 (TankOpen 0 0 last_level.lo last_level.hi) }
+    ensures line { stop_line (village_with unsure_tank) 0 (TankOpen 0 0 last_level.lo last_level.hi)
         ≡ codes "STOP period 0 time 0:00:00 TANK Tower 20058946250974 20058946310442\n" }
 {}

@@ -8,10 +8,16 @@ mod capacities;
 #[cfg(test)]
 mod command;
 #[cfg(test)]
+mod lines;
+#[cfg(test)]
 mod network;
 #[cfg(test)]
 mod numbers;
 #[cfg(test)]
 mod outside;
+#[cfg(test)]
+mod rows;
+#[cfg(test)]
+mod sparse;
 #[cfg(test)]
 mod units;

@@ -1,5 +1,4 @@
-use Rattle.hyd_cli.proofs.FirstHistory.{every_history}
-use Rattle.hyd_cli.proofs.FirstRuns.{found_run, found_sharp}
+use Rattle.hyd_cli.proofs.FirstRuns.{every_history, found_run, found_sharp}
 use Rattle.hyd_cli.proofs.theorems.first_histories.Goals as goal
 
 pub returns-clause-agree : goal.returns-clause-agree

@@ -23,19 +23,19 @@ pub returns-clause-head_96 : goal.returns-clause-head_96
 returns-clause-head_96 c = λ network span number l2 r1 lo. rw (l2, r1, lo) refl
 
 pub returns-clause-level_0 : goal.returns-clause-level_0
-returns-clause-level_0 c = λ network tank span number tanks l2 r1 lo area max min. rw (tanks, l2, r1, lo, area, max, min) refl
+returns-clause-level_0 c = λ network bottom initial diameter span number tanks l2 r1 lo. rw (tanks, l2, r1, lo) refl
 
 pub returns-clause-level_1 : goal.returns-clause-level_1
-returns-clause-level_1 c = λ network tank span number tanks l2 r1 lo area max min. rw (tanks, l2, r1, lo, area, max, min) refl
+returns-clause-level_1 c = λ network bottom initial diameter span number tanks l2 r1 lo. rw (tanks, l2, r1, lo) refl
 
 pub returns-clause-level_96993791 : goal.returns-clause-level_96993791
-returns-clause-level_96993791 c = λ network tank span number tanks l2 r1 lo area max min. rw (tanks, l2, r1, lo, area, max, min) refl
+returns-clause-level_96993791 c = λ network bottom initial diameter span number tanks l2 r1 lo. rw (tanks, l2, r1, lo) refl
 
 pub returns-clause-tank_head_20 : goal.returns-clause-tank_head_20
-returns-clause-tank_head_20 c = λ network tank span number tanks l2 r1 lo bottom area max min. rw (tanks, l2, r1, lo, bottom, area, max, min) refl
+returns-clause-tank_head_20 c = λ network initial diameter span number tanks l2 r1 lo. rw (tanks, l2, r1, lo) refl
 
 pub returns-clause-tank_head_96993811 : goal.returns-clause-tank_head_96993811
-returns-clause-tank_head_96993811 c = λ network tank span number tanks l2 r1 lo bottom area max min. rw (tanks, l2, r1, lo, bottom, area, max, min) refl
+returns-clause-tank_head_96993811 c = λ network initial diameter span number tanks l2 r1 lo. rw (tanks, l2, r1, lo) refl
 
 pub returns-clause-tank_head_96993812 : goal.returns-clause-tank_head_96993812
-returns-clause-tank_head_96993812 c = λ network tank span number tanks l2 r1 lo bottom area max min. rw (tanks, l2, r1, lo, bottom, area, max, min) refl
+returns-clause-tank_head_96993812 c = λ network initial diameter span number tanks l2 r1 lo. rw (tanks, l2, r1, lo) refl

@@ -2,7 +2,7 @@ use Rattle.std.proofs.Common.{refl}
 use Rattle.hyd_spec_cases.proofs.levels.exact.Goals as goal
 
 pub returns-clause-filling : goal.returns-clause-filling
-returns-clause-filling c = λ tank area. rw area refl
+returns-clause-filling c = refl
 
 pub returns-clause-draining : goal.returns-clause-draining
-returns-clause-draining c = λ tank area. rw area refl
+returns-clause-draining c = refl

@@ -1,5 +1,8 @@
-use Rattle.hyd_spec_laws.proofs.Levelling.{state_holds}
+use Rattle.hyd_spec_laws.proofs.Levelling.{state_holds, state_nests}
 use Rattle.hyd_spec_laws.proofs.tanks.states.Goals as goal
 
-pub returns : goal.returns
-returns c = state_holds
+pub returns-clause-holds : goal.returns-clause-holds
+returns-clause-holds c = state_holds
+
+pub returns-clause-nests : goal.returns-clause-nests
+returns-clause-nests c = state_nests

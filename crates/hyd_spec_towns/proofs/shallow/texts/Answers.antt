@@ -1,4 +1,4 @@
-use Rattle.std.proofs.Common.{◌∷◌, [], refl, arith}
+use Rattle.std.proofs.Common.{◌∷◌, [], refl, arith, inl}
 use Rattle.std.specs.Fmt.{digits}
 use Rattle.std.proofs.lemmas.List.Elements.{All-nil, All-cons}
 use Rattle.hyd_num.specs.Decimals.{fixed_point}
@@ -10,6 +10,7 @@ use Rattle.hyd_spec_towns.proofs.shallow.texts.Goals as goal
 pub returns-clause-certificate : goal.returns-clause-certificate
 unfolding digits
 returns-clause-certificate c = record {
+  known = inl refl;
   junctions_fit = omega arith;
   tanks_fit = omega arith;
   rows_fit = All-cons (IsRow 2 1) row_0 (row_1 ∷ [])

@@ -4,7 +4,7 @@ use Rattle.hyd_spec_towns.proofs.TownIs.{town_is}
 use Rattle.std.specs.Fmt.{digits}
 use Rattle.hyd_num.specs.Decimals.{fixed_point}
 use Rattle.std.specs.Prelude.{◌++◌, map}
-use Rattle.hyd_spec_reports.specs.Report.{control_lines, event_lines}
+use Rattle.hyd_spec_reports.specs.Report.{control_lines, events_of, event_line}
 use Rattle.hyd_spec_reports.specs.ReportLine.{line_text, report_text, done_line}
 use Rattle.hyd_spec_towns.specs.TownPeriods.{standing_at_two, grid_at_two, row_at_two}
 use Rattle.hyd_spec_towns.specs.TownReport.{lines_at_two}
@@ -15,4 +15,4 @@ returns-clause-text_state c = λ network town. ap (λ network. map (line_text ne
 
 pub returns-clause-text_report : goal.returns-clause-text_report
 unfolding digits fixed_point
-returns-clause-text_report c = λ network town. ap (λ network. report_text network (control_lines network standing_at_two ++ (lines_at_two ++ event_lines network grid_at_two standing_at_two row_at_two)) (done_line 1)) (town_is town)
+returns-clause-text_report c = λ network town. ap (λ network. report_text network (control_lines network standing_at_two ++ (lines_at_two ++ map (event_line 7313) (events_of network grid_at_two standing_at_two row_at_two))) (done_line 1)) (town_is town)

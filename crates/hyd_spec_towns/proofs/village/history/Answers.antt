@@ -23,6 +23,6 @@ fifth = record { obeys = obeys usual _ 0 _ _ _ _ _ _ (pos 3000000000000) _ _ (st
 
 pub returns : goal.returns
 returns c = (
-  record { at_time = refl; at_levels = refl; tanks = refl; links = refl },
+  record { at_time = refl; at_levels = refl; at_volumes = refl; tanks = refl; links = refl },
   (first, (second_comes, (second, (third_comes, (third, (fourth_comes, (fourth, (fifth_comes, (fifth, tt))))))))),
 )

@@ -1,4 +1,4 @@
-use Rattle.std.proofs.Common.{refl, arith}
+use Rattle.std.proofs.Common.{refl, arith, inl}
 use Rattle.std.specs.Fmt.{digits}
 use Rattle.hyd_num.specs.Decimals.{fixed_point}
 use Rattle.hyd_spec_towns.proofs.VillageTexts.{rows_fit}
@@ -6,7 +6,7 @@ use Rattle.hyd_spec_towns.proofs.village.texts.Goals as goal
 
 pub returns-clause-certificate : goal.returns-clause-certificate
 unfolding digits
-returns-clause-certificate c = record { junctions_fit = omega arith; tanks_fit = omega arith; rows_fit = rows_fit; periods_fit = omega arith; is_text = refl }
+returns-clause-certificate c = record { known = inl refl; junctions_fit = omega arith; tanks_fit = omega arith; rows_fit = rows_fit; periods_fit = omega arith; is_text = refl }
 
 pub returns-clause-report : goal.returns-clause-report
 unfolding digits fixed_point

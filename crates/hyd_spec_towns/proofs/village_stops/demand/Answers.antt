@@ -4,7 +4,7 @@ use Rattle.hyd_spec_towns.proofs.VillageStops.{demand_stops}
 use Rattle.hyd_spec_towns.proofs.village_stops.demand.Goals as goal
 
 pub returns-clause-stops : goal.returns-clause-stops
-returns-clause-stops c = demand_stops
+returns-clause-stops c = record { period_is = refl; holds = demand_stops }
 
 pub returns-clause-line : goal.returns-clause-line
 unfolding digits

@@ -4,7 +4,7 @@ use Rattle.hyd_spec_towns.proofs.VillageStops.{rounds_stop}
 use Rattle.hyd_spec_towns.proofs.village_stops.rounds.Goals as goal
 
 pub returns-clause-stops : goal.returns-clause-stops
-returns-clause-stops c = (refl, rounds_stop)
+returns-clause-stops c = record { period_is = refl; holds = (refl, rounds_stop) }
 
 pub returns-clause-line : goal.returns-clause-line
 unfolding digits

@@ -1,0 +1,21 @@
+//! The lines of options, times, controls and rules of an input file (EPANET 2.2 User Manual, appendix C), each read by
+//! itself: what it says, or the first thing that is wrong with it, word by word from the left.
+#![tactic(auto)]
+
+mod columns;
+mod controls;
+mod keywords;
+mod moments;
+mod options;
+mod parts;
+mod rules;
+mod times;
+
+pub use columns::{check_id, ends, id, needed, number, number_within};
+pub use controls::{Asked, ControlLine, WhenLine, read_control};
+pub use hyd_net::Relation;
+pub use hyd_spec_input::{Attribute, LinkWord, NodeWord};
+pub use moments::{read_clock, read_time};
+pub use options::{OptionSet, read_option};
+pub use rules::{ActionLine, ClauseLine, Object, RuleLine, Value, read_rule_line};
+pub use times::{TimeSet, read_time_line};

@@ -1,0 +1,19 @@
+//! The factor of a sparse symmetric matrix, as the gradient method needs it for heads (EPANET 2.2
+//! User Manual, chapter on analysis algorithms). Nothing is promised of its numbers: whoever uses
+//! them checks what they lead to.
+#![tactic(auto)]
+
+mod elimination;
+mod factor;
+mod layout;
+mod ordering;
+mod pattern;
+mod permutation;
+mod queue;
+mod solution;
+mod tables;
+
+pub use factor::{Factor, UNIT};
+
+/// The error of a call that found no memory.
+pub use std::alloc::AllocError as OutOfMemory;

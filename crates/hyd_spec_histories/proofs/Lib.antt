@@ -1,0 +1,15 @@
+pub mod Places
+pub mod Reaching
+pub mod Clauses
+pub mod Looks
+pub mod Judging
+pub mod Watching
+pub mod Lasting
+pub mod Beginning
+pub mod Commanding
+pub mod Stepping
+pub mod PrintedValues
+pub mod LinesHold
+pub mod Words
+pub mod Lines
+pub mod Running
