@@ -37,7 +37,7 @@ below : (least most : Rational) (D : ℤ) (c : Capacity) (A B : Relation) → Pa
     → steps_at_least least most D A S p (pos S *ℤ demand_low (Driven D c least most) d)
 below least most D c A B parts S d p some le =
     let by_parts : (P : ℤ → Type 0) → (d ≤ℤ ceiling least → P (pos 0)) → (ceiling least <ℤ d → ceiling most ≤ℤ d → P D)
-        → (ceiling least <ℤ d → P (int_min D (quadratic_low c (d -ℤ ceiling least)))) → P (demand_low (Driven D c least most) d) =
+    → (ceiling least <ℤ d → P (int_min D (quadratic_low c (d -ℤ ceiling least)))) → P (demand_low (Driven D c least most) d) =
     (λ P none whole part. cond_both (int_le d (ceiling least)) (pos 0) (if int_le (ceiling most) d then D else int_min D (quadratic_low c (d -ℤ ceiling least))) P
     (λ e. none (le-yes d (ceiling least) e))
     (λ e. cond_both (int_le (ceiling most) d) D (int_min D (quadratic_low c (d -ℤ ceiling least))) P
@@ -67,7 +67,7 @@ above : (least most : Rational) (D : ℤ) (c : Capacity) (A B : Relation) → Pa
     → steps_at_most least most D B S p (pos S *ℤ demand_high (Driven D c least most) d)
 above least most D c A B parts S d p some le =
     let by_parts : (P : ℤ → Type 0) → (d ≤ℤ floor least → P (pos 0)) → (floor least <ℤ d → P D)
-        → (floor least <ℤ d → d <ℤ floor most → P (quadratic_high c (d -ℤ floor least))) → P (demand_high (Driven D c least most) d) =
+    → (floor least <ℤ d → d <ℤ floor most → P (quadratic_high c (d -ℤ floor least))) → P (demand_high (Driven D c least most) d) =
     (λ P none whole part. cond_both (int_le d (floor least)) (pos 0) (if int_le (floor most) d then D else int_min D (quadratic_high c (d -ℤ floor least))) P
     (λ e. none (le-yes d (floor least) e))
     (λ e. cond_both (int_le (floor most) d) D (int_min D (quadratic_high c (d -ℤ floor least))) P
@@ -89,6 +89,7 @@ above least most D c A B parts S d p some le =
     late : d ≤ℤ floor least → is_at_most (pressure_at S p) least ≡ false → ⊥
     late h fails = not_under S d p least le (le-no (p *ℤ pos least.den) (least.num *ℤ pos S) fails)
         (let a = floor_low least parts.some_least in let b = times_rises least.den d (floor least) h in omega (arith, ints, a, b))
+
     full : d <ℤ floor most → is_at_most most (pressure_at S p) ≡ true → ⊥
     full g held =
         let b = ceiling_least most d parts.some_most (over_it S d p most some le (le-yes (most.num *ℤ pos S) (p *ℤ pos most.den) held)) in
