@@ -23,7 +23,7 @@ use Rattle.hyd_spec_certificates.specs.Decided.{level_of_tank, inflow_of_tank, h
 use Rattle.hyd_spec_certificates.specs.Valid.{IsProblem}
 use Rattle.hyd_spec_laws.specs.Laws.{IsSoundLaw, IsInside}
 use Rattle.hyd_spec_laws.proofs.EachLaw.{IsLaw-each}
-use Rattle.hyd_spec_laws.proofs.Placing.{one_times}
+use Rattle.hyd_spec_laws.proofs.Leading.{one_times}
 use Rattle.hyd_spec_laws.proofs.Nodes.{excess}
 use Rattle.hyd_spec_laws.proofs.Comparison.{place_long}
 use Rattle.hyd_spec_nesting.specs.Nesting.{IsOrdered, AreNested}

@@ -22,7 +22,7 @@ use Rattle.hyd_spec_certificates.specs.Valid.{LeavesLinks, by_rules as left_by_r
 use Rattle.hyd_spec_laws.specs.Laws.{LiesIn, IsInside, AreInside, HasStock, Tells}
 use Rattle.hyd_lemmas.proofs.Integers.{max_is}
 use Rattle.hyd_spec_laws.proofs.Outflows.{le-no}
-use Rattle.hyd_spec_laws.proofs.Placing.{one_times}
+use Rattle.hyd_spec_laws.proofs.Leading.{one_times}
 use Rattle.hyd_spec_laws.proofs.Levelling.{carried_inside, carried_ordered, next_inside, next_has}
 use Rattle.hyd_spec_laws.proofs.Deciding.{may_nests, must_nests, must_may}
 use Rattle.hyd_spec_histories.specs.Agreement.{IsValueBetween, AreBetween}

@@ -17,9 +17,10 @@ use Rattle.hyd_spec_certificates.specs.Certificate.{IsTight}
 use Rattle.hyd_spec_certificates.specs.Record.{Record, Standing, vector_of}
 use Rattle.hyd_spec_certificates.specs.Stocks.{Stocks}
 use Rattle.hyd_spec_certificates.specs.Decided.{Watch, stocks_of_tank, inflow_of_tank, RulesMatter}
-use Rattle.hyd_spec_certificates.specs.Valid.{AreCertificates, IsProblem, IsGridAt}
+use Rattle.hyd_spec_certificates.specs.Valid.{AreCertificates, IsProblem, IsGridAt, IsValid}
 use Rattle.hyd_spec_reports.specs.declared.StopCause.{StopCause}
 use Rattle.hyd_spec_reports.specs.declared.StopCause.TheVariants.{Demand as DemandOutOfRange, NoCertificate, RoundsSpent, RuleOpen, EventOpen, TankOpen, ControlOpen}
+use Rattle.hyd_spec_reports.specs.Stops.{Stops}
 use Rattle.hyd_spec_laws.specs.Laws.{HasStock, IsVessel, IsSteady}
 
 -- ---- records
@@ -110,3 +111,18 @@ IsReason (RuleOpen period rule clause lo hi) = ⊤
 IsReason (EventOpen period earliest latest) = ⊤
 IsReason (TankOpen period tank lo hi) = ⊤
 IsReason (ControlOpen period control lo hi) = ⊤
+
+-- ---- going on
+
+-- Some record is valid at a standing and leads on.
+pub record LeadsSomewhere (network : Project) (standing : Standing) : Type 0 where
+  pub grid : Grid
+  pub row : Record
+  pub next : Standing
+  pub valid : IsValid network standing grid row next
+
+-- A cause of a stop other than spent rounds holds at a standing.
+pub record IsStopped (network : Project) (standing : Standing) (rounds : ℕ) : Type 0 where
+  pub cause : StopCause
+  pub reason : IsReason cause
+  pub stops : Stops network standing rounds cause
