@@ -33,4 +33,8 @@ pub mod OneReport
 pub mod OneLength
 pub mod OneCapacity
 pub mod OneRun
+pub mod Failing
+pub mod OneRefusal
 pub mod Vessels
+pub mod CurveLevels
+pub mod Targets
