@@ -11,3 +11,4 @@ pub mod Ending
 pub mod Reporting
 pub mod Gridding
 pub mod GoingOn
+pub mod Extending

@@ -1,7 +1,7 @@
 -- Records inside others: what is asked of two records so that what the outer one decides the inner one decides in the
 -- same way.
 -- Source: this program's; intervals that lie inside others are those of Moore 1966.
-use Rattle.std.specs.Prelude.{◌≡◌, ℕ, ◌≤◌, ℤ, ◌≤ℤ◌, List, ⊤, length, ◌⊎◌, Bool, false, IsTrue, Contains, slice_get}
+use Rattle.std.specs.Prelude.{◌≡◌, ℕ, ◌≤◌, ℤ, ◌≤ℤ◌, List, [], ◌∷◌, ◌++◌, ⊤, length, ◌⊎◌, Bool, false, IsTrue, Contains, slice_get}
 use Rattle.std.specs.Option.{option_map_or}
 use Rattle.hyd_spec.specs.Types.{Project, Tank}
 use Rattle.hyd_spec.specs.Lists.{Each}
@@ -21,6 +21,7 @@ use Rattle.hyd_spec_certificates.specs.Valid.{AreCertificates, IsProblem, IsGrid
 use Rattle.hyd_spec_reports.specs.declared.StopCause.{StopCause}
 use Rattle.hyd_spec_reports.specs.declared.StopCause.TheVariants.{Demand as DemandOutOfRange, NoCertificate, RoundsSpent, RuleOpen, EventOpen, TankOpen, ControlOpen}
 use Rattle.hyd_spec_reports.specs.Stops.{Stops}
+use Rattle.hyd_spec_reports.specs.Headline.{Found, IsRun}
 use Rattle.hyd_spec_laws.specs.Laws.{HasStock, IsVessel, IsSteady}
 
 -- ---- records
@@ -126,3 +127,8 @@ pub record IsStopped (network : Project) (standing : Standing) (rounds : ℕ) : 
   pub cause : StopCause
   pub reason : IsReason cause
   pub stops : Stops network standing rounds cause
+
+-- A run goes on by one more period.
+pub record IsLonger (network : Project) (founds : List Found) : Type 0 where
+  pub found : Found
+  pub is_run : IsRun network (founds ++ (found ∷ [])) found.next

@@ -23,9 +23,10 @@ ghost use Rattle.hyd_spec_reports.specs.declared.StopCause.{StopCause};
 ghost use Rattle.hyd_spec_reports.specs.Stops.{Stops};
 ghost use Rattle.hyd_spec_reports.specs.ReportLine.{ReportLine};
 ghost use Rattle.hyd_spec_reports.specs.Report.{IsReport};
+ghost use Rattle.hyd_spec_reports.specs.Headline.{Found, IsRun};
 ghost use Rattle.hyd_spec_laws.specs.Laws.{IsInside, AreInside, HasStock, IsSteady};
 ghost use Rattle.hyd_spec_histories.specs.Agreement.{IsKept};
-ghost use Rattle.hyd_spec_nesting.specs.Nesting.{IsOrdered, AreNested, IsTightened, IsTidy, ReachTest, watch_passes, IsFirstAmong, IsWalked, IsReason, LeadsSomewhere, IsStopped};
+ghost use Rattle.hyd_spec_nesting.specs.Nesting.{IsOrdered, AreNested, IsTightened, IsTidy, ReachTest, watch_passes, IsFirstAmong, IsWalked, IsReason, LeadsSomewhere, IsStopped, IsLonger};
 
 // ---- certificates of two sides
 
@@ -172,4 +173,13 @@ pub fn reports()
 pub fn onward()
     ensures { (network : Project) → Sound network → (standing : Standing) → IsKept network standing → standing.finished ≡ false
         → (rounds : ℕ) → LeadsSomewhere network standing ⊎ IsStopped network standing rounds }
+{}
+
+/// Every standing that a run leaves keeps what standings keep. A run that isn't finished goes on by one more period, or a
+/// cause of a stop holds at the standing that it leaves, whatever the number of rounds.
+pub fn runs()
+    ensures keep { (network : Project) → Sound network → (founds : List Found) (last : Standing) → IsRun network founds last
+        → IsKept network last × IsTidy network last }
+    ensures go_on { (network : Project) → Sound network → (founds : List Found) (last : Standing) → IsRun network founds last
+        → last.finished ≡ false → (rounds : ℕ) → IsLonger network founds ⊎ IsStopped network last rounds }
 {}
