@@ -1,6 +1,6 @@
 -- A vector that isn't a certificate fails first at one junction.
 use Rattle.std.proofs.Common.{◌≡◌, ℕ, ◌<◌, ℤ, pos, List, arith, inl, inr}
-use Rattle.std.specs.Prelude.{Option, Some, slice_get, All}
+use Rattle.std.specs.Prelude.{Option}
 use Rattle.std.proofs.lemmas.Bool.{cases_lt}
 use Rattle.hyd_spec_certificates.specs.declared.Problem.{Problem}
 use Rattle.hyd_spec_certificates.specs.declared.Side.{Side}

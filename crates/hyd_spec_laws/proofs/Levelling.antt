@@ -394,7 +394,7 @@ module _ (walls : Walls) (tank : Tank) (vessel : IsVessel walls tank) where
         let least = exact_least walls stocks inflow seconds in let greatest = exact_greatest walls stocks inflow seconds in
         let fits = content-fits walls tank greatest vessel (exact-some walls (greatest_stock stocks) inflow.hi seconds vessel.holds_water) in
         let a = lower-rises bounds bounds least greatest least greatest
-            (content-fits walls tank least vessel (exact-some walls (least_stock stocks) inflow.lo seconds vessel.holds_water)) fits least-below least-below room positive in
+        (content-fits walls tank least vessel (exact-some walls (least_stock stocks) inflow.lo seconds vessel.holds_water)) fits least-below least-below room positive in
         let b = ends-ordered bounds bounds greatest greatest room positive fits in
         omega (arith, ints, a, b)
 

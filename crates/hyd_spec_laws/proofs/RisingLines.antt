@@ -233,7 +233,7 @@ value-positive S knots d x some order le h =
     let above = value-den S knots x in
     let one : pos S ≤ℤ (pos S *ℤ p.num) = (let l = times_rises S (pos 1) p.num (omega (arith, ints, h)) in omega (arith, ints, l, times_one S)) in
     let more : pos r.den ≤ℤ (pos r.den *ℤ (pos S *ℤ p.num)) =
-        (let l = times_rises r.den (pos 1) (pos S *ℤ p.num) (omega (arith, ints, one, some)) in omega (arith, ints, l, times_one r.den)) in
+    (let l = times_rises r.den (pos 1) (pos S *ℤ p.num) (omega (arith, ints, one, some)) in omega (arith, ints, l, times_one r.den)) in
     from-product p.den r.num (omega (arith, ints, up, more, above, one-within p.den r.num))
 
 -- and where it is at most 0, that at x, at most S d, is at most 0
