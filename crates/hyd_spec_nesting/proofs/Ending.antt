@@ -67,22 +67,22 @@ module _ (network : Project) (grid : Grid) (standing : Standing) (row : Record) 
         elim (find_or_none RuleClause (λ each. is_unknown (clause-at seconds each.clause)) m.item.clauses.list) [
           | inr none ↦ absurd (
               let known = rule-known (clause-at seconds) m.item
-                  (all_contained RuleClause (λ each. is_unknown (clause-at seconds each.clause) ≡ false) m.item.clauses.list none.fails) in
+              (all_contained RuleClause (λ each. is_unknown (clause-at seconds each.clause) ≡ false) m.item.clauses.list none.fails) in
               never (is_unknown (rule_truth network grid standing row seconds m.item)) (ap is_unknown m.same ∙ found.passes) known)
           | inl clause ↦ (
-              record {
-                rule = found.place;
-                clause = clause.place;
-                lo = floor (measured network 1 (readings_below network grid standing row seconds) clause.item.clause.what);
-                hi = ceiling (measured network 1 (readings_above network grid standing row seconds) clause.item.clause.what);
-              },
-              record {
-                first_rule = found.is_place;
-                rule = m.item;
-                is_rule = m.is_item;
-                clause_is = record { first_clause = clause.is_place; each = clause.item; is_clause = clause.is_item; lo_is = refl; hi_is = refl };
-              },
-            )
+            record {
+              rule = found.place;
+              clause = clause.place;
+              lo = floor (measured network 1 (readings_below network grid standing row seconds) clause.item.clause.what);
+              hi = ceiling (measured network 1 (readings_above network grid standing row seconds) clause.item.clause.what);
+            },
+            record {
+              first_rule = found.is_place;
+              rule = m.item;
+              is_rule = m.is_item;
+              clause_is = record { first_clause = clause.is_place; each = clause.item; is_clause = clause.is_item; lo_is = refl; hi_is = refl };
+            },
+          )
         ]
   ]
 
@@ -148,21 +148,21 @@ module _ (network : Project) (grid : Grid) (standing : Standing) (row : Record) 
         by-earliest : ((e : ℕ) × IsEarliestEnd network grid standing row e) → SomeEnd
         by-earliest (earliest, is) = elim (first-below (RulesMatter network grid standing row) rules-matter-or-not (suc earliest)) [
           | inr none ↦ without-rules earliest (record {
-              not_last = not_last;
-              is_earliest = is;
-              none = λ s m. elim (cases_lt earliest s) [
-                | inl less ↦ less
-                | inr more ↦ absurd (none s (omega (arith, more)) m)
-              ];
-            })
+            not_last = not_last;
+            is_earliest = is;
+            none = λ s m. elim (cases_lt earliest s) [
+              | inl less ↦ less
+              | inr more ↦ absurd (none s (omega (arith, more)) m)
+            ];
+          })
           | inl (k, first) ↦ elim (cases_lt earliest k) [
             | inl after ↦ without-rules earliest (record { not_last = not_last; is_earliest = is; none = λ s m. let l = first.least s m in omega (arith, l, after) })
             | inr before ↦ by-matter k (record {
-                not_last = not_last;
-                earliest = earliest;
-                is_earliest = is;
-                in_time = before;
-                first = record { holds = first.holds; least = first.least };
-              })
+              not_last = not_last;
+              earliest = earliest;
+              is_earliest = is;
+              in_time = before;
+              first = record { holds = first.holds; least = first.least };
+            })
           ]
         ]

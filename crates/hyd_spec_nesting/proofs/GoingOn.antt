@@ -137,13 +137,13 @@ module _ (network : Project) (sound : Sound network) (standing : Standing) (kept
     some-junction problem side none = elim (cases_lt 0 (junction_count network)) [
       | inl some ↦ some
       | inr nowhere-there ↦ absurd (none [] (record {
-          one_each = (let e = place_long (IsJunctionOf network standing.time) network.junctions.list grid.junctions is_grid.junctions in omega (arith, e, nowhere-there));
-          in_box = λ k d lt. absurd (omega (arith, lt));
-          passes = λ i junction at.
-              let inside = slice_get_within grid.junctions i junction at in
-              let e = place_long (IsJunctionOf network standing.time) network.junctions.list grid.junctions is_grid.junctions in
-              absurd (omega (arith, inside, e, nowhere-there));
-        }))
+        one_each = (let e = place_long (IsJunctionOf network standing.time) network.junctions.list grid.junctions is_grid.junctions in omega (arith, e, nowhere-there));
+        in_box = λ k d lt. absurd (omega (arith, lt));
+        passes = λ i junction at.
+            let inside = slice_get_within grid.junctions i junction at in
+            let e = place_long (IsJunctionOf network standing.time) network.junctions.list grid.junctions is_grid.junctions in
+            absurd (omega (arith, inside, e, nowhere-there));
+      }))
     ]
 
     no-vector : (problem : Problem) (side : Side) → IsProblem network problem → EarlierHaveCertificates network grid problem side → HasNoVector problem side → Onward
