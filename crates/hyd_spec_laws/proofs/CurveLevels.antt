@@ -1,6 +1,6 @@
 -- The level at a volume and the volume at a level undo each other along a curve whose levels and volumes rise.
-use Rattle.std.proofs.Common.{◌≡◌, ℕ, zero, suc, ◌*◌, ◌<◌, ◌≤◌, ℤ, pos, ◌+ℤ◌, ◌-ℤ◌, ◌*ℤ◌, ◌≤ℤ◌, ◌<ℤ◌, ◌⊎◌, inl, inr, refl, sym, ap, subst, ◌∙◌, arith, Bool, true, false, List, [], ◌∷◌, length}
-use Rattle.std.specs.Prelude.{⊤, unsigned_abs, int_lt, if◌then◌else◌, map}
+use Rattle.std.proofs.Common.{◌≡◌, ℕ, ◌*◌, ◌<◌, ℤ, pos, ◌+ℤ◌, ◌-ℤ◌, ◌*ℤ◌, ◌<ℤ◌, sym, ap, subst, ◌∙◌, arith, Bool, true, List, [], ◌∷◌}
+use Rattle.std.specs.Prelude.{⊤, unsigned_abs, int_lt, if◌then◌else◌}
 use Rattle.std.proofs.Math.IntN.{*ℤ_comm}
 use Rattle.std.proofs.lemmas.Int.{ints}
 use Rattle.std.proofs.lemmas.Bool.{cond_both}
@@ -71,9 +71,9 @@ line-below : (T W D : ℕ) (place value x : ℤ) → 0 < D → x <ℤ (pos T *�
 line-below T W D place value x some lt =
     let a = times_rises D ((x -ℤ (pos T *ℤ place)) +ℤ pos 1) (pos T *ℤ pos W) (omega (arith, ints, lt, times_plus T place (pos W))) in
     let same : pos D *ℤ (pos T *ℤ pos W) ≡ pos W *ℤ (pos T *ℤ pos D) =
-        times_times D T (pos W) ∙ *ℤ_comm (pos (D * T)) (pos W) ∙ ap (λ (z : ℤ). pos W *ℤ z) (*ℤ_comm (pos D) (pos T)) in
+    times_times D T (pos W) ∙ *ℤ_comm (pos (D * T)) (pos W) ∙ ap (λ (z : ℤ). pos W *ℤ z) (*ℤ_comm (pos D) (pos T)) in
     let apart : pos W *ℤ (pos T *ℤ (value +ℤ pos D)) ≡ (pos W *ℤ (pos T *ℤ value)) +ℤ (pos W *ℤ (pos T *ℤ pos D)) =
-        ap (λ (z : ℤ). pos W *ℤ z) (times_plus T value (pos D)) ∙ times_plus W (pos T *ℤ value) (pos T *ℤ pos D) in
+    ap (λ (z : ℤ). pos W *ℤ z) (times_plus T value (pos D)) ∙ times_plus W (pos T *ℤ value) (pos T *ℤ pos D) in
     omega (arith, ints, a, same, apart, some, spread T W value, times_plus D (x -ℤ (pos T *ℤ place)) (pos 1), times_one D)
 
 between-below : (T : ℕ) (knot next : Knot) (x : ℤ) → Follows knot next → knot.place <ℤ next.place → knot.value <ℤ next.value → x <ℤ (pos T *ℤ next.place)
@@ -98,11 +98,19 @@ over-volume T f n = (pos f.den *ℤ n) -ℤ (pos T *ℤ f.num)
 -- on one line the two are the same
 line-same : (T W D : ℕ) (level volume t n : ℤ) → (line T W D volume level n -ℤ (pos W *ℤ (pos T *ℤ t))) ≡ ((pos D *ℤ n) -ℤ (pos T *ℤ line 1 D W level volume t))
 line-same T W D level volume t n =
-    omega (arith, ints,
-    times_minus D n (pos T *ℤ volume),
-    times_plus T (pos (1 * D) *ℤ volume) (pos W *ℤ (t -ℤ (pos 1 *ℤ level))),
-    inner, exchanged D T volume, spread T W level,
-    outer, times_minus T (pos W *ℤ t) (pos W *ℤ level), exchanged W T t, exchanged W T level)
+    omega (
+      arith,
+      ints,
+      times_minus D n (pos T *ℤ volume),
+      times_plus T (pos (1 * D) *ℤ volume) (pos W *ℤ (t -ℤ (pos 1 *ℤ level))),
+      inner,
+      exchanged D T volume,
+      spread T W level,
+      outer,
+      times_minus T (pos W *ℤ t) (pos W *ℤ level),
+      exchanged W T t,
+      exchanged W T level,
+    )
   where
     inner : pos T *ℤ (pos (1 * D) *ℤ volume) ≡ pos T *ℤ (pos D *ℤ volume)
     inner = ap (λ (d : ℕ). pos T *ℤ (pos d *ℤ volume)) (let e : 1 * D ≡ D = omega arith in e)
@@ -154,7 +162,7 @@ levels_undo T p q (r ∷ rest) t n some rising =
     let c = lt-yes t (pos 1 *ℤ q.level) g in
     let b = times_rises x.den (pos T *ℤ (t +ℤ pos 1)) (pos T *ℤ q.level) (times_rises T (t +ℤ pos 1) q.level (omega (arith, ints, c))) in
     let more : pos x.den *ℤ (pos T *ℤ (t +ℤ pos 1)) ≡ (pos x.den *ℤ (pos T *ℤ t)) +ℤ (pos x.den *ℤ pos T) =
-        ap (λ (z : ℤ). pos x.den *ℤ z) (times_plus T t (pos 1) ∙ ap (λ (z : ℤ). (pos T *ℤ t) +ℤ z) (times_one T)) ∙ times_plus x.den (pos T *ℤ t) (pos T) in
+    ap (λ (z : ℤ). pos x.den *ℤ z) (times_plus T t (pos 1) ∙ ap (λ (z : ℤ). (pos T *ℤ t) +ℤ z) (times_one T)) ∙ times_plus x.den (pos T *ℤ t) (pos T) in
     let positive = times_rises x.den (pos 1) (pos T) (omega (arith, ints, some)) in
     omega (arith, ints, a, b, more, positive, times_one x.den, dens))
     (let y = between 1 (at-level p) (at-level q) t in

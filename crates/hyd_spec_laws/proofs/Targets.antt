@@ -1,23 +1,21 @@
 -- Targets of a tank with a volume curve, as volumes.
-use Rattle.std.proofs.Common.{◌≡◌, ℕ, zero, suc, ◌*◌, ◌<◌, ◌≤◌, ℤ, pos, ◌+ℤ◌, ◌-ℤ◌, ◌*ℤ◌, ◌≤ℤ◌, ◌<ℤ◌, inl, inr, refl, sym, ap, subst, ◌∙◌, arith, Bool, true, false, ◌&&◌, List, [], ◌∷◌, length, mul-pos}
-use Rattle.std.specs.Prelude.{int_le, map, AllPairs, if◌then◌else◌}
+use Rattle.std.proofs.Common.{◌≡◌, ℕ, ◌*◌, ◌<◌, ℤ, pos, ◌+ℤ◌, ◌*ℤ◌, ◌≤ℤ◌, ◌<ℤ◌, refl, sym, ap, subst, ◌∙◌, arith, Bool, true, false, ◌&&◌, List, [], ◌∷◌, mul-pos}
+use Rattle.std.specs.Prelude.{int_le, map, if◌then◌else◌}
 use Rattle.std.proofs.Math.IntN.{*ℤ_comm}
 use Rattle.std.proofs.lemmas.Int.{ints}
-use Rattle.std.proofs.lemmas.Bool.{cases_Bool}
 use Rattle.hyd_num.proofs.Integers.{times_plus, times_rises, times_reflects, times_one, times_times}
-use Rattle.hyd_num.specs.Rational.{Rational, floor, is_at_most, whole}
+use Rattle.hyd_num.specs.Rational.{Rational, floor, is_at_most}
 use Rattle.hyd_net.specs.Curves.{value_at, volume_knots, volume_at, AreRising, IsVolumeCurve}
 use Rattle.hyd_spec.specs.Types.{Tank, VolumePoint}
-use Rattle.hyd_spec.specs.Scale.{at_scale}
 use Rattle.hyd_spec.specs.Tank.{Curve, Stock, level_bounds, content_bounds, level_knots, level_on_curve, level_at_volume, carried_level, exact_content, reaches, is_bound, has_reached}
-use Rattle.hyd_spec_laws.specs.Laws.{in_parts, IsVessel}
+use Rattle.hyd_spec_laws.specs.Laws.{in_parts}
 use Rattle.hyd_lemmas.proofs.Integers.{exchanged, floor_low}
 use Rattle.hyd_spec_laws.proofs.RisingLines.{some-den}
-use Rattle.hyd_spec_laws.proofs.CurveLevels.{AreAlike, same, above, below, Rises, AreRisingPoints, at-level, at-volume, levels_undo, volumes-climb, over-level, over-volume}
+use Rattle.hyd_spec_laws.proofs.CurveLevels.{AreAlike, same, above, below, AreRisingPoints, at-level, levels_undo, over-level, over-volume}
 use Rattle.hyd_spec_laws.proofs.Leading.{one_times}
 use Rattle.hyd_spec_laws.proofs.Placing.{le-from, above-yes, above-from, below-yes, below-from, placed-is}
 use Rattle.hyd_spec_laws.proofs.Outflows.{le-yes}
-use Rattle.hyd_spec_laws.proofs.Levelling.{pairs-tail, exact-some, curve-some}
+use Rattle.hyd_spec_laws.proofs.Levelling.{pairs-tail, exact-some}
 
 -- tests that follow from each other are one
 pub one-test : (a b : Bool) → (a ≡ true → b ≡ true) → (b ≡ true → a ≡ true) → a ≡ b
@@ -33,7 +31,7 @@ points-rise p [] levels volumes = tt
 points-rise p (q ∷ points) levels volumes = (
   record { levels = levels 0 1 (pos 0) (omega arith) (omega arith); volumes = volumes 0 1 (pos 0) (omega arith) (omega arith) },
   points-rise q points (pairs-tail (λ a b. a <ℤ b) p.level (map (λ (q : VolumePoint). q.level) (q ∷ points)) levels)
-  (pairs-tail (λ a b. a <ℤ b) p.volume (map (λ (q : VolumePoint). q.volume) (q ∷ points)) volumes),
+      (pairs-tail (λ a b. a <ℤ b) p.volume (map (λ (q : VolumePoint). q.volume) (q ∷ points)) volumes),
 )
 
 volume-some : (points : List VolumePoint) (t : ℤ) → IsVolumeCurve points → 0 < (value_at 1 (volume_knots points) t).den
@@ -130,7 +128,7 @@ at_maximum S points tank stock q seconds some curve apart =
     let level = level_on_curve S points exact in
     let lower = times_rises S (tank.minimum +ℤ pos 1) tank.maximum (omega (arith, ints, apart)) in
     let short : (pos 1 *ℤ (pos S *ℤ tank.maximum)) ≤ℤ (pos S *ℤ tank.minimum) → ⊥ =
-        (λ h. omega (arith, ints, h, lower, some, times_plus S tank.minimum (pos 1), times_one S, one_times (pos S *ℤ tank.maximum))) in
+    (λ h. omega (arith, ints, h, lower, some, times_plus S tank.minimum (pos 1), times_one S, one_times (pos S *ℤ tank.maximum))) in
     subst (λ (b : Bool). (if b then reaches S true (volume_at points tank.maximum) exact else reaches S true tank.maximum (carried_level S (Curve points) tank stock q seconds))
     ≡ reaches S true tank.maximum (carried_level S (Curve points) tank stock q seconds)) (sym (same-number tank))
     (one-test (reaches S true (volume_at points tank.maximum) exact) (reaches S true tank.maximum (carried_level S (Curve points) tank stock q seconds))
@@ -162,5 +160,5 @@ at_maximum S points tank stock q seconds some curve apart =
         let f = floor_low v v-some in
         let a = times_rises exact.den (pos S *ℤ (pos v.den *ℤ floor v)) (pos S *ℤ v.num) (times_rises S (pos v.den *ℤ floor v) v.num f) in
         let same-product : pos exact.den *ℤ (pos S *ℤ (pos v.den *ℤ floor v)) ≡ pos v.den *ℤ (pos exact.den *ℤ (pos S *ℤ floor v)) =
-            ap (λ (z : ℤ). pos exact.den *ℤ z) (exchanged v.den S (floor v)) ∙ exchanged v.den exact.den (pos S *ℤ floor v) in
+        ap (λ (z : ℤ). pos exact.den *ℤ z) (exchanged v.den S (floor v)) ∙ exchanged v.den exact.den (pos S *ℤ floor v) in
         times_reflects v.den (pos exact.den *ℤ (pos S *ℤ floor v)) exact.num v-some (omega (arith, ints, a, h, same-product))
