@@ -7,11 +7,15 @@ use borrow.Author.Differences.{up, down}
 use Rattle.hyd_num.specs.declared.binary.Scaled.{Scaled}
 use Rattle.hyd_num.specs.declared.pairs.Pair.{Pair}
 use Rattle.hyd_num.specs.declared.decimals.Decimal.{Decimal}
-use Rattle.hyd_num.specs.Quantity.{pressure_fraction}
+use Rattle.hyd_num.specs.Quantity.{billionths, pressure_fraction}
+use Rattle.hyd_num.specs.Fraction.{AtMost, whole}
 use Rattle.hyd_num.specs.Scaled.{numerator, denominator, IsDown, IsUp}
 use Rattle.hyd_num.specs.Pairs.{IsRatio}
-use Rattle.hyd_num.specs.Chain.{IsPairOf, IsSquareOver, IsPressurePair}
-use Rattle.hyd_resist.specs.Ranges.{ArePressures}
+use Rattle.hyd_num.specs.Chain.{IsPairOf, IsSquareOver, IsPressurePair, IsMade}
+use Rattle.hyd_num.specs.declared.capacities.Capacity.{Capacity}
+use Rattle.hyd_num.specs.declared.capacities.Origin.TheVariants.{PressureDemand}
+use Rattle.hyd_lemmas.proofs.Products.{product_of}
+use Rattle.hyd_lemmas.proofs.Ratios.{ratio_of, quotient_of}
 use Rattle.hyd_lemmas.proofs.Enclosing.{denominator_above}
 
 pub pressure_pair : (demand : ℤ) (minimum required : Decimal) (us : Bool) (n m : ℕ) (flows head r : Pair)
@@ -107,18 +111,81 @@ differs_from false d least = omega arith
 demand_to : (z : ℤ) → pos 1 ≤ℤ z → z ≤ℤ pos (10 ^ 15) → up z ≤ 10 ^ 15
 demand_to z least most = omega (arith, ints, nothing_below z (omega (arith, ints)))
 
-pub pressure-least : (demand : ℤ) (minimum required : Decimal) (us : Bool) (r : Pair) → pos 1 ≤ℤ demand → ArePressures us minimum required
+-- in range: the demand is above 0, the minimum pressure at least 0, the required one a tenth of a unit above it, and at most
+-- 10^17 head ticks
+pub record IsInReach (demand : ℤ) (minimum required : Decimal) (us : Bool) : Type 0 where
+  pub some : pos 1 ≤ℤ demand
+  pub not_negative : pos 0 ≤ℤ minimum.nano
+  pub apart : (minimum.nano +ℤ pos (10 ^ 8)) ≤ℤ required.nano
+  pub at_most : AtMost (pressure_fraction us (billionths required)) (whole (10 ^ 17))
+
+pub pressure-least : (demand : ℤ) (minimum required : Decimal) (us : Bool) (r : Pair) → IsInReach demand minimum required us
     → IsPressurePair demand minimum required us r → denominator r.lo ≤ numerator r.lo * 2 ^ 61
-pressure-least demand minimum required us r least are made =
-    let flow : denominator made.flows.lo ≤ numerator made.flows.lo = flow_from (up demand) made.flows.lo (omega (arith, ints)) made.flows_is.low in
+pressure-least demand minimum required us r are made =
+    let least = are.some in
+    let flow : denominator made.flows.lo ≤ numerator made.flows.lo = flow_from (up demand) made.flows.lo (omega (arith, ints, least)) made.flows_is.low in
     let square = square_from _ _ made.capacity_is.square.lo flow made.capacity_is.square_is.low in
     let size = differs_to us _ _ (difference_to minimum.nano required.nano are.not_negative are.apart) are.at_most.crossed in
     capacity_from _ _ _ _ r.lo square (head_to _ _ made.head.hi size made.head_is.high) made.capacity_is.capacity_is.low
 
-pub pressure-greatest : (demand : ℤ) (minimum required : Decimal) (us : Bool) (r : Pair) → pos 1 ≤ℤ demand → demand ≤ℤ pos (10 ^ 15) → ArePressures us minimum required
-    → IsPressurePair demand minimum required us r → numerator r.hi < 2 ^ 66 * denominator r.hi
-pressure-greatest demand minimum required us r least most are made =
-    let flow : numerator made.flows.hi ≤ 2 ^ 50 * denominator made.flows.hi = flow_to (up demand) made.flows.hi (demand_to demand least most) made.flows_is.high in
+pub pressure-greatest : (demand : ℤ) (minimum required : Decimal) (us : Bool) (r : Pair) → demand ≤ℤ pos (10 ^ 15)
+    → IsInReach demand minimum required us → IsPressurePair demand minimum required us r → numerator r.hi < 2 ^ 66 * denominator r.hi
+pressure-greatest demand minimum required us r most are made =
+    let flow : numerator made.flows.hi ≤ 2 ^ 50 * denominator made.flows.hi = flow_to (up demand) made.flows.hi (demand_to demand are.some most) made.flows_is.high in
     let square = square_to _ _ made.capacity_is.square.hi flow made.capacity_is.square_is.high in
     let size = differs_from us _ (difference_from minimum.nano required.nano are.apart) in
     capacity_to _ _ _ _ r.hi square (head_from _ _ made.head.lo size made.head_is.low) made.capacity_is.capacity_is.high
+
+-- ---- there is one
+
+pressure-some : (us : Bool) (v : ℕ) → 0 < v → 0 < (pressure_fraction us v).num
+pressure-some true v some = omega (arith, some)
+pressure-some false v some = omega (arith, some)
+
+pressure-parts : (us : Bool) (v : ℕ) → 0 < (pressure_fraction us v).den
+pressure-parts true v = omega arith
+pressure-parts false v = omega arith
+
+-- numbers in range have a pair
+pub pressure_pair_of : (demand : ℤ) (minimum required : Decimal) (us : Bool) → IsInReach demand minimum required us
+    → (r : Pair) × IsPressurePair demand minimum required us r
+pressure_pair_of demand minimum required us are =
+    let some = are.some in
+    let d = up (required.nano -ℤ minimum.nano) in
+    let apart = difference_from minimum.nano required.nano are.apart in
+    let flows = ratio_of (up demand) 1 (omega (arith, ints, some)) (omega arith) in
+    let head = ratio_of (pressure_fraction us d).num (pressure_fraction us d).den (pressure-some us d (omega (arith, apart))) (pressure-parts us d) in
+    let square = product_of flows.pair flows.pair in
+    let capacity = quotient_of square.pair head.pair in (
+      capacity.pair,
+      record {
+        flows = flows.pair;
+        flows_is = flows.made;
+        head = head.pair;
+        head_is = head.made;
+        capacity_is = record { square = square.pair; square_is = square.made; capacity_is = capacity.made };
+      },
+    )
+
+-- and so a capacity
+pub record PressureCapacity (demand : ℤ) (minimum required : Decimal) (us : Bool) : Type 0 where
+  pub capacity : Capacity
+  pub origin : capacity.origin ≡ PressureDemand demand minimum required us
+  pub made : IsMade capacity
+
+pub pressure_capacity_of : (demand : ℤ) (minimum required : Decimal) (us : Bool) → demand ≤ℤ pos (10 ^ 15)
+    → IsInReach demand minimum required us → PressureCapacity demand minimum required us
+pressure_capacity_of demand minimum required us most are =
+    let (r, made) = pressure_pair_of demand minimum required us are in
+    record {
+      capacity = record {
+        lo = r.lo;
+        hi = r.hi;
+        origin = PressureDemand demand minimum required us;
+        ordered = r.ordered;
+        least = pressure-least demand minimum required us r are made;
+        greatest = pressure-greatest demand minimum required us r most are made;
+      };
+      origin = refl;
+      made = record { pair = r; low = refl; high = refl; made = made };
+    }
