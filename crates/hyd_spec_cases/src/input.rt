@@ -17,7 +17,7 @@ pub fn lines()
     ensures no_section { fault_of (codes "J 0\n[JUNCTIONS]") ≡ Some (1, Syntax) }
     ensures unknown_section { fault_of (codes "[TITLE]\n[SEGMENTS]") ≡ Some (2, Syntax) }
     ensures two_words { fault_of (codes "[PIPES] x") ≡ Some (1, Syntax) }
-    ensures delete { fault_of (codes "[PIPES]\nP\x7f") ≡ Some (2, Syntax) }
+    ensures delete { fault_of (codes "[PIPES]\nP\u{7f}") ≡ Some (2, Syntax) }
     ensures after_a_row { fault_of (codes "[JUNCTIONS]\nJ x\n[SEGMENTS]") ≡ Some (2, Number) }
     ensures after_the_end { fault_of (codes "[END]\n[SEGMENTS]") ≡ Some (0, Unsupported 1) }
 {}

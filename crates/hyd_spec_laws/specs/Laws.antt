@@ -1,5 +1,5 @@
 -- What the comparison of heads uses of the laws of links, demands and emitters.
-use Rattle.std.specs.Prelude.{map, Some, slice_get, Contains, IsTrue, ℕ, ◌<◌, ◌≤◌, ℤ, ◌-ℤ◌, ◌≤ℤ◌, unsigned_abs, ⊤, List, All, AllPairs, ◌≡◌, ◌*ℤ◌, Bool, true, false, pos}
+use Rattle.std.specs.Prelude.{map, Some, slice_get, Contains, ℕ, ◌<◌, ◌≤◌, ℤ, ◌-ℤ◌, ◌≤ℤ◌, unsigned_abs, ⊤, List, All, AllPairs, ◌≡◌, ◌*ℤ◌, Bool, true, false, pos}
 use Rattle.std.specs.List.{AllByRecursion, AllZip}
 use Rattle.std.specs.Option.{IfSome}
 use Rattle.hyd_num.specs.Quantity.{billionths}
