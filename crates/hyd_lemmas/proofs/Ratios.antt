@@ -64,7 +64,8 @@ cut_of p q some above =
     record {
       number = s;
       exact = nat_eq (n % d) 0;
-      cut = IsCut-ratio digits fits.doublings p q (n % d) s (nat_eq (n % d) 0) (div-add-mod' n d) (mod-lt n d_some) refl (omega (arith, ints));
+      cut = IsCut-ratio digits fits.doublings p q (n % d) s (nat_eq (n % d) 0) (div-add-mod' n d) (mod-lt n d_some) refl
+          (omega (arith, ints));
     }
 
 -- ---- pairs
@@ -79,7 +80,12 @@ ratio_of p q some above =
     let low = IsDown-from_cut p q c.number c.exact c.cut in
     let over = raised p q c.number c.exact above c.cut in
     record {
-      pair = record { lo = c.number; hi = over.number; ordered = ordered p q p q c.number over.number above above (omega arith) low over.up };
+      pair = record {
+        lo = c.number;
+        hi = over.number;
+        ordered = ordered p q p q c.number over.number above above
+            (omega arith) low over.up;
+      };
       made = record { low = low; high = over.up };
     }
 
@@ -90,12 +96,20 @@ pub record Quotient (x y : Pair) : Type 0 where
 pub quotient_of : (x y : Pair) → Quotient x y
 quotient_of x y =
     let low = cut_of (numerator x.lo * denominator y.hi) (denominator x.lo * numerator y.hi)
-    (mul-pos (numerator_positive x.lo) (denominator_positive y.hi)) (mul-pos (denominator_positive x.lo) (numerator_positive y.hi)) in
+    (mul-pos (numerator_positive x.lo) (denominator_positive y.hi))
+    (mul-pos (denominator_positive x.lo) (numerator_positive y.hi)) in
     let high = cut_of (numerator x.hi * denominator y.lo) (denominator x.hi * numerator y.lo)
-    (mul-pos (numerator_positive x.hi) (denominator_positive y.lo)) (mul-pos (denominator_positive x.hi) (numerator_positive y.lo)) in
+    (mul-pos (numerator_positive x.hi) (denominator_positive y.lo))
+    (mul-pos (denominator_positive x.hi) (numerator_positive y.lo)) in
     let down = IsDown-from_cut _ _ low.number low.exact low.cut in
-    let over = raised _ _ high.number high.exact (mul-pos (denominator_positive x.hi) (numerator_positive y.lo)) high.cut in
+    let over = raised _ _ high.number high.exact (mul-pos (denominator_positive x.hi) (numerator_positive y.lo))
+    high.cut in
     record {
-      pair = record { lo = low.number; hi = over.number; ordered = quotients_ordered x y low.number over.number down over.up };
+      pair = record {
+        lo = low.number;
+        hi = over.number;
+        ordered =
+            quotients_ordered x y low.number over.number down over.up;
+      };
       made = record { low = down; high = over.up };
     }
