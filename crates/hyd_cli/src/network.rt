@@ -97,8 +97,8 @@ fn throttled(setting: Decimal, capacity: Capacity) -> LinkState
     }
 }
 
-// The valve from the reservoir to the junction.
-fn valve(diameter: Decimal, setting: Decimal) -> Link
+/// The valve from the reservoir to the junction.
+pub(crate) fn valve(diameter: Decimal, setting: Decimal) -> Link
     requires least_diameter { pos (10 * 10 ^ 9) ≤ℤ diameter.nano }
     requires greatest_diameter { diameter.nano ≤ℤ pos (10000 * 10 ^ 9) }
     requires least_setting { pos (1 * 10 ^ 9) ≤ℤ setting.nano }
@@ -180,6 +180,20 @@ pub(crate) fn plain(
         controls: List::new(alloc),
         rules: List::new(alloc),
     }
+}
+
+/// The network of no nodes and no links.
+pub(crate) fn empty(alloc: Global) -> Project
+    ensures { IsPlain result }
+{
+    plain(
+        alloc,
+        Names::new(alloc),
+        Names::new(alloc),
+        List::new(alloc),
+        List::new(alloc),
+        List::new(alloc),
+    )
 }
 
 /// The one link, which is the valve.

@@ -1,7 +1,7 @@
 //! What holds of the run of a network of the first form.
 #![tactic(auto)]
 
-ghost use Rattle.std.specs.Prelude.{◌≡◌, ◌^◌, ℕ, ℤ, pos, Bool, true, false, List, [], ◌∷◌};
+ghost use Rattle.std.specs.Prelude.{◌≡◌, ◌*◌, ◌^◌, ◌≤ℤ◌, ℕ, ℤ, pos, Bool, true, false, List, [], ◌∷◌};
 ghost use Rattle.hyd_num.specs.Decimals.{head_quantity, pressure_quantity, flow_quantity};
 ghost use Rattle.hyd_num.specs.declared.units.FlowUnit.{FlowUnit};
 ghost use Rattle.hyd_net.specs.Sound.{Sound};
@@ -20,11 +20,30 @@ ghost use Rattle.hyd_spec_reports.specs.declared.StopCause.TheVariants.{NoCertif
 ghost use Rattle.hyd_spec_reports.specs.ReportLine.{ReportLine, report_text, done_line, stop_line};
 ghost use Rattle.hyd_spec_reports.specs.Report.{Prints, IsReport};
 ghost use Rattle.hyd_spec_reports.specs.Claims.{LiesBetween, at_part};
-ghost use Rattle.hyd_spec_input.specs.FirstForm.{IsFirstNetwork};
+ghost use Rattle.hyd_num.specs.Numeral.{nano_of};
+ghost use Rattle.hyd_spec_input.specs.FirstForm.{IsFirstNetwork, IsFirstForm, HasForm, Words};
 ghost use Rattle.hyd_spec_reports.specs.Headline.{EveryHistoryAgrees, IsRun, Sharpness, IsSharpFound, RunWrites, Finished, Stopped};
 ghost use Rattle.hyd_spec_laws.specs.Laws.{LiesIn};
 ghost use Rattle.hyd_cli.specs.FirstRun.{first_row, first_found, last_standing};
 ghost use Rattle.hyd_cli.specs.Solution.{IsTightHead};
+
+use crate::network::{empty, valve};
+use hyd_num::Decimal;
+use std::alloc::Global;
+
+/// Each text of the form has a network of the form, so nothing that is said of texts of the form is empty. This is said of one
+/// diameter and one setting after another, each within what the form allows.
+fn texts_have_networks(alloc: Global, diameter: Decimal, setting: Decimal)
+    requires least_diameter { pos (10 * 10 ^ 9) ≤ℤ diameter.nano }
+    requires greatest_diameter { diameter.nano ≤ℤ pos (10000 * 10 ^ 9) }
+    requires least_setting { pos (1 * 10 ^ 9) ≤ℤ setting.nano }
+    requires greatest_setting { setting.nano ≤ℤ pos (1000 * 10 ^ 9) }
+    ensures { (text : List ℕ) (w : Words) → HasForm text w → nano_of w.diameter ≡ diameter.nano → nano_of w.setting ≡ setting.nano
+        → (network : Project) × IsFirstForm text network }
+{
+    let _link = valve(diameter, setting);
+    let _network = empty(alloc);
+}
 
 /// Certificates of both sides are the record of a valid run, and every history agrees with it and
 /// with its report. Tight ones are as sharp as can be asked for.

@@ -134,9 +134,9 @@ abbrev pub status_holds : Relation → StateWord → Value → Bool
 status_holds Unequal word value = not (is_word word value)
 status_holds relation word value = is_word word value
 
--- A clause on the time or the clock. Equality holds where the value has come within the last rule step, as `came`
--- says: so a time above 0 holds at one multiple of the rule step, and a time of day at one in each day, where the rule
--- step is at most a day. (At time 0 no rule is tried.)
+-- A clause on the time or the clock. It is equal to a value v at the second s where s less the rule step is below v and v is at
+-- most s, on the clock modulo a day, as `came` says: so a time above 0 holds at one multiple of the rule step, and a time of
+-- day at one in each day, where the rule step is at most a day. (At time 0 no rule is tried.)
 abbrev pub time_holds : Relation → ℕ → ℕ → Bool → Bool
 time_holds Equal now at came = came
 time_holds Unequal now at came = not came

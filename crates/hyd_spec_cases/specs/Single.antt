@@ -18,3 +18,10 @@ one_valve capacity = record {
   tanks = [];
   links = record { from = 1; to = 0; law = QuadraticLaw capacity } ∷ [];
 }
+
+-- The same with a demand of 100,000,000 cubic metres a day, which the valve can't carry at any head within 100 km.
+abbrev pub thirsty_end : GridJunction
+thirsty_end = record { elevation = pos 0; demand = Fixed (pos 1000000000000000); emitter = None }
+
+abbrev pub thirsty_valve : Capacity → Grid
+thirsty_valve capacity = record (one_valve capacity) { junctions = thirsty_end ∷ [] }

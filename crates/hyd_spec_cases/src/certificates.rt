@@ -1,13 +1,13 @@
 //! Certificates: the tight vectors pass, and a tick less (UPPER) or more (LOWER) at any junction doesn't.
 #![tactic(auto)]
 
-ghost use Rattle.std.specs.Prelude.{◌≡◌, pos, [], ◌∷◌};
+ghost use Rattle.std.specs.Prelude.{◌≡◌, pos, ℤ, List, [], ◌∷◌};
 ghost use Rattle.hyd_spec.specs.Types.{Capacity};
 ghost use Rattle.hyd_spec_certificates.specs.declared.Problem.TheVariants.{Main, Pinned};
 ghost use Rattle.hyd_spec_certificates.specs.declared.Side.TheVariants.{Upper, Lower};
 ghost use Rattle.hyd_spec_certificates.specs.Certificate.{IsCertificate};
 ghost use Rattle.hyd_spec_cases.specs.Capacities.{IsValve};
-ghost use Rattle.hyd_spec_cases.specs.Single.{one_valve};
+ghost use Rattle.hyd_spec_cases.specs.Single.{one_valve, thirsty_valve};
 ghost use Rattle.hyd_spec_cases.specs.City.{CityParts, city, upper, lower, pinned_upper, pinned_lower};
 
 /// The valve of 304.8 mm that takes 1000 cubic metres a day from a reservoir at 100 m.
@@ -16,6 +16,12 @@ pub fn one_valve()
     ensures upper_fails { (capacity : Capacity) → IsValve capacity → IsCertificate (one_valve capacity) Main Upper (pos 998718316144932 ∷ []) → ⊥ }
     ensures lower_passes { (capacity : Capacity) → IsValve capacity → IsCertificate (one_valve capacity) Main Lower (pos 998718316123912 ∷ []) }
     ensures lower_fails { (capacity : Capacity) → IsValve capacity → IsCertificate (one_valve capacity) Main Lower (pos 998718316123913 ∷ []) → ⊥ }
+{}
+
+/// The same valve with a demand that it can't carry: a vector passes for UPPER, and none for LOWER.
+pub fn thirsty_valve()
+    ensures upper_passes { (capacity : Capacity) → IsValve capacity → IsCertificate (thirsty_valve capacity) Main Upper (pos 1000000000000000 ∷ []) }
+    ensures no_lower { (capacity : Capacity) → IsValve capacity → (u : List ℤ) → IsCertificate (thirsty_valve capacity) Main Lower u → ⊥ }
 {}
 
 /// The city: its tight vectors, and each of them a tick nearer at one junction.

@@ -12,6 +12,8 @@ pub mod decisions;
 pub mod enclosing;
 pub mod forms;
 pub mod held;
+pub mod histories;
+pub mod input;
 pub mod levels;
 pub mod links;
 pub mod losses;

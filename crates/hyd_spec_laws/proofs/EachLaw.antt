@@ -91,7 +91,7 @@ IsLaw-straight = IsLaw-passed 8026822656 (10 ^ 6) (omega arith)
 
 -- ---- straight lines between knots
 
-IsLaw-bent : (knots : List Knot) → AreInOrder knots → IsLaw (flow_at_least (Bent knots)) (flow_at_most (Bent knots)) (low (Bent knots)) (high (Bent knots))
+pub IsLaw-bent : (knots : List Knot) → AreInOrder knots → IsLaw (flow_at_least (Bent knots)) (flow_at_most (Bent knots)) (low (Bent knots)) (high (Bent knots))
 IsLaw-bent knots order = record {
   low_rises = λ c d le. floor_greatest (F d) (floor (F c)) (above d) (above-too (floor (F c)) (F c) (F d) (above c) (level c d le) (floor_low (F c) (above c)));
   high_rises = λ c d le. ceiling_least (F c) (ceiling (F d)) (above c) (below-too (ceiling (F d)) (F c) (F d) (above d) (level c d le) (ceiling_high (F d) (above d)));

@@ -1,6 +1,7 @@
 pub mod Roots
 pub mod CurveKnots
 pub mod StatusWords
+pub mod HeldEnds
 pub mod LossLaws
 pub mod LinkLaws
 pub mod EachLaw
@@ -21,6 +22,7 @@ pub mod Deciding
 pub mod WatchedEnds
 pub mod Worked
 pub mod Rising
+pub mod DemandLaws
 pub mod NetRising
 pub mod RunRecords
 pub mod Appending
@@ -35,3 +37,5 @@ pub mod OneRun
 pub mod Failing
 pub mod OneRefusal
 pub mod Vessels
+pub mod CurveLevels
+pub mod Targets

@@ -72,23 +72,23 @@ pub le-no : (a b : ℤ) → int_le a b ≡ false → b <ℤ a
 le-no a b e = grind (arith, ints)
 
 -- a pressure of p / S ticks, at least d ticks and at most x, and the other way round
-under : (S : ℕ) (d p : ℤ) (x : Rational) → 0 < S → (pos S *ℤ d) ≤ℤ p → (p *ℤ pos x.den) ≤ℤ (x.num *ℤ pos S) → (pos x.den *ℤ d) ≤ℤ x.num
+pub under : (S : ℕ) (d p : ℤ) (x : Rational) → 0 < S → (pos S *ℤ d) ≤ℤ p → (p *ℤ pos x.den) ≤ℤ (x.num *ℤ pos S) → (pos x.den *ℤ d) ≤ℤ x.num
 under S d p x some le at = times_reflects S (pos x.den *ℤ d) x.num some
     (let a = times_rises x.den (pos S *ℤ d) p le in
     omega (arith, ints, a, at, *ℤ_comm p (pos x.den), *ℤ_comm x.num (pos S), exchanged S x.den d))
 
-over_it : (S : ℕ) (d p : ℤ) (x : Rational) → 0 < S → p ≤ℤ (pos S *ℤ d) → (x.num *ℤ pos S) ≤ℤ (p *ℤ pos x.den) → x.num ≤ℤ (pos x.den *ℤ d)
+pub over_it : (S : ℕ) (d p : ℤ) (x : Rational) → 0 < S → p ≤ℤ (pos S *ℤ d) → (x.num *ℤ pos S) ≤ℤ (p *ℤ pos x.den) → x.num ≤ℤ (pos x.den *ℤ d)
 over_it S d p x some le at = times_reflects S x.num (pos x.den *ℤ d) some
     (let a = times_rises x.den p (pos S *ℤ d) le in
     omega (arith, ints, a, at, *ℤ_comm p (pos x.den), *ℤ_comm x.num (pos S), exchanged S x.den d))
 
-not_under : (S : ℕ) (d p : ℤ) (x : Rational) → p ≤ℤ (pos S *ℤ d) → (x.num *ℤ pos S) <ℤ (p *ℤ pos x.den) → (pos x.den *ℤ d) ≤ℤ x.num → ⊥
+pub not_under : (S : ℕ) (d p : ℤ) (x : Rational) → p ≤ℤ (pos S *ℤ d) → (x.num *ℤ pos S) <ℤ (p *ℤ pos x.den) → (pos x.den *ℤ d) ≤ℤ x.num → ⊥
 not_under S d p x le at small =
     let a = times_rises x.den p (pos S *ℤ d) le in
     let b = times_rises S (pos x.den *ℤ d) x.num small in
     let e : ⊥ = omega (arith, ints, a, b, at, *ℤ_comm p (pos x.den), *ℤ_comm x.num (pos S), exchanged S x.den d) in e
 
-not_over : (S : ℕ) (d p : ℤ) (x : Rational) → (pos S *ℤ d) ≤ℤ p → (p *ℤ pos x.den) <ℤ (x.num *ℤ pos S) → x.num ≤ℤ (pos x.den *ℤ d) → ⊥
+pub not_over : (S : ℕ) (d p : ℤ) (x : Rational) → (pos S *ℤ d) ≤ℤ p → (p *ℤ pos x.den) <ℤ (x.num *ℤ pos S) → x.num ≤ℤ (pos x.den *ℤ d) → ⊥
 not_over S d p x le at large =
     let a = times_rises x.den (pos S *ℤ d) p le in
     let b = times_rises S x.num (pos x.den *ℤ d) large in
@@ -98,7 +98,7 @@ pub high-positive : (c : Capacity) (z : ℤ) → pos 0 ≤ℤ z → pos 0 ≤ℤ
 high-positive c (pos n) le = omega (arith, ints)
 high-positive c (negsuc n) le = absurd (omega (arith, ints))
 
-twice_negated : (x : Rational) → floor (negated (negated x)) ≡ floor x
+pub twice_negated : (x : Rational) → floor (negated (negated x)) ≡ floor x
 twice_negated x = ap (λ (z : ℤ). floor (record { num = z; den = x.den })) (let e : neg_ℤ (neg_ℤ x.num) ≡ x.num = omega (arith, ints) in e)
 
 pub driven-below : (least most : Rational) (D : ℤ) (c : Capacity) (A B : Relation) (S : ℕ) (d p q : ℤ) (P : Type 0) → 0 < least.den → 0 < most.den → 0 < S → pos 0 ≤ℤ D
@@ -193,12 +193,12 @@ pressure-den : (us : Bool) (v : ℕ) → (pressure_fraction us v).den ≡ pressu
 pressure-den true v = refl
 pressure-den false v = refl
 
-pressure-above : (us : Bool) → 0 < pressure_denominator us
+pub pressure-above : (us : Bool) → 0 < pressure_denominator us
 pressure-above true = omega arith
 pressure-above false = omega arith
 
 -- above the minimum pressure the demand flow is at least 0
-begins_at : (r : Fraction) (S : ℕ) (least : Rational) (p : ℤ) → (least.num *ℤ pos S) <ℤ (p *ℤ pos least.den)
+pub begins_at : (r : Fraction) (S : ℕ) (least : Rational) (p : ℤ) → (least.num *ℤ pos S) <ℤ (p *ℤ pos least.den)
     → lifted (negated least) (odd_at_least (SquareLossAtMost r) (SquareLossAtLeast r)) S p (pos 0)
 begins_at r S least p at = at_most_for (SquareLossAtMost r) (S * least.den) (least.den * 0) 0 ((pos least.den *ℤ p) +ℤ (pos S *ℤ neg_ℤ least.num))
     (λ y le. let l : r.num * (least.den * 0 * (least.den * 0)) ≤ r.den * (S * least.den * y) = omega arith in l)
@@ -212,7 +212,7 @@ fits a b den n S y same le =
     let s : den * n ^ 2 * (S * den * y) ≡ den * (n * n) * (S * den * y) = ap (λ k. den * k * (S * den * y)) (square_is n) in
     omega (arith, e, l, s)
 
-ends_at : (us : Bool) (least most : Decimal) (n S : ℕ) (p : ℤ)
+pub ends_at : (us : Bool) (least most : Decimal) (n S : ℕ) (p : ℤ)
     → (p *ℤ pos (pressure_denominator us)) <ℤ (pressure_numerator us most.nano *ℤ pos S)
     → lifted (negated (pressure_value us least)) (odd_at_most (SquareLossAtMost (pressure_resistance (pos n) least most us)) (SquareLossAtLeast (pressure_resistance (pos n) least most us)))
     S p (pos S *ℤ pos n)

@@ -153,6 +153,10 @@ pub record LiesAround (S : ℕ) (interval : Interval) (x : Rational) : Type 0 wh
   pub low : (pos x.den *ℤ at_scale S interval.lo) ≤ℤ x.num
   pub high : x.num ≤ℤ (pos x.den *ℤ at_scale S interval.hi)
 
+-- A value in ticks, as a value in S-th parts.
+abbrev pub in_parts : ℕ → Rational → Rational
+in_parts S x = record { num = at_scale S x.num; den = x.den }
+
 -- An interval lies inside another.
 pub record IsInside (x y : Interval) : Type 0 where
   pub low : y.lo ≤ℤ x.lo

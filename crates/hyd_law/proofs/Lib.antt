@@ -1,0 +1,3 @@
+pub mod Rooting
+pub mod Walking
+pub mod Stepping
