@@ -1,6 +1,6 @@
 -- Quadratic laws: what the roots of the code are, and that both laws rise with the head difference.
 use Rattle.std.proofs.Common.{◌≡◌, ℕ, suc, ◌*◌, ◌^◌, ◌<◌, ◌≤◌, ℤ, pos, negsuc, neg_ℤ, ◌≤ℤ◌, ◌<ℤ◌, unsigned_abs, ap, subst, arith}
-use Rattle.std.proofs.Math.Nat.{mul-le-mul_left, mul-le-mul_right, le_of_mul-le-mul_right}
+use Rattle.std.proofs.Math.Nat.{mul-le-mul_right, le_of_mul-le-mul_right}
 use Rattle.std.proofs.lemmas.Nat.{pow_pos}
 use Rattle.std.proofs.lemmas.Int.{ints}
 use borrow.Author.Differences.{down}
@@ -9,7 +9,7 @@ use Rattle.hyd_num.specs.Scaled.{numerator, denominator}
 use Rattle.hyd_num.specs.Roots.{IsSquareRootDown, IsSquareRootUp}
 use Rattle.hyd_spec.specs.Types.{Capacity}
 use Rattle.hyd_spec_certificates.specs.Enclosing.{root_down, root_up, quadratic_low, quadratic_high}
-use Rattle.hyd_spec_laws.proofs.Roots.{root_down-is, root_up-is, down_is, up_is}
+use Rattle.hyd_spec_laws.proofs.Roots.{down_is, up_is}
 
 positive : (s : Scaled) → 0 < denominator s
 positive s = pow_pos (down s.exp)

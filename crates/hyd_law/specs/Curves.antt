@@ -1,5 +1,5 @@
 -- The knots of a law by straight lines.
-use Rattle.std.specs.Prelude.{◌*◌, ◌^◌, ◌≤◌, ℕ, ℤ, pos, ◌≡◌, ◌<◌, unsigned_abs, List, length, map, All}
+use Rattle.std.specs.Prelude.{◌^◌, ◌≤◌, ℤ, pos, ◌≡◌, ◌<◌, unsigned_abs, List, length, map, All}
 use Rattle.hyd_net.specs.Curves.{Knot as Place}
 use Rattle.hyd_num.specs.Rational.{Rational}
 use Rattle.hyd_spec_laws.specs.Laws.{AreInOrder}

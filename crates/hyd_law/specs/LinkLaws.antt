@@ -1,10 +1,10 @@
 -- The law of any link, by its kind.
-use Rattle.std.specs.Prelude.{◌+◌, ◌*◌, ◌^◌, ◌≤◌, ℕ, ℤ, pos, ◌+ℤ◌, ◌≤ℤ◌, ⊤}
+use Rattle.std.specs.Prelude.{ℤ, pos, ◌+ℤ◌, ◌≤ℤ◌, ⊤}
 use Rattle.std.specs.Int.{int_min}
 use Rattle.hyd_num.specs.Rational.{floor, ceiling}
 use Rattle.hyd_net.specs.Curves.{value_at}
 use Rattle.hyd_spec.specs.Quantity.{lift_of}
-use Rattle.hyd_spec.specs.Law.{Relation, Law, Shut as ShutLaw, QuadraticLaw, LinearLaw, Bent as BentLaw, lifted, flow_at_least, flow_at_most}
+use Rattle.hyd_spec.specs.Law.{Relation, Shut as ShutLaw, QuadraticLaw, LinearLaw, Bent as BentLaw, lifted, flow_at_least, flow_at_most}
 use Rattle.hyd_spec_certificates.specs.Enclosing.{quadratic_low, quadratic_high, linear_flow}
 use Rattle.hyd_spec_laws.specs.Laws.{IsLaw, IsSoundCapacity}
 use Rattle.hyd_spec_laws.proofs.LinkLaws.{IsLaw-shut, IsLaw-capped, IsLaw-held}

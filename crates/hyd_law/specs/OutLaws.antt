@@ -1,10 +1,10 @@
 -- The law of a junction's demand.
 -- Source: EPANET 2.2 User Manual, chapter 3 (demands, pressure-driven demand).
-use Rattle.std.specs.Prelude.{◌*◌, ◌^◌, ◌≤◌, ℕ, ℤ, pos, ◌-ℤ◌, ◌*ℤ◌, ◌≤ℤ◌, ◌≡◌, ⊤, int_le, if◌then◌else◌}
+use Rattle.std.specs.Prelude.{ℤ, pos, ◌-ℤ◌, ◌*ℤ◌, ◌≤ℤ◌, ◌≡◌, ⊤, int_le, if◌then◌else◌}
 use Rattle.std.specs.Int.{int_min}
 use Rattle.std.proofs.Common.{subst, sym}
-use Rattle.hyd_num.specs.Rational.{Rational, negated, floor, ceiling}
-use Rattle.hyd_spec.specs.Types.{Capacity, Decimal, PressureDemand}
+use Rattle.hyd_num.specs.Rational.{negated, floor, ceiling}
+use Rattle.hyd_spec.specs.Types.{PressureDemand}
 use Rattle.hyd_spec.specs.Quantity.{pressure_value}
 use Rattle.hyd_spec.specs.Law.{Relation, QuadraticLaw, lifted, flow_at_least, flow_at_most}
 use Rattle.hyd_spec_certificates.specs.Enclosing.{quadratic_low, quadratic_high}

@@ -1,6 +1,6 @@
 -- Laws that pass one way only, and laws that a pump lifts, from the law inside.
-use Rattle.std.proofs.Common.{◌≡◌, ℤ, ◌<◌, ◌*◌, ◌^◌, ◌+ℤ◌, Bool, true, false, sym, subst, lit<}
-use Rattle.hyd_num.specs.Rational.{floor, ceiling}
+use Rattle.std.proofs.Common.{ℤ, ◌<◌, ◌+ℤ◌, Bool, true, false, sym, subst, lit<}
+use Rattle.hyd_num.specs.Rational.{floor}
 use Rattle.hyd_num.specs.declared.decimals.Span.{Span}
 use Rattle.hyd_spec.specs.Types.{ShutoffHead, FourThirds, Given}
 use Rattle.hyd_spec.specs.Quantity.{lift_of}

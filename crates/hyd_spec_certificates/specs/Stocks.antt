@@ -1,7 +1,7 @@
 -- Stock intervals: what a tank's level interval and volume interval become under an interval of inflow, and when the tank
 -- reaches a target. Levels are in head ticks, volumes in volume ticks, inflows in flow ticks.
 -- Source: EPANET 2.2 User Manual, chapter 3 (tanks; curves), over intervals.
-use Rattle.std.specs.Prelude.{◌≡◌, ℕ, ◌≤◌, ℤ, pos, ◌+ℤ◌, ◌-ℤ◌, Bool, true, false, List, Option, Some, None, if◌then◌else◌}
+use Rattle.std.specs.Prelude.{ℕ, ℤ, pos, ◌+ℤ◌, ◌-ℤ◌, Bool, true, false, List, Option, Some, None, if◌then◌else◌}
 use Rattle.std.specs.Int.{int_max, int_min}
 use Rattle.hyd_spec.specs.Types.{Tank, VolumePoint}
 use Rattle.hyd_spec.specs.declared.TankState.{TankState}

@@ -12,6 +12,12 @@ ghost use Rattle.hyd_spec_reports.specs.Headline.{IsRun, AllAgree, rows_of, line
 ghost use Rattle.hyd_spec_towns.specs.Basin.{basin_network, curved, curved_0, curved_founds, curved_left, curved_periods, curved_written, curved_printed};
 ghost use Rattle.hyd_spec_towns.specs.Basin.{spilling, spilling_0, spilling_founds, spilling_left, spilling_periods, spilling_written, spilling_printed};
 
+/// The basins are networks that a file can stand for.
+pub fn networks()
+    ensures curved { Sound (basin_network curved) }
+    ensures spilling { Sound (basin_network spilling) }
+{}
+
 /// Levels and volumes at the start of the run.
 pub fn starts()
     ensures curved { initial_standing (basin_network curved) ≡ curved_0 }

@@ -1,6 +1,6 @@
-use Rattle.std.proofs.Common.{◌≡◌, FitsSigned, ◌*ℤ◌, ◌*◌, ◌^◌, ◌≤◌, unsigned_abs, refl, lit<, arith}
+use Rattle.std.proofs.Common.{FitsSigned, ◌*ℤ◌, ◌*◌, ◌^◌, ◌≤◌, unsigned_abs, refl, lit<}
 use Rattle.std.specs.Int.{w128}
-use Rattle.std.proofs.lemmas.Int.{ints, fits_signed_mul, unsigned_abs-mul, to_z-of_z}
+use Rattle.std.proofs.lemmas.Int.{fits_signed_mul, unsigned_abs-mul, to_z-of_z}
 use Rattle.std.proofs.Math.Nat.{mul-le-mul}
 use Rattle.hyd_law.proofs.straight.product.Goals as goal
 

@@ -1,8 +1,7 @@
-use Rattle.std.proofs.Common.{◌≡◌, pos, to_z, of_z, w64, length, ◌-◌, subst, arith}
+use Rattle.std.proofs.Common.{pos, to_z, of_z, w64, length, ◌-◌, arith}
 use Rattle.std.proofs.lemmas.Int.{ints, to_z-of_z}
 use Rattle.hyd_law.specs.declared.kinds.Knot.{Knot}
-use Rattle.hyd_law.specs.Curves.{places, place_of, IsValue}
-use Rattle.hyd_law.proofs.Walking.{WalkedTo, stops_at, ends_with, goes_on}
+use Rattle.hyd_law.proofs.Walking.{stops_at, ends_with, goes_on}
 use Rattle.hyd_law.proofs.straight.value_at.Goals as goal
 
 pub returns-then-lies_before-clause-value : goal.returns-then-lies_before-clause-value
