@@ -117,7 +117,7 @@ volume_curve rows row (Some name) =
     (volume_points (us rows) (curve_named rows name)))
     Range
 
--- maximum and minimum level are a tenth of a foot apart at least
+-- maximum and minimum level are a hundredth of a foot apart at least
 abbrev pub levels_apart : List Row → Row → Option Cause
 levels_apart rows row =
     unless (le_z (pos 30480000000) (head_ticks (us rows) (amount 4 row.words -ℤ amount 3 row.words))) Range
