@@ -3,4 +3,6 @@
 //! laws in exact whole numbers. No function here has a body.
 #![tactic(auto)]
 
+pub mod histories;
+pub mod pipes;
 pub mod words;
