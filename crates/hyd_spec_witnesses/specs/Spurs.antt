@@ -4,7 +4,7 @@ use Rattle.std.specs.Prelude.{ℤ, pos, neg_ℤ, true, Some, None}
 use Rattle.std.specs.Int.Signed.{≤ℤ_refl}
 use Rattle.std.proofs.Common.{lit≤, lit<}
 use Rattle.hyd_num.specs.declared.units.FlowUnit.TheVariants.{Cfs}
-use Rattle.hyd_spec.specs.Types.{Decimal, Cmd, Capacity, Pipe, Pump, Emitter, PipeLink, CheckPipe, PumpLink, Fcv, FourThirds, Linear, Open, Speed, Limit}
+use Rattle.hyd_spec.specs.Types.{Decimal, Cmd, Capacity, Pipe, Pump, Emitter, PipeLink, CheckPipe, PumpLink, Fcv, FourThirds, Linear, Closed, Speed, Limit}
 use Rattle.hyd_spec_witnesses.specs.Parts.{Spur, plain}
 use Rattle.hyd_spec_witnesses.specs.Words.{thirty}
 
@@ -88,3 +88,29 @@ emitter_spur = record plain { elevation = pos 959999999000000; demand = pos 6026
 -- The junction's demand, 1605.3645312 cubic metres a day, is driven by pressure between 5 and 21 m.
 abbrev pub driven_spur : Spur
 driven_spur = record plain { driven = true; elevation = pos 909999999000000; demand = pos 16053645312 }
+
+-- A demand that is driven so, at another elevation.
+abbrev pub driven_at : ℤ → ℤ → Spur
+driven_at elevation demand = record plain { driven = true; elevation = elevation; demand = demand }
+
+-- The emitter above the water that it stands in, so that it lets water in.
+abbrev pub dry_spur : Spur
+dry_spur = record emitter_spur { elevation = pos 1039999999000000; demand = pos 10026822656 }
+
+-- A demand alone, 802.6822656 cubic metres a day.
+abbrev pub demand_spur : Spur
+demand_spur = record plain { demand = pos 8026822656 }
+
+-- ---- links that pass less
+
+-- The flow-control valve to a junction that takes half its setting.
+abbrev pub half_spur : Spur
+half_spur = record setting_spur { demand = pos 4013411328 }
+
+-- The pump to a junction without a demand.
+abbrev pub idle_pump : Spur
+idle_pump = record pump_spur { demand = pos 0 }
+
+-- The valve closed.
+abbrev pub shut_spur : Spur
+shut_spur = record plain { start = Closed }

@@ -5,5 +5,7 @@
 
 pub mod controls;
 pub mod histories;
+pub mod links;
+pub mod outflows;
 pub mod pipes;
 pub mod words;
