@@ -2,7 +2,7 @@
 use Rattle.std.specs.Prelude.{ℕ, ℤ, pos, Bool, false, List, [], ◌∷◌, Option, None, codes}
 use Rattle.std.proofs.Common.{lit≤}
 use Rattle.hyd_net.specs.ListView.{ListView}
-use Rattle.hyd_spec.specs.Types.{Project, FlowUnit, Cmd, Decimal, Capacity, LinkKind, LinkState, Tcv, Linear, Open, HeadPoint, Control}
+use Rattle.hyd_spec.specs.Types.{Project, Junction, Link, FlowUnit, Cmd, Decimal, Capacity, LinkKind, LinkState, Tcv, Linear, Open, HeadPoint, Control}
 use Rattle.hyd_spec.specs.Length.{Period}
 
 -- A list without room for more.
@@ -51,6 +51,17 @@ five = record { nano = pos 5000000000; bounded = lit≤ tt }
 abbrev pub twenty_one : Decimal
 twenty_one = record { nano = pos 21000000000; bounded = lit≤ tt }
 
+-- The junction, and the link.
+abbrev pub junction_of : Spur → Junction
+junction_of spur = record {
+  elevation = spur.elevation;
+  demands = listed (record { base = spur.demand; pattern = None } ∷ []);
+  emitter = spur.emitter;
+}
+
+abbrev pub link_of : Spur → Link
+link_of spur = record { from = 1; to = 0; kind = spur.kind; start = spur.start }
+
 -- The network.
 abbrev pub network_of : Spur → Project
 network_of spur = record {
@@ -74,10 +85,10 @@ network_of spur = record {
   };
   node_ids = codes "J" ∷ codes "R" ∷ [];
   link_ids = codes "L" ∷ [];
-  junctions = listed (record { elevation = spur.elevation; demands = listed (record { base = spur.demand; pattern = None } ∷ []); emitter = spur.emitter } ∷ []);
+  junctions = listed (junction_of spur ∷ []);
   reservoirs = listed (record { head = spur.head; pattern = None } ∷ []);
   tanks = listed [];
-  links = listed (record { from = 1; to = 0; kind = spur.kind; start = spur.start } ∷ []);
+  links = listed (link_of spur ∷ []);
   patterns = listed [];
   shapes = listed [];
   bends = listed spur.bends;

@@ -3,4 +3,9 @@
 //! laws in exact whole numbers. No function here has a body.
 #![tactic(auto)]
 
+pub mod controls;
+pub mod histories;
+pub mod links;
+pub mod outflows;
+pub mod pipes;
 pub mod words;
