@@ -19,7 +19,8 @@ use Rattle.hyd_lemmas.proofs.Ratios.{ratio_of, quotient_of}
 use Rattle.hyd_lemmas.proofs.Enclosing.{denominator_above}
 
 pub pressure_pair : (demand : ℤ) (minimum required : Decimal) (us : Bool) (n m : ℕ) (flows head r : Pair)
-    → n ≡ up demand → m ≡ up (required.nano -ℤ minimum.nano) → IsRatio n 1 flows → IsPairOf (pressure_fraction us m) head → IsSquareOver flows head r
+    → n ≡ up demand → m ≡ up (required.nano -ℤ minimum.nano) → IsRatio n 1 flows
+    → IsPairOf (pressure_fraction us m) head → IsSquareOver flows head r
     → IsPressurePair demand minimum required us r
 pressure_pair demand minimum required us n m flows head r en em by_flow by_head made = record {
   flows = flows;
@@ -42,7 +43,8 @@ flow_from d s least made =
 square_from : (n d : ℕ) (s : Scaled) → d ≤ n → IsDown (n * n) (d * d) s → denominator s ≤ numerator s
 unfolding at_exponent
 square_from n d s least made =
-    let l : 2 ^ 62 * denominator s ≤ numerator s * 2 ^ 62 = made.greatest (at_exponent (negsuc 61)) (omega (arith, mul-le d d n n least least)) in
+    let l : 2 ^ 62 * denominator s ≤ numerator s * 2 ^ 62 = made.greatest (at_exponent (negsuc 61))
+    (omega (arith, mul-le d d n n least least)) in
     omega (arith, l)
 
 head_to : (p q : ℕ) (s : Scaled) → p ≤ 10 ^ 17 * q → IsUp p q s → numerator s ≤ 2 ^ 57 * denominator s
@@ -51,10 +53,12 @@ head_to p q s most made =
     let l : numerator s * 2 ^ 5 ≤ 2 ^ 62 * denominator s = made.least (at_exponent (negsuc 4)) (omega (arith, most)) in
     omega (arith, l)
 
-capacity_from : (a b c d : ℕ) (s : Scaled) → b ≤ a → c ≤ 2 ^ 57 * d → IsDown (a * d) (b * c) s → denominator s ≤ numerator s * 2 ^ 61
+capacity_from : (a b c d : ℕ) (s : Scaled) → b ≤ a → c ≤ 2 ^ 57 * d → IsDown (a * d) (b * c) s
+    → denominator s ≤ numerator s * 2 ^ 61
 unfolding at_exponent
 capacity_from a b c d s square head made =
-    let l : 2 ^ 62 * denominator s ≤ numerator s * 2 ^ 123 = made.greatest (at_exponent (negsuc 122)) (omega (arith, mul-le b c a (2 ^ 57 * d) square head)) in
+    let l : 2 ^ 62 * denominator s ≤ numerator s * 2 ^ 123 = made.greatest (at_exponent (negsuc 122))
+    (omega (arith, mul-le b c a (2 ^ 57 * d) square head)) in
     omega (arith, l)
 
 flow_to : (d : ℕ) (s : Scaled) → d ≤ 10 ^ 15 → IsUp d 1 s → numerator s ≤ 2 ^ 50 * denominator s
@@ -66,16 +70,19 @@ flow_to d s most made =
 square_to : (n d : ℕ) (s : Scaled) → n ≤ 2 ^ 50 * d → IsUp (n * n) (d * d) s → numerator s ≤ 2 ^ 100 * denominator s
 unfolding at_exponent
 square_to n d s most made =
-    let l : numerator s * 1 ≤ 2 ^ 100 * denominator s = made.least (at_exponent (pos 38)) (omega (arith, mul-le n n (2 ^ 50 * d) (2 ^ 50 * d) most most)) in
+    let l : numerator s * 1 ≤ 2 ^ 100 * denominator s =
+    made.least (at_exponent (pos 38)) (omega (arith, mul-le n n (2 ^ 50 * d) (2 ^ 50 * d) most most)) in
     omega (arith, l)
 
 head_from : (p q : ℕ) (s : Scaled) → 2 ^ 39 * q ≤ p → IsDown p q s → 2 ^ 39 * denominator s ≤ numerator s
 unfolding at_exponent
 head_from p q s least made =
-    let l : 2 ^ 62 * denominator s ≤ numerator s * 2 ^ 23 = made.greatest (at_exponent (negsuc 22)) (omega (arith, least)) in
+    let l : 2 ^ 62 * denominator s ≤ numerator s * 2 ^ 23 = made.greatest (at_exponent (negsuc 22))
+    (omega (arith, least)) in
     omega (arith, l)
 
-capacity_to : (a b c d : ℕ) (s : Scaled) → a ≤ 2 ^ 100 * b → 2 ^ 39 * d ≤ c → IsUp (a * d) (b * c) s → numerator s < 2 ^ 66 * denominator s
+capacity_to : (a b c d : ℕ) (s : Scaled) → a ≤ 2 ^ 100 * b → 2 ^ 39 * d ≤ c → IsUp (a * d) (b * c) s
+    → numerator s < 2 ^ 66 * denominator s
 unfolding at_exponent
 capacity_to a b c d s square head made =
     let m : a * d ≤ 2 ^ 100 * b * d = mul-le-mul_right d square in
@@ -92,15 +99,24 @@ size_is (pos n) above = refl
 size_is (negsuc n) above = absurd (omega (arith, ints))
 
 -- the difference of the two pressures, in head ticks
-difference_to : (minimum required : ℤ) → pos 0 ≤ℤ minimum → (minimum +ℤ pos (10 ^ 8)) ≤ℤ required → up (required -ℤ minimum) ≤ up required
+difference_to : (minimum required : ℤ) → pos 0 ≤ℤ minimum → (minimum +ℤ pos (10 ^ 8)) ≤ℤ required
+    → up (required -ℤ minimum) ≤ up required
 difference_to minimum required least apart =
-    omega (arith, ints, nothing_below minimum least, nothing_below required (omega (arith, ints)), nothing_below (required -ℤ minimum) (omega (arith, ints)))
+    omega (
+      arith,
+      ints,
+      nothing_below minimum least,
+      nothing_below required (omega (arith, ints)),
+      nothing_below
+          (required -ℤ minimum) (omega (arith, ints)),
+    )
 
 difference_from : (minimum required : ℤ) → (minimum +ℤ pos (10 ^ 8)) ≤ℤ required → 10 ^ 8 ≤ up (required -ℤ minimum)
 difference_from minimum required apart = omega (arith, ints, nothing_below (required -ℤ minimum) (omega (arith, ints)))
 
 differs_to : (us : Bool) (d v : ℕ) → d ≤ v
-    → (pressure_fraction us v).num * 1 ≤ 10 ^ 17 * (pressure_fraction us v).den → (pressure_fraction us d).num ≤ 10 ^ 17 * (pressure_fraction us d).den
+    → (pressure_fraction us v).num * 1 ≤ 10 ^ 17 * (pressure_fraction us v).den
+    → (pressure_fraction us d).num ≤ 10 ^ 17 * (pressure_fraction us d).den
 differs_to true d v le most = omega arith
 differs_to false d v le most = omega arith
 
@@ -111,27 +127,32 @@ differs_from false d least = omega arith
 demand_to : (z : ℤ) → pos 1 ≤ℤ z → z ≤ℤ pos (10 ^ 15) → up z ≤ 10 ^ 15
 demand_to z least most = omega (arith, ints, nothing_below z (omega (arith, ints)))
 
--- in range: the demand is above 0, the minimum pressure at least 0, the required one a tenth of a unit above it, and at most
--- 10^17 head ticks
+-- in range: the demand is above 0, the minimum pressure at least 0, the required one a tenth of a unit above it, and
+-- at most 10^17 head ticks
 pub record IsInReach (demand : ℤ) (minimum required : Decimal) (us : Bool) : Type 0 where
   pub some : pos 1 ≤ℤ demand
   pub not_negative : pos 0 ≤ℤ minimum.nano
   pub apart : (minimum.nano +ℤ pos (10 ^ 8)) ≤ℤ required.nano
   pub at_most : AtMost (pressure_fraction us (billionths required)) (whole (10 ^ 17))
 
-pub pressure-least : (demand : ℤ) (minimum required : Decimal) (us : Bool) (r : Pair) → IsInReach demand minimum required us
+pub pressure-least : (demand : ℤ) (minimum required : Decimal) (us : Bool) (r : Pair)
+    → IsInReach demand minimum required us
     → IsPressurePair demand minimum required us r → denominator r.lo ≤ numerator r.lo * 2 ^ 61
 pressure-least demand minimum required us r are made =
     let least = are.some in
-    let flow : denominator made.flows.lo ≤ numerator made.flows.lo = flow_from (up demand) made.flows.lo (omega (arith, ints, least)) made.flows_is.low in
+    let flow : denominator made.flows.lo ≤ numerator made.flows.lo = flow_from (up demand) made.flows.lo
+    (omega (arith, ints, least)) made.flows_is.low in
     let square = square_from _ _ made.capacity_is.square.lo flow made.capacity_is.square_is.low in
-    let size = differs_to us _ _ (difference_to minimum.nano required.nano are.not_negative are.apart) are.at_most.crossed in
+    let size = differs_to us _ _ (difference_to minimum.nano required.nano are.not_negative are.apart)
+    are.at_most.crossed in
     capacity_from _ _ _ _ r.lo square (head_to _ _ made.head.hi size made.head_is.high) made.capacity_is.capacity_is.low
 
 pub pressure-greatest : (demand : ℤ) (minimum required : Decimal) (us : Bool) (r : Pair) → demand ≤ℤ pos (10 ^ 15)
-    → IsInReach demand minimum required us → IsPressurePair demand minimum required us r → numerator r.hi < 2 ^ 66 * denominator r.hi
+    → IsInReach demand minimum required us → IsPressurePair demand minimum required us r
+    → numerator r.hi < 2 ^ 66 * denominator r.hi
 pressure-greatest demand minimum required us r most are made =
-    let flow : numerator made.flows.hi ≤ 2 ^ 50 * denominator made.flows.hi = flow_to (up demand) made.flows.hi (demand_to demand are.some most) made.flows_is.high in
+    let flow : numerator made.flows.hi ≤ 2 ^ 50 * denominator made.flows.hi =
+    flow_to (up demand) made.flows.hi (demand_to demand are.some most) made.flows_is.high in
     let square = square_to _ _ made.capacity_is.square.hi flow made.capacity_is.square_is.high in
     let size = differs_from us _ (difference_from minimum.nano required.nano are.apart) in
     capacity_to _ _ _ _ r.hi square (head_from _ _ made.head.lo size made.head_is.low) made.capacity_is.capacity_is.high
@@ -154,7 +175,8 @@ pressure_pair_of demand minimum required us are =
     let d = up (required.nano -ℤ minimum.nano) in
     let apart = difference_from minimum.nano required.nano are.apart in
     let flows = ratio_of (up demand) 1 (omega (arith, ints, some)) (omega arith) in
-    let head = ratio_of (pressure_fraction us d).num (pressure_fraction us d).den (pressure-some us d (omega (arith, apart))) (pressure-parts us d) in
+    let head = ratio_of (pressure_fraction us d).num (pressure_fraction us d).den
+    (pressure-some us d (omega (arith, apart))) (pressure-parts us d) in
     let square = product_of flows.pair flows.pair in
     let capacity = quotient_of square.pair head.pair in (
       capacity.pair,

@@ -46,12 +46,12 @@ cut_of p q some above =
     let digits = 62 + q in
     let n = p * 2 ^ digits in
     let base : 2 ^ 62 * q ≤ n =
-        (let g = grown q in let e : 2 ^ digits ≡ 2 ^ 62 * 2 ^ q = pow-add 2 62 q in
-        let l : 2 ^ 62 * q ≤ 2 ^ 62 * 2 ^ q = mul-le-mul_left (2 ^ 62) (omega (arith, g)) in
-        let m : 1 * 2 ^ digits ≤ p * 2 ^ digits = mul-le-mul_right (2 ^ digits) some in
-        omega (arith, l, m, e)) in
+    (let g = grown q in let e : 2 ^ digits ≡ 2 ^ 62 * 2 ^ q = pow-add 2 62 q in
+    let l : 2 ^ 62 * q ≤ 2 ^ 62 * 2 ^ q = mul-le-mul_left (2 ^ 62) (omega (arith, g)) in
+    let m : 1 * 2 ^ digits ≤ p * 2 ^ digits = mul-le-mul_right (2 ^ digits) some in
+    omega (arith, l, m, e)) in
     let most : n < 2 ^ 63 * (q * 2 ^ n) =
-        (let g = grown n in let m : 1 * 2 ^ n ≤ q * 2 ^ n = mul-le-mul_right (2 ^ n) above in omega (arith, g, m)) in
+    (let g = grown n in let m : 1 * 2 ^ n ≤ q * 2 ^ n = mul-le-mul_right (2 ^ n) above in omega (arith, g, m)) in
     let fits = fit n q n base most in
     let d = q * 2 ^ fits.doublings in
     let d_some : 0 < d = mul-pos above (pow_pos fits.doublings) in
@@ -64,7 +64,8 @@ cut_of p q some above =
     record {
       number = s;
       exact = nat_eq (n % d) 0;
-      cut = IsCut-ratio digits fits.doublings p q (n % d) s (nat_eq (n % d) 0) (div-add-mod' n d) (mod-lt n d_some) refl (omega (arith, ints));
+      cut = IsCut-ratio digits fits.doublings p q (n % d) s (nat_eq (n % d) 0) (div-add-mod' n d) (mod-lt n d_some) refl
+          (omega (arith, ints));
     }
 
 -- ---- pairs
@@ -79,7 +80,12 @@ ratio_of p q some above =
     let low = IsDown-from_cut p q c.number c.exact c.cut in
     let over = raised p q c.number c.exact above c.cut in
     record {
-      pair = record { lo = c.number; hi = over.number; ordered = ordered p q p q c.number over.number above above (omega arith) low over.up };
+      pair = record {
+        lo = c.number;
+        hi = over.number;
+        ordered = ordered p q p q c.number over.number above above
+            (omega arith) low over.up;
+      };
       made = record { low = low; high = over.up };
     }
 
@@ -90,12 +96,20 @@ pub record Quotient (x y : Pair) : Type 0 where
 pub quotient_of : (x y : Pair) → Quotient x y
 quotient_of x y =
     let low = cut_of (numerator x.lo * denominator y.hi) (denominator x.lo * numerator y.hi)
-        (mul-pos (numerator_positive x.lo) (denominator_positive y.hi)) (mul-pos (denominator_positive x.lo) (numerator_positive y.hi)) in
+    (mul-pos (numerator_positive x.lo) (denominator_positive y.hi))
+    (mul-pos (denominator_positive x.lo) (numerator_positive y.hi)) in
     let high = cut_of (numerator x.hi * denominator y.lo) (denominator x.hi * numerator y.lo)
-        (mul-pos (numerator_positive x.hi) (denominator_positive y.lo)) (mul-pos (denominator_positive x.hi) (numerator_positive y.lo)) in
+    (mul-pos (numerator_positive x.hi) (denominator_positive y.lo))
+    (mul-pos (denominator_positive x.hi) (numerator_positive y.lo)) in
     let down = IsDown-from_cut _ _ low.number low.exact low.cut in
-    let over = raised _ _ high.number high.exact (mul-pos (denominator_positive x.hi) (numerator_positive y.lo)) high.cut in
+    let over = raised _ _ high.number high.exact (mul-pos (denominator_positive x.hi) (numerator_positive y.lo))
+    high.cut in
     record {
-      pair = record { lo = low.number; hi = over.number; ordered = quotients_ordered x y low.number over.number down over.up };
+      pair = record {
+        lo = low.number;
+        hi = over.number;
+        ordered =
+            quotients_ordered x y low.number over.number down over.up;
+      };
       made = record { low = down; high = over.up };
     }

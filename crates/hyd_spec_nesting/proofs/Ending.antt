@@ -1,6 +1,5 @@
 -- Each period that doesn't begin at the end of the run ends in some way under each record.
-use Rattle.std.proofs.Common.{◌≡◌, ◌≢◌, ℕ, suc, ◌+◌, ◌%◌, ◌<◌, ◌≤◌, refl, sym, ap, subst, ◌∙◌, arith, Bool, true, false, ◌==◌, List, [], ◌∷◌, map, ◌⊎◌, inl, inr}
-use Rattle.std.specs.Prelude.{Some}
+use Rattle.std.proofs.Common.{◌≡◌, ◌≢◌, ℕ, suc, ◌+◌, ◌%◌, ◌≤◌, refl, sym, ap, subst, ◌∙◌, arith, Bool, true, false, List, [], ◌∷◌, map, ◌⊎◌, inl, inr}
 use Rattle.std.specs.List.{AllByRecursion, list_any}
 use Rattle.std.proofs.lemmas.Bool.{cases_Bool, cases_lt, cases_eq}
 use Rattle.hyd_num.specs.Rational.{floor, ceiling}
@@ -11,7 +10,7 @@ use Rattle.hyd_spec_certificates.specs.Grid.{Grid}
 use Rattle.hyd_spec_certificates.specs.Record.{Record, Standing}
 use Rattle.hyd_spec_certificates.specs.Verdict.{Verdict, Yes, No, Unknown, is_unknown, either, both, some_holds, all_hold}
 use Rattle.hyd_spec_certificates.specs.Decided.{readings_below, readings_above, clause_between, rule_truth, rule_truths, decided_changes, IsTried, RulesMatter, OpenRule, IsOpenRule, End, ByRules, WithoutRules, RuleIsOpen, EventIsOpen, IsEarliestEnd, IsLatestEnd, IsFirstMatter, NoRuleMatters, EndsBy, by_rules, rule_is_open, by_clock, event_is_open}
-use Rattle.hyd_spec_raises.proofs.Searching.{IsFirst, first-below}
+use Rattle.hyd_spec_raises.proofs.Searching.{first-below}
 use Rattle.hyd_spec_histories.proofs.Judging.{in-groups}
 use Rattle.hyd_spec_histories.proofs.Lasting.{is-empty}
 use Rattle.hyd_spec_histories.proofs.LinesHold.{mapped_at}
@@ -37,52 +36,74 @@ both-known Unknown t p q = absurd (cc)
 abbrev IsKnown : (Clause → Verdict) → Clause → Type 0
 IsKnown truth clause = is_unknown (truth clause) ≡ false
 
-group-known : (truth : Clause → Verdict) (group : List Clause) → AllByRecursion (IsKnown truth) group → is_unknown (some_holds (map truth group)) ≡ false
+group-known : (truth : Clause → Verdict) (group : List Clause) → AllByRecursion (IsKnown truth) group
+    → is_unknown (some_holds (map truth group)) ≡ false
 group-known truth [] all = refl
-group-known truth (c ∷ group) all = either-known (truth c) (some_holds (map truth group)) all.0 (group-known truth group all.1)
+group-known truth (c ∷ group) all = either-known (truth c) (some_holds (map truth group)) all.0
+    (group-known truth group all.1)
 
-groups-known : (truth : Clause → Verdict) (groups : List (List Clause)) → AllByRecursion (AllByRecursion (IsKnown truth)) groups
+groups-known : (truth : Clause → Verdict) (groups : List (List Clause))
+    → AllByRecursion (AllByRecursion (IsKnown truth)) groups
     → is_unknown (all_hold (map (λ group. some_holds (map truth group)) groups)) ≡ false
 groups-known truth [] all = refl
 groups-known truth (group ∷ groups) all =
-    both-known (some_holds (map truth group)) (all_hold (map (λ g. some_holds (map truth g)) groups)) (group-known truth group all.0) (groups-known truth groups all.1)
+    both-known (some_holds (map truth group)) (all_hold (map (λ g. some_holds (map truth g)) groups))
+    (group-known truth group all.0) (groups-known truth groups all.1)
 
-rule-known : (truth : Clause → Verdict) (rule : Rule) → AllByRecursion (λ (each : RuleClause). is_unknown (truth each.clause) ≡ false) rule.clauses.list
+rule-known : (truth : Clause → Verdict) (rule : Rule)
+    → AllByRecursion (λ (each : RuleClause). is_unknown (truth each.clause) ≡ false) rule.clauses.list
     → is_unknown (all_hold (map (λ group. some_holds (map truth group)) (groups_of rule))) ≡ false
 rule-known truth rule all = groups-known truth (groups_of rule) (in-groups (IsKnown truth) rule all)
 
 module _ (network : Project) (grid : Grid) (standing : Standing) (row : Record) where
   abbrev clause-at : ℕ → Clause → Verdict
   clause-at seconds clause =
-      clause_between network (standing.time + seconds) (readings_below network grid standing row seconds) (readings_above network grid standing row seconds) clause
+      clause_between network (standing.time + seconds) (readings_below network grid standing row seconds)
+      (readings_above network grid standing row seconds) clause
 
-  pub open_rule_is : (seconds : ℕ) → list_any is_unknown (rule_truths network grid standing row seconds) ≡ true
+  abbrev truths : ℕ → List Verdict
+  truths seconds = rule_truths network grid standing row seconds
+
+  pub open_rule_is : (seconds : ℕ) → list_any is_unknown (truths seconds) ≡ true
       → (open_rule : OpenRule) × IsOpenRule network grid standing row seconds open_rule
-  open_rule_is seconds unknown = elim (find_or_none Verdict is_unknown (rule_truths network grid standing row seconds)) [
+  open_rule_is seconds unknown = elim (find_or_none Verdict is_unknown (truths seconds)) [
     | inr none ↦ absurd (
-        let any = any-there Verdict is_unknown (rule_truths network grid standing row seconds) unknown in
+        let any = any-there Verdict is_unknown (truths seconds) unknown in
         never (is_unknown any.item) any.passes (none.fails any.item any.contained))
     | inl found ↦
-        let m = mapped_at Rule Verdict (rule_truth network grid standing row seconds) network.rules.list found.place found.item found.is_item in
+        let m = mapped_at Rule Verdict (rule_truth network grid standing row seconds)
+        network.rules.list found.place found.item found.is_item in
         elim (find_or_none RuleClause (λ each. is_unknown (clause-at seconds each.clause)) m.item.clauses.list) [
           | inr none ↦ absurd (
               let known = rule-known (clause-at seconds) m.item
-                  (all_contained RuleClause (λ each. is_unknown (clause-at seconds each.clause) ≡ false) m.item.clauses.list none.fails) in
-              never (is_unknown (rule_truth network grid standing row seconds m.item)) (ap is_unknown m.same ∙ found.passes) known)
+              (all_contained RuleClause (λ each. is_unknown (clause-at seconds each.clause) ≡ false)
+              m.item.clauses.list none.fails) in
+              never (is_unknown (rule_truth network grid standing row seconds m.item)) (ap is_unknown m.same
+              ∙ found.passes) known)
           | inl clause ↦ (
-              record {
-                rule = found.place;
-                clause = clause.place;
-                lo = floor (measured network 1 (readings_below network grid standing row seconds) clause.item.clause.what);
-                hi = ceiling (measured network 1 (readings_above network grid standing row seconds) clause.item.clause.what);
-              },
-              record {
-                first_rule = found.is_place;
-                rule = m.item;
-                is_rule = m.is_item;
-                clause_is = record { first_clause = clause.is_place; each = clause.item; is_clause = clause.is_item; lo_is = refl; hi_is = refl };
-              },
-            )
+            record {
+              rule = found.place;
+              clause = clause.place;
+              lo =
+                  floor (measured network 1 (readings_below network grid standing row seconds) clause.item.clause.what);
+              hi =
+                  ceiling (measured network 1 (readings_above network grid standing row seconds)
+                  clause.item.clause.what);
+            },
+            record {
+              first_rule = found.is_place;
+              rule = m.item;
+              is_rule = m.is_item;
+              clause_is = record {
+                first_clause = clause.is_place;
+                each = clause.item;
+                is_clause =
+                    clause.is_item;
+                lo_is = refl;
+                hi_is = refl;
+              };
+            },
+          )
         ]
   ]
 
@@ -98,10 +119,11 @@ module _ (network : Project) (grid : Grid) (standing : Standing) (row : Record) 
   ]
 
   abbrev Matters : ℕ → Type 0
-  Matters seconds = (list_any is_unknown (rule_truths network grid standing row seconds) ≡ true) ⊎ (decided_changes network grid standing row seconds ≢ [])
+  Matters seconds = (list_any is_unknown (truths seconds) ≡ true) ⊎
+      (decided_changes network grid standing row seconds ≢ [])
 
   matters-or-not : (seconds : ℕ) → Matters seconds ⊎ (Matters seconds → ⊥)
-  matters-or-not seconds = elim (cases_Bool (list_any is_unknown (rule_truths network grid standing row seconds))) [
+  matters-or-not seconds = elim (cases_Bool (list_any is_unknown (truths seconds))) [
     | inl unknown ↦ inl (inl unknown)
     | inr known ↦ elim (is-empty Change (decided_changes network grid standing row seconds)) [
       | inl none ↦ inr (neither known none)
@@ -109,11 +131,13 @@ module _ (network : Project) (grid : Grid) (standing : Standing) (row : Record) 
     ]
   ]
     where
-      neither : list_any is_unknown (rule_truths network grid standing row seconds) ≡ false → decided_changes network grid standing row seconds ≡ [] → Matters seconds → ⊥
+      neither : list_any is_unknown (truths seconds) ≡ false
+          → decided_changes network grid standing row seconds ≡ [] → Matters seconds → ⊥
       neither known none (inl unknown) = absurd (cc)
       neither known none (inr some) = some none
 
-  rules-matter-or-not : (seconds : ℕ) → RulesMatter network grid standing row seconds ⊎ (RulesMatter network grid standing row seconds → ⊥)
+  rules-matter-or-not : (seconds : ℕ)
+      → RulesMatter network grid standing row seconds ⊎ (RulesMatter network grid standing row seconds → ⊥)
   rules-matter-or-not seconds = elim (tried-or-not seconds) [
     | inr untried ↦ inr (λ m. untried m.tried)
     | inl tried ↦ elim (matters-or-not seconds) [
@@ -129,7 +153,7 @@ module _ (network : Project) (grid : Grid) (standing : Standing) (row : Record) 
     SomeEnd = (e : End) × EndsBy network grid standing row e
 
     by-matter : (seconds : ℕ) → IsFirstMatter network grid standing row seconds → SomeEnd
-    by-matter seconds first = elim (cases_Bool (list_any is_unknown (rule_truths network grid standing row seconds))) [
+    by-matter seconds first = elim (cases_Bool (list_any is_unknown (truths seconds))) [
       | inr known ↦ (ByRules seconds, by_rules first known)
       | inl unknown ↦ let found = open_rule_is seconds unknown in (RuleIsOpen found.0, rule_is_open first found.1)
     ]
@@ -138,7 +162,11 @@ module _ (network : Project) (grid : Grid) (standing : Standing) (row : Record) 
     without-rules earliest none =
         let latest = latest_is network grid standing row some in
         elim (cases_eq earliest latest.0) [
-          | inl same ↦ (WithoutRules earliest, by_clock none (subst (IsLatestEnd network grid standing row) (sym same) latest.1))
+          | inl same ↦ (
+            WithoutRules earliest,
+            by_clock none (subst (IsLatestEnd network grid standing row)
+                (sym same) latest.1),
+          )
           | inr differ ↦ (EventIsOpen earliest latest.0, event_is_open none latest.1 differ)
         ]
 
@@ -146,23 +174,29 @@ module _ (network : Project) (grid : Grid) (standing : Standing) (row : Record) 
     some_end = by-earliest (earliest_is network grid standing row some)
       where
         by-earliest : ((e : ℕ) × IsEarliestEnd network grid standing row e) → SomeEnd
-        by-earliest (earliest, is) = elim (first-below (RulesMatter network grid standing row) rules-matter-or-not (suc earliest)) [
-          | inr none ↦ without-rules earliest (record {
-              not_last = not_last;
-              is_earliest = is;
-              none = λ s m. elim (cases_lt earliest s) [
-                | inl less ↦ less
-                | inr more ↦ absurd (none s (omega (arith, more)) m)
-              ];
-            })
-          | inl (k, first) ↦ elim (cases_lt earliest k) [
-            | inl after ↦ without-rules earliest (record { not_last = not_last; is_earliest = is; none = λ s m. let l = first.least s m in omega (arith, l, after) })
-            | inr before ↦ by-matter k (record {
+        by-earliest (earliest, is) = elim (first-below (RulesMatter network grid standing row) rules-matter-or-not
+            (suc earliest)) [
+              | inr none ↦ without-rules earliest (record {
                 not_last = not_last;
-                earliest = earliest;
                 is_earliest = is;
-                in_time = before;
-                first = record { holds = first.holds; least = first.least };
+                none = λ s m. elim (cases_lt earliest s) [
+                  | inl less ↦ less
+                  | inr more ↦ absurd (none s (omega (arith, more)) m)
+                ];
               })
-          ]
-        ]
+              | inl (k, first) ↦ elim (cases_lt earliest k) [
+                | inl after ↦ without-rules earliest (record {
+                  not_last = not_last;
+                  is_earliest = is;
+                  none = λ s m. let l =
+                      first.least s m in omega (arith, l, after);
+                })
+                | inr before ↦ by-matter k (record {
+                  not_last = not_last;
+                  earliest = earliest;
+                  is_earliest = is;
+                  in_time = before;
+                  first = record { holds = first.holds; least = first.least };
+                })
+              ]
+            ]

@@ -1,5 +1,5 @@
 -- Every standing that a run leaves keeps what standings keep, and a run that isn't finished goes on or stops.
-use Rattle.std.proofs.Common.{◌≡◌, ℕ, refl, sym, subst, false, List, [], ◌∷◌, ◌++◌, ◌⊎◌, inl, inr}
+use Rattle.std.proofs.Common.{◌≡◌, ℕ, refl, sym, subst, false, List, ◌⊎◌, inl, inr}
 use Rattle.hyd_net.specs.Sound.{Sound}
 use Rattle.hyd_spec.specs.Types.{Project}
 use Rattle.hyd_spec_certificates.specs.Record.{Standing, initial_standing}
@@ -20,7 +20,8 @@ record Keeps (network : Project) (standing : Standing) : Type 0 where
 
 module _ (network : Project) (sound : Sound network) where
   -- the period at the end of the run leaves what it found
-  finished-keeps : (standing next : Standing) (found : Found) → Keeps network standing → Finishes network standing found.row next → Keeps network next
+  finished-keeps : (standing next : Standing) (found : Found) → Keeps network standing
+      → Finishes network standing found.row next → Keeps network next
   finished-keeps standing next found keeps f = subst (Keeps network) (sym f.next_is) (record {
     kept = record { controls = keeps.kept.controls; levels = keeps.kept.levels; states = keeps.kept.states };
     tidy = record {
@@ -42,24 +43,42 @@ module _ (network : Project) (sound : Sound network) where
       }
       by-leading (finishes f) = finished-keeps found.standing found.next found keeps f
 
-  along : (standing : Standing) (founds : List Found) (last : Standing) → IsRunFrom network standing founds last → Keeps network standing → Keeps network last
+  along : (standing : Standing) (founds : List Found) (last : Standing) → IsRunFrom network standing founds last
+      → Keeps network standing → Keeps network last
   along _ _ last none keeps = keeps
-  along _ _ last (more {found = found} {rest = rest} is go) keeps = along found.next rest last go (next-keeps found is keeps)
+  along _ _ last (more {found = found} {rest = rest} is go) keeps =
+      along found.next rest last go (next-keeps found is keeps)
 
   run-keeps : (founds : List Found) (last : Standing) → IsRun network founds last → Keeps network last
-  run-keeps founds last run = along (initial_standing network) founds last run (record { kept = kept_at_start network sound; tidy = tidy_at_start network sound })
+  run-keeps founds last run = along (initial_standing network) founds last run
+      (record { kept = kept_at_start network sound; tidy = tidy_at_start network sound })
 
-  pub run_keeps : (founds : List Found) (last : Standing) → IsRun network founds last → IsKept network last × IsTidy network last
+  pub run_keeps : (founds : List Found) (last : Standing) → IsRun network founds last
+      → IsKept network last × IsTidy network last
   run_keeps founds last run = let k = run-keeps founds last run in (k.kept, k.tidy)
 
   -- one more period, with its report
-  longer : (founds : List Found) (last : Standing) → IsRun network founds last → Keeps network last → LeadsSomewhere network last → IsLonger network founds
+  longer : (founds : List Found) (last : Standing) → IsRun network founds last → Keeps network last
+      → LeadsSomewhere network last → IsLonger network founds
   longer founds last run keeps leads =
-      let report = report_is network sound leads.grid last leads.row keeps.kept keeps.tidy leads.valid.is_grid leads.next leads.valid.leads_on in
-      let found : Found = record { standing = last; grid = leads.grid; row = leads.row; lines = report.0; next = leads.next } in
-      record { found = found; is_run = run_more network founds last found run refl (record { valid = leads.valid; report = report.1 }) }
+      let report = report_is network sound leads.grid last leads.row keeps.kept keeps.tidy leads.valid.is_grid
+      leads.next leads.valid.leads_on in
+      let found : Found = record {
+        standing = last;
+        grid = leads.grid;
+        row = leads.row;
+        lines = report.0;
+        next =
+            leads.next;
+      } in
+      record {
+        found = found;
+        is_run = run_more network founds last found run refl
+            (record { valid = leads.valid; report = report.1 });
+      }
 
-  pub run_goes_on : (founds : List Found) (last : Standing) → IsRun network founds last → last.finished ≡ false → (rounds : ℕ)
+  pub run_goes_on : (founds : List Found) (last : Standing) → IsRun network founds last → last.finished ≡ false
+      → (rounds : ℕ)
       → IsLonger network founds ⊎ IsStopped network last rounds
   run_goes_on founds last run unfinished rounds =
       let keeps = run-keeps founds last run in

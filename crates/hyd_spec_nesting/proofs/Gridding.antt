@@ -1,18 +1,16 @@
 -- Each standing at which the demands are in range has a grid.
-use Rattle.std.proofs.Common.{◌≡◌, ℕ, ◌*◌, ◌^◌, ◌≤◌, ℤ, pos, negsuc, ◌≤ℤ◌, ◌+ℤ◌, refl, sym, ap, subst, ◌∙◌, arith, Bool, true, false, MatchBool, List, [], ◌∷◌, map}
-use Rattle.std.specs.Prelude.{int_le, unsigned_abs, if◌then◌else◌, All}
+use Rattle.std.proofs.Common.{◌≡◌, ℕ, ◌*◌, ◌^◌, ◌≤◌, ℤ, pos, negsuc, ◌≤ℤ◌, refl, arith, Bool, true, false, MatchBool, List, [], ◌∷◌, map}
+use Rattle.std.specs.Prelude.{int_le, unsigned_abs, if◌then◌else◌}
 use Rattle.std.specs.List.{AllByRecursion, AllZip}
 use Rattle.std.proofs.lemmas.Int.{ints}
 use Rattle.std.proofs.lemmas.List.Elements.{recursion_from_All}
 use borrow.Author.Differences.{up}
-use Rattle.hyd_num.specs.Quantity.{billionths, pressure_fraction, pressure_numerator, pressure_denominator}
+use Rattle.hyd_num.specs.Quantity.{pressure_fraction, pressure_numerator, pressure_denominator}
 use Rattle.hyd_num.specs.Fraction.{AtMost, whole}
-use Rattle.hyd_net.specs.Sizes.{IsPressure}
 use Rattle.hyd_net.specs.Sound.{Sound}
 use Rattle.hyd_lemmas.proofs.PressurePairs.{IsInReach, pressure_capacity_of}
-use Rattle.hyd_spec.specs.Types.{Project, Junction, Decimal}
+use Rattle.hyd_spec.specs.Types.{Project, Junction}
 use Rattle.hyd_spec.specs.Quantity.{is_us, demand_of, reservoir_head, minimum_pressure, required_pressure}
-use Rattle.hyd_spec.specs.Outflow.{is_pressure_driven}
 use Rattle.hyd_spec_certificates.specs.Enclosing.{DemandLaw, Fixed, Driven}
 use Rattle.hyd_spec_certificates.specs.Grid.{Grid, GridJunction, IsJunctionOf, IsDemandLaw, IsDriven, grid_links, tank_intervals}
 use Rattle.hyd_spec_certificates.specs.Record.{Standing}
@@ -38,12 +36,14 @@ module _ (network : Project) (sound : Sound network) where
   law-of : (demand : ℤ) → unsigned_abs demand ≤ demand_limit → (law : DemandLaw) × IsDemandLaw network demand law
   law-of demand within = by-case (int_le demand (pos 0)) network.options.pda refl refl
     where
-      reach : int_le demand (pos 0) ≡ false → network.options.pda ≡ true → IsInReach demand network.options.p0 network.options.pf (is_us network)
+      reach : int_le demand (pos 0) ≡ false → network.options.pda ≡ true
+          → IsInReach demand network.options.p0 network.options.pf (is_us network)
       reach e driven = record {
         some = (let l = le-no demand (pos 0) e in omega (arith, ints, l));
         not_negative = sound.quantities.options.minimum.not_negative;
         apart = sound.quantities.options.apart driven;
-        at_most = pressure-most (is_us network) network.options.pf.nano sound.quantities.options.required.not_negative sound.quantities.options.required.at_most;
+        at_most = pressure-most (is_us network) network.options.pf.nano sound.quantities.options.required.not_negative
+            sound.quantities.options.required.at_most;
       }
 
       by-case : (a b : Bool) → int_le demand (pos 0) ≡ a → network.options.pda ≡ b
@@ -51,12 +51,14 @@ module _ (network : Project) (sound : Sound network) where
       by-case true b e f = (Fixed demand, refl)
       by-case false false e f = (Fixed demand, refl)
       by-case false true e f =
-          let c = pressure_capacity_of demand network.options.p0 network.options.pf (is_us network) (in-limit demand within) (reach e f) in (
+          let c = pressure_capacity_of demand network.options.p0 network.options.pf (is_us network)
+          (in-limit demand within) (reach e f) in (
             Driven demand c.capacity (minimum_pressure network) (required_pressure network),
             record { capacity = c.capacity; origin = c.origin; made = c.made; is_law = refl },
           )
 
-  junctions-of : (time : ℕ) (js : List Junction) → AllByRecursion (λ (j : Junction). unsigned_abs (demand_of network time j) ≤ demand_limit) js
+  junctions-of : (time : ℕ) (js : List Junction)
+      → AllByRecursion (λ (j : Junction). unsigned_abs (demand_of network time j) ≤ demand_limit) js
       → (here : List GridJunction) × AllZip (IsJunctionOf network time) js here
   junctions-of time [] all = ([], tt)
   junctions-of time (j ∷ js) all =
@@ -66,7 +68,8 @@ module _ (network : Project) (sound : Sound network) where
         (record { elevation = refl; demand = law.1; emitter = refl }, rest.1),
       )
 
-  pub grid_is : (standing : Standing) → DemandsAreInRange network standing.time → (grid : Grid) × IsGridAt network standing grid
+  pub grid_is : (standing : Standing) → DemandsAreInRange network standing.time
+      → (grid : Grid) × IsGridAt network standing grid
   grid_is standing range =
       let junctions = junctions-of standing.time network.junctions.list (recursion_from_All _ _ range) in (
         record {

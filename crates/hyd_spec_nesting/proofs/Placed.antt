@@ -1,5 +1,5 @@
 -- The first item of a list that passes a test, or none.
-use Rattle.std.proofs.Common.{◌≡◌, ℕ, zero, suc, ◌<◌, ◌≤◌, refl, sym, ap, subst, ◌∙◌, arith, Bool, true, false, List, [], ◌∷◌, length, ◌⊎◌, inl, inr}
+use Rattle.std.proofs.Common.{◌≡◌, ℕ, ◌<◌, ◌≤◌, refl, sym, ap, ◌∙◌, arith, Bool, true, false, List, [], ◌∷◌, length, ◌⊎◌, inl, inr}
 use Rattle.std.specs.Prelude.{Option, Some, None, slice_get, Contains, position, nat_lt, if◌then◌else◌}
 use Rattle.std.specs.List.{AllByRecursion, position_or_len}
 use Rattle.std.proofs.lemmas.Bool.{cases_Bool}
@@ -24,7 +24,8 @@ pub record HasNone (X : Type 0) (test : X → Bool) (xs : List X) : Type 0 where
 
 not-below : (a b : ℕ) → (if nat_lt a b then Some a else None) ≡ None → b ≤ a
 not-below a b e = elim (cases_Bool (nat_lt a b)) [
-  | inl lt ↦ absurd (let s : (if nat_lt a b then Some a else None) ≡ Some a = rw lt refl in let n : ◌≡◌ {A = Option ℕ} None (Some a) = sym e ∙ s in cc)
+  | inl lt ↦ absurd (let s : (if nat_lt a b then Some a else None) ≡ Some a = rw lt refl in
+      let n : ◌≡◌ {A = Option ℕ} None (Some a) = sym e ∙ s in cc)
   | inr ge ↦ not-lt a b ge
 ]
   where
@@ -60,4 +61,8 @@ find_or_none X test xs = by-place xs (position test xs) refl
 -- where each item of a list has a property, so it is one after another
 pub all_contained : (X : Type 0) (P : X → Type 0) (xs : List X) → ((x : X) → Contains xs x → P x) → AllByRecursion P xs
 all_contained X P [] each = tt
-all_contained X P (x ∷ xs) each = (each x (contains-here X x xs), all_contained X P xs (λ y c. each y (contains-later X y x xs c)))
+all_contained X P (x ∷ xs) each = (
+  each x (contains-here X x xs),
+  all_contained X P xs
+      (λ y c. each y (contains-later X y x xs c)),
+)

@@ -150,8 +150,8 @@ pub fn grids()
         → (grid : Grid) × IsGridAt network standing grid }
 {}
 
-/// Under each record a period that doesn't begin at the end of the run ends in some way: the clock allows it a length, it has an
-/// earliest and a latest end, and it is decided or open.
+/// Under each record a period that doesn't begin at the end of the run ends in some way: the clock allows it a
+/// length, it has an earliest and a latest end, and it is decided or open.
 pub fn ends()
     ensures lengths { (network : Project) → Sound network → (time : ℕ) → (cap : ℕ) × IsClockLength network time cap }
     ensures earliest { (network : Project) → Sound network → (grid : Grid) (standing : Standing) (row : Record)
@@ -166,20 +166,25 @@ pub fn ends()
 pub fn reports()
     ensures { (network : Project) → Sound network → (grid : Grid) (standing : Standing) (row : Record) (next : Standing)
         → IsKept network standing → IsTidy network standing → IsGridAt network standing grid
-        → LeadsOn network grid standing row next → (lines : List ReportLine) × IsReport network grid standing row lines }
+        → LeadsOn network grid standing row next
+        → (lines : List ReportLine) × IsReport network grid standing row lines }
 {}
 
-/// At each unfinished standing of a run a valid record leads on, or a cause of a stop holds, whatever the number of rounds.
+/// At each unfinished standing of a run a valid record leads on, or a cause of a stop holds, whatever the number of
+/// rounds.
 pub fn onward()
-    ensures { (network : Project) → Sound network → (standing : Standing) → IsKept network standing → standing.finished ≡ false
+    ensures { (network : Project) → Sound network → (standing : Standing) → IsKept network standing
+        → standing.finished ≡ false
         → (rounds : ℕ) → LeadsSomewhere network standing ⊎ IsStopped network standing rounds }
 {}
 
-/// Every standing that a run leaves keeps what standings keep. A run that isn't finished goes on by one more period, or a
-/// cause of a stop holds at the standing that it leaves, whatever the number of rounds.
+/// Every standing that a run leaves keeps what standings keep. A run that isn't finished goes on by one more period,
+/// or a cause of a stop holds at the standing that it leaves, whatever the number of rounds.
 pub fn runs()
-    ensures keep { (network : Project) → Sound network → (founds : List Found) (last : Standing) → IsRun network founds last
+    ensures keep { (network : Project) → Sound network → (founds : List Found) (last : Standing)
+        → IsRun network founds last
         → IsKept network last × IsTidy network last }
-    ensures go_on { (network : Project) → Sound network → (founds : List Found) (last : Standing) → IsRun network founds last
+    ensures go_on { (network : Project) → Sound network → (founds : List Found) (last : Standing)
+        → IsRun network founds last
         → last.finished ≡ false → (rounds : ℕ) → IsLonger network founds ⊎ IsStopped network last rounds }
 {}

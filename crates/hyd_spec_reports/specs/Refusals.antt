@@ -87,8 +87,8 @@ IsRefusedBy network standing row (Length period) =
     (grid : Grid) × (IsCertified network standing grid row
     × ((LeavesOpen network grid standing row → ⊥) × HasOtherLength network grid standing row))
 
--- A record with the network's counts of junctions and tanks is refused at a standing by this cause, which names the
--- period that was due.
+-- A record is refused at a standing by this cause, which names the period that was due. (This is asked of records
+-- with the network's counts of junctions and tanks.)
 pub record IsRefused (network : Project) (standing : Standing) (row : Record) (cause : CertRefused) : Type 0 where
   pub period_is : refused_period cause ≡ standing.number
   pub refused_by : IsRefusedBy network standing row cause

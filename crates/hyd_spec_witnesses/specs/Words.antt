@@ -22,9 +22,9 @@ thirty = record { nano = pos 30000000000; bounded = lit≤ tt }
 abbrev pub falling : List (ListView HeadPoint)
 falling =
     listed (
-      record { flow = pos 0; head = pos 400000000000000 }
-      ∷ record { flow = pos 1000000000; head = pos 350000000000000 }
-      ∷ record { flow = pos 2000000000; head = pos 250000000000000 }
-      ∷ record { flow = pos 3000000000; head = pos 100000000000000 }
-      ∷ []
+    record { flow = pos 0; head = pos 400000000000000 }
+    ∷ record { flow = pos 1000000000; head = pos 350000000000000 }
+    ∷ record { flow = pos 2000000000; head = pos 250000000000000 }
+    ∷ record { flow = pos 3000000000; head = pos 100000000000000 }
+    ∷ []
     ) ∷ []
