@@ -1,8 +1,9 @@
 -- Targets of a tank with a volume curve, as volumes.
-use Rattle.std.proofs.Common.{◌≡◌, ℕ, ◌*◌, ◌<◌, ℤ, pos, ◌+ℤ◌, ◌*ℤ◌, ◌≤ℤ◌, ◌<ℤ◌, refl, sym, ap, subst, ◌∙◌, arith, Bool, true, false, ◌&&◌, List, [], ◌∷◌, mul-pos}
+use Rattle.std.proofs.Common.{◌≡◌, ℕ, ◌*◌, ◌<◌, ℤ, pos, ◌+ℤ◌, ◌*ℤ◌, ◌≤ℤ◌, ◌<ℤ◌, inl, inr, refl, sym, ap, subst, ◌∙◌, arith, Bool, true, false, ◌&&◌, ◌||◌, List, [], ◌∷◌, mul-pos}
 use Rattle.std.specs.Prelude.{int_le, map, if◌then◌else◌}
 use Rattle.std.proofs.Math.IntN.{*ℤ_comm}
 use Rattle.std.proofs.lemmas.Int.{ints}
+use Rattle.std.proofs.lemmas.Bool.{cases_Bool}
 use Rattle.hyd_num.proofs.Integers.{times_plus, times_rises, times_reflects, times_one, times_times}
 use Rattle.hyd_num.specs.Rational.{Rational, floor, is_at_most}
 use Rattle.hyd_net.specs.Curves.{value_at, volume_knots, volume_at, AreRising, IsVolumeCurve}
@@ -14,8 +15,9 @@ use Rattle.hyd_spec_laws.proofs.RisingLines.{some-den}
 use Rattle.hyd_spec_laws.proofs.CurveLevels.{AreAlike, same, above, below, AreRisingPoints, at-level, levels_undo, over-level, over-volume}
 use Rattle.hyd_spec_laws.proofs.Leading.{one_times}
 use Rattle.hyd_spec_laws.proofs.Placing.{le-from, above-yes, above-from, below-yes, below-from, placed-is}
+use Rattle.hyd_lemmas.proofs.Trials.{or-left, or-right}
 use Rattle.hyd_spec_laws.proofs.Outflows.{le-yes}
-use Rattle.hyd_spec_laws.proofs.Levelling.{pairs-tail, exact-some}
+use Rattle.hyd_spec_laws.proofs.Levelling.{pairs-tail, exact-some, curve-some}
 
 -- tests that follow from each other are one
 pub one-test : (a b : Bool) → (a ≡ true → b ≡ true) → (b ≡ true → a ≡ true) → a ≡ b
@@ -162,3 +164,80 @@ at_maximum S points tank stock q seconds some curve apart =
         let same-product : pos exact.den *ℤ (pos S *ℤ (pos v.den *ℤ floor v)) ≡ pos v.den *ℤ (pos exact.den *ℤ (pos S *ℤ floor v)) =
         ap (λ (z : ℤ). pos exact.den *ℤ z) (exchanged v.den S (floor v)) ∙ exchanged v.den exact.den (pos S *ℤ floor v) in
         times_reflects v.den (pos exact.den *ℤ (pos S *ℤ floor v)) exact.num v-some (omega (arith, ints, a, h, same-product))
+
+-- ---- a target from below, as a volume
+
+-- the carried level has risen to a target above the minimum where the exact volume is at least that of the maximum, or that at the
+-- target
+pub risen_to : (S : ℕ) (points : List VolumePoint) (tank : Tank) (stock : Stock) (q t : ℤ) (seconds : ℕ) → 0 < S → IsVolumeCurve points → tank.minimum <ℤ t → t ≤ℤ tank.maximum
+    → reaches S true t (carried_level S (Curve points) tank stock q seconds)
+    ≡ (reaches S true (volume_at points tank.maximum) (exact_content (Curve points) stock q seconds)
+    || is_at_most (in_parts S (value_at 1 (volume_knots points) t)) (exact_content (Curve points) stock q seconds))
+risen_to S points tank stock q t seconds some curve over within =
+    let exact = exact_content (Curve points) stock q seconds in
+    let contents = content_bounds (Curve points) tank in
+    let bounds = level_bounds tank in
+    let exact-den : 0 < exact.den = exact-some (Curve points) stock q seconds (curve.levels_rise, curve.volumes_rise) in
+    let level = level_on_curve S points exact in
+    let v = value_at 1 (volume_knots points) t in
+    let at_most = reaches S true (volume_at points tank.maximum) exact in
+    let at_target = is_at_most (in_parts S v) exact in
+    let short : (pos 1 *ℤ (pos S *ℤ t)) ≤ℤ (pos S *ℤ tank.minimum) → ⊥ =
+    (λ h. let l = times_rises S (tank.minimum +ℤ pos 1) t (omega (arith, ints, over)) in
+    omega (arith, ints, h, l, some, times_plus S tank.minimum (pos 1), times_one S, one_times (pos S *ℤ t))) in
+    one-test (reaches S true t (carried_level S (Curve points) tank stock q seconds)) (at_most || at_target)
+    (λ e. placed-is (λ (r : Rational). (pos r.den *ℤ (pos S *ℤ t)) ≤ℤ r.num → (at_most || at_target) ≡ true) S contents bounds exact (level_at_volume S points tank exact)
+    (λ h g. or-left at_most at_target (above-from S (volume_at points tank.maximum) exact h))
+    (λ h l g. absurd (short g))
+    (λ h l. placed-is (λ (r : Rational). (pos r.den *ℤ (pos S *ℤ t)) ≤ℤ r.num → (at_most || at_target) ≡ true) S bounds bounds level level
+    (λ m g. or-right at_most at_target (sym (rising_target S points exact t some exact-den curve) ∙ above-from S t level (raise level m)))
+    (λ m k g. absurd (short g))
+    (λ m k g. or-right at_most at_target (sym (rising_target S points exact t some exact-den curve) ∙ above-from S t level g)))
+    (above-yes S t (carried_level S (Curve points) tank stock q seconds) e))
+    (λ e. above-from S t (carried_level S (Curve points) tank stock q seconds)
+    (placed-is (λ (r : Rational). (pos r.den *ℤ (pos S *ℤ t)) ≤ℤ r.num) S contents bounds exact (level_at_volume S points tank exact)
+    (λ h. let l = times_rises S t tank.maximum within in omega (arith, ints, l, one_times (pos S *ℤ t)))
+    (λ h l. absurd (apart exact exact-den (above-yes S t level (rising_target S points exact t some exact-den curve ∙ second at_most at_target e (not-most exact h))) l))
+    (λ h l. placed-is (λ (r : Rational). (pos r.den *ℤ (pos S *ℤ t)) ≤ℤ r.num) S bounds bounds level level
+    (λ m. let k = times_rises S t tank.maximum within in omega (arith, ints, k, one_times (pos S *ℤ t)))
+    (λ m k. absurd (let a = above-yes S t level (rising_target S points exact t some exact-den curve ∙ second at_most at_target e (not-most exact h)) in
+    let b = times_rises level.den (pos S *ℤ (tank.minimum +ℤ pos 1)) (pos S *ℤ t) (times_rises S (tank.minimum +ℤ pos 1) t (omega (arith, ints, over))) in
+    gap level (curve-some S points exact (curve.levels_rise, curve.volumes_rise) exact-den) a b k))
+    (λ m k. above-yes S t level (rising_target S points exact t some exact-den curve ∙ second at_most at_target e (not-most exact h))))))
+  where
+    raise : (r : Rational) → (pos r.den *ℤ (pos S *ℤ tank.maximum)) ≤ℤ r.num → (pos r.den *ℤ (pos S *ℤ t)) ≤ℤ r.num
+    raise r m = let l = times_rises r.den (pos S *ℤ t) (pos S *ℤ tank.maximum) (times_rises S t tank.maximum within) in omega (arith, ints, l, m)
+
+    not-most : (x : Rational) → x.num <ℤ (pos x.den *ℤ (pos S *ℤ volume_at points tank.maximum)) → reaches S true (volume_at points tank.maximum) x ≡ false
+    not-most x h = elim (cases_Bool (reaches S true (volume_at points tank.maximum) x)) [
+      | inl held ↦ absurd (let a = above-yes S (volume_at points tank.maximum) x held in omega (arith, ints, a, h))
+      | inr fails ↦ fails
+    ]
+
+    second : (a b : Bool) → (a || b) ≡ true → a ≡ false → b ≡ true
+    second true b e f = absurd (cc)
+    second false b e f = e
+
+    gap : (r : Rational) → 0 < r.den → (pos r.den *ℤ (pos S *ℤ t)) ≤ℤ r.num → (pos r.den *ℤ (pos S *ℤ (tank.minimum +ℤ pos 1))) ≤ℤ (pos r.den *ℤ (pos S *ℤ t))
+        → r.num ≤ℤ (pos r.den *ℤ (pos S *ℤ tank.minimum)) → ⊥
+    gap r r-some a b c =
+        let one : pos r.den *ℤ (pos S *ℤ (tank.minimum +ℤ pos 1)) ≡ (pos r.den *ℤ (pos S *ℤ tank.minimum)) +ℤ (pos r.den *ℤ pos S) =
+        ap (λ (z : ℤ). pos r.den *ℤ z) (times_plus S tank.minimum (pos 1) ∙ ap (λ (z : ℤ). (pos S *ℤ tank.minimum) +ℤ z) (times_one S)) ∙ times_plus r.den (pos S *ℤ tank.minimum) (pos S) in
+        let positive = times_rises r.den (pos 1) (pos S) (omega (arith, ints, some)) in
+        omega (arith, ints, a, b, c, one, positive, times_one r.den, r-some)
+
+    -- no volume up to that of the minimum has a level above it
+    apart : (x : Rational) → 0 < x.den → (pos (level_on_curve S points x).den *ℤ (pos S *ℤ t)) ≤ℤ (level_on_curve S points x).num
+        → x.num ≤ℤ (pos x.den *ℤ (pos S *ℤ volume_at points tank.minimum)) → ⊥
+    apart x x-some a low =
+        let r = level_on_curve S points x in
+        let v = value_at 1 (volume_knots points) tank.minimum in
+        let v-some = volume-some points tank.minimum curve in
+        let f = floor_low v v-some in
+        let c = times_rises v.den x.num (pos x.den *ℤ (pos S *ℤ floor v)) low in
+        let d = times_rises x.den (pos S *ℤ (pos v.den *ℤ floor v)) (pos S *ℤ v.num) (times_rises S (pos v.den *ℤ floor v) v.num f) in
+        let same-product : pos x.den *ℤ (pos S *ℤ (pos v.den *ℤ floor v)) ≡ pos v.den *ℤ (pos x.den *ℤ (pos S *ℤ floor v)) =
+        ap (λ (z : ℤ). pos x.den *ℤ z) (exchanged v.den S (floor v)) ∙ exchanged v.den x.den (pos S *ℤ floor v) in
+        let below-minimum = down-back S points x tank.minimum some x-some curve (omega (arith, ints, c, d, same-product)) in
+        let b = times_rises r.den (pos S *ℤ (tank.minimum +ℤ pos 1)) (pos S *ℤ t) (times_rises S (tank.minimum +ℤ pos 1) t (omega (arith, ints, over))) in
+        gap r (curve-some S points x (curve.levels_rise, curve.volumes_rise) x-some) a b below-minimum

@@ -1,4 +1,4 @@
-use Rattle.hyd_spec_laws.proofs.Targets.{rising_target, falling_target, at_maximum}
+use Rattle.hyd_spec_laws.proofs.Targets.{rising_target, falling_target, at_maximum, risen_to}
 use Rattle.hyd_spec_laws.proofs.tanks.curve_levels.Goals as goal
 
 pub returns-clause-rising : goal.returns-clause-rising
@@ -9,3 +9,6 @@ returns-clause-falling c = falling_target
 
 pub returns-clause-maximum : goal.returns-clause-maximum
 returns-clause-maximum c = at_maximum
+
+pub returns-clause-risen : goal.returns-clause-risen
+returns-clause-risen c = risen_to
