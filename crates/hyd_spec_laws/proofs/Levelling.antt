@@ -465,3 +465,7 @@ state_nests tank level wider s some at e =
     itself Full = refl
     itself Between = refl
     itself Empty = refl
+
+pub volumes_within : (points : List VolumePoint) (tank : Tank) (stocks : Stocks) (inflow : Interval) (seconds : ℕ) → IsVessel (Curve points) tank
+    → IsWithin (content_bounds (Curve points) tank) (next_stocks (Curve points) tank stocks inflow seconds).volume
+volumes_within points tank stocks inflow seconds vessel = contents_within (pos 10) (Curve points) tank stocks inflow seconds (omega (arith, ints)) vessel

@@ -9,7 +9,7 @@ ghost use Rattle.hyd_spec.specs.Types.{Project, Tank, VolumePoint};
 ghost use Rattle.hyd_spec.specs.declared.TankState.{TankState};
 ghost use Rattle.hyd_spec.specs.Lists.{Each};
 ghost use Rattle.hyd_spec_certificates.specs.Interval.{Interval};
-ghost use Rattle.hyd_spec.specs.Tank.{Walls, Curve, walls_of, Stock, level_bounds, level_on_curve, exact_content, carried_level, reaches, has_reached, IsNextStock, tank_state};
+ghost use Rattle.hyd_spec.specs.Tank.{Walls, Curve, walls_of, Stock, level_bounds, content_bounds, level_on_curve, exact_content, carried_level, reaches, has_reached, IsNextStock, tank_state};
 ghost use Rattle.hyd_spec_certificates.specs.Stocks.{Stocks, carried_levels, next_stocks, state_of, may_reach, must_reach};
 ghost use Rattle.hyd_spec_certificates.specs.FirstSeconds.{IsFirstSecond};
 ghost use Rattle.hyd_spec_laws.specs.Laws.{in_parts, LiesIn, LiesAround, StockLies, IsVessel, IsInside, AreInside, IsWithin, HasStock};
@@ -30,6 +30,9 @@ pub fn next_stock()
         → AreInside (next_stocks walls tank stocks inflow seconds) (next_stocks walls tank wider more seconds) }
     ensures bounded { (walls : Walls) (tank : Tank) (stocks : Stocks) (inflow : Interval) (seconds : ℕ) → IsVessel walls tank
         → IsWithin (level_bounds tank) (next_stocks walls tank stocks inflow seconds).level }
+    ensures bounded_volumes { (points : List VolumePoint) (tank : Tank) (stocks : Stocks) (inflow : Interval) (seconds : ℕ)
+        → IsVessel (Curve points) tank
+        → IsWithin (content_bounds (Curve points) tank) (next_stocks (Curve points) tank stocks inflow seconds).volume }
     ensures there { (walls : Walls) (tank : Tank) (stocks : Stocks) (inflow : Interval) (seconds : ℕ) → IsVessel walls tank
         → HasStock stocks → inflow.lo ≤ℤ inflow.hi → HasStock (next_stocks walls tank stocks inflow seconds) }
 {}

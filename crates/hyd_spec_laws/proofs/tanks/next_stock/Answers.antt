@@ -1,4 +1,4 @@
-use Rattle.hyd_spec_laws.proofs.Levelling.{next_lies, next_inside, next_within, next_has}
+use Rattle.hyd_spec_laws.proofs.Levelling.{next_lies, next_inside, next_within, next_has, volumes_within}
 use Rattle.hyd_spec_laws.proofs.tanks.next_stock.Goals as goal
 
 pub returns-clause-holds : goal.returns-clause-holds
@@ -12,3 +12,6 @@ returns-clause-bounded c = next_within
 
 pub returns-clause-there : goal.returns-clause-there
 returns-clause-there c = next_has
+
+pub returns-clause-bounded_volumes : goal.returns-clause-bounded_volumes
+returns-clause-bounded_volumes c = volumes_within
