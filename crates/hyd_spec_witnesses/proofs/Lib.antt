@@ -1,2 +1,4 @@
 pub mod Single
 pub mod TimedPeriods
+pub mod SpurSound
+pub mod RoundPairs

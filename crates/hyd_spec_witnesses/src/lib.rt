@@ -6,6 +6,7 @@
 pub mod controls;
 pub mod histories;
 pub mod links;
+pub mod networks;
 pub mod outflows;
 pub mod pipes;
 pub mod words;
