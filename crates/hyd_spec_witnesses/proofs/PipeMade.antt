@@ -26,7 +26,7 @@ IsUp-near p q s t above lost below next = IsUp-next p q s t above lost below (re
 
 -- ---- one
 
-one : Scaled
+abbrev one : Scaled
 one = record { mant = 4611686018427387904; exp = neg_ℤ (pos 62); normal = lit≤ tt; short = lit< tt }
 
 abbrev ones : Pair
@@ -69,10 +69,10 @@ product_above x y r first second is =
     up_above (denominator x.hi) (denominator y.hi) (numerator x.hi) (numerator y.hi) (numerator r.hi) (denominator r.hi) first second (pow_pos (down r.hi.exp)) is.high.at_least
 
 power_above : (x : Pair) (n : ℕ) (r : Pair) → denominator x.hi < numerator x.hi → IsPower x n r → denominator r.hi < numerator r.hi
-power_above x 1 r above power_once = above
-power_above x k s above (even n k r s is power squared) =
+power_above x _ _ above power_once = above
+power_above x _ _ above (even n k r s is power squared) =
     let l = power_above x n r above power in product_above r r s l l squared
-power_above x k t above (odd n k r s t is power squared multiplied) =
+power_above x _ _ above (odd n k r s t is power squared multiplied) =
     let l = power_above x n r above power in product_above s x t (product_above r r s l l squared) above multiplied
 
 -- a product of two numbers below 1, rounded down
@@ -90,10 +90,10 @@ product_below x y r first second is =
     down_below (denominator x.lo) (denominator y.lo) (numerator x.lo) (numerator y.lo) (numerator r.lo) (denominator r.lo) first second (pow_pos (down r.lo.exp)) is.low.at_most
 
 power_below : (x : Pair) (n : ℕ) (r : Pair) → numerator x.lo < denominator x.lo → IsPower x n r → numerator r.lo < denominator r.lo
-power_below x 1 r below power_once = below
-power_below x k s below (even n k r s is power squared) =
+power_below x _ _ below power_once = below
+power_below x _ _ below (even n k r s is power squared) =
     let l = power_below x n r below power in product_below r r s l l squared
-power_below x k t below (odd n k r s t is power squared multiplied) =
+power_below x _ _ below (odd n k r s t is power squared multiplied) =
     let l = power_below x n r below power in product_below s x t (product_below r r s l l squared) below multiplied
 
 -- what has a root below 1 is at most 1
@@ -127,82 +127,82 @@ root_of_one = record {
 
 -- ---- the pairs
 
-factor_low : Scaled
+abbrev factor_low : Scaled
 factor_low = record { mant = 5372614211467906908; exp = neg_ℤ (pos 60); normal = lit≤ tt; short = lit< tt }
 
-factor_back : Scaled
+abbrev factor_back : Scaled
 factor_back = record { mant = 5372614211467906908; exp = neg_ℤ (pos 60); normal = lit≤ tt; short = lit< tt }
 
-factor_high : Scaled
+abbrev factor_high : Scaled
 factor_high = record { mant = 5372614211467906909; exp = neg_ℤ (pos 60); normal = lit≤ tt; short = lit< tt }
 
-factor : Pair
+abbrev factor : Pair
 factor = record { lo = factor_low; hi = factor_high; ordered = lit≤ tt }
 
-rough_low : Scaled
+abbrev rough_low : Scaled
 rough_low = record { mant = 5902958103587056517; exp = neg_ℤ (pos 69); normal = lit≤ tt; short = lit< tt }
 
-rough_back : Scaled
+abbrev rough_back : Scaled
 rough_back = record { mant = 5902958103587056517; exp = neg_ℤ (pos 69); normal = lit≤ tt; short = lit< tt }
 
-rough_high : Scaled
+abbrev rough_high : Scaled
 rough_high = record { mant = 5902958103587056518; exp = neg_ℤ (pos 69); normal = lit≤ tt; short = lit< tt }
 
-rough : Pair
+abbrev rough : Pair
 rough = record { lo = rough_low; hi = rough_high; ordered = lit≤ tt }
 
-once_low : Scaled
+abbrev once_low : Scaled
 once_low = record { mant = 6876946190678920842; exp = neg_ℤ (pos 67); normal = lit≤ tt; short = lit< tt }
 
-once_back : Scaled
+abbrev once_back : Scaled
 once_back = record { mant = 6876946190678920844; exp = neg_ℤ (pos 67); normal = lit≤ tt; short = lit< tt }
 
-once_high : Scaled
+abbrev once_high : Scaled
 once_high = record { mant = 6876946190678920845; exp = neg_ℤ (pos 67); normal = lit≤ tt; short = lit< tt }
 
-once : Pair
+abbrev once : Pair
 once = record { lo = once_low; hi = once_high; ordered = lit≤ tt }
 
-again_low : Scaled
+abbrev again_low : Scaled
 again_low = record { mant = 8802491124069018677; exp = neg_ℤ (pos 74); normal = lit≤ tt; short = lit< tt }
 
-again_back : Scaled
+abbrev again_back : Scaled
 again_back = record { mant = 8802491124069018682; exp = neg_ℤ (pos 74); normal = lit≤ tt; short = lit< tt }
 
-again_high : Scaled
+abbrev again_high : Scaled
 again_high = record { mant = 8802491124069018683; exp = neg_ℤ (pos 74); normal = lit≤ tt; short = lit< tt }
 
-again : Pair
+abbrev again : Pair
 again = record { lo = again_low; hi = again_high; ordered = lit≤ tt }
 
-along_low : Scaled
+abbrev along_low : Scaled
 along_low = record { mant = 8596182738348651051; exp = neg_ℤ (pos 64); normal = lit≤ tt; short = lit< tt }
 
-along_back : Scaled
+abbrev along_back : Scaled
 along_back = record { mant = 8596182738348651057; exp = neg_ℤ (pos 64); normal = lit≤ tt; short = lit< tt }
 
-along_high : Scaled
+abbrev along_high : Scaled
 along_high = record { mant = 8596182738348651058; exp = neg_ℤ (pos 64); normal = lit≤ tt; short = lit< tt }
 
-along : Pair
+abbrev along : Pair
 along = record { lo = along_low; hi = along_high; ordered = lit≤ tt }
 
-unit_low : Scaled
+abbrev unit_low : Scaled
 unit_low = record { mant = 6747643767311393360; exp = neg_ℤ (pos 35); normal = lit≤ tt; short = lit< tt }
 
-unit_back : Scaled
+abbrev unit_back : Scaled
 unit_back = record { mant = 6747643767311393360; exp = neg_ℤ (pos 35); normal = lit≤ tt; short = lit< tt }
 
-unit_high : Scaled
+abbrev unit_high : Scaled
 unit_high = record { mant = 6747643767311393361; exp = neg_ℤ (pos 35); normal = lit≤ tt; short = lit< tt }
 
-unit : Pair
+abbrev unit : Pair
 unit = record { lo = unit_low; hi = unit_high; ordered = lit≤ tt }
 
-capacity_back : Scaled
+abbrev capacity_back : Scaled
 capacity_back = record { mant = 7239961123724670989; exp = neg_ℤ (pos 34); normal = lit≤ tt; short = lit< tt }
 
-thousand : Scaled
+abbrev thousand : Scaled
 thousand = record { mant = 9007199254740992000; exp = neg_ℤ (pos 53); normal = lit≤ tt; short = lit< tt }
 
 -- ---- the capacity

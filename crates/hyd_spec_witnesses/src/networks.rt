@@ -1,17 +1,15 @@
-//! The small networks are ones that a file can stand for, those with a pipe where its capacity is the one that its numbers
-//! stand for.
+//! The small networks are ones that a file can stand for.
 #![tactic(auto)]
 
-ghost use Rattle.hyd_num.specs.Chain.{IsMade};
 ghost use Rattle.hyd_net.specs.Sound.{Sound};
 ghost use Rattle.hyd_spec_witnesses.specs.Parts.{network_of};
-ghost use Rattle.hyd_spec_witnesses.specs.Spurs.{long_pipe, pipe_spur, check_spur, pump_spur, setting_spur, emitter_spur, driven_spur};
+ghost use Rattle.hyd_spec_witnesses.specs.Spurs.{pipe_spur, check_spur, pump_spur, setting_spur, emitter_spur, driven_spur};
 ghost use Rattle.hyd_spec_witnesses.specs.Timed.{timed_spur};
 
 /// Of links.
 pub fn links()
-    ensures pipe { IsMade long_pipe → Sound (network_of pipe_spur) }
-    ensures check_valve { IsMade long_pipe → Sound (network_of check_spur) }
+    ensures pipe { Sound (network_of pipe_spur) }
+    ensures check_valve { Sound (network_of check_spur) }
     ensures pump { Sound (network_of pump_spur) }
     ensures control_valve { Sound (network_of setting_spur) }
 {}
@@ -24,5 +22,5 @@ pub fn outflows()
 
 /// Of controls.
 pub fn controls()
-    ensures timed { Sound (network_of timed_spur) }
+    ensures { Sound (network_of timed_spur) }
 {}

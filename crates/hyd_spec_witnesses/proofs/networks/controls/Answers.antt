@@ -2,7 +2,6 @@ use Rattle.std.proofs.Common.{◌≡◌, pos, [], refl, arith}
 use Rattle.std.specs.List.{All}
 use Rattle.std.proofs.lemmas.Int.{ints}
 use Rattle.std.proofs.lemmas.List.Elements.{All-from_recursion}
-use Rattle.hyd_num.specs.Chain.{IsMade}
 use Rattle.hyd_net.specs.Sizes.{IsDemand}
 use Rattle.hyd_net.specs.Commands.{IsControl}
 use Rattle.hyd_net.specs.Made.{IsStateMade, IsStateAcross}
@@ -41,5 +40,5 @@ timed_spur_own = record {
   states_across = All-from_recursion (λ c. c.link ≡ 0 → IsStateAcross (pos 0) c.to) timed_spur.controls (λ e. tt, (λ e. tt, tt));
 }
 
-pub returns : goal.returns-clause-timed
+pub returns : goal.returns
 returns c = sound timed_spur timed_spur_own

@@ -2,18 +2,18 @@ use Rattle.std.proofs.Common.{◌≡◌, pos, [], refl, arith}
 use Rattle.std.specs.List.{All}
 use Rattle.std.proofs.lemmas.Int.{ints}
 use Rattle.std.proofs.lemmas.List.Elements.{All-from_recursion}
-use Rattle.hyd_num.specs.Chain.{IsMade}
 use Rattle.hyd_net.specs.Sizes.{IsDemand}
 use Rattle.hyd_net.specs.Commands.{IsControl}
 use Rattle.hyd_net.specs.Made.{IsStateMade, IsStateAcross}
 use Rattle.hyd_spec_witnesses.specs.Parts.{network_of, junction_of}
 use Rattle.hyd_spec_witnesses.proofs.SpurSound.{IsOwnSound, sound}
-use Rattle.hyd_spec_witnesses.specs.Spurs.{long_pipe, pipe_spur, check_spur, pump_spur, setting_spur}
+use Rattle.hyd_spec_witnesses.specs.Spurs.{pipe_spur, check_spur, pump_spur, setting_spur}
 use Rattle.hyd_spec_witnesses.proofs.RoundPairs.{pump_made}
+use Rattle.hyd_spec_witnesses.proofs.PipeMade.{pipe_made}
 use Rattle.hyd_spec_witnesses.proofs.networks.links.Goals as goal
 
-pipe_spur_own : IsMade long_pipe → IsOwnSound pipe_spur
-pipe_spur_own made = record {
+pipe_spur_own : IsOwnSound pipe_spur
+pipe_spur_own = record {
   counts = record { junctions = omega arith; reservoirs = omega arith; tanks = omega arith; links = omega arith; patterns = omega arith; multipliers = omega arith; shapes = omega arith; shape_points = omega arith; bends = omega arith; bend_points = omega arith; demands = omega arith; controls = omega arith; rules = omega arith; parts = omega arith };
   options = record {
     multiplier = record { at_least = omega (arith, ints); at_most = omega (arith, ints) };
@@ -34,7 +34,7 @@ pipe_spur_own made = record {
   duration = omega arith;
   start_clock = omega arith;
   emitter_made = tt;
-  kind_made = made;
+  kind_made = pipe_made;
   start_made = tt;
   states_made = All-from_recursion (λ c. IsStateMade pipe_spur.unit c.to) [] tt;
   kind_across = tt;
@@ -42,8 +42,8 @@ pipe_spur_own made = record {
   states_across = All-from_recursion (λ c. c.link ≡ 0 → IsStateAcross (pos 0) c.to) [] tt;
 }
 
-check_spur_own : IsMade long_pipe → IsOwnSound check_spur
-check_spur_own made = record {
+check_spur_own : IsOwnSound check_spur
+check_spur_own = record {
   counts = record { junctions = omega arith; reservoirs = omega arith; tanks = omega arith; links = omega arith; patterns = omega arith; multipliers = omega arith; shapes = omega arith; shape_points = omega arith; bends = omega arith; bend_points = omega arith; demands = omega arith; controls = omega arith; rules = omega arith; parts = omega arith };
   options = record {
     multiplier = record { at_least = omega (arith, ints); at_most = omega (arith, ints) };
@@ -64,7 +64,7 @@ check_spur_own made = record {
   duration = omega arith;
   start_clock = omega arith;
   emitter_made = tt;
-  kind_made = made;
+  kind_made = pipe_made;
   start_made = tt;
   states_made = All-from_recursion (λ c. IsStateMade check_spur.unit c.to) [] tt;
   kind_across = tt;
@@ -133,10 +133,10 @@ setting_spur_own = record {
 }
 
 pub returns-clause-pipe : goal.returns-clause-pipe
-returns-clause-pipe c made = sound pipe_spur (pipe_spur_own made)
+returns-clause-pipe c = sound pipe_spur pipe_spur_own
 
 pub returns-clause-check_valve : goal.returns-clause-check_valve
-returns-clause-check_valve c made = sound check_spur (check_spur_own made)
+returns-clause-check_valve c = sound check_spur check_spur_own
 
 pub returns-clause-pump : goal.returns-clause-pump
 returns-clause-pump c = sound pump_spur pump_spur_own

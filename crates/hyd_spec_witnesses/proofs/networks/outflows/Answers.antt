@@ -2,7 +2,6 @@ use Rattle.std.proofs.Common.{◌≡◌, pos, [], refl, arith}
 use Rattle.std.specs.List.{All}
 use Rattle.std.proofs.lemmas.Int.{ints}
 use Rattle.std.proofs.lemmas.List.Elements.{All-from_recursion}
-use Rattle.hyd_num.specs.Chain.{IsMade}
 use Rattle.hyd_net.specs.Sizes.{IsDemand}
 use Rattle.hyd_net.specs.Commands.{IsControl}
 use Rattle.hyd_net.specs.Made.{IsStateMade, IsStateAcross}
