@@ -1,5 +1,5 @@
 -- The history of a network of one link and no time to run, from its link and its junction, and back.
-use Rattle.std.proofs.Common.{◌≡◌, ℕ, ◌≤◌, ◌<◌, ℤ, ◌-ℤ◌, ◌≤ℤ◌, List, [], ◌∷◌, false, int_le, refl, sym, subst, arith}
+use Rattle.std.proofs.Common.{◌≡◌, ℕ, ◌≤◌, ◌<◌, ℤ, ◌-ℤ◌, ◌≤ℤ◌, ◌<ℤ◌, List, [], ◌∷◌, true, false, int_le, int_lt, refl, sym, subst, arith}
 use Rattle.std.specs.Prelude.{nat_le}
 use Rattle.std.proofs.lemmas.Int.{ints}
 use Rattle.std.proofs.lemmas.Bool.{leb-false}
@@ -22,6 +22,9 @@ more_than a b e le = let less : b < a = leb-false a b e in omega (arith, less, l
 
 pub greater : (a b : ℤ) → int_le a b ≡ false → a ≤ℤ b → ⊥
 greater a b e le = grind (arith, ints)
+
+pub less : (a b : ℤ) → int_lt a b ≡ true → a <ℤ b
+less a b e = grind (arith, ints)
 
 -- ---- one link
 

@@ -3,6 +3,7 @@
 //! laws in exact whole numbers. No function here has a body.
 #![tactic(auto)]
 
+pub mod claims;
 pub mod controls;
 pub mod histories;
 pub mod links;
