@@ -8,9 +8,10 @@ use Rattle.hyd_spec_reports.specs.declared.StatusWord.TheVariants.{Unsure as Wor
 use Rattle.hyd_spec_reports.specs.Claims.{StatusHolds}
 use Rattle.hyd_spec_witnesses.specs.Parts.{listed}
 
--- The word holds of a link in its state, at scale S and head difference x, and beside UNSURE, which always does, no other.
-pub record HoldsAlone (us : Bool) (bends : List (ListView HeadPoint)) (word : StatusWord) (kind : LinkKind) (state : LinkState)
-    (S : ℕ) (x : ℤ) : Type 0 where
+-- The word holds of a link in its state, at scale S and head difference x, and beside UNSURE, which always does, no
+-- other.
+pub record HoldsAlone (us : Bool) (bends : List (ListView HeadPoint)) (word : StatusWord) (kind : LinkKind)
+    (state : LinkState) (S : ℕ) (x : ℤ) : Type 0 where
   pub holds : StatusHolds us bends word kind state S x
   pub alone : (other : StatusWord) → StatusHolds us bends other kind state S x → (other ≡ word) ⊎ (other ≡ WordUnsure)
 
@@ -22,9 +23,9 @@ thirty = record { nano = pos 30000000000; bounded = lit≤ tt }
 abbrev pub falling : List (ListView HeadPoint)
 falling =
     listed (
-      record { flow = pos 0; head = pos 400000000000000 }
-      ∷ record { flow = pos 1000000000; head = pos 350000000000000 }
-      ∷ record { flow = pos 2000000000; head = pos 250000000000000 }
-      ∷ record { flow = pos 3000000000; head = pos 100000000000000 }
-      ∷ []
+    record { flow = pos 0; head = pos 400000000000000 }
+    ∷ record { flow = pos 1000000000; head = pos 350000000000000 }
+    ∷ record { flow = pos 2000000000; head = pos 250000000000000 }
+    ∷ record { flow = pos 3000000000; head = pos 100000000000000 }
+    ∷ []
     ) ∷ []

@@ -12,7 +12,22 @@ use Rattle.hyd_spec_witnesses.proofs.networks.controls.Goals as goal
 
 timed_spur_own : IsOwnSound timed_spur
 timed_spur_own = record {
-  counts = record { junctions = omega arith; reservoirs = omega arith; tanks = omega arith; links = omega arith; patterns = omega arith; multipliers = omega arith; shapes = omega arith; shape_points = omega arith; bends = omega arith; bend_points = omega arith; demands = omega arith; controls = omega arith; rules = omega arith; parts = omega arith };
+  counts = record {
+    junctions = omega arith;
+    reservoirs = omega arith;
+    tanks = omega arith;
+    links = omega arith;
+    patterns = omega arith;
+    multipliers = omega arith;
+    shapes = omega arith;
+    shape_points = omega arith;
+    bends = omega arith;
+    bend_points = omega arith;
+    demands = omega arith;
+    controls = omega arith;
+    rules = omega arith;
+    parts = omega arith;
+  };
   options = record {
     multiplier = record { at_least = omega (arith, ints); at_most = omega (arith, ints) };
     minimum = record { not_negative = omega (arith, ints); at_most = omega (arith, ints) };
@@ -22,7 +37,8 @@ timed_spur_own = record {
   };
   junction = record {
     elevation = record { at_least = omega (arith, ints); at_most = omega (arith, ints) };
-    demands = All-from_recursion (IsDemand []) (junction_of timed_spur).demands.list (record { base = record { at_least = omega (arith, ints); at_most = omega (arith, ints) }; pattern = tt }, tt);
+    demands = All-from_recursion (IsDemand []) (junction_of timed_spur).demands.list
+        (record { base = record { at_least = omega (arith, ints); at_most = omega (arith, ints) }; pattern = tt }, tt);
     emitter = tt;
   };
   head = record { at_least = omega (arith, ints); at_most = omega (arith, ints) };

@@ -14,7 +14,22 @@ use Rattle.hyd_spec_witnesses.proofs.networks.links.Goals as goal
 
 pipe_spur_own : IsOwnSound pipe_spur
 pipe_spur_own = record {
-  counts = record { junctions = omega arith; reservoirs = omega arith; tanks = omega arith; links = omega arith; patterns = omega arith; multipliers = omega arith; shapes = omega arith; shape_points = omega arith; bends = omega arith; bend_points = omega arith; demands = omega arith; controls = omega arith; rules = omega arith; parts = omega arith };
+  counts = record {
+    junctions = omega arith;
+    reservoirs = omega arith;
+    tanks = omega arith;
+    links = omega arith;
+    patterns = omega arith;
+    multipliers = omega arith;
+    shapes = omega arith;
+    shape_points = omega arith;
+    bends = omega arith;
+    bend_points = omega arith;
+    demands = omega arith;
+    controls = omega arith;
+    rules = omega arith;
+    parts = omega arith;
+  };
   options = record {
     multiplier = record { at_least = omega (arith, ints); at_most = omega (arith, ints) };
     minimum = record { not_negative = omega (arith, ints); at_most = omega (arith, ints) };
@@ -24,11 +39,18 @@ pipe_spur_own = record {
   };
   junction = record {
     elevation = record { at_least = omega (arith, ints); at_most = omega (arith, ints) };
-    demands = All-from_recursion (IsDemand []) (junction_of pipe_spur).demands.list (record { base = record { at_least = omega (arith, ints); at_most = omega (arith, ints) }; pattern = tt }, tt);
+    demands = All-from_recursion (IsDemand []) (junction_of pipe_spur).demands.list
+        (record { base = record { at_least = omega (arith, ints); at_most = omega (arith, ints) }; pattern = tt }, tt);
     emitter = tt;
   };
   head = record { at_least = omega (arith, ints); at_most = omega (arith, ints) };
-  sizes = record { long = record { at_least = omega (arith, ints); at_most = omega (arith, ints) }; across = record { at_least = omega (arith, ints); at_most = omega (arith, ints) }; rough = record { at_least = omega (arith, ints); at_most = omega (arith, ints) }; fittings = record { at_least = omega (arith, ints); at_most = omega (arith, ints) }; same_system = refl };
+  sizes = record {
+    long = record { at_least = omega (arith, ints); at_most = omega (arith, ints) };
+    across = record { at_least = omega (arith, ints); at_most = omega (arith, ints) };
+    rough = record { at_least = omega (arith, ints); at_most = omega (arith, ints) };
+    fittings = record { at_least = omega (arith, ints); at_most = omega (arith, ints) };
+    same_system = refl;
+  };
   state = tt;
   controls = All-from_recursion (IsControl (network_of pipe_spur)) [] tt;
   duration = omega arith;
@@ -44,7 +66,22 @@ pipe_spur_own = record {
 
 check_spur_own : IsOwnSound check_spur
 check_spur_own = record {
-  counts = record { junctions = omega arith; reservoirs = omega arith; tanks = omega arith; links = omega arith; patterns = omega arith; multipliers = omega arith; shapes = omega arith; shape_points = omega arith; bends = omega arith; bend_points = omega arith; demands = omega arith; controls = omega arith; rules = omega arith; parts = omega arith };
+  counts = record {
+    junctions = omega arith;
+    reservoirs = omega arith;
+    tanks = omega arith;
+    links = omega arith;
+    patterns = omega arith;
+    multipliers = omega arith;
+    shapes = omega arith;
+    shape_points = omega arith;
+    bends = omega arith;
+    bend_points = omega arith;
+    demands = omega arith;
+    controls = omega arith;
+    rules = omega arith;
+    parts = omega arith;
+  };
   options = record {
     multiplier = record { at_least = omega (arith, ints); at_most = omega (arith, ints) };
     minimum = record { not_negative = omega (arith, ints); at_most = omega (arith, ints) };
@@ -54,11 +91,18 @@ check_spur_own = record {
   };
   junction = record {
     elevation = record { at_least = omega (arith, ints); at_most = omega (arith, ints) };
-    demands = All-from_recursion (IsDemand []) (junction_of check_spur).demands.list (record { base = record { at_least = omega (arith, ints); at_most = omega (arith, ints) }; pattern = tt }, tt);
+    demands = All-from_recursion (IsDemand []) (junction_of check_spur).demands.list
+        (record { base = record { at_least = omega (arith, ints); at_most = omega (arith, ints) }; pattern = tt }, tt);
     emitter = tt;
   };
   head = record { at_least = omega (arith, ints); at_most = omega (arith, ints) };
-  sizes = record { long = record { at_least = omega (arith, ints); at_most = omega (arith, ints) }; across = record { at_least = omega (arith, ints); at_most = omega (arith, ints) }; rough = record { at_least = omega (arith, ints); at_most = omega (arith, ints) }; fittings = record { at_least = omega (arith, ints); at_most = omega (arith, ints) }; same_system = refl };
+  sizes = record {
+    long = record { at_least = omega (arith, ints); at_most = omega (arith, ints) };
+    across = record { at_least = omega (arith, ints); at_most = omega (arith, ints) };
+    rough = record { at_least = omega (arith, ints); at_most = omega (arith, ints) };
+    fittings = record { at_least = omega (arith, ints); at_most = omega (arith, ints) };
+    same_system = refl;
+  };
   state = tt;
   controls = All-from_recursion (IsControl (network_of check_spur)) [] tt;
   duration = omega arith;
@@ -74,7 +118,22 @@ check_spur_own = record {
 
 pump_spur_own : IsOwnSound pump_spur
 pump_spur_own = record {
-  counts = record { junctions = omega arith; reservoirs = omega arith; tanks = omega arith; links = omega arith; patterns = omega arith; multipliers = omega arith; shapes = omega arith; shape_points = omega arith; bends = omega arith; bend_points = omega arith; demands = omega arith; controls = omega arith; rules = omega arith; parts = omega arith };
+  counts = record {
+    junctions = omega arith;
+    reservoirs = omega arith;
+    tanks = omega arith;
+    links = omega arith;
+    patterns = omega arith;
+    multipliers = omega arith;
+    shapes = omega arith;
+    shape_points = omega arith;
+    bends = omega arith;
+    bend_points = omega arith;
+    demands = omega arith;
+    controls = omega arith;
+    rules = omega arith;
+    parts = omega arith;
+  };
   options = record {
     multiplier = record { at_least = omega (arith, ints); at_most = omega (arith, ints) };
     minimum = record { not_negative = omega (arith, ints); at_most = omega (arith, ints) };
@@ -84,7 +143,8 @@ pump_spur_own = record {
   };
   junction = record {
     elevation = record { at_least = omega (arith, ints); at_most = omega (arith, ints) };
-    demands = All-from_recursion (IsDemand []) (junction_of pump_spur).demands.list (record { base = record { at_least = omega (arith, ints); at_most = omega (arith, ints) }; pattern = tt }, tt);
+    demands = All-from_recursion (IsDemand []) (junction_of pump_spur).demands.list
+        (record { base = record { at_least = omega (arith, ints); at_most = omega (arith, ints) }; pattern = tt }, tt);
     emitter = tt;
   };
   head = record { at_least = omega (arith, ints); at_most = omega (arith, ints) };
@@ -104,7 +164,22 @@ pump_spur_own = record {
 
 setting_spur_own : IsOwnSound setting_spur
 setting_spur_own = record {
-  counts = record { junctions = omega arith; reservoirs = omega arith; tanks = omega arith; links = omega arith; patterns = omega arith; multipliers = omega arith; shapes = omega arith; shape_points = omega arith; bends = omega arith; bend_points = omega arith; demands = omega arith; controls = omega arith; rules = omega arith; parts = omega arith };
+  counts = record {
+    junctions = omega arith;
+    reservoirs = omega arith;
+    tanks = omega arith;
+    links = omega arith;
+    patterns = omega arith;
+    multipliers = omega arith;
+    shapes = omega arith;
+    shape_points = omega arith;
+    bends = omega arith;
+    bend_points = omega arith;
+    demands = omega arith;
+    controls = omega arith;
+    rules = omega arith;
+    parts = omega arith;
+  };
   options = record {
     multiplier = record { at_least = omega (arith, ints); at_most = omega (arith, ints) };
     minimum = record { not_negative = omega (arith, ints); at_most = omega (arith, ints) };
@@ -114,7 +189,8 @@ setting_spur_own = record {
   };
   junction = record {
     elevation = record { at_least = omega (arith, ints); at_most = omega (arith, ints) };
-    demands = All-from_recursion (IsDemand []) (junction_of setting_spur).demands.list (record { base = record { at_least = omega (arith, ints); at_most = omega (arith, ints) }; pattern = tt }, tt);
+    demands = All-from_recursion (IsDemand []) (junction_of setting_spur).demands.list
+        (record { base = record { at_least = omega (arith, ints); at_most = omega (arith, ints) }; pattern = tt }, tt);
     emitter = tt;
   };
   head = record { at_least = omega (arith, ints); at_most = omega (arith, ints) };

@@ -13,7 +13,22 @@ use Rattle.hyd_spec_witnesses.proofs.networks.outflows.Goals as goal
 
 emitter_spur_own : IsOwnSound emitter_spur
 emitter_spur_own = record {
-  counts = record { junctions = omega arith; reservoirs = omega arith; tanks = omega arith; links = omega arith; patterns = omega arith; multipliers = omega arith; shapes = omega arith; shape_points = omega arith; bends = omega arith; bend_points = omega arith; demands = omega arith; controls = omega arith; rules = omega arith; parts = omega arith };
+  counts = record {
+    junctions = omega arith;
+    reservoirs = omega arith;
+    tanks = omega arith;
+    links = omega arith;
+    patterns = omega arith;
+    multipliers = omega arith;
+    shapes = omega arith;
+    shape_points = omega arith;
+    bends = omega arith;
+    bend_points = omega arith;
+    demands = omega arith;
+    controls = omega arith;
+    rules = omega arith;
+    parts = omega arith;
+  };
   options = record {
     multiplier = record { at_least = omega (arith, ints); at_most = omega (arith, ints) };
     minimum = record { not_negative = omega (arith, ints); at_most = omega (arith, ints) };
@@ -23,7 +38,8 @@ emitter_spur_own = record {
   };
   junction = record {
     elevation = record { at_least = omega (arith, ints); at_most = omega (arith, ints) };
-    demands = All-from_recursion (IsDemand []) (junction_of emitter_spur).demands.list (record { base = record { at_least = omega (arith, ints); at_most = omega (arith, ints) }; pattern = tt }, tt);
+    demands = All-from_recursion (IsDemand []) (junction_of emitter_spur).demands.list
+        (record { base = record { at_least = omega (arith, ints); at_most = omega (arith, ints) }; pattern = tt }, tt);
     emitter = record { range = record { at_least = omega (arith, ints); at_most = omega (arith, ints) }; same_unit = refl };
   };
   head = record { at_least = omega (arith, ints); at_most = omega (arith, ints) };
@@ -43,7 +59,22 @@ emitter_spur_own = record {
 
 driven_spur_own : IsOwnSound driven_spur
 driven_spur_own = record {
-  counts = record { junctions = omega arith; reservoirs = omega arith; tanks = omega arith; links = omega arith; patterns = omega arith; multipliers = omega arith; shapes = omega arith; shape_points = omega arith; bends = omega arith; bend_points = omega arith; demands = omega arith; controls = omega arith; rules = omega arith; parts = omega arith };
+  counts = record {
+    junctions = omega arith;
+    reservoirs = omega arith;
+    tanks = omega arith;
+    links = omega arith;
+    patterns = omega arith;
+    multipliers = omega arith;
+    shapes = omega arith;
+    shape_points = omega arith;
+    bends = omega arith;
+    bend_points = omega arith;
+    demands = omega arith;
+    controls = omega arith;
+    rules = omega arith;
+    parts = omega arith;
+  };
   options = record {
     multiplier = record { at_least = omega (arith, ints); at_most = omega (arith, ints) };
     minimum = record { not_negative = omega (arith, ints); at_most = omega (arith, ints) };
@@ -53,7 +84,8 @@ driven_spur_own = record {
   };
   junction = record {
     elevation = record { at_least = omega (arith, ints); at_most = omega (arith, ints) };
-    demands = All-from_recursion (IsDemand []) (junction_of driven_spur).demands.list (record { base = record { at_least = omega (arith, ints); at_most = omega (arith, ints) }; pattern = tt }, tt);
+    demands = All-from_recursion (IsDemand []) (junction_of driven_spur).demands.list
+        (record { base = record { at_least = omega (arith, ints); at_most = omega (arith, ints) }; pattern = tt }, tt);
     emitter = tt;
   };
   head = record { at_least = omega (arith, ints); at_most = omega (arith, ints) };
