@@ -1,6 +1,6 @@
--- The capacity of the pipe of 1000 feet is the one that its numbers stand for. The diameter is one foot, whose powers and
--- roots are 1.
-use Rattle.std.proofs.Common.{◌≡◌, ℕ, suc, ◌+◌, ◌*◌, ◌^◌, ◌<◌, ◌≤◌, ℤ, neg_ℤ, pos, Bool, true, false, inl, inr, refl, sym, subst, arith, lit≤, lit<, mul-le-mul_right, mul-lt-mul_of_pos_right, lt_of_mul-lt-mul_right}
+-- The capacity of the pipe of 1000 feet is the one that its numbers stand for. The diameter is one foot, whose
+-- powers and roots are 1.
+use Rattle.std.proofs.Common.{◌≡◌, ℕ, ◌+◌, ◌*◌, ◌^◌, ◌<◌, ◌≤◌, neg_ℤ, pos, false, inl, inr, refl, sym, subst, arith, lit≤, lit<, mul-le-mul_right, mul-lt-mul_of_pos_right, lt_of_mul-lt-mul_right}
 use Rattle.std.proofs.lemmas.Bool.{cases_lt}
 use Rattle.std.proofs.lemmas.Nat.{pow_pos}
 use borrow.Author.Differences.{up, down}
@@ -16,11 +16,18 @@ use Rattle.hyd_spec_witnesses.proofs.RoundPairs.{IsDown-exact, twice, ratio, pro
 -- ---- rounding
 
 -- what lies above a number and below the next one
-IsDown-near : (p q : ℕ) (s : Scaled) → numerator s * q < p * denominator s → p * denominator s < (s.mant + 1) * 2 ^ up s.exp * q → IsDown p q s
-IsDown-near p q s lost below = IsDown-from_cut p q s false (record { at_most = omega (arith, lost); below = below; whole = λ e. absurd (cc); lost = λ e. lost })
+IsDown-near : (p q : ℕ) (s : Scaled) → numerator s * q < p * denominator s
+    → p * denominator s < (s.mant + 1) * 2 ^ up s.exp * q → IsDown p q s
+IsDown-near p q s lost below = IsDown-from_cut p q s false (record {
+  at_most = omega (arith, lost);
+  below = below;
+  whole = λ e. absurd (cc);
+  lost = λ e. lost;
+})
 
 -- what lies above a number and below the next one, t
-IsUp-near : (p q : ℕ) (s t : Scaled) → 0 < q → numerator s * q < p * denominator s → p * denominator s < (s.mant + 1) * 2 ^ up s.exp * q
+IsUp-near : (p q : ℕ) (s t : Scaled) → 0 < q → numerator s * q < p * denominator s
+    → p * denominator s < (s.mant + 1) * 2 ^ up s.exp * q
     → numerator t * denominator s ≡ (s.mant + 1) * 2 ^ up s.exp * denominator t → IsUp p q t
 IsUp-near p q s t above lost below next = IsUp-next p q s t above lost below (record { one_more = next })
 
@@ -42,11 +49,13 @@ doubled_more : (n k : ℕ) → k ≡ 2 * n + 1 → IsPower ones n ones → IsPow
 doubled_more n k is power = odd n k ones ones ones is power ones_product ones_product
 
 power_100 : IsPower ones 100 ones
-power_100 = doubled 50 100 refl (doubled 25 50 refl (doubled_more 12 25 refl (doubled 6 12 refl (doubled 3 6 refl (doubled_more 1 3 refl power_once)))))
+power_100 = doubled 50 100 refl (doubled 25 50 refl (doubled_more 12 25 refl (doubled 6 12 refl
+    (doubled 3 6 refl (doubled_more 1 3 refl power_once)))))
 
 power_533 : IsPower ones 533 ones
 power_533 =
-    doubled_more 266 533 refl (doubled 133 266 refl (doubled_more 66 133 refl (doubled 33 66 refl (doubled_more 16 33 refl
+    doubled_more 266 533 refl (doubled 133 266 refl (doubled_more 66 133 refl (doubled 33 66 refl
+    (doubled_more 16 33 refl
     (doubled 8 16 refl (doubled 4 8 refl (doubled 2 4 refl (doubled 1 2 refl power_once))))))))
 
 own_power : IsOwnPower one 100 ones
@@ -64,11 +73,14 @@ up_above a b c d n e first second some le =
     let j : e * (a * b) < n * (a * b) = omega (arith, i, le) in
     lt_of_mul-lt-mul_right (a * b) j
 
-product_above : (x y r : Pair) → denominator x.hi < numerator x.hi → denominator y.hi < numerator y.hi → IsProduct x y r → denominator r.hi < numerator r.hi
+product_above : (x y r : Pair) → denominator x.hi < numerator x.hi → denominator y.hi < numerator y.hi
+    → IsProduct x y r → denominator r.hi < numerator r.hi
 product_above x y r first second is =
-    up_above (denominator x.hi) (denominator y.hi) (numerator x.hi) (numerator y.hi) (numerator r.hi) (denominator r.hi) first second (pow_pos (down r.hi.exp)) is.high.at_least
+    up_above (denominator x.hi) (denominator y.hi) (numerator x.hi) (numerator y.hi) (numerator r.hi)
+    (denominator r.hi) first second (pow_pos (down r.hi.exp)) is.high.at_least
 
-power_above : (x : Pair) (n : ℕ) (r : Pair) → denominator x.hi < numerator x.hi → IsPower x n r → denominator r.hi < numerator r.hi
+power_above : (x : Pair) (n : ℕ) (r : Pair) → denominator x.hi < numerator x.hi → IsPower x n r
+    → denominator r.hi < numerator r.hi
 power_above x _ _ above power_once = above
 power_above x _ _ above (even n k r s is power squared) =
     let l = power_above x n r above power in product_above r r s l l squared
@@ -85,11 +97,14 @@ down_below a b c d n e first second some le =
     let j : n * (a * b) < e * (a * b) = omega (arith, i, le) in
     lt_of_mul-lt-mul_right (a * b) j
 
-product_below : (x y r : Pair) → numerator x.lo < denominator x.lo → numerator y.lo < denominator y.lo → IsProduct x y r → numerator r.lo < denominator r.lo
+product_below : (x y r : Pair) → numerator x.lo < denominator x.lo → numerator y.lo < denominator y.lo
+    → IsProduct x y r → numerator r.lo < denominator r.lo
 product_below x y r first second is =
-    down_below (denominator x.lo) (denominator y.lo) (numerator x.lo) (numerator y.lo) (numerator r.lo) (denominator r.lo) first second (pow_pos (down r.lo.exp)) is.low.at_most
+    down_below (denominator x.lo) (denominator y.lo) (numerator x.lo) (numerator y.lo) (numerator r.lo)
+    (denominator r.lo) first second (pow_pos (down r.lo.exp)) is.low.at_most
 
-power_below : (x : Pair) (n : ℕ) (r : Pair) → numerator x.lo < denominator x.lo → IsPower x n r → numerator r.lo < denominator r.lo
+power_below : (x : Pair) (n : ℕ) (r : Pair) → numerator x.lo < denominator x.lo → IsPower x n r
+    → numerator r.lo < denominator r.lo
 power_below x _ _ below power_once = below
 power_below x _ _ below (even n k r s is power squared) =
     let l = power_below x n r below power in product_below r r s l l squared
@@ -101,8 +116,10 @@ root_most : (t : Scaled) → RootsBelow t one → numerator t * denominator one 
 root_most t roots = elim (cases_lt (denominator t) (numerator t)) [
   | inl above ↦ absurd (
       let own = roots.made in
-      let l : denominator own.base.hi < numerator own.base.hi = subst (λ (s : Scaled). denominator s < numerator s) (sym own.high) above in
-      let m : denominator roots.result.hi < numerator roots.result.hi = power_above own.base 100 roots.result l own.made in
+      let l : denominator own.base.hi < numerator own.base.hi =
+      subst (λ (s : Scaled). denominator s < numerator s) (sym own.high) above in
+      let m : denominator roots.result.hi < numerator roots.result.hi =
+      power_above own.base 100 roots.result l own.made in
       let k = roots.at_most in omega (arith, m, k))
   | inr le ↦ omega (arith, le)
 ]
@@ -111,8 +128,10 @@ root_least : (t : Scaled) → RootsAbove t one → numerator one * denominator t
 root_least t roots = elim (cases_lt (numerator t) (denominator t)) [
   | inl below ↦ absurd (
       let own = roots.made in
-      let l : numerator own.base.lo < denominator own.base.lo = subst (λ (s : Scaled). numerator s < denominator s) (sym own.low) below in
-      let m : numerator roots.result.lo < denominator roots.result.lo = power_below own.base 100 roots.result l own.made in
+      let l : numerator own.base.lo < denominator own.base.lo =
+      subst (λ (s : Scaled). numerator s < denominator s) (sym own.low) below in
+      let m : numerator roots.result.lo < denominator roots.result.lo =
+      power_below own.base 100 roots.result l own.made in
       let k = roots.at_least in omega (arith, m, k))
   | inr le ↦ omega (arith, le)
 ]
@@ -216,9 +235,15 @@ pipe_made = record {
     friction = along;
     friction_is = record {
       factor = factor;
-      factor_is = record { low = IsDown-near _ _ factor_low (lit< tt) (lit< tt); high = IsUp-near _ _ factor_back factor_high (lit< tt) (lit< tt) (lit< tt) refl };
+      factor_is = record {
+        low = IsDown-near _ _ factor_low (lit< tt) (lit< tt);
+        high = IsUp-near _ _ factor_back factor_high (lit< tt) (lit< tt) (lit< tt) refl;
+      };
       rough = rough;
-      rough_is = record { low = IsDown-near _ _ rough_low (lit< tt) (lit< tt); high = IsUp-near _ _ rough_back rough_high (lit< tt) (lit< tt) (lit< tt) refl };
+      rough_is = record {
+        low = IsDown-near _ _ rough_low (lit< tt) (lit< tt);
+        high = IsUp-near _ _ rough_back rough_high (lit< tt) (lit< tt) (lit< tt) refl;
+      };
       long = twice thousand;
       long_is = ratio _ _ thousand (lit< tt) refl;
       across = ones;
@@ -226,16 +251,31 @@ pipe_made = record {
       root = ones;
       root_is = root_of_one;
       once_rough = once;
-      once_rough_is = record { low = IsDown-near _ _ once_low (lit< tt) (lit< tt); high = IsUp-near _ _ once_back once_high (lit< tt) (lit< tt) (lit< tt) refl };
+      once_rough_is = record {
+        low = IsDown-near _ _ once_low (lit< tt) (lit< tt);
+        high = IsUp-near _ _ once_back once_high (lit< tt) (lit< tt) (lit< tt) refl;
+      };
       twice_rough = again;
-      twice_rough_is = record { low = IsDown-near _ _ again_low (lit< tt) (lit< tt); high = IsUp-near _ _ again_back again_high (lit< tt) (lit< tt) (lit< tt) refl };
+      twice_rough_is = record {
+        low = IsDown-near _ _ again_low (lit< tt) (lit< tt);
+        high = IsUp-near _ _ again_back again_high (lit< tt) (lit< tt) (lit< tt) refl;
+      };
       along = along;
-      along_is = record { low = IsDown-near _ _ along_low (lit< tt) (lit< tt); high = IsUp-near _ _ along_back along_high (lit< tt) (lit< tt) (lit< tt) refl };
-      friction_is = record { low = IsDown-exact _ _ along_low (lit< tt) refl; high = IsUp-exact _ _ along_high (lit< tt) refl };
+      along_is = record {
+        low = IsDown-near _ _ along_low (lit< tt) (lit< tt);
+        high = IsUp-near _ _ along_back along_high (lit< tt) (lit< tt) (lit< tt) refl;
+      };
+      friction_is = record {
+        low = IsDown-exact _ _ along_low (lit< tt) refl;
+        high = IsUp-exact _ _ along_high (lit< tt) refl;
+      };
     };
     capacity_is = record {
       unit = unit;
-      unit_is = record { low = IsDown-near _ _ unit_low (lit< tt) (lit< tt); high = IsUp-near _ _ unit_back unit_high (lit< tt) (lit< tt) (lit< tt) refl };
+      unit_is = record {
+        low = IsDown-near _ _ unit_low (lit< tt) (lit< tt);
+        high = IsUp-near _ _ unit_back unit_high (lit< tt) (lit< tt) (lit< tt) refl;
+      };
       capacity_is = record {
         low = IsDown-near _ _ long_pipe.lo (lit< tt) (lit< tt);
         high = IsUp-near _ _ capacity_back long_pipe.hi (lit< tt) (lit< tt) (lit< tt) refl;

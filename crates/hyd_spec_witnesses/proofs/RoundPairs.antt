@@ -1,8 +1,8 @@
 -- Capacities of numbers at which nothing is rounded: those of the pump and of the emitter.
-use Rattle.std.proofs.Common.{◌≡◌, ℕ, ◌*◌, ◌<◌, ◌≤◌, ℤ, neg_ℤ, pos, refl, ap, arith, lit≤, lit<, mul-le-mul_right, le_of_mul-le-mul_right}
+use Rattle.std.proofs.Common.{◌≡◌, ℕ, ◌*◌, ◌<◌, ◌≤◌, neg_ℤ, pos, refl, ap, arith, lit≤, lit<, mul-le-mul_right, le_of_mul-le-mul_right}
 use Rattle.hyd_num.specs.declared.binary.Scaled.{Scaled}
 use Rattle.hyd_num.specs.declared.pairs.Pair.{Pair}
-use Rattle.hyd_num.specs.Scaled.{numerator, denominator, IsDown, IsUp}
+use Rattle.hyd_num.specs.Scaled.{numerator, denominator, IsDown}
 use Rattle.hyd_num.specs.Pairs.{IsRatio, IsProduct, IsQuotient}
 use Rattle.hyd_num.specs.Chain.{IsMade}
 use Rattle.hyd_num.proofs.Rounding.{IsUp-exact}
@@ -13,7 +13,8 @@ pub IsDown-exact : (p q : ℕ) (s : Scaled) → 0 < q → numerator s * q ≡ p 
 IsDown-exact p q s above e = record {
   at_most = omega (arith, e);
   greatest = λ t h.
-      let a : numerator t * q * denominator s ≤ p * denominator t * denominator s = mul-le-mul_right (denominator s) h in
+      let a : numerator t * q * denominator s ≤ p * denominator t * denominator s =
+      mul-le-mul_right (denominator s) h in
       let b : numerator s * q * denominator t ≡ p * denominator s * denominator t = ap (λ x. x * denominator t) e in
       let l : numerator t * denominator s * q ≤ numerator s * denominator t * q = omega (arith, a, b) in
       le_of_mul-le-mul_right l above;
@@ -27,11 +28,13 @@ pub ratio : (p q : ℕ) (s : Scaled) → 0 < q → numerator s * q ≡ p * denom
 ratio p q s above e = record { low = IsDown-exact p q s above e; high = IsUp-exact p q s above e }
 
 pub product : (x y s : Scaled) → 0 < denominator x * denominator y
-    → numerator s * (denominator x * denominator y) ≡ (numerator x * numerator y) * denominator s → IsProduct (twice x) (twice y) (twice s)
+    → numerator s * (denominator x * denominator y) ≡ (numerator x * numerator y) * denominator s
+    → IsProduct (twice x) (twice y) (twice s)
 product x y s above e = record { low = IsDown-exact _ _ s above e; high = IsUp-exact _ _ s above e }
 
 pub quotient : (x y s : Scaled) → 0 < denominator x * numerator y
-    → numerator s * (denominator x * numerator y) ≡ (numerator x * denominator y) * denominator s → IsQuotient (twice x) (twice y) (twice s)
+    → numerator s * (denominator x * numerator y) ≡ (numerator x * denominator y) * denominator s
+    → IsQuotient (twice x) (twice y) (twice s)
 quotient x y s above e = record { low = IsDown-exact _ _ s above e; high = IsUp-exact _ _ s above e }
 
 abbrev pump_flow : Scaled

@@ -1,9 +1,8 @@
 -- The small networks are networks that a file can stand for.
-use Rattle.std.proofs.Common.{◌≡◌, ◌≢◌, ℕ, zero, suc, ◌<◌, ◌≤◌, ◌*◌, ◌^◌, ℤ, pos, List, [], ◌∷◌, refl, ap, arith}
+use Rattle.std.proofs.Common.{◌≡◌, ◌≢◌, ℕ, zero, suc, ◌<◌, ◌≤◌, ◌^◌, pos, List, [], ◌∷◌, refl, ap, arith}
 use Rattle.std.specs.Prelude.{slice_index_or, codes}
 use Rattle.std.specs.Option.{IfSome}
-use Rattle.std.specs.List.{All, HoldsAt}
-use Rattle.std.proofs.lemmas.Int.{ints}
+use Rattle.std.specs.List.{All}
 use Rattle.std.proofs.lemmas.List.Elements.{All-from_recursion}
 use Rattle.std.proofs.lemmas.List.Kept.{AllPairs-cons}
 use Rattle.hyd_num.specs.Chain.{IsMade}
@@ -12,10 +11,10 @@ use Rattle.hyd_net.specs.Sound.{HasIds, HasEnds, IsWithinLimits, IsPattern, Soun
 use Rattle.hyd_net.specs.Sizes.{HasOptions, IsJunction, IsReservoir, IsTank, HasSizes, HasQuantities}
 use Rattle.hyd_net.specs.Ranges.{IsHead}
 use Rattle.hyd_net.specs.States.{CanHave}
-use Rattle.hyd_net.specs.Commands.{node_count, IsControl, IsRule}
+use Rattle.hyd_net.specs.Commands.{IsControl, IsRule}
 use Rattle.hyd_net.specs.Made.{IsAreaMade, IsKindMade, IsStateMade, IsRuleMade, IsKindAcross, IsStateAcross, IsAcross, IsAllMade}
 use Rattle.hyd_net.specs.declared.rules.Rule.{Rule}
-use Rattle.hyd_spec_witnesses.specs.Parts.{Spur, network_of, junction_of, link_of}
+use Rattle.hyd_spec_witnesses.specs.Parts.{Spur, network_of, junction_of}
 
 -- ---- IDs
 
@@ -56,9 +55,13 @@ module _ (spur : Spur) (own : IsOwnSound spur) where
     each_link = refl;
     distinct_nodes =
         AllPairs-cons (λ a b. a ≢ b) (codes "J") (codes "R" ∷ [])
-        (All-from_recursion (λ b. codes "J" ≢ b) (codes "R" ∷ []) (differ _ _ (λ e. omega (arith, e)), tt)) (alone (codes "R"));
+        (All-from_recursion (λ b. codes "J" ≢ b) (codes "R" ∷ []) (differ _ _ (λ e. omega (arith, e)), tt))
+        (alone (codes "R"));
     distinct_links = alone (codes "L");
-    node_ids = All-from_recursion IsId (network_of spur).node_ids ((omega arith, omega arith), ((omega arith, omega arith), tt));
+    node_ids = All-from_recursion IsId (network_of spur).node_ids (
+      (omega arith, omega arith),
+      ((omega arith, omega arith), tt),
+    );
     link_ids = All-from_recursion IsId (network_of spur).link_ids ((omega arith, omega arith), tt);
   }
 
@@ -66,9 +69,16 @@ module _ (spur : Spur) (own : IsOwnSound spur) where
   quantities = record {
     options = own.options;
     junctions = All-from_recursion (IsJunction spur.unit []) (network_of spur).junctions.list (own.junction, tt);
-    reservoirs = All-from_recursion (IsReservoir []) (network_of spur).reservoirs.list (record { head = own.head; pattern = tt }, tt);
+    reservoirs = All-from_recursion (IsReservoir []) (network_of spur).reservoirs.list (
+      record {
+        head = own.head;
+        pattern = tt;
+      },
+      tt,
+    );
     tanks = All-from_recursion (IsTank []) [] tt;
-    links = All-from_recursion (λ l. HasSizes spur.unit [] spur.bends l.kind) (network_of spur).links.list (own.sizes, tt);
+    links = All-from_recursion (λ l. HasSizes spur.unit [] spur.bends l.kind) (network_of spur).links.list
+        (own.sizes, tt);
   }
 
   across : (number : ℕ) → number < 1 → IsAcross (network_of spur) number (pos 0)
@@ -82,7 +92,8 @@ module _ (spur : Spur) (own : IsOwnSound spur) where
 
   made : IsAllMade (network_of spur)
   made = record {
-    emitters = All-from_recursion (λ j. IfSome j.emitter IsMade) (network_of spur).junctions.list (own.emitter_made, tt);
+    emitters = All-from_recursion (λ j. IfSome j.emitter IsMade) (network_of spur).junctions.list
+        (own.emitter_made, tt);
     areas = All-from_recursion (IsAreaMade spur.unit) [] tt;
     links = All-from_recursion (λ l. IsKindMade spur.unit l.kind) (network_of spur).links.list (own.kind_made, tt);
     starts = All-from_recursion (λ l. IsStateMade spur.unit l.start) (network_of spur).links.list (own.start_made, tt);

@@ -4,7 +4,7 @@ use Rattle.std.specs.Prelude.{ℤ, pos, neg_ℤ, true, Some, None}
 use Rattle.std.specs.Int.Signed.{≤ℤ_refl}
 use Rattle.std.proofs.Common.{lit≤, lit<}
 use Rattle.hyd_num.specs.declared.units.FlowUnit.TheVariants.{Cfs}
-use Rattle.hyd_spec.specs.Types.{Decimal, Cmd, Capacity, Pipe, Pump, Emitter, PipeLink, CheckPipe, PumpLink, Fcv, FourThirds, Linear, Closed, Speed, Limit}
+use Rattle.hyd_spec.specs.Types.{Cmd, Capacity, Pipe, Pump, Emitter, PipeLink, CheckPipe, PumpLink, Fcv, FourThirds, Linear, Closed, Speed, Limit}
 use Rattle.hyd_spec_witnesses.specs.Parts.{Spur, plain}
 use Rattle.hyd_spec_witnesses.specs.Words.{thirty}
 
@@ -54,7 +54,11 @@ round_pump = record {
 abbrev pub pump_spur : Spur
 pump_spur = record plain {
   kind = PumpLink round_pump
-      (record { lo = pos 400000000000000; hi = pos 400000000000000; ordered = ≤ℤ_refl (pos 400000000000000) }) (FourThirds thirty) None;
+      (record {
+        lo = pos 400000000000000;
+        hi = pos 400000000000000;
+        ordered = ≤ℤ_refl (pos 400000000000000);
+      }) (FourThirds thirty) None;
   start = Speed (pos 1000000000);
   demand = pos 10000000000;
 }

@@ -1,5 +1,5 @@
 -- Status words of links, each at the places where it begins to hold.
-use Rattle.std.specs.Prelude.{◌≡◌, ◌⊎◌, ℕ, ℤ, pos, Bool, List, [], ◌∷◌, None}
+use Rattle.std.specs.Prelude.{◌≡◌, ◌⊎◌, ℕ, ℤ, pos, Bool, List, [], ◌∷◌}
 use Rattle.std.proofs.Common.{lit≤}
 use Rattle.hyd_net.specs.ListView.{ListView}
 use Rattle.hyd_spec.specs.Types.{Decimal, HeadPoint, LinkKind, LinkState}

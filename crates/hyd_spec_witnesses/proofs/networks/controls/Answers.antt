@@ -1,5 +1,4 @@
-use Rattle.std.proofs.Common.{◌≡◌, pos, [], refl, arith}
-use Rattle.std.specs.List.{All}
+use Rattle.std.proofs.Common.{◌≡◌, pos, [], arith}
 use Rattle.std.proofs.lemmas.Int.{ints}
 use Rattle.std.proofs.lemmas.List.Elements.{All-from_recursion}
 use Rattle.hyd_net.specs.Sizes.{IsDemand}
@@ -44,7 +43,19 @@ timed_spur_own = record {
   head = record { at_least = omega (arith, ints); at_most = omega (arith, ints) };
   sizes = tt;
   state = tt;
-  controls = All-from_recursion (IsControl (network_of timed_spur)) timed_spur.controls (record { command = record { in_range = omega arith; holds = λ d. tt }; moment = omega arith }, (record { command = record { in_range = omega arith; holds = λ d. tt }; moment = omega arith }, tt));
+  controls = All-from_recursion (IsControl (network_of timed_spur)) timed_spur.controls (
+    record {
+      command = record { in_range = omega arith; holds = λ d. tt };
+      moment = omega arith;
+    },
+    (
+      record {
+        command = record { in_range = omega arith; holds = λ d. tt };
+        moment = omega arith;
+      },
+      tt,
+    ),
+  );
   duration = omega arith;
   start_clock = omega arith;
   emitter_made = tt;
@@ -53,7 +64,8 @@ timed_spur_own = record {
   states_made = All-from_recursion (λ c. IsStateMade timed_spur.unit c.to) timed_spur.controls (tt, (tt, tt));
   kind_across = tt;
   start_across = tt;
-  states_across = All-from_recursion (λ c. c.link ≡ 0 → IsStateAcross (pos 0) c.to) timed_spur.controls (λ e. tt, (λ e. tt, tt));
+  states_across = All-from_recursion (λ c. c.link ≡ 0
+      → IsStateAcross (pos 0) c.to) timed_spur.controls (λ e. tt, (λ e. tt, tt));
 }
 
 pub returns : goal.returns

@@ -1,5 +1,4 @@
 use Rattle.std.proofs.Common.{◌≡◌, pos, [], refl, arith}
-use Rattle.std.specs.List.{All}
 use Rattle.std.proofs.lemmas.Int.{ints}
 use Rattle.std.proofs.lemmas.List.Elements.{All-from_recursion}
 use Rattle.hyd_net.specs.Sizes.{IsDemand}
@@ -148,13 +147,44 @@ pump_spur_own = record {
     emitter = tt;
   };
   head = record { at_least = omega (arith, ints); at_most = omega (arith, ints) };
-  sizes = ((record { flows = omega (arith, ints); flow_range = record { at_least = omega (arith, ints); at_most = omega (arith, ints) }; drops = omega (arith, ints); same_unit = refl }, record { above = omega (arith, ints); lost = refl; in_thirds = refl; range = omega (arith, ints) }), tt);
+  sizes = (
+    (
+      record {
+        flows = omega (arith, ints);
+        flow_range = record {
+          at_least = omega (arith, ints);
+          at_most = omega (arith, ints);
+        };
+        drops = omega (arith, ints);
+        same_unit = refl;
+      },
+      record {
+        above = omega (arith, ints);
+        lost = refl;
+        in_thirds = refl;
+        range = omega (arith, ints);
+      },
+    ),
+    tt,
+  );
   state = record { at_least = omega (arith, ints); at_most = omega (arith, ints) };
   controls = All-from_recursion (IsControl (network_of pump_spur)) [] tt;
   duration = omega arith;
   start_clock = omega arith;
   emitter_made = tt;
-  kind_made = (pump_made, record { floor = record { at_most = omega (arith, ints); greatest = λ k le. omega (arith, ints, le) }; ceiling = record { at_least = omega (arith, ints); least = λ k le. omega (arith, ints, le) } });
+  kind_made = (
+    pump_made,
+    record {
+      floor = record {
+        at_most = omega (arith, ints);
+        greatest = λ k le. omega (arith, ints, le);
+      };
+      ceiling = record {
+        at_least = omega (arith, ints);
+        least = λ k le. omega (arith, ints, le);
+      };
+    },
+  );
   start_made = tt;
   states_made = All-from_recursion (λ c. IsStateMade pump_spur.unit c.to) [] tt;
   kind_across = tt;
@@ -195,7 +225,13 @@ setting_spur_own = record {
   };
   head = record { at_least = omega (arith, ints); at_most = omega (arith, ints) };
   sizes = tt;
-  state = record { not_negative = omega (arith, ints); flow = record { at_least = omega (arith, ints); at_most = omega (arith, ints) } };
+  state = record {
+    not_negative = omega (arith, ints);
+    flow = record {
+      at_least = omega (arith, ints);
+      at_most = omega (arith, ints);
+    };
+  };
   controls = All-from_recursion (IsControl (network_of setting_spur)) [] tt;
   duration = omega arith;
   start_clock = omega arith;

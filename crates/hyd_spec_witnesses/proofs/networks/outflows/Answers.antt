@@ -1,5 +1,4 @@
 use Rattle.std.proofs.Common.{◌≡◌, pos, [], refl, arith}
-use Rattle.std.specs.List.{All}
 use Rattle.std.proofs.lemmas.Int.{ints}
 use Rattle.std.proofs.lemmas.List.Elements.{All-from_recursion}
 use Rattle.hyd_net.specs.Sizes.{IsDemand}
@@ -40,7 +39,10 @@ emitter_spur_own = record {
     elevation = record { at_least = omega (arith, ints); at_most = omega (arith, ints) };
     demands = All-from_recursion (IsDemand []) (junction_of emitter_spur).demands.list
         (record { base = record { at_least = omega (arith, ints); at_most = omega (arith, ints) }; pattern = tt }, tt);
-    emitter = record { range = record { at_least = omega (arith, ints); at_most = omega (arith, ints) }; same_unit = refl };
+    emitter = record {
+      range = record { at_least = omega (arith, ints); at_most = omega (arith, ints) };
+      same_unit = refl;
+    };
   };
   head = record { at_least = omega (arith, ints); at_most = omega (arith, ints) };
   sizes = tt;
