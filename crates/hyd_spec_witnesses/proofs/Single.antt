@@ -1,5 +1,5 @@
 -- The history of a network of one link and no time to run, from its link and its junction, and back.
-use Rattle.std.proofs.Common.{◌≡◌, ℕ, ◌≤◌, ◌<◌, ℤ, ◌-ℤ◌, ◌≤ℤ◌, List, [], ◌∷◌, false, int_le, refl, sym, subst, arith}
+use Rattle.std.proofs.Common.{◌≡◌, ℕ, ◌≤◌, ◌<◌, ℤ, ◌-ℤ◌, ◌≤ℤ◌, ◌<ℤ◌, List, [], ◌∷◌, true, false, int_le, int_lt, refl, arith}
 use Rattle.std.specs.Prelude.{nat_le}
 use Rattle.std.proofs.lemmas.Int.{ints}
 use Rattle.std.proofs.lemmas.Bool.{leb-false}
@@ -13,7 +13,7 @@ use Rattle.hyd_spec.specs.Start.{started, acts_at}
 use Rattle.hyd_spec.specs.Assignment.{Assignment, LinksFollow, none, more, JunctionObeys, IsAssignment, head_at}
 use Rattle.hyd_spec.specs.Length.{at_end}
 use Rattle.hyd_spec.specs.History.{IsHistory}
-use Rattle.hyd_spec_witnesses.specs.Parts.{Spur, network_of, junction_of, link_of, period_at, period_of}
+use Rattle.hyd_spec_witnesses.specs.Parts.{Spur, network_of, junction_of, link_of, period_of}
 
 -- ---- tests that fail
 
@@ -23,9 +23,13 @@ more_than a b e le = let less : b < a = leb-false a b e in omega (arith, less, l
 pub greater : (a b : ℤ) → int_le a b ≡ false → a ≤ℤ b → ⊥
 greater a b e le = grind (arith, ints)
 
+pub less : (a b : ℤ) → int_lt a b ≡ true → a <ℤ b
+less a b e = grind (arith, ints)
+
 -- ---- one link
 
-pub follows_one : (network : Project) (tanks : List TankState) (S : ℕ) (heads : List ℤ) (link : Link) (state : LinkState) (q : ℤ)
+pub follows_one : (network : Project) (tanks : List TankState) (S : ℕ) (heads : List ℤ) (link : Link)
+    (state : LinkState) (q : ℤ)
     → LinksFollow network tanks S heads (link ∷ []) (state ∷ []) (q ∷ [])
     → Follows (law_of network tanks link state) S (head_at heads link.from -ℤ head_at heads link.to) q
 follows_one network tanks S heads link state q (more f rest) = f
@@ -50,7 +54,8 @@ module _ (spur : Spur) (S : ℕ) (head flow taken emitted : ℤ) where
     junctions_obey = each_one Junction (JunctionObeys (network_of spur) time S assigned) (junction_of spur) junction;
   }
 
-  pub history : 1 ≤ S → 0 ≡ spur.duration → spur.start ∷ [] ≡ started (network_of spur) 0 (acts_at S []) (spur.start ∷ [])
+  pub history : 1 ≤ S → 0 ≡ spur.duration
+      → spur.start ∷ [] ≡ started (network_of spur) 0 (acts_at S []) (spur.start ∷ [])
       → Follows (law_of (network_of spur) [] (link_of spur) spur.start) S (at_scale S spur.head -ℤ head) flow
       → JunctionObeys (network_of spur) 0 S assigned 0 (junction_of spur)
       → IsHistory (network_of spur) S (period_of spur head flow taken emitted ∷ [])

@@ -1,11 +1,8 @@
 -- When the periods of the network with controls by time end.
-use Rattle.std.proofs.Common.{◌≡◌, ◌≢◌, ℕ, zero, suc, ◌+◌, ◌-◌, ◌*◌, ◌%◌, ◌<◌, ◌≤◌, ◌⊎◌, inl, inr, ℤ, pos, List, [], ◌∷◌, refl, sym, ap, subst, arith, lit<}
+use Rattle.std.proofs.Common.{◌≡◌, ◌≢◌, ℕ, zero, suc, ◌+◌, ◌-◌, ◌%◌, ◌<◌, ◌≤◌, ◌⊎◌, inl, inr, [], ◌∷◌, refl, sym, subst, arith, lit<}
 use Rattle.std.specs.Prelude.{Contains}
-use Rattle.std.proofs.lemmas.Int.{ints}
-use Rattle.hyd_lemmas.proofs.Trials.{le-yes}
-use Rattle.hyd_spec.specs.Types.{Control, When, AtTime, AtClock, AtLevel, LinkState, Open, Closed}
-use Rattle.hyd_spec.specs.Start.{clock_at}
-use Rattle.hyd_spec.specs.Length.{Period, EndsByClock, step, duration, pattern, report, control_time, control_clock, EndsByLevel, full, empty, control as at_control, EndsByRules, MayEnd, by_clock, by_level, by_rules, HasItsLength, before_end}
+use Rattle.hyd_spec.specs.Types.{Control, AtTime, AtClock, LinkState, Open, Closed}
+use Rattle.hyd_spec.specs.Length.{EndsByClock, step, duration, pattern, report, control_time, control_clock, EndsByLevel, full, empty, control as at_control, MayEnd, by_clock, by_level, by_rules, HasItsLength, before_end}
 use Rattle.hyd_spec_witnesses.specs.Parts.{network_of}
 use Rattle.hyd_spec_witnesses.specs.Timed.{timed_spur, closing, opening, still}
 
@@ -33,18 +30,36 @@ pub instants : (time e : ℕ) → EndsByClock (network_of timed_spur) time e
     → (time < e) × ((e ≡ time + 3600) ⊎ ((e ≡ 4000) ⊎ ((e % 7200 ≡ 0) ⊎ ((e ≡ 1000) ⊎ ((e + 6000) % 86400 ≡ 7200)))))
 instants time e (step later is) = (later, inl is)
 instants time e (duration later is) = (later, inr (inl is))
-instants time e (pattern later begins) = (later, inr (inr (inl (let z : e + 0 ≡ e = omega arith in subst (λ (n : ℕ). n % 7200 ≡ 0) z begins))))
-instants time e (report later started begins) = (later, inr (inr (inl (let z : e - 0 ≡ e = omega arith in subst (λ (n : ℕ). n % 7200 ≡ 0) z begins))))
-instants time e (control_time each contained acts later) = (later, inr (inr (inr (inl (at_time each e contained acts)))))
-instants time e (control_clock each at contained acts shows later) =
-    (later, inr (inr (inr (inr (let is = at_clock each at contained acts in let so : (e + 6000) % 86400 ≡ 7200 = cc in so)))))
+instants time e (pattern later begins) = (
+  later,
+  inr (inr (inl (let z : e + 0 ≡ e = omega arith in
+      subst (λ (n : ℕ). n % 7200 ≡ 0) z begins))),
+)
+instants time e (report later started begins) = (
+  later,
+  inr (inr (inl (let z : e - 0 ≡ e = omega arith in
+      subst (λ (n : ℕ). n % 7200 ≡ 0) z begins))),
+)
+instants time e (control_time each contained acts later) = (
+  later,
+  inr (inr (inr (inl
+      (at_time each e contained acts)))),
+)
+instants time e (control_clock each at contained acts shows later) = (
+  later,
+  inr (inr (inr (inr (let is = at_clock each at contained acts in
+      let so : (e + 6000) % 86400 ≡ 7200 = cc in so)))),
+)
 
 -- a period ends where the clock ends it first
-pub lasts : (time length : ℕ) (state : LinkState) → time ≢ 4000 → EndsByClock (network_of timed_spur) time (time + length)
-    → ((e : ℕ) → EndsByClock (network_of timed_spur) time e → time + length ≤ e) → HasItsLength (network_of timed_spur) 1 (still time length state)
+pub lasts : (time length : ℕ) (state : LinkState) → time ≢ 4000
+    → EndsByClock (network_of timed_spur) time (time + length)
+    → ((e : ℕ) → EndsByClock (network_of timed_spur) time e → time + length ≤ e)
+    → HasItsLength (network_of timed_spur) 1 (still time length state)
 lasts time length state early ends first = before_end early (record { holds = by_clock ends; least = least })
   where
-    no_control : (e : ℕ) (seconds : ℕ) → EndsByLevel (network_of timed_spur) 1 (still time length state) seconds → time + length ≤ e
+    no_control : (e : ℕ) (seconds : ℕ)
+        → EndsByLevel (network_of timed_spur) 1 (still time length state) seconds → time + length ≤ e
     no_control e seconds (full k tank is other reached) = absurd (cc)
     no_control e seconds (empty k tank is other reached) = absurd (cc)
     no_control e seconds (at_control each k above ticks tank contained is_level is before reached) = absurd (cc)

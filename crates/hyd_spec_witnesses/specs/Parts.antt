@@ -10,8 +10,8 @@ abbrev pub listed : {T : Type 0} → List T → ListView T
 listed items = record { list = items; spare = 0 }
 
 -- What such networks differ in: the unit of flow, whether the demand is driven by pressure (from 5 to 21 of the unit of
--- pressures), the reservoir's head, the link, the junction's elevation (head ticks), demand (flow ticks) and emitter, the
--- curves by straight lines, the controls, the end of the run and the time of day at its start (seconds).
+-- pressures), the reservoir's head, the link, the junction's elevation (head ticks), demand (flow ticks) and emitter,
+-- the curves by straight lines, the controls, the end of the run and the time of day at its start (seconds).
 pub record Spur : Type 0 where
   pub unit : FlowUnit
   pub driven : Bool
@@ -96,8 +96,8 @@ network_of spur = record {
   rules = listed [];
 }
 
--- A period from a time on, for some seconds, with the link in a state: the head of the junction, the flow of the link, the
--- flow of the demand and that of the emitter.
+-- A period from a time on, for some seconds, with the link in a state: the head of the junction, the flow of the link,
+-- the flow of the demand and that of the emitter.
 abbrev pub period_at : ℕ → ℕ → LinkState → ℤ → ℤ → ℤ → ℤ → Period
 period_at time length state head flow taken emitted = record {
   time = time;

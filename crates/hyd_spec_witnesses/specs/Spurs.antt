@@ -1,24 +1,25 @@
--- Networks in which a link or an outflow of each kind is at work. The ends of the capacities are those that their numbers
--- stand for.
+-- Networks in which a link or an outflow of each kind is at work. The ends of the capacities are those that their
+-- numbers stand for.
 use Rattle.std.specs.Prelude.{ℤ, pos, neg_ℤ, true, Some, None}
 use Rattle.std.specs.Int.Signed.{≤ℤ_refl}
 use Rattle.std.proofs.Common.{lit≤, lit<}
 use Rattle.hyd_num.specs.declared.units.FlowUnit.TheVariants.{Cfs}
-use Rattle.hyd_spec.specs.Types.{Decimal, Cmd, Capacity, Pipe, Pump, Emitter, PipeLink, CheckPipe, PumpLink, Fcv, FourThirds, Linear, Closed, Speed, Limit}
+use Rattle.hyd_spec.specs.Types.{Cmd, Capacity, Pipe, Pump, Emitter, PipeLink, CheckPipe, PumpLink, Fcv, FourThirds, Linear, Closed, Speed, Limit}
 use Rattle.hyd_spec_witnesses.specs.Parts.{Spur, plain}
 use Rattle.hyd_spec_witnesses.specs.Words.{thirty}
 
 -- ---- pipes
 
--- 1000 feet of a pipe one foot across, of roughness 0.01 and without minor losses, which lose 0.466 feet at one cubic foot a
--- second.
+-- 1000 feet of a pipe one foot across, of roughness 0.01 and without minor losses, which lose 0.466 feet at one cubic
+-- foot a second.
 abbrev pub long_pipe : Capacity
 long_pipe = record {
   lo = record { mant = 7239961123724670982; exp = neg_ℤ (pos 34); normal = lit≤ tt; short = lit< tt };
   hi = record { mant = 7239961123724670990; exp = neg_ℤ (pos 34); normal = lit≤ tt; short = lit< tt };
   origin =
-      Pipe (record { nano = pos 1000000000000; bounded = lit≤ tt }) (record { nano = pos 12000000000; bounded = lit≤ tt })
-      (record { nano = pos 10000000; bounded = lit≤ tt }) (record { nano = pos 0; bounded = lit≤ tt }) true;
+      Pipe (record { nano = pos 1000000000000; bounded = lit≤ tt })
+      (record { nano = pos 12000000000; bounded = lit≤ tt }) (record { nano = pos 10000000; bounded = lit≤ tt })
+      (record { nano = pos 0; bounded = lit≤ tt }) true;
   ordered = lit≤ tt;
   least = lit≤ tt;
   greatest = lit< tt;
@@ -53,7 +54,11 @@ round_pump = record {
 abbrev pub pump_spur : Spur
 pump_spur = record plain {
   kind = PumpLink round_pump
-      (record { lo = pos 400000000000000; hi = pos 400000000000000; ordered = ≤ℤ_refl (pos 400000000000000) }) (FourThirds thirty) None;
+      (record {
+        lo = pos 400000000000000;
+        hi = pos 400000000000000;
+        ordered = ≤ℤ_refl (pos 400000000000000);
+      }) (FourThirds thirty) None;
   start = Speed (pos 1000000000);
   demand = pos 10000000000;
 }
@@ -89,9 +94,22 @@ emitter_spur = record plain { elevation = pos 959999999000000; demand = pos 6026
 abbrev pub driven_spur : Spur
 driven_spur = record plain { driven = true; elevation = pos 909999999000000; demand = pos 16053645312 }
 
--- A demand that is driven so, at another elevation.
-abbrev pub driven_at : ℤ → ℤ → Spur
+-- A demand that is driven so, at an elevation, of so many flow ticks.
+abbrev driven_at : ℤ → ℤ → Spur
 driven_at elevation demand = record plain { driven = true; elevation = elevation; demand = demand }
+
+-- One at 5 m, one at 4 m, one at 21 m and one at nearly 100 m.
+abbrev pub minimum_spur : Spur
+minimum_spur = driven_at (pos 950000000000000) (pos 8026822656)
+
+abbrev pub low_spur : Spur
+low_spur = driven_at (pos 960000000000000) (pos 8026822656)
+
+abbrev pub required_spur : Spur
+required_spur = driven_at (pos 789999999000000) (pos 8026822656)
+
+abbrev pub high_spur : Spur
+high_spur = driven_at (pos 0) (pos 8026822656)
 
 -- The emitter above the water that it stands in, so that it lets water in.
 abbrev pub dry_spur : Spur

@@ -1,5 +1,5 @@
--- A network whose valve is closed by a control at 1000 s and opened by the clock at 2:00, 1200 s after the start of its run,
--- which ends at 4000 s; and its history, in which no water flows.
+-- A network whose valve is closed by a control at 1000 s and opened by the clock at 2:00, 1200 s after the start of its
+-- run, which ends at 4000 s; and its history, in which no water flows.
 use Rattle.std.specs.Prelude.{ℕ, pos, List, [], ◌∷◌}
 use Rattle.hyd_spec.specs.Types.{LinkState, Open, Closed, Control, AtTime, AtClock}
 use Rattle.hyd_spec.specs.Length.{Period}

@@ -1,5 +1,5 @@
 -- Status words of links, each at the places where it begins to hold.
-use Rattle.std.specs.Prelude.{◌≡◌, ◌⊎◌, ℕ, ℤ, pos, Bool, List, [], ◌∷◌, None}
+use Rattle.std.specs.Prelude.{◌≡◌, ◌⊎◌, ℕ, ℤ, pos, Bool, List, [], ◌∷◌}
 use Rattle.std.proofs.Common.{lit≤}
 use Rattle.hyd_net.specs.ListView.{ListView}
 use Rattle.hyd_spec.specs.Types.{Decimal, HeadPoint, LinkKind, LinkState}
@@ -8,9 +8,10 @@ use Rattle.hyd_spec_reports.specs.declared.StatusWord.TheVariants.{Unsure as Wor
 use Rattle.hyd_spec_reports.specs.Claims.{StatusHolds}
 use Rattle.hyd_spec_witnesses.specs.Parts.{listed}
 
--- The word holds of a link in its state, at scale S and head difference x, and beside UNSURE, which always does, no other.
-pub record HoldsAlone (us : Bool) (bends : List (ListView HeadPoint)) (word : StatusWord) (kind : LinkKind) (state : LinkState)
-    (S : ℕ) (x : ℤ) : Type 0 where
+-- The word holds of a link in its state, at scale S and head difference x, and beside UNSURE, which always does, no
+-- other.
+pub record HoldsAlone (us : Bool) (bends : List (ListView HeadPoint)) (word : StatusWord) (kind : LinkKind)
+    (state : LinkState) (S : ℕ) (x : ℤ) : Type 0 where
   pub holds : StatusHolds us bends word kind state S x
   pub alone : (other : StatusWord) → StatusHolds us bends other kind state S x → (other ≡ word) ⊎ (other ≡ WordUnsure)
 

@@ -1,5 +1,5 @@
-//! Histories of one period of small networks, in which a link or an outflow of each kind is at work. Its exact flow is a
-//! whole number of parts of a tick, so histories go up to the tolerance above and below it, and none goes farther.
+//! Histories of one period of small networks, in which a link or an outflow of each kind is at work. The exact flow is
+//! whole, so histories go up to the tolerance above and below it, and none goes farther.
 #![tactic(auto)]
 
 ghost use Rattle.std.specs.Prelude.{pos, neg_ℤ, [], ◌∷◌};
@@ -43,7 +43,8 @@ pub fn emitter()
         (period_of emitter_spur (pos 999999999000000) (pos 8026822656) (pos 6026822657) (pos 1999999989) ∷ []) → ⊥ }
 {}
 
-/// A demand that is driven by pressure gets half of itself a quarter of the way from the minimum pressure to the required one.
+/// A demand that is driven by pressure gets half of itself a quarter of the way from the minimum pressure to the
+/// required one.
 pub fn driven_demand()
     ensures most { IsHistory (network_of driven_spur) 1
         (period_of driven_spur (pos 999999999000000) (pos 8026822656) (pos 8026822666) (pos 0) ∷ []) }

@@ -3,9 +3,11 @@
 //! laws in exact whole numbers. No function here has a body.
 #![tactic(auto)]
 
+pub mod claims;
 pub mod controls;
 pub mod histories;
 pub mod links;
+pub mod networks;
 pub mod outflows;
 pub mod pipes;
 pub mod words;

@@ -1,5 +1,5 @@
-//! Links that pass less than they could: a valve below its setting, a pump that can't lift so far, a closed valve. Histories
-//! go up to the tolerance above and below the exact flow, and none goes farther.
+//! Links that pass less than they could: a valve below its setting, a pump that can't lift so far, a closed valve.
+//! Histories go up to the tolerance above and below the exact flow, and none goes farther.
 #![tactic(auto)]
 
 ghost use Rattle.std.specs.Prelude.{pos, neg_ℤ, [], ◌∷◌};

@@ -1,11 +1,11 @@
-//! What leaves a junction, at the places where one rule gives way to another: histories go up to the tolerance above and
-//! below the exact outflow, and none goes farther.
+//! What leaves a junction, at the places where one rule gives way to another: histories go up to the tolerance above
+//! and below the exact outflow, and none goes farther.
 #![tactic(auto)]
 
 ghost use Rattle.std.specs.Prelude.{pos, neg_ℤ, [], ◌∷◌};
 ghost use Rattle.hyd_spec.specs.History.{IsHistory};
 ghost use Rattle.hyd_spec_witnesses.specs.Parts.{network_of, period_of};
-ghost use Rattle.hyd_spec_witnesses.specs.Spurs.{demand_spur, driven_at, dry_spur};
+ghost use Rattle.hyd_spec_witnesses.specs.Spurs.{demand_spur, minimum_spur, low_spur, required_spur, high_spur, dry_spur};
 
 /// A demand that isn't driven by pressure.
 pub fn demand()
@@ -35,50 +35,50 @@ pub fn balance()
 
 /// A demand that is driven by pressure gets nothing at the minimum pressure.
 pub fn at_minimum()
-    ensures most { IsHistory (network_of (driven_at (pos 950000000000000) (pos 8026822656))) 1
-        (period_of (driven_at (pos 950000000000000) (pos 8026822656)) (pos 1000000000000000) (pos 0) (pos 10) (pos 0) ∷ []) }
-    ensures least { IsHistory (network_of (driven_at (pos 950000000000000) (pos 8026822656))) 1
-        (period_of (driven_at (pos 950000000000000) (pos 8026822656)) (pos 1000000000000000) (pos 0) (neg_ℤ (pos 10)) (pos 0) ∷ []) }
-    ensures no_more { IsHistory (network_of (driven_at (pos 950000000000000) (pos 8026822656))) 1
-        (period_of (driven_at (pos 950000000000000) (pos 8026822656)) (pos 1000000000000000) (pos 5) (pos 11) (pos 0) ∷ []) → ⊥ }
-    ensures no_less { IsHistory (network_of (driven_at (pos 950000000000000) (pos 8026822656))) 1
-        (period_of (driven_at (pos 950000000000000) (pos 8026822656)) (pos 1000000000000000) (neg_ℤ (pos 5)) (neg_ℤ (pos 11)) (pos 0) ∷ []) → ⊥ }
+    ensures most { IsHistory (network_of minimum_spur) 1
+        (period_of minimum_spur (pos 1000000000000000) (pos 0) (pos 10) (pos 0) ∷ []) }
+    ensures least { IsHistory (network_of minimum_spur) 1
+        (period_of minimum_spur (pos 1000000000000000) (pos 0) (neg_ℤ (pos 10)) (pos 0) ∷ []) }
+    ensures no_more { IsHistory (network_of minimum_spur) 1
+        (period_of minimum_spur (pos 1000000000000000) (pos 5) (pos 11) (pos 0) ∷ []) → ⊥ }
+    ensures no_less { IsHistory (network_of minimum_spur) 1
+        (period_of minimum_spur (pos 1000000000000000) (neg_ℤ (pos 5)) (neg_ℤ (pos 11)) (pos 0) ∷ []) → ⊥ }
 {}
 
 /// It gets nothing below it.
 pub fn below_minimum()
-    ensures most { IsHistory (network_of (driven_at (pos 960000000000000) (pos 8026822656))) 1
-        (period_of (driven_at (pos 960000000000000) (pos 8026822656)) (pos 1000000000000000) (pos 0) (pos 10) (pos 0) ∷ []) }
-    ensures least { IsHistory (network_of (driven_at (pos 960000000000000) (pos 8026822656))) 1
-        (period_of (driven_at (pos 960000000000000) (pos 8026822656)) (pos 1000000000000000) (pos 0) (neg_ℤ (pos 10)) (pos 0) ∷ []) }
-    ensures no_more { IsHistory (network_of (driven_at (pos 960000000000000) (pos 8026822656))) 1
-        (period_of (driven_at (pos 960000000000000) (pos 8026822656)) (pos 1000000000000000) (pos 5) (pos 11) (pos 0) ∷ []) → ⊥ }
-    ensures no_less { IsHistory (network_of (driven_at (pos 960000000000000) (pos 8026822656))) 1
-        (period_of (driven_at (pos 960000000000000) (pos 8026822656)) (pos 1000000000000000) (neg_ℤ (pos 5)) (neg_ℤ (pos 11)) (pos 0) ∷ []) → ⊥ }
+    ensures most { IsHistory (network_of low_spur) 1
+        (period_of low_spur (pos 1000000000000000) (pos 0) (pos 10) (pos 0) ∷ []) }
+    ensures least { IsHistory (network_of low_spur) 1
+        (period_of low_spur (pos 1000000000000000) (pos 0) (neg_ℤ (pos 10)) (pos 0) ∷ []) }
+    ensures no_more { IsHistory (network_of low_spur) 1
+        (period_of low_spur (pos 1000000000000000) (pos 5) (pos 11) (pos 0) ∷ []) → ⊥ }
+    ensures no_less { IsHistory (network_of low_spur) 1
+        (period_of low_spur (pos 1000000000000000) (neg_ℤ (pos 5)) (neg_ℤ (pos 11)) (pos 0) ∷ []) → ⊥ }
 {}
 
 /// It gets all of itself at the required pressure.
 pub fn at_required()
-    ensures most { IsHistory (network_of (driven_at (pos 789999999000000) (pos 8026822656))) 1
-        (period_of (driven_at (pos 789999999000000) (pos 8026822656)) (pos 999999999000000) (pos 8026822656) (pos 8026822666) (pos 0) ∷ []) }
-    ensures least { IsHistory (network_of (driven_at (pos 789999999000000) (pos 8026822656))) 1
-        (period_of (driven_at (pos 789999999000000) (pos 8026822656)) (pos 999999999000000) (pos 8026822656) (pos 8026822646) (pos 0) ∷ []) }
-    ensures no_more { IsHistory (network_of (driven_at (pos 789999999000000) (pos 8026822656))) 1
-        (period_of (driven_at (pos 789999999000000) (pos 8026822656)) (pos 999999999000000) (pos 8026822661) (pos 8026822667) (pos 0) ∷ []) → ⊥ }
-    ensures no_less { IsHistory (network_of (driven_at (pos 789999999000000) (pos 8026822656))) 1
-        (period_of (driven_at (pos 789999999000000) (pos 8026822656)) (pos 999999999000000) (pos 8026822651) (pos 8026822645) (pos 0) ∷ []) → ⊥ }
+    ensures most { IsHistory (network_of required_spur) 1
+        (period_of required_spur (pos 999999999000000) (pos 8026822656) (pos 8026822666) (pos 0) ∷ []) }
+    ensures least { IsHistory (network_of required_spur) 1
+        (period_of required_spur (pos 999999999000000) (pos 8026822656) (pos 8026822646) (pos 0) ∷ []) }
+    ensures no_more { IsHistory (network_of required_spur) 1
+        (period_of required_spur (pos 999999999000000) (pos 8026822661) (pos 8026822667) (pos 0) ∷ []) → ⊥ }
+    ensures no_less { IsHistory (network_of required_spur) 1
+        (period_of required_spur (pos 999999999000000) (pos 8026822651) (pos 8026822645) (pos 0) ∷ []) → ⊥ }
 {}
 
 /// It gets no more above it.
 pub fn above_required()
-    ensures most { IsHistory (network_of (driven_at (pos 0) (pos 8026822656))) 1
-        (period_of (driven_at (pos 0) (pos 8026822656)) (pos 999999999000000) (pos 8026822656) (pos 8026822666) (pos 0) ∷ []) }
-    ensures least { IsHistory (network_of (driven_at (pos 0) (pos 8026822656))) 1
-        (period_of (driven_at (pos 0) (pos 8026822656)) (pos 999999999000000) (pos 8026822656) (pos 8026822646) (pos 0) ∷ []) }
-    ensures no_more { IsHistory (network_of (driven_at (pos 0) (pos 8026822656))) 1
-        (period_of (driven_at (pos 0) (pos 8026822656)) (pos 999999999000000) (pos 8026822661) (pos 8026822667) (pos 0) ∷ []) → ⊥ }
-    ensures no_less { IsHistory (network_of (driven_at (pos 0) (pos 8026822656))) 1
-        (period_of (driven_at (pos 0) (pos 8026822656)) (pos 999999999000000) (pos 8026822651) (pos 8026822645) (pos 0) ∷ []) → ⊥ }
+    ensures most { IsHistory (network_of high_spur) 1
+        (period_of high_spur (pos 999999999000000) (pos 8026822656) (pos 8026822666) (pos 0) ∷ []) }
+    ensures least { IsHistory (network_of high_spur) 1
+        (period_of high_spur (pos 999999999000000) (pos 8026822656) (pos 8026822646) (pos 0) ∷ []) }
+    ensures no_more { IsHistory (network_of high_spur) 1
+        (period_of high_spur (pos 999999999000000) (pos 8026822661) (pos 8026822667) (pos 0) ∷ []) → ⊥ }
+    ensures no_less { IsHistory (network_of high_spur) 1
+        (period_of high_spur (pos 999999999000000) (pos 8026822651) (pos 8026822645) (pos 0) ∷ []) → ⊥ }
 {}
 
 /// An emitter lets 200 cubic metres a day in at a pressure of 4 m below 0.
@@ -88,7 +88,9 @@ pub fn dry_emitter()
     ensures least { IsHistory (network_of dry_spur) 1
         (period_of dry_spur (pos 999999999000000) (pos 8026822656) (pos 10026822656) (neg_ℤ (pos 2000000010)) ∷ []) }
     ensures no_more { IsHistory (network_of dry_spur) 1
-        (period_of dry_spur (pos 999999999000000) (pos 8026822656) (pos 10026822655) (neg_ℤ (pos 1999999989)) ∷ []) → ⊥ }
+        (period_of dry_spur (pos 999999999000000) (pos 8026822656)
+        (pos 10026822655) (neg_ℤ (pos 1999999989)) ∷ []) → ⊥ }
     ensures no_less { IsHistory (network_of dry_spur) 1
-        (period_of dry_spur (pos 999999999000000) (pos 8026822656) (pos 10026822657) (neg_ℤ (pos 2000000011)) ∷ []) → ⊥ }
+        (period_of dry_spur (pos 999999999000000) (pos 8026822656)
+        (pos 10026822657) (neg_ℤ (pos 2000000011)) ∷ []) → ⊥ }
 {}

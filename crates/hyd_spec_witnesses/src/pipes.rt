@@ -1,5 +1,5 @@
-//! Histories of one period of a pipe of 1000 feet that loses 0.466 feet at one cubic foot a second, at 125 parts a tick, at
-//! which that flow is whole. They go up to the tolerance above and below the exact flow, and none goes farther.
+//! Histories of one period of a pipe of 1000 feet that loses 0.466 feet at one cubic foot a second, at 125 parts a
+//! tick, at which that flow is whole. They go up to the tolerance above and below the exact flow, and none goes farther.
 #![tactic(auto)]
 
 ghost use Rattle.std.specs.Prelude.{pos, neg_ℤ, [], ◌∷◌};
@@ -31,8 +31,8 @@ pub fn check_valve()
         (period_of check_spur (pos 37922454000000000) (pos 3058219430685) (pos 3058219430625) (pos 0) ∷ []) → ⊥ }
 {}
 
-/// The check valve lets nothing back where the junction stands 20 feet higher than the reservoir, at which 6.5 cubic feet a
-/// second would flow back without it.
+/// The check valve lets nothing back where the junction stands 20 feet higher than the reservoir: without it 6.5 cubic
+/// feet a second would flow back.
 pub fn held_back()
     ensures most { IsHistory (network_of idle_spur) 125
         (period_of idle_spur (pos 45720000000000000) (pos 1250) (pos 1250) (pos 0) ∷ []) }

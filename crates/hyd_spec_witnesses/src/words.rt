@@ -18,42 +18,55 @@ pub fn check_valves()
         → HoldsAlone us bends WordClosed (CheckPipe capacity) Closed S x }
 {}
 
-/// A running pump of a shutoff head of 40 m, in thirds of head ticks, is CLOSED where its second node stands higher by the
-/// whole lift, OPEN where by one third of a tick less; at half its speed the lift is 10 m.
+/// A running pump of a shutoff head of 40 m, in thirds of head ticks, is CLOSED where its second node stands higher by
+/// the whole lift, OPEN where by one third of a tick less; at half its speed the lift is 10 m.
 pub fn pumps()
-    ensures lifted { (bends : List (ListView HeadPoint)) (capacity : Capacity) (shutoff : Span) (pattern : Option ℕ)
-        → HoldsAlone false bends WordClosed (PumpLink capacity shutoff (FourThirds thirty) pattern) (Speed (pos 1000000000)) 3
+    ensures lifted { (bends : List (ListView HeadPoint)) (capacity : Capacity)
+        (shutoff : Span) (pattern : Option ℕ)
+        → HoldsAlone false bends WordClosed (PumpLink capacity shutoff (FourThirds thirty) pattern)
+        (Speed (pos 1000000000)) 3
         (neg_ℤ (pos 1200000000000000)) }
-    ensures less_lifted { (bends : List (ListView HeadPoint)) (capacity : Capacity) (shutoff : Span) (pattern : Option ℕ)
-        → HoldsAlone false bends WordOpen (PumpLink capacity shutoff (FourThirds thirty) pattern) (Speed (pos 1000000000)) 3
+    ensures less_lifted { (bends : List (ListView HeadPoint)) (capacity : Capacity)
+        (shutoff : Span) (pattern : Option ℕ)
+        → HoldsAlone false bends WordOpen (PumpLink capacity shutoff (FourThirds thirty) pattern)
+        (Speed (pos 1000000000)) 3
         (neg_ℤ (pos 1199999999999999)) }
-    ensures slowly_lifted { (bends : List (ListView HeadPoint)) (capacity : Capacity) (shutoff : Span) (pattern : Option ℕ)
-        → HoldsAlone false bends WordClosed (PumpLink capacity shutoff (FourThirds thirty) pattern) (Speed (pos 500000000)) 3
+    ensures slowly_lifted { (bends : List (ListView HeadPoint)) (capacity : Capacity)
+        (shutoff : Span) (pattern : Option ℕ)
+        → HoldsAlone false bends WordClosed (PumpLink capacity shutoff (FourThirds thirty) pattern)
+        (Speed (pos 500000000)) 3
         (neg_ℤ (pos 300000000000000)) }
-    ensures slowly_less_lifted { (bends : List (ListView HeadPoint)) (capacity : Capacity) (shutoff : Span) (pattern : Option ℕ)
-        → HoldsAlone false bends WordOpen (PumpLink capacity shutoff (FourThirds thirty) pattern) (Speed (pos 500000000)) 3
+    ensures slowly_less_lifted { (bends : List (ListView HeadPoint)) (capacity : Capacity)
+        (shutoff : Span) (pattern : Option ℕ)
+        → HoldsAlone false bends WordOpen (PumpLink capacity shutoff (FourThirds thirty) pattern)
+        (Speed (pos 500000000)) 3
         (neg_ℤ (pos 299999999999999)) }
-    ensures shut { (us : Bool) (bends : List (ListView HeadPoint)) (capacity : Capacity) (shutoff : Span) (pattern : Option ℕ) (S : ℕ) (x : ℤ)
+    ensures shut { (us : Bool) (bends : List (ListView HeadPoint)) (capacity : Capacity)
+        (shutoff : Span) (pattern : Option ℕ) (S : ℕ) (x : ℤ)
         → HoldsAlone us bends WordClosed (PumpLink capacity shutoff (FourThirds thirty) pattern) Closed S x }
 {}
 
-/// A running pump whose curve is one by straight lines is CLOSED where the exact flow by the lines is 0, OPEN where it is
-/// above that.
+/// A running pump whose curve is one by straight lines is CLOSED where the exact flow by the lines is 0, OPEN where it
+/// is above that.
 pub fn curve_pumps()
     ensures lifted { (pattern : Option ℕ)
-        → HoldsAlone false falling WordClosed (CurvePump 0 pattern) (Speed (pos 1000000000)) 3 (neg_ℤ (pos 1200000000000000)) }
+        → HoldsAlone false falling WordClosed (CurvePump 0 pattern)
+        (Speed (pos 1000000000)) 3 (neg_ℤ (pos 1200000000000000)) }
     ensures less_lifted { (pattern : Option ℕ)
-        → HoldsAlone false falling WordOpen (CurvePump 0 pattern) (Speed (pos 1000000000)) 3 (neg_ℤ (pos 1199999999999999)) }
+        → HoldsAlone false falling WordOpen (CurvePump 0 pattern)
+        (Speed (pos 1000000000)) 3 (neg_ℤ (pos 1199999999999999)) }
     ensures slowly_lifted { (pattern : Option ℕ)
-        → HoldsAlone false falling WordClosed (CurvePump 0 pattern) (Speed (pos 500000000)) 3 (neg_ℤ (pos 300000000000000)) }
+        → HoldsAlone false falling WordClosed (CurvePump 0 pattern)
+        (Speed (pos 500000000)) 3 (neg_ℤ (pos 300000000000000)) }
     ensures slowly_less_lifted { (pattern : Option ℕ)
-        → HoldsAlone false falling WordOpen (CurvePump 0 pattern) (Speed (pos 500000000)) 3 (neg_ℤ (pos 299999999999999)) }
+        → HoldsAlone false falling WordOpen (CurvePump 0 pattern)
+        (Speed (pos 500000000)) 3 (neg_ℤ (pos 299999999999999)) }
     ensures shut { (us : Bool) (bends : List (ListView HeadPoint)) (pattern : Option ℕ) (S : ℕ) (x : ℤ)
         → HoldsAlone us bends WordClosed (CurvePump 0 pattern) Closed S x }
 {}
 
-/// A flow-control valve without loss and with a setting of 802.6822656 cubic metres a day is ACTIVE from the head difference on
-/// at which the open valve passes as much, 1,000,000 head ticks, and OPEN below it.
+/// A flow-control valve without loss and with a setting of 802.6822656 cubic metres a day is ACTIVE from the head
+/// difference on at which the open valve passes as much, 1,000,000 head ticks, and OPEN below it.
 pub fn control_valves()
     ensures at_setting { (us : Bool) (bends : List (ListView HeadPoint))
         → HoldsAlone us bends WordActive (Fcv Linear) (Limit (pos 802682265600) (pos 8026822656)) 3 (pos 3000000) }
@@ -73,7 +86,8 @@ pub fn commanded()
         → HoldsAlone us bends WordClosed (PipeLink capacity) Closed S x }
     ensures open_throttle { (us : Bool) (bends : List (ListView HeadPoint)) (valve : OpenValve) (S : ℕ) (x : ℤ)
         → HoldsAlone us bends WordOpen (Tcv valve) Open S x }
-    ensures throttled { (us : Bool) (bends : List (ListView HeadPoint)) (valve law : OpenValve) (setting : ℤ) (S : ℕ) (x : ℤ)
+    ensures throttled { (us : Bool) (bends : List (ListView HeadPoint)) (valve law : OpenValve)
+        (setting : ℤ) (S : ℕ) (x : ℤ)
         → HoldsAlone us bends WordActive (Tcv valve) (Throttle setting law) S x }
     ensures shut_throttle { (us : Bool) (bends : List (ListView HeadPoint)) (valve : OpenValve) (S : ℕ) (x : ℤ)
         → HoldsAlone us bends WordClosed (Tcv valve) Closed S x }

@@ -1,5 +1,4 @@
 use Rattle.std.proofs.Common.{refl, inl, inr, arith}
-use Rattle.std.proofs.lemmas.Int.{ints}
 use Rattle.hyd_lemmas.proofs.Trials.{le-yes}
 use Rattle.hyd_spec_witnesses.specs.Spurs.{setting_spur}
 use Rattle.hyd_spec_witnesses.proofs.Single.{history, link_follows, greater}

@@ -1,8 +1,8 @@
-use Rattle.std.proofs.Common.{refl, inl, inr, arith}
+use Rattle.std.proofs.Common.{refl, arith}
 use Rattle.std.proofs.lemmas.Bool.{leb-true}
 use Rattle.hyd_lemmas.proofs.Trials.{le-yes}
 use Rattle.hyd_spec_witnesses.specs.Spurs.{driven_spur}
-use Rattle.hyd_spec_witnesses.proofs.Single.{history, link_follows, junction_obeys, more_than}
+use Rattle.hyd_spec_witnesses.proofs.Single.{history, junction_obeys, more_than}
 use Rattle.hyd_spec_witnesses.proofs.histories.driven_demand.Goals as goal
 
 pub returns-clause-most : goal.returns-clause-most

@@ -23,7 +23,8 @@ returns-clause-least c = history idle_pump 1 _ _ _ _ (omega arith) refl refl
     })
 
 pub returns-clause-no_more : goal.returns-clause-no_more
-returns-clause-no_more c is = elim (link_follows idle_pump 1 _ _ _ _ is).at_least [ inl one ↦ greater _ _ refl one | inr other ↦ other ]
+returns-clause-no_more c is = elim
+    (link_follows idle_pump 1 _ _ _ _ is).at_least [ inl one ↦ greater _ _ refl one | inr other ↦ other ]
 
 pub returns-clause-no_less : goal.returns-clause-no_less
 returns-clause-no_less c is = greater _ _ refl (link_follows idle_pump 1 _ _ _ _ is).at_most.0

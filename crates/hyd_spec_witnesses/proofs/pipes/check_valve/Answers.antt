@@ -7,7 +7,13 @@ use Rattle.hyd_spec_witnesses.proofs.pipes.check_valve.Goals as goal
 
 pub returns-clause-most : goal.returns-clause-most
 returns-clause-most c = history check_spur 125 _ _ _ _ (omega arith) refl refl
-    (record { at_least = inr (record { minor_within = record { crossed = leb-true _ _ refl }; friction_within = record { crossed = leb-true _ _ refl } }); at_most = (le-yes _ _ refl, record { crossed = leb-true _ _ refl }) })
+    (record {
+      at_least = inr (record {
+        minor_within = record { crossed = leb-true _ _ refl };
+        friction_within = record { crossed = leb-true _ _ refl };
+      });
+      at_most = (le-yes _ _ refl, record { crossed = leb-true _ _ refl });
+    })
     (record {
       demand = record { low = le-yes _ _ refl; high = le-yes _ _ refl };
       emitter = refl;
@@ -16,7 +22,13 @@ returns-clause-most c = history check_spur 125 _ _ _ _ (omega arith) refl refl
 
 pub returns-clause-least : goal.returns-clause-least
 returns-clause-least c = history check_spur 125 _ _ _ _ (omega arith) refl refl
-    (record { at_least = inr (record { minor_within = record { crossed = leb-true _ _ refl }; friction_within = record { crossed = leb-true _ _ refl } }); at_most = (le-yes _ _ refl, record { crossed = leb-true _ _ refl }) })
+    (record {
+      at_least = inr (record {
+        minor_within = record { crossed = leb-true _ _ refl };
+        friction_within = record { crossed = leb-true _ _ refl };
+      });
+      at_most = (le-yes _ _ refl, record { crossed = leb-true _ _ refl });
+    })
     (record {
       demand = record { low = le-yes _ _ refl; high = le-yes _ _ refl };
       emitter = refl;

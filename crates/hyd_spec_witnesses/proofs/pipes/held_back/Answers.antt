@@ -1,8 +1,7 @@
 use Rattle.std.proofs.Common.{refl, inl, inr, arith}
-use Rattle.std.proofs.lemmas.Bool.{leb-true}
 use Rattle.hyd_lemmas.proofs.Trials.{le-yes}
 use Rattle.hyd_spec_witnesses.specs.Spurs.{idle_spur}
-use Rattle.hyd_spec_witnesses.proofs.Single.{history, link_follows, more_than, greater}
+use Rattle.hyd_spec_witnesses.proofs.Single.{history, link_follows, greater}
 use Rattle.hyd_spec_witnesses.proofs.pipes.held_back.Goals as goal
 
 pub returns-clause-most : goal.returns-clause-most
