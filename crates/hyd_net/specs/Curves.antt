@@ -60,7 +60,7 @@ volume_knots shape = map (λ (p : VolumePoint). record { place = p.level; value 
 abbrev pub volume_at : List VolumePoint → ℤ → ℤ
 volume_at shape level = floor (value_at 1 (volume_knots shape) level)
 
--- at least two points; levels are heads, volumes at most 10^18 volume ticks, and both rise
+-- at least two points; levels are heads, volumes at most 10^18 volume ticks (10^9 cubic metres), and both rise
 pub record IsVolumeCurve (shape : List VolumePoint) : Type 0 where
   pub two : 2 ≤ length shape
   pub levels : All (λ (p : VolumePoint). IsHead p.level) shape
@@ -75,7 +75,7 @@ abbrev pub head_knots : List HeadPoint → List Knot
 head_knots bend = map (λ (p : HeadPoint). record { place = p.flow; value = p.head }) bend
 
 -- a pump's curve by straight lines: at least four points; flows are at least 0 and rise, heads fall to no less than 0, and at flow 0
--- the line of the first two points gives at most 10^16 ticks
+-- the line of the first two points gives at most 10^16 ticks (1,000 m)
 pub record IsPumpCurve (bend : List HeadPoint) : Type 0 where
   pub four : 4 ≤ length bend
   pub flows : All (λ (p : HeadPoint). IsFlow p.flow) bend

@@ -74,7 +74,8 @@ pub record IsReservoir (patterns : List Pattern) (reservoir : Reservoir) : Type 
   pub head : IsHead reservoir.head
   pub pattern : HasPattern (λ multiplier. LiesWithin (10 ^ 17 * 10 ^ 9) (reservoir.head *ℤ multiplier)) patterns reservoir.pattern
 
--- a tank's volume curve goes from its minimum or below to its maximum or above, between which at least 10^6 volume ticks lie
+-- a tank's volume curve goes from its minimum or below to its maximum or above; from the minimum to the maximum it holds at
+-- least 10^6 volume ticks (a litre)
 pub record IsShapeOf (tank : Tank) (shape : List VolumePoint) : Type 0 where
   pub curve : IsVolumeCurve shape
   pub from_minimum : HoldsAt (λ (p : VolumePoint). p.level ≤ℤ tank.minimum) shape 0

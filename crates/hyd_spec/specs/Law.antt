@@ -103,7 +103,8 @@ lifted lift R S x a =
 
 -- The exact flow at head difference x is at least a.
 -- Forward only: it is the greater of 0 and the inner flow. Reverse only: the lesser. Capped: the
--- lesser of the setting and the inner flow. Held: the inner flow, the least where that is less, the greatest where it is more.
+-- lesser of the setting and the inner flow. Held: the inner flow, but the least flow where the inner one is less, and the greatest
+-- where the inner one is more.
 abbrev pub flow_at_least : Law → Relation
 flow_at_least Shut S x a = a ≤ℤ pos 0
 flow_at_least (QuadraticLaw capacity) S x a = odd_at_least (loss_at_most capacity.origin) (loss_at_least capacity.origin) S x a

@@ -14,14 +14,15 @@ abbrev pub valve_law : OpenValve → Law
 valve_law (Quadratic capacity) = QuadraticLaw capacity
 valve_law Linear = LinearLaw
 
--- What a curve by straight lines passes at most, either way (flow ticks): 10^10 cubic metres a day.
+-- What a curve by straight lines passes at most (flow ticks), a general purpose valve's also in reverse: 10^10 cubic metres a
+-- day.
 abbrev pub greatest_flow : ℤ
 greatest_flow = pos (10 ^ 17)
 
 -- The law of a link of this kind in this state, whatever the tanks at its ends allow.
 -- A running pump passes forward only, what its curve gives at the head difference plus its lift, or what the straight lines
 -- between its points give at its speed; a throttled valve is a valve whose coefficient is the setting; a flow-control valve
--- passes at most its setting; an open general purpose valve follows its curve. A kind and a state that don't go together
+-- passes at most its setting; an open general purpose valve follows its curve. Curves pass no more than the greatest flow. A kind and a state that don't go together
 -- have the law of a closed link.
 abbrev pub own_law : Bool → List (ListView HeadPoint) → LinkKind → LinkState → Law
 own_law us bends (PipeLink capacity) Open = QuadraticLaw capacity

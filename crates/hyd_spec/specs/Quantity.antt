@@ -2,7 +2,8 @@
 -- A head tick is 10^-13 m, a flow tick 10^-7 cubic metres a day; `nano` counts
 -- billionths of the file's unit, or of a plain number.
 -- Source: EPANET 2.2 User Manual, chapter 3 (the network model) and appendix C (sections [DEMANDS],
--- [PATTERNS], [RESERVOIRS], [CURVES], [TIMES]).
+-- [PATTERNS], [RESERVOIRS], [CURVES], [TIMES]); that a pump's knots are cut to whole ticks, and the reverse of a general
+-- purpose valve's curve, are this program's.
 use Rattle.std.specs.Prelude.{ℕ, ◌+◌, ◌*◌, ◌/◌, ◌%◌, ◌^◌, ℤ, pos, neg_ℤ, unsigned_abs, ◌*ℤ◌, Bool, List, [], ◌++◌, length, map, reverse, slice_get, slice_index_or}
 use Rattle.std.specs.Option.{option_map_or, option_or}
 use Rattle.hyd_num.specs.Quantity.{is_us_unit, head_ticks, pressure_numerator, pressure_denominator}

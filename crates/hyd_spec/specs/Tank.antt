@@ -65,7 +65,7 @@ abbrev pub content_bounds : Walls → Tank → Bounds
 content_bounds walls tank = record { least = content_at walls tank.minimum; most = content_at walls tank.maximum }
 
 -- The content after `seconds` of a constant inflow, before its bounds are looked at. A flow tick for a day is 100 volume ticks,
--- and on 10^-9 square metres it is 10^15 head ticks; a day has 86,400 seconds. Stock and inflow may be parts of a tick,
+-- and on 10^-9 square metres it is 10^15 head ticks; a day has 86,400 seconds, and 864 is a hundredth of that. Stock and inflow may be parts of a tick,
 -- at one scale.
 abbrev pub exact_content : Walls → Stock → ℤ → ℕ → Rational
 exact_content (Cylinder area) stock inflow seconds =
@@ -128,13 +128,13 @@ carried_level S walls tank stock inflow seconds =
 
 -- ---- targets
 
--- The level that the levels of controls are compared with: the exact one of a cylinder, which may lie beyond its
--- bounds, and the carried one of a tank with a curve.
+-- The level that is compared with a target: the exact one of a cylinder, which may lie beyond its bounds, and the carried
+-- one of a tank with a curve.
 abbrev pub watched_level : ℕ → Walls → Tank → Stock → ℤ → ℕ → Rational
 watched_level S (Cylinder area) tank stock inflow seconds = exact_content (Cylinder area) stock inflow seconds
 watched_level S (Curve points) tank stock inflow seconds = carried_level S (Curve points) tank stock inflow seconds
 
--- The target is the bound that a level meets in this way: the maximum ABOVE, the minimum BELOW.
+-- The target is a bound of the level: the maximum where it is met ABOVE, the minimum where it is met BELOW.
 abbrev pub is_bound : Tank → Bool → ℤ → Bool
 is_bound tank true target = is_same_number tank.maximum target
 is_bound tank false target = is_same_number tank.minimum target

@@ -11,7 +11,7 @@ pub enum TankState {
     Empty,
     /// Neither empty nor full.
     Between,
-    /// At or near its maximum level: nothing flows in.
+    /// At or near its maximum level: nothing flows in, unless it overflows.
     Full,
 }
 

@@ -1,4 +1,4 @@
--- The first second at which a level may, or must, have reached a target, up to a cap.
+-- The first second at which a tank may, or must, have reached a target level, up to a cap.
 -- Source: EPANET 2.2 User Manual, chapter 3 (tanks: when one fills or empties), between two ends.
 use Rattle.std.specs.Prelude.{◌≡◌, ℕ, ◌≤◌, ℤ, Bool, IsTrue, ◌⊎◌}
 use Rattle.hyd_spec.specs.Types.{Tank}
@@ -11,12 +11,12 @@ use Rattle.hyd_spec_certificates.specs.Stocks.{Stocks, may_reach, must_reach}
 abbrev pub IsFirstSecond : (ℕ → Bool) → ℕ → ℕ → Type 0
 IsFirstSecond test cap second = IsLeast (λ s. (s ≡ cap) ⊎ ((1 ≤ s) × IsTrue (test s))) second
 
--- The earliest: the level that moves fastest toward the target has reached it.
+-- The earliest: the stock that moves fastest toward the target has reached it.
 abbrev pub IsEarliestSecond : Walls → Tank → Stocks → Interval → ℤ → Bool → ℕ → ℕ → Type 0
 IsEarliestSecond walls tank stocks inflow target rising cap second =
     IsFirstSecond (may_reach walls tank stocks inflow target rising) cap second
 
--- The latest: the level that moves slowest toward the target has reached it.
+-- The latest: the stock that moves slowest toward the target has reached it.
 abbrev pub IsLatestSecond : Walls → Tank → Stocks → Interval → ℤ → Bool → ℕ → ℕ → Type 0
 IsLatestSecond walls tank stocks inflow target rising cap second =
     IsFirstSecond (must_reach walls tank stocks inflow target rising) cap second

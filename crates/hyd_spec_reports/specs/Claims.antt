@@ -121,8 +121,8 @@ StateIs WordActive (Limit setting ticks) = ⊥
 StateIs WordUnsure state = ⊤
 
 -- What a status word says of a link in its state, at the head difference x. UNSURE says nothing, and so it is with a kind and a
--- state that don't go together. Of a running pump whose curve is one by straight lines OPEN and CLOSED tell the sign of the exact
--- flow, as of other running pumps that of the driving difference.
+-- state that don't go together. Of a running pump whose curve is one by straight lines OPEN and CLOSED tell the sign of the
+-- value on them, as of other running pumps that of the driving difference.
 abbrev pub StatusHolds : Bool → List (ListView HeadPoint) → StatusWord → LinkKind → LinkState → ℕ → ℤ → Type 0
 StatusHolds us bends word (PipeLink capacity) Open S x = StateIs word Open
 StatusHolds us bends word (PipeLink capacity) Closed S x = StateIs word Closed

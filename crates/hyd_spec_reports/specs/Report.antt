@@ -132,7 +132,7 @@ by_setting setting flow =
     else if int_lt flow.hi setting then WordOpen
     else WordUnsure
 
--- The status of a running pump by the straight lines of its curve: by the sign of the exact flow at either end.
+-- The status of a running pump by the straight lines of its curve: by the sign of the value on them at either end.
 abbrev pub by_knots : List Knot → Interval → StatusWord
 by_knots knots d = by_drive (record { lo = (value_at 1 knots d.lo).num; hi = (value_at 1 knots d.hi).num })
 
