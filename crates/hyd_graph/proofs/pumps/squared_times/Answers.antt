@@ -7,7 +7,7 @@ use Rattle.hyd_graph.proofs.pumps.squared_times.Goals as goal
 pub product-requires-2 : goal.product-requires-2
 product-requires-2 c =
     product_small (unsigned_abs (to_z w128 (of_z w128 c.product.result))) (unsigned_abs (to_z w128 (of_z w128 c.args.head))) (unsigned_abs c.args.speed) (unsigned_abs (to_z w128 (of_z w128 c.from-speed.result)))
-        (omega (arith, ints)) (omega (arith, ints, c.product.ensures.small)) (omega (arith, ints)) (omega (arith, ints))
+    (omega (arith, ints)) (omega (arith, ints, c.product.ensures.small)) (omega (arith, ints)) (omega (arith, ints))
 
 pub returns-clause-value : goal.returns-clause-value
 returns-clause-value c =
