@@ -236,8 +236,8 @@ fn make_columns(
 ) -> Result<Vec<Column>, OutOfMemory>
     ensures length { IfOk result (λ columns. vec_len columns ≡ nodes) }
     ensures inside { IfOk result (λ columns.
-        All (IsColumn nodes (length rows.now.items.items) (length updates.now.items.items) (length terms.now.items.items))
-        columns.items) }
+        All (IsColumn nodes (length rows.now.items.items) (length updates.now.items.items)
+        (length terms.now.items.items)) columns.items) }
 {
     let mut columns = Vec::with_capacity(alloc, nodes as usize)?;
     for place in 0..nodes {

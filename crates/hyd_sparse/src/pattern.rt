@@ -22,7 +22,8 @@ pub(crate) struct Pattern {
     ghost updates_inside: { All (IsUpdate (length columns.items) (length rows.items)) updates.items },
     ghost terms_inside: { All (IsTerm (length columns.items) links) terms.items },
     ghost swaps_inside: { All (λ place. place < length columns.items) swaps.items },
-    ghost columns_inside: { All (IsColumn (length columns.items) (length rows.items) (length updates.items) (length terms.items)) columns.items },
+    ghost columns_inside: { All (IsColumn (length columns.items) (length rows.items) (length updates.items)
+        (length terms.items)) columns.items },
 }
 
 impl Pattern {

@@ -2,7 +2,7 @@
 -- OR binds tighter than AND: a premise is a row of groups joined by AND, each a row of clauses joined by OR.
 -- Source: EPANET 2.2 User Manual, chapter 3 (rule-based controls) and appendix C ([RULES]); the order of AND and OR,
 -- equality of times within a rule step and flows without their sign are this program's.
-use Rattle.std.specs.Prelude.{ℕ, suc, ◌+◌, ◌*◌, ◌-◌, ◌%◌, ℤ, pos, ◌-ℤ◌, Bool, true, false, ◌&&◌, not, nat_lt, nat_le, List, [], ◌∷◌, ◌++◌, Option, Some, None, map, slice_get, slice_index_or, int_lt, int_le, unsigned_abs, if◌then◌else◌, ◌==◌}
+use Rattle.std.specs.Prelude.{ℕ, suc, ◌+◌, ◌*◌, ◌-◌, ◌%◌, ℤ, pos, ◌-ℤ◌, Bool, true, false, ◌&&◌, not, nat_lt, nat_le, List, [], ◌∷◌, ◌++◌, Option, Some, None, map, slice_get, slice_index_or, int_lt, unsigned_abs, if◌then◌else◌, ◌==◌}
 use Rattle.std.specs.List.{list_any, list_all}
 use Rattle.std.specs.Option.{option_map_or, option_and_then}
 use Rattle.hyd_spec.specs.Types.{Project, Rule, RuleClause, Joined, And, Or, Clause, What, Head, Pressure, Level, Flow, Setting, Status, Time, Clock, Relation, Less, NotMore, More, NotLess, Equal, Unequal, Value, Amount, ValueOpen, ValueClosed, ValueActive, Action, LinkState, Open, Closed, Speed, Throttle, Limit, Change, ByRule}
@@ -134,9 +134,9 @@ abbrev pub status_holds : Relation → StateWord → Value → Bool
 status_holds Unequal word value = not (is_word word value)
 status_holds relation word value = is_word word value
 
--- A clause on the time or the clock. Equality holds where the value has come within the last rule step, as `came`
--- says: so a time above 0 holds at one multiple of the rule step, and a time of day at one in each day, where the rule
--- step is at most a day. (At time 0 no rule is tried.)
+-- A clause on the time or the clock. It is equal to a value v at the second s where s less the rule step is below v and v is at
+-- most s, on the clock modulo a day, as `came` says: so a time above 0 holds at one multiple of the rule step, and a time of
+-- day at one in each day, where the rule step is at most a day. (At time 0 no rule is tried.)
 abbrev pub time_holds : Relation → ℕ → ℕ → Bool → Bool
 time_holds Equal now at came = came
 time_holds Unequal now at came = not came

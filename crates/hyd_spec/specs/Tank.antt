@@ -74,8 +74,8 @@ exact_content (Cylinder area) stock inflow seconds =
 exact_content (Curve points) stock inflow seconds =
     record { num = (pos 864 *ℤ stock.volume) +ℤ (pos seconds *ℤ inflow); den = 864 }
 
--- The value x is at or beyond a target (whole ticks): at least it where the target is met from below (`above`), else
--- at most it.
+-- The value x has met a target (whole ticks) in one of two ways: ABOVE (`true`), it is at least the target; BELOW, it is at
+-- most the target.
 abbrev pub reaches : ℕ → Bool → ℤ → Rational → Bool
 reaches S true ticks x = is_at_most (whole (at_scale S ticks)) x
 reaches S false ticks x = is_at_most x (whole (at_scale S ticks))
@@ -102,13 +102,17 @@ placed S contents range x inside =
 abbrev pub level_knots : List VolumePoint → List Knot
 level_knots points = map (λ (p : VolumePoint). record { place = p.volume; value = p.level }) points
 
--- The level at the volume x by the curve, held between minimum and maximum: an exact value in S-th parts, as x is. At a scale
--- finer by the denominator of x both are whole places of the curve.
+-- The level at the volume x on the lines of the curve: an exact value in S-th parts, as x is. At a scale finer by the
+-- denominator of x both are whole places of the curve.
+abbrev pub level_on_curve : ℕ → List VolumePoint → Rational → Rational
+level_on_curve S points x =
+    let fine = value_at (S * x.den) (level_knots points) x.num in
+    record { num = fine.num; den = fine.den * x.den }
+
+-- The level at the volume x, held between minimum and maximum.
 abbrev pub level_at_volume : ℕ → List VolumePoint → Tank → Rational → Rational
 level_at_volume S points tank x =
-    let fine = value_at (S * x.den) (level_knots points) x.num in
-    let level : Rational = record { num = fine.num; den = fine.den * x.den } in
-    placed S (level_bounds tank) (level_bounds tank) level level
+    let level = level_on_curve S points x in placed S (level_bounds tank) (level_bounds tank) level level
 
 -- The level at the content x.
 abbrev pub level_at : ℕ → Walls → Tank → Rational → Rational
@@ -130,12 +134,12 @@ abbrev pub watched_level : ℕ → Walls → Tank → Stock → ℤ → ℕ → 
 watched_level S (Cylinder area) tank stock inflow seconds = exact_content (Cylinder area) stock inflow seconds
 watched_level S (Curve points) tank stock inflow seconds = carried_level S (Curve points) tank stock inflow seconds
 
--- The target is the bound that a level meets in this direction: the maximum from below, the minimum from above.
+-- The target is the bound that a level meets in this way: the maximum ABOVE, the minimum BELOW.
 abbrev pub is_bound : Tank → Bool → ℤ → Bool
 is_bound tank true target = is_same_number tank.maximum target
 is_bound tank false target = is_same_number tank.minimum target
 
--- After `seconds` a tank has reached a target level (head ticks), from below or from above. Where the target is the bound there, a
+-- After `seconds` a tank has met a target level (head ticks), ABOVE or BELOW. Where the target is the bound there, a
 -- tank with a curve has reached it when its exact volume has reached that of the bound.
 abbrev pub has_reached : ℕ → Walls → Tank → Stock → ℤ → Bool → ℤ → ℕ → Bool
 has_reached S (Cylinder area) tank stock inflow above target seconds =

@@ -13,6 +13,7 @@ pub mod enclosing;
 pub mod forms;
 pub mod held;
 pub mod histories;
+pub mod input;
 pub mod levels;
 pub mod links;
 pub mod losses;

@@ -22,7 +22,7 @@ use Rattle.hyd_spec_histories.proofs.Watching.{level_may, must_level}
 
 -- ---- what changes nothing
 
-is-empty : (X : Type 0) (xs : List X) → (xs ≡ []) ⊎ (xs ≢ [])
+pub is-empty : (X : Type 0) (xs : List X) → (xs ≡ []) ⊎ (xs ≢ [])
 is-empty X [] = inl refl
 is-empty X (x ∷ xs) = inr (λ e. absurd (cc))
 

@@ -7,7 +7,7 @@ use Rattle.hyd_num.specs.Rational.{Rational, whole}
 use Rattle.hyd_net.specs.Curves.{Knot, value_at, AreRising}
 use Rattle.hyd_spec.specs.Types.{Tank, VolumePoint}
 use Rattle.hyd_spec.specs.Scale.{at_scale}
-use Rattle.hyd_spec.specs.Tank.{Walls, Cylinder, Curve, Stock, Bounds, level_bounds, content_bounds, content_of, exact_content, level_knots, level_at, carried_level, IsNextContent, IsLevelAt, IsNextStock, tank_state, state_band}
+use Rattle.hyd_spec.specs.Tank.{Walls, Cylinder, Curve, Stock, Bounds, level_bounds, content_bounds, content_of, exact_content, level_knots, level_on_curve, level_at, carried_level, IsNextContent, IsLevelAt, IsNextStock, tank_state, state_band}
 use Rattle.hyd_spec.specs.declared.TankState.{TankState}
 use Rattle.hyd_spec.specs.declared.TankState.TheVariants.{Full, Between, Empty}
 use Rattle.hyd_spec_certificates.specs.Interval.{Interval}
@@ -21,7 +21,7 @@ use Rattle.hyd_spec_laws.proofs.Placing.{le-from, Fits, FitsAt, ends-ordered, lo
 
 -- ---- levels by a volume curve
 
-pairs-tail : (R : ℤ → ℤ → Type 0) (x : ℤ) (xs : List ℤ) → AllPairs R (x ∷ xs) → AllPairs R xs
+pub pairs-tail : (R : ℤ → ℤ → Type 0) (x : ℤ) (xs : List ℤ) → AllPairs R (x ∷ xs) → AllPairs R xs
 pairs-tail R x xs all = λ i j d below inside. all (suc i) (suc j) d (omega (arith, below)) (omega (arith, inside))
 
 climbing : (p : VolumePoint) (points : List VolumePoint) → AreRising (map (λ (q : VolumePoint). q.level) (p ∷ points)) → AreRising (map (λ (q : VolumePoint). q.volume) (p ∷ points))
@@ -36,19 +36,13 @@ climbing p (q ∷ points) levels volumes = (
       (pairs-tail (λ a b. a <ℤ b) p.volume (map (λ (q : VolumePoint). q.volume) (q ∷ points)) volumes),
 )
 
--- the curve's level before it is held
-abbrev curve-level : ℕ → List VolumePoint → Rational → Rational
-curve-level S points x =
-    let fine = value_at (S * x.den) (level_knots points) x.num in
-    record { num = fine.num; den = fine.den * x.den }
-
-curve-some : (S : ℕ) (points : List VolumePoint) (x : Rational) → HoldWater (Curve points) → 0 < x.den → 0 < (curve-level S points x).den
+pub curve-some : (S : ℕ) (points : List VolumePoint) (x : Rational) → HoldWater (Curve points) → 0 < x.den → 0 < (level_on_curve S points x).den
 curve-some S [] x holds some = mul-pos (omega arith) some
 curve-some S (p ∷ points) x holds some =
     mul-pos (some-den (S * x.den) (record { place = p.volume; value = p.level }) (level_knots points) x.num) some
 
 curve-rises : (T U : ℕ) (points : List VolumePoint) (x y : Rational) → HoldWater (Curve points) → 0 < T → 0 < x.den → Leads T U x y
-    → Leads T U (curve-level T points x) (curve-level U points y)
+    → Leads T U (level_on_curve T points x) (level_on_curve U points y)
 curve-rises T U [] x y holds some x-some leads = record { crossed = omega (arith, ints) }
 curve-rises T U (p ∷ points) x y holds some x-some leads =
     let knot : Knot = record { place = p.volume; value = p.level } in
@@ -115,7 +109,7 @@ pub level-fits-at : (S : ℕ) (walls : Walls) (tank : Tank) (x : Rational) → I
     → FitsAt S (content_bounds walls tank) (level_bounds tank) x (level_at S walls tank x)
 level-fits-at S (Cylinder area) tank x vessel some = self-fits-at S (level_bounds tank) x some
 level-fits-at S (Curve points) tank x vessel some =
-    let level = curve-level S points x in
+    let level = level_on_curve S points x in
     let level-some = curve-some S points x vessel.holds_water some in
     let own = self-fits-at S (level_bounds tank) level level-some in
     record {
@@ -138,7 +132,7 @@ pub level-leads : (T U : ℕ) (walls : Walls) (tank : Tank) (y x : Rational) →
     → Leads T U (level_at T walls tank y) (level_at U walls tank x)
 level-leads T U (Cylinder area) tank y x vessel some other-some y-some x-some leads = leads
 level-leads T U (Curve points) tank y x vessel some other-some y-some x-some leads =
-    let low = curve-level T points y in let high = curve-level U points x in
+    let low = level_on_curve T points y in let high = level_on_curve U points x in
     let up = curve-rises T U points y x vessel.holds_water some y-some leads in
     placed-rises T U (level_bounds tank) (level_bounds tank) low high low high some other-some vessel.ordered
     (self-fits-at T (level_bounds tank) low (curve-some T points y vessel.holds_water y-some))

@@ -1,6 +1,7 @@
 pub mod Roots
 pub mod CurveKnots
 pub mod StatusWords
+pub mod HeldEnds
 pub mod LossLaws
 pub mod LinkLaws
 pub mod EachLaw
@@ -33,4 +34,8 @@ pub mod OneReport
 pub mod OneLength
 pub mod OneCapacity
 pub mod OneRun
+pub mod Failing
+pub mod OneRefusal
 pub mod Vessels
+pub mod CurveLevels
+pub mod Targets

@@ -15,10 +15,10 @@ use Rattle.hyd_spec_laws.proofs.Leading.{Leads, UpTo, From, through, one_times, 
 -- ---- one line
 
 -- a line over a width of W with a rise of D, from a place and a value, at x
-abbrev line : (T W D : ℕ) (place value x : ℤ) → ℤ
+abbrev pub line : (T W D : ℕ) (place value x : ℤ) → ℤ
 line T W D place value x = (pos (T * W) *ℤ value) +ℤ (pos D *ℤ (x -ℤ (pos T *ℤ place)))
 
-spread : (T W : ℕ) (v : ℤ) → pos W *ℤ (pos T *ℤ v) ≡ pos (T * W) *ℤ v
+pub spread : (T W : ℕ) (v : ℤ) → pos W *ℤ (pos T *ℤ v) ≡ pos (T * W) *ℤ v
 spread T W v = times_times W T v ∙ ap (λ (n : ℕ). pos n *ℤ v) (mul_comm W T)
 
 line-rises : (T U W D : ℕ) (place value x y : ℤ) → (pos U *ℤ x) ≤ℤ (pos T *ℤ y)
@@ -60,24 +60,24 @@ pub record Follows (knot next : Knot) : Type 0 where
   pub later : knot.place ≤ℤ next.place
   pub higher : knot.value ≤ℤ next.value
 
-lt-yes : (a b : ℤ) → int_lt a b ≡ true → a <ℤ b
+pub lt-yes : (a b : ℤ) → int_lt a b ≡ true → a <ℤ b
 lt-yes a b e = grind (arith, ints)
 
-lt-no : (a b : ℤ) → int_lt a b ≡ false → b ≤ℤ a
+pub lt-no : (a b : ℤ) → int_lt a b ≡ false → b ≤ℤ a
 lt-no a b e = grind (arith, ints)
 
-difference-is : (y z : ℤ) → y ≤ℤ z → z -ℤ y ≡ pos (unsigned_abs (z -ℤ y))
+pub difference-is : (y z : ℤ) → y ≤ℤ z → z -ℤ y ≡ pos (unsigned_abs (z -ℤ y))
 difference-is y z le = omega (arith, ints)
 
 -- the line between two knots, with its width and its rise
-line-is : (T : ℕ) (knot next : Knot) (x : ℤ) → Follows knot next
+pub line-is : (T : ℕ) (knot next : Knot) (x : ℤ) → Follows knot next
     → (on_line T knot next x).num ≡ line T (unsigned_abs (next.place -ℤ knot.place)) (unsigned_abs (next.value -ℤ knot.value)) knot.place knot.value x
 line-is T knot next x f =
     ap (λ (r : ℤ). (pos (T * unsigned_abs (next.place -ℤ knot.place)) *ℤ knot.value) +ℤ (r *ℤ (x -ℤ (pos T *ℤ knot.place))))
     (difference-is knot.value next.value f.higher)
 
 -- two knots at one place have the first one's value before it and the second one's from it on
-abbrev stepped : Bool → Knot → Knot → ℤ
+abbrev pub stepped : Bool → Knot → Knot → ℤ
 stepped before knot next = if before then knot.value else next.value
 
 stepped-least : (before : Bool) (knot next : Knot) → Follows knot next → knot.value ≤ℤ stepped before knot next
@@ -160,7 +160,7 @@ abbrev pub AreClimbing : Knot → List Knot → Type 0
 AreClimbing knot [] = ⊤
 AreClimbing knot (next ∷ rest) = Follows knot next × AreClimbing next rest
 
-from-first : (T : ℕ) (knot : Knot) (rest : List Knot) (x : ℤ) → AreClimbing knot rest → (pos T *ℤ knot.place) ≤ℤ x → From T (value_from T knot rest x) knot.value
+pub from-first : (T : ℕ) (knot : Knot) (rest : List Knot) (x : ℤ) → AreClimbing knot rest → (pos T *ℤ knot.place) ≤ℤ x → From T (value_from T knot rest x) knot.value
 from-first T knot [] x climbing le = omega (arith, ints, one_times (pos T *ℤ knot.value))
 from-first T knot (next ∷ []) x climbing le = between-least (int_lt knot.place next.place) T knot next x climbing.0 le
 from-first T knot (next ∷ (later ∷ rest)) x climbing le =

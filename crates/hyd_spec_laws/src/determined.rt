@@ -1,6 +1,6 @@
-//! What a record decides is one, in every network: the grid of a standing and its tight vectors, the end of the period, the
-//! standing that it leads on to, and the lines of its report. So a tight run that the relations accept is the only tight
-//! one of as many periods.
+//! What a record decides is one, in every network: the grid of a standing and its tight vectors, the end of the
+//! period, the standing that it leads on to, and the lines of its report. So a tight run that the relations accept is
+//! the only tight one of as many periods.
 #![tactic(auto)]
 
 ghost use Rattle.std.specs.Prelude.{◌≡◌, ℕ, ℤ, List, length};
@@ -13,7 +13,9 @@ ghost use Rattle.hyd_spec_certificates.specs.Grid.{Grid};
 ghost use Rattle.hyd_spec_certificates.specs.Certificate.{IsTight};
 ghost use Rattle.hyd_spec_certificates.specs.Record.{Record, Standing};
 ghost use Rattle.hyd_spec_certificates.specs.Decided.{End, EndsBy};
-ghost use Rattle.hyd_spec_certificates.specs.Valid.{LeadsOn, IsGridAt};
+ghost use Rattle.hyd_spec_certificates.specs.Valid.{LeadsOn, IsGridAt, IsValid};
+ghost use Rattle.hyd_spec_reports.specs.declared.CertRefused.{CertRefused};
+ghost use Rattle.hyd_spec_reports.specs.Refusals.{IsRefused};
 ghost use Rattle.hyd_spec_reports.specs.ReportLine.{ReportLine};
 ghost use Rattle.hyd_spec_reports.specs.Report.{IsReport};
 ghost use Rattle.hyd_spec_reports.specs.Headline.{Found, IsRun, IsTightThroughout};
@@ -40,6 +42,15 @@ pub fn vectors()
 pub fn reports()
     ensures { (network : Project) (grid : Grid) (standing : Standing) (row : Record) (a b : List ReportLine)
         → IsReport network grid standing row a → IsReport network grid standing row b → a ≡ b }
+{}
+
+/// A record is refused at a standing by one cause, and one that is refused isn't valid there.
+pub fn refusals()
+    ensures one { (network : Project) (standing : Standing) (row : Record) (a b : CertRefused)
+        → IsRefused network standing row a → IsRefused network standing row b → a ≡ b }
+    ensures invalid { (network : Project) (standing : Standing) (row : Record) (cause : CertRefused)
+        → IsRefused network standing row cause → (grid : Grid) (next : Standing)
+        → IsValid network standing grid row next → ⊥ }
 {}
 
 /// A record that leads on has one length.

@@ -1,16 +1,18 @@
 //! Laws of intervals of stocks. Beside them, what runs need of tanks is only that levels stay within their bounds.
 #![tactic(auto)]
 
-ghost use Rattle.std.specs.Prelude.{◌≡◌, ◌<◌, ◌≤◌, ◌≤ℤ◌, ℕ, ℤ, Bool, Some};
+ghost use Rattle.std.specs.Prelude.{◌≡◌, ◌<◌, ◌≤◌, ◌≤ℤ◌, ◌<ℤ◌, ℕ, ℤ, Bool, true, false, List, Some};
+ghost use Rattle.hyd_num.specs.Rational.{Rational, is_at_most};
+ghost use Rattle.hyd_net.specs.Curves.{value_at, volume_knots, IsVolumeCurve};
 ghost use Rattle.hyd_net.specs.Sound.{Sound};
-ghost use Rattle.hyd_spec.specs.Types.{Project, Tank};
+ghost use Rattle.hyd_spec.specs.Types.{Project, Tank, VolumePoint};
 ghost use Rattle.hyd_spec.specs.declared.TankState.{TankState};
 ghost use Rattle.hyd_spec.specs.Lists.{Each};
 ghost use Rattle.hyd_spec_certificates.specs.Interval.{Interval};
-ghost use Rattle.hyd_spec.specs.Tank.{Walls, walls_of, Stock, level_bounds, carried_level, has_reached, IsNextStock, tank_state};
+ghost use Rattle.hyd_spec.specs.Tank.{Walls, Curve, walls_of, Stock, level_bounds, level_on_curve, carried_level, reaches, has_reached, IsNextStock, tank_state};
 ghost use Rattle.hyd_spec_certificates.specs.Stocks.{Stocks, carried_levels, next_stocks, state_of, may_reach, must_reach};
 ghost use Rattle.hyd_spec_certificates.specs.FirstSeconds.{IsFirstSecond};
-ghost use Rattle.hyd_spec_laws.specs.Laws.{LiesIn, LiesAround, StockLies, IsVessel, IsInside, AreInside, IsWithin, HasStock};
+ghost use Rattle.hyd_spec_laws.specs.Laws.{in_parts, LiesIn, LiesAround, StockLies, IsVessel, IsInside, AreInside, IsWithin, HasStock};
 
 /// The tanks of a sound network hold water, and their bounds are in order.
 pub fn vessels()
@@ -55,6 +57,20 @@ pub fn states()
         → state_of tank level ≡ Some s → tank_state S tank z ≡ s }
     ensures nests { (tank : Tank) (level wider : Interval) (s : TankState) → level.lo ≤ℤ level.hi → IsInside level wider
         → state_of tank wider ≡ Some s → state_of tank level ≡ Some s }
+{}
+
+/// Along a volume curve the level at a volume is at least a target exactly where the volume is at least that at the
+/// target, and at most it exactly where the volume is at most that. The carried level is the maximum exactly where the
+/// exact volume is at least that of the maximum.
+pub fn curve_levels()
+    ensures rising { (S : ℕ) (points : List VolumePoint) (x : Rational) (t : ℤ) → 0 < S → 0 < x.den → IsVolumeCurve points
+        → reaches S true t (level_on_curve S points x) ≡ is_at_most (in_parts S (value_at 1 (volume_knots points) t)) x }
+    ensures falling { (S : ℕ) (points : List VolumePoint) (x : Rational) (t : ℤ) → 0 < S → 0 < x.den → IsVolumeCurve points
+        → reaches S false t (level_on_curve S points x) ≡ is_at_most x (in_parts S (value_at 1 (volume_knots points) t)) }
+    ensures maximum { (S : ℕ) (points : List VolumePoint) (tank : Tank) (stock : Stock) (q : ℤ) (seconds : ℕ) → 0 < S
+        → IsVolumeCurve points → tank.minimum <ℤ tank.maximum
+        → has_reached S (Curve points) tank stock q true tank.maximum seconds
+        ≡ reaches S true tank.maximum (carried_level S (Curve points) tank stock q seconds) }
 {}
 
 /// The first second at which a tank reaches a target lies between the earliest and the latest one

@@ -4,3 +4,4 @@ pub mod Raising
 pub mod Sweeping
 pub mod Beginnings
 pub mod Apart
+pub mod Judging

@@ -73,7 +73,7 @@ place-of side x in_box =
           (omega (arith, ints, a, e));
     }
 
-box-or-not : (x : ℤ) → IsInBox x ⊎ (IsInBox x → ⊥)
+pub box-or-not : (x : ℤ) → IsInBox x ⊎ (IsInBox x → ⊥)
 box-or-not x = by_lt_z x (neg_ℤ (pos box_limit)) (λ lt. inr (λ is. absurd
     (let a = is.above_floor in omega (arith, ints, lt, a))))
     (λ ge. by_lt_z (pos box_limit) x (λ lt. inr (λ is. absurd
@@ -154,7 +154,7 @@ room-some side (x ∷ u) all =
     let r = room-some side u (λ k d lt. all (suc k) d (omega (arith, lt))) in
     omega (arith, ints, a, r)
 
-module _ (held : Option HeldJunction) (grid : Grid) (steady : IsSteady grid) (problem : Problem) (side : Side) where
+module _ (held : Option HeldJunction) (grid : Grid) (problem : Problem) (side : Side) where
   passes-or-not : (s : Side) (u : List ℤ) (i : ℕ) (junction : GridJunction) → Passes grid problem s u i junction ⊎
       (Passes grid problem s u i junction → ⊥)
   passes-or-not Upper u i junction = by_lt_z (net_low grid problem u i junction) (margin grid i +ℤ pos 1)
@@ -176,6 +176,7 @@ module _ (held : Option HeldJunction) (grid : Grid) (steady : IsSteady grid) (pr
       by None = passes-or-not side u i junction
       by (Some h) = by-test (h.junction == i) h.head
 
+module _ (held : Option HeldJunction) (grid : Grid) (steady : IsSteady grid) (problem : Problem) (side : Side) where
   -- ---- one raise
 
   candidate-or-not : (u : List ℤ) (i : ℕ) (junction : GridJunction) (x : ℤ)
@@ -184,7 +185,7 @@ module _ (held : Option HeldJunction) (grid : Grid) (steady : IsSteady grid) (pr
   candidate-or-not u i junction x = elim (box-or-not x) [
     | inr out ↦ inr (λ is. out is.in_box)
     | inl in_box ↦ by-beyond side (head_at u i) x
-        (λ beyond. elim (suits-or-not (slice_set u i x) i junction) [
+        (λ beyond. elim (suits-or-not held grid problem side (slice_set u i x) i junction) [
           | inl suits ↦ inl (record { in_box = in_box; beyond = beyond; passes = suits })
           | inr fails ↦ inr (λ is. fails is.passes)
         ])
@@ -308,7 +309,7 @@ module _ (held : Option HeldJunction) (grid : Grid) (steady : IsSteady grid) (pr
   step : (u : List ℤ) → IsStart held grid problem side u → ((v : List ℤ) → IsStart held grid problem side v
       → room side v <ℤ room side u → TightOrNone) → TightOrNone
   step u start recur = elim (each-or-lacks (Suits held grid problem side u)
-      (λ i junction. suits-or-not u i junction) grid.junctions) [
+      (λ i junction. suits-or-not held grid problem side u i junction) grid.junctions) [
         | inl passes ↦ inl (u, start-tight u start passes)
         | inr at ↦ elim (raise-or-none u at.place at.item) [
           | inr nothing ↦ inr (no-value u at.place at.item start at.is_item nothing)

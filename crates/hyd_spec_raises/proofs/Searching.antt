@@ -33,32 +33,48 @@ first-below P decide (suc n) = elim (first-below P decide n) [
         cases_below : (m : ℕ) → (m < n) ⊎ (n ≤ m)
         cases_below m = Rattle.std.proofs.lemmas.Bool.cases_lt m n
 
--- an item that lacks a property
+-- the first item that lacks a property
 pub record Lacks {X : Type 0} (P : ℕ → X → Type 0) (xs : List X) : Type 0 where
   pub place : ℕ
   pub item : X
   pub is_item : slice_get xs place ≡ Some item
   pub lacks : P place item → ⊥
+  pub before : (k : ℕ) (x : X) → k < place → slice_get xs k ≡ Some x → P k x
 
 pub each-cons : {X : Type 0} (P : ℕ → X → Type 0) (x : X) (xs : List X) → P 0 x → Each xs (λ k y. P (suc k) y) → Each
     (x ∷ xs) P
 each-cons {X} P x xs first rest zero y e = subst (P 0) (same_item X x y e) first
 each-cons {X} P x xs first rest (suc k) y e = rest k y e
 
+lacks-later : {X : Type 0} (P : ℕ → X → Type 0) (x : X) (xs : List X) → P 0 x → Lacks (λ k y. P (suc k) y) xs
+    → Lacks P (x ∷ xs)
+lacks-later {X} P x xs first lacks = record {
+  place = suc lacks.place;
+  item = lacks.item;
+  is_item = lacks.is_item;
+  lacks = lacks.lacks;
+  before = before;
+}
+  where
+    before : (k : ℕ) (y : X) → k < suc lacks.place → slice_get (x ∷ xs) k ≡ Some y → P k y
+    before zero y lt e = subst (P 0) (same_item X x y e) first
+    before (suc k) y lt e = lacks.before k y (omega (arith, lt)) e
+
 pub each-or-lacks : {X : Type 0} (P : ℕ → X → Type 0) → ((k : ℕ) (x : X) → P k x ⊎ (P k x → ⊥)) → (xs : List X)
     → Each xs P ⊎ Lacks P xs
 each-or-lacks P decide [] = inl (λ k x e. absurd (cc))
 each-or-lacks P decide (x ∷ xs) = elim (decide 0 x) [
-  | inr missing ↦ inr (record { place = 0; item = x; is_item = refl; lacks = missing })
+  | inr missing ↦ inr (record {
+    place = 0;
+    item = x;
+    is_item = refl;
+    lacks = missing;
+    before = λ k y lt e. absurd
+        (omega (arith, lt));
+  })
   | inl is ↦ elim (each-or-lacks (λ k y. P (suc k) y) (λ k y. decide (suc k) y) xs) [
     | inl rest ↦ inl (each-cons P x xs is rest)
-    | inr lacks ↦ inr (record {
-      place = suc lacks.place;
-      item = lacks.item;
-      is_item = lacks.is_item;
-      lacks =
-          lacks.lacks;
-    })
+    | inr lacks ↦ inr (lacks-later P x xs is lacks)
   ]
 ]
 

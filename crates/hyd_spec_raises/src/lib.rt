@@ -12,10 +12,22 @@ ghost use Rattle.hyd_spec_certificates.specs.declared.Side.{Side};
 ghost use Rattle.hyd_spec_certificates.specs.declared.HeldJunction.{HeldJunction};
 ghost use Rattle.hyd_spec_certificates.specs.Interval.{Interval};
 ghost use Rattle.hyd_spec_certificates.specs.Grid.{Grid, GridJunction, opposite};
-ghost use Rattle.hyd_spec_certificates.specs.Certificate.{Suits, IsCandidateHolding, IsRaisedHolding, AreRoundsHolding, IsCertificate, IsCertificateHolding, IsTightHolding, IsRoundHolding, IsInBox, IsBeyond};
+ghost use Rattle.hyd_spec_certificates.specs.Certificate.{Suits, FailsFirst, IsCandidateHolding, IsRaisedHolding, AreRoundsHolding, IsCertificate, IsCertificateHolding, IsTightHolding, IsRoundHolding, IsInBox, IsBeyond};
 ghost use Rattle.hyd_spec_certificates.specs.Climbing.{LiesBeyond, IsStart, IsLeap, Climbs, HasParts, HasRounds, IsOrderedHolding, JoinsNone};
 ghost use Rattle.hyd_spec_reports.specs.Stops.{beginning};
 ghost use Rattle.hyd_spec_laws.specs.Laws.{IsSteady};
+
+/// A vector with a head for each junction is a certificate, or fails first at a junction; not both, and at one
+/// junction.
+pub fn failures()
+    ensures found { (held : Option HeldJunction) (grid : Grid) (problem : Problem) (side : Side) (u : List ℤ)
+        → length u ≡ length grid.junctions → IsCertificateHolding held grid problem side u
+        ⊎ ((i : ℕ) × ((i < length grid.junctions) × FailsFirst held grid problem side u i)) }
+    ensures none { (held : Option HeldJunction) (grid : Grid) (problem : Problem) (side : Side) (u : List ℤ) (i : ℕ)
+        → FailsFirst held grid problem side u i → IsCertificateHolding held grid problem side u → ⊥ }
+    ensures one { (held : Option HeldJunction) (grid : Grid) (problem : Problem) (side : Side) (u : List ℤ) (i j : ℕ)
+        → FailsFirst held grid problem side u i → FailsFirst held grid problem side u j → i ≡ j }
+{}
 
 /// A raise exists, or there is no candidate; there is one at most. From a start it leads to a start, and where there is
 /// no candidate at some junction of a start there is no certificate. A start at which every junction suits is the

@@ -30,7 +30,7 @@ use Rattle.hyd_spec_reports.specs.Claims.{LineHolds}
 
 -- ---- a run
 
--- What is known of one period: the standing at its start, its grid and its record, the lines of its report, and the
+-- A period of a run, and what is known of it: the standing at its start, its grid and its record, the lines of its report, and the
 -- standing that it leaves.
 pub record Found : Type 0 where
   pub standing : Standing

@@ -21,3 +21,4 @@ pub mod NarrowRecords
 pub mod RoundsAre
 pub mod BasinRun
 pub mod BasinHistory
+pub mod BasinSound

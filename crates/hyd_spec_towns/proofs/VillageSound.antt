@@ -22,10 +22,10 @@ the_rule = refill_rule usual.clauses
 
 -- ---- IDs
 
-differ : (a b : List ℕ) → (slice_index_or a 0 0 ≡ slice_index_or b 0 0 → ⊥) → a ≢ b
+pub differ : (a b : List ℕ) → (slice_index_or a 0 0 ≡ slice_index_or b 0 0 → ⊥) → a ≢ b
 differ a b unlike e = unlike (ap (λ (l : List ℕ). slice_index_or l 0 0) e)
 
-nothing : AreDistinct []
+pub nothing : AreDistinct []
 nothing i j d before within = absurd (omega (arith, within))
 
 ids : HasIds village

@@ -156,7 +156,11 @@ fn heads_reach_both_ends_and_ids_their_length(rt: HostRuntime) -> Result<(), Fai
         let text = format!(in alloc; "[OPTIONS]\nUNITS CMD\nHEADLOSS C-M\n{}", sample.rows)?;
         let mut desk = MemDesk::new(alloc);
         desk.add("n.inp", text.as_bytes())?;
-        assert_eq!(rt; tool(alloc, &words, &mut desk), Status::Done, "sample {place}");
+        assert_eq!(rt;
+            tool(alloc, &words, &mut desk),
+            Status::Done,
+            "sample {place}"
+        );
         assert_eq!(rt; desk.printed(), sample.printed.as_bytes(), "sample {place}");
         assert_eq!(rt;
             desk.file("n.cert"),
@@ -193,7 +197,10 @@ fn words_that_fail_as_a_whole_are_none(rt: HostRuntime) -> Result<(), Fail> {
     let mut desk = MemDesk::new(alloc);
     desk.add("n.inp", wide(alloc, 0)?.as_bytes())?;
     let given = owned(alloc, &["hyd", "run", "n.inp", "n.cert", "--tight"])?;
-    assert_eq!(rt; start(alloc, Ok(given.into_iter()), &mut desk), Status::Done);
+    assert_eq!(rt;
+        start(alloc, Ok(given.into_iter()), &mut desk),
+        Status::Done
+    );
     assert_eq!(rt; desk.printed(), REPORT.as_bytes());
     Ok(())
 }

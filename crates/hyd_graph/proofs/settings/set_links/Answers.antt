@@ -1,4 +1,4 @@
-use Rattle.std.proofs.Common.{◌≡◌, List, length, slice_index_or, subst, sym, ap, ◌∙◌, rules, arith}
+use Rattle.std.proofs.Common.{List, length, slice_index_or, subst, sym, ap, ◌∙◌, rules, arith}
 use Rattle.hyd_spec.specs.Types.{Link, LinkState}
 use Rattle.hyd_graph.specs.declared.parts.Setting.{Setting}
 use Rattle.hyd_graph.specs.Settings.{AreLaws, AreStanding, CanStand}

@@ -1,0 +1,14 @@
+pub mod TwoSides
+pub mod Boxing
+pub mod Refining
+pub mod Existing
+pub mod Holding
+pub mod Watched
+pub mod Walking
+pub mod Excluding
+pub mod Placed
+pub mod Ending
+pub mod Reporting
+pub mod Gridding
+pub mod GoingOn
+pub mod Extending

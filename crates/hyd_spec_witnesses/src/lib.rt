@@ -1,0 +1,11 @@
+//! What histories can do: small networks in which each kind of link and of outflow is at work have histories, each
+//! status word holds and fails where it should, and controls by time end periods. The numbers come from solving the
+//! laws in exact whole numbers. No function here has a body.
+#![tactic(auto)]
+
+pub mod controls;
+pub mod histories;
+pub mod links;
+pub mod outflows;
+pub mod pipes;
+pub mod words;
