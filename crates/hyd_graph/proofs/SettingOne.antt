@@ -34,7 +34,7 @@ pub laws_set : (project : Project) (links : List Link) (settings : List Setting)
     → AreLaws project links (slice_set settings i s) (slice_set own i o) (slice_set laws i w)
 laws_set project links settings own laws i s o w l all hl hs ho hw here k link setting before law h =
     elim (same_or k i) as (λ _. AreLawsOf (is_us project) project.bends.list (slice_index_or links k link).kind (slice_index_or (slice_set settings i s) k setting)
-      (slice_index_or (slice_set own i o) k before) (slice_index_or (slice_set laws i w) k law)) [
+    (slice_index_or (slice_set own i o) k before) (slice_index_or (slice_set laws i w) k law)) [
       | inl e ↦ subst (λ (j : ℕ). AreLawsOf (is_us project) project.bends.list (slice_index_or links j link).kind (slice_index_or (slice_set settings i s) j setting)
           (slice_index_or (slice_set own i o) j before) (slice_index_or (slice_set laws i w) j law)) (sym e)
           (moved project (slice_index_or links i l) (slice_index_or links i link) s (slice_index_or (slice_set settings i s) i setting)
