@@ -1,13 +1,12 @@
 -- Laws of the program that stand for exact laws.
-use Rattle.std.proofs.Common.{◌≡◌, ℕ, ◌*◌, ◌^◌, ◌≤◌, ℤ, pos, ◌+ℤ◌, ◌≤ℤ◌, Bool, true, false, unsigned_abs, not, refl, sym, ap, subst, ◌∙◌, arith}
-use Rattle.std.specs.Int.{int_max, int_min}
+use Rattle.std.proofs.Common.{◌≡◌, ◌*◌, ◌^◌, ◌≤◌, ℤ, pos, ◌+ℤ◌, ◌≤ℤ◌, Bool, true, false, unsigned_abs, not, refl, sym, ap, subst, ◌∙◌, arith}
+use Rattle.std.specs.Int.{int_max}
 use Rattle.std.proofs.lemmas.Int.{ints, clamps}
 use Rattle.hyd_num.specs.Chain.{IsMade}
 use Rattle.hyd_num.specs.declared.decimals.Span.{Span}
-use Rattle.hyd_net.specs.Made.{IsValveMade}
 use Rattle.hyd_spec.specs.Types.{Capacity, ShutoffHead}
 use Rattle.hyd_spec.specs.Quantity.{lift_of}
-use Rattle.hyd_spec.specs.Law.{Law, Shut as ShutLaw, QuadraticLaw, LinearLaw, Lifted, ForwardOnly, ReverseOnly, Capped as CappedLaw}
+use Rattle.hyd_spec.specs.Law.{Law, Shut as ShutLaw, QuadraticLaw, LinearLaw, Lifted, ForwardOnly, Capped as CappedLaw}
 use Rattle.hyd_spec_certificates.specs.Enclosing.{quadratic_low, quadratic_high, low, high}
 use Rattle.hyd_spec_laws.proofs.EachLaw.{IsSoundCapacity-made}
 use Rattle.hyd_law.specs.Wrapped.{IsLift, directed, held}

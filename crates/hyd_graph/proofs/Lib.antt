@@ -1,3 +1,4 @@
 pub mod Lifting
 pub mod LawsStand
 pub mod Ranging
+pub mod SettingOne

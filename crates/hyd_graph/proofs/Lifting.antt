@@ -1,15 +1,13 @@
 -- The head that a pump lifts, rounded.
-use Rattle.std.proofs.Common.{◌≡◌, ℕ, zero, suc, ◌*◌, ◌^◌, ◌<◌, ◌≤◌, ℤ, pos, negsuc, neg_ℤ, ◌+ℤ◌, ◌*ℤ◌, ◌≤ℤ◌, ◌<ℤ◌, unsigned_abs, Bool, refl, sym, ap, subst, ◌∙◌, arith}
+use Rattle.std.proofs.Common.{◌≡◌, ℕ, ◌*◌, ◌^◌, ◌<◌, ◌≤◌, ℤ, pos, negsuc, neg_ℤ, ◌*ℤ◌, ◌≤ℤ◌, ◌<ℤ◌, unsigned_abs, Bool, refl, ap, ◌∙◌, arith}
 use Rattle.std.specs.Int.{int_div_euclid}
 use Rattle.std.proofs.lemmas.Int.{ints}
 use Rattle.std.proofs.Math.Nat.{mul-le-mul, mul-le-mul_right}
 use Rattle.hyd_num.proofs.Integers.{times_neg, times_reflects}
-use Rattle.hyd_num.specs.Rational.{Rational, floor, ceiling, negated}
-use Rattle.hyd_num.specs.declared.decimals.Span.{Span}
-use Rattle.hyd_lemmas.proofs.Integers.{floor_low, ceiling_high, floor_greatest, ceiling_least, floor_at_most_ceiling}
+use Rattle.hyd_num.specs.Rational.{Rational, floor, ceiling}
+use Rattle.hyd_lemmas.proofs.Integers.{floor_low, floor_greatest, floor_at_most_ceiling}
 use Rattle.hyd_spec.specs.Types.{ShutoffHead}
 use Rattle.hyd_spec.specs.Quantity.{shutoff_head, lift_of}
-use Rattle.hyd_law.specs.Wrapped.{IsLift}
 use Rattle.hyd_law.specs.Curves.{IsValue}
 
 -- the quotients of the code, as a fraction's floor and ceiling

@@ -1,5 +1,5 @@
 -- Ranges of a link's numbers, by its kind.
-use Rattle.std.proofs.Common.{◌≡◌, ℕ, ◌*◌, ◌^◌, ◌≤◌, ℤ, pos, ◌*ℤ◌, ◌≤ℤ◌, Bool, true, false, List, unsigned_abs, refl, arith}
+use Rattle.std.proofs.Common.{◌≡◌, ℤ, pos, ◌≤ℤ◌, Bool, true, false, List, refl, arith}
 use Rattle.std.proofs.lemmas.Int.{ints}
 use Rattle.hyd_num.specs.Quantity.{is_us_unit, head_ticks}
 use Rattle.hyd_net.specs.ListView.{ListView}

@@ -1,5 +1,5 @@
 -- What contracts see of a `Net`.
-use Rattle.std.specs.Prelude.{ℕ, ℤ, List}
+use Rattle.std.specs.Prelude.{ℤ, List}
 use Rattle.hyd_graph.specs.declared.parts.NetJunction.{NetJunction}
 use Rattle.hyd_graph.specs.declared.parts.Ends.{Ends}
 use Rattle.hyd_graph.specs.declared.parts.LevelSpan.{LevelSpan}

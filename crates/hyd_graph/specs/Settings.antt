@@ -46,16 +46,16 @@ pub record AreLawsOf (us : Bool) (bends : List (ListView HeadPoint)) (kind : Lin
   pub own_is : Stands own (own_law us bends kind setting.state)
   pub law_is : Stands law (restricted setting.no_forward setting.no_reverse (own_law us bends kind setting.state))
 
--- so it is for each link
-abbrev pub AreLaws : Project → List Setting → List LinkLaw → List LinkLaw → Type 0
-AreLaws project settings own laws = (k : ℕ) (link : Link) (setting : Setting) (o l : LinkLaw) → k < length project.links.list
-    → AreLawsOf (is_us project) project.bends.list (slice_index_or project.links.list k link).kind (slice_index_or settings k setting)
+-- so it is for each link of a project
+abbrev pub AreLaws : Project → List Link → List Setting → List LinkLaw → List LinkLaw → Type 0
+AreLaws project links settings own laws = (k : ℕ) (link : Link) (setting : Setting) (o l : LinkLaw) → k < length links
+    → AreLawsOf (is_us project) project.bends.list (slice_index_or links k link).kind (slice_index_or settings k setting)
     (slice_index_or own k o) (slice_index_or laws k l)
 
 -- the first n links have the settings of their states
-abbrev pub AreSet : Project → List TankState → List LinkState → List Setting → ℕ → Type 0
-AreSet project tanks states settings n = (k : ℕ) (link : Link) (state : LinkState) (setting : Setting) → k < n
-    → slice_index_or settings k setting ≡ setting_of project tanks (slice_index_or project.links.list k link) (slice_index_or states k state)
+abbrev pub AreSet : Project → List TankState → List Link → List LinkState → List Setting → ℕ → Type 0
+AreSet project tanks links states settings n = (k : ℕ) (link : Link) (state : LinkState) (setting : Setting) → k < n
+    → slice_index_or settings k setting ≡ setting_of project tanks (slice_index_or links k link) (slice_index_or states k state)
 
 -- what is known of a link of a sound project in a state that it can have
 pub record CanStand (project : Project) (kind : LinkKind) (state : LinkState) : Type 0 where
@@ -108,3 +108,12 @@ HasShutoff us (CurvePump bend pattern) = ⊤
 HasShutoff us (Tcv valve) = ⊤
 HasShutoff us (Fcv valve) = ⊤
 HasShutoff us (Gpv bend) = ⊤
+
+-- each link is one that can stand in its state
+abbrev pub AreStanding : Project → List Link → List LinkState → Type 0
+AreStanding project links states = (k : ℕ) (link : Link) (state : LinkState) → k < length links
+    → CanStand project (slice_index_or links k link).kind (slice_index_or states k state)
+
+-- no link has a curve by straight lines
+abbrev pub ArePlain : List Link → Type 0
+ArePlain links = All (λ (l : Link). IsPlain l.kind) links

@@ -6,6 +6,7 @@ mod laws;
 mod parts;
 mod pumps;
 mod rows;
+mod settings;
 
 pub use fault::PeriodDemand;
 pub use parts::{Ends, LevelSpan, NetJunction, Setting, Tie};

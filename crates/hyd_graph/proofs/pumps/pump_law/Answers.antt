@@ -1,5 +1,5 @@
-use Rattle.std.proofs.Common.{◌≡◌, ℤ, ◌+ℤ◌, ap, refl, arith, rules, w64}
-use Rattle.std.proofs.lemmas.Int.{ints, to_z-of_z}
+use Rattle.std.proofs.Common.{w64}
+use Rattle.std.proofs.lemmas.Int.{to_z-of_z}
 use Rattle.hyd_graph.proofs.LawsStand.{pump_stands}
 use Rattle.hyd_graph.proofs.pumps.pump_law.Goals as goal
 

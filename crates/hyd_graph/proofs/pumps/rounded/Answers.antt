@@ -1,4 +1,4 @@
-use Rattle.std.proofs.Common.{◌≡◌, ℤ, pos, neg_ℤ, ◌-ℤ◌, ◌^◌, to_z, of_z, arith}
+use Rattle.std.proofs.Common.{◌≡◌, pos, neg_ℤ, ◌-ℤ◌, ◌^◌, to_z, of_z, arith}
 use Rattle.std.specs.Int.{w128, int_div_euclid}
 use Rattle.std.proofs.lemmas.Int.{ints}
 use Rattle.hyd_graph.proofs.Lifting.{ordered_ends, low_end, high_end, floor_within, ceiling_within, euclid_at}

@@ -1,4 +1,4 @@
-use Rattle.std.proofs.Common.{◌≡◌, ◌*ℤ◌, unsigned_abs, to_z, of_z, arith}
+use Rattle.std.proofs.Common.{unsigned_abs, to_z, of_z, arith}
 use Rattle.std.specs.Int.{w128}
 use Rattle.std.proofs.lemmas.Int.{ints}
 use Rattle.hyd_graph.proofs.Lifting.{square_times, square_small, product_small}
