@@ -14,3 +14,5 @@ pub mod Products
 pub mod RootWidths
 pub mod Sharpness
 pub mod OnePair
+pub mod Ratios
+pub mod PressurePairs

@@ -35,21 +35,21 @@ product_cut a b =
       | inr g ↦ cut_at 63 ((a.exp +ℤ b.exp) +ℤ pos 63) a b (omega (arith, g)) most (omega (arith, ints))
     ]
 
-record Rounded (p q : ℕ) : Type 0 where
+pub record Rounded (p q : ℕ) : Type 0 where
   pub number : Scaled
   pub up : IsUp p q number
 
-raised : (p q : ℕ) (s : Scaled) (exact : Bool) → 0 < q → IsCut p q s exact → Rounded p q
+pub raised : (p q : ℕ) (s : Scaled) (exact : Bool) → 0 < q → IsCut p q s exact → Rounded p q
 raised p q s true above cut = record { number = s; up = IsUp-exact p q s above (cut.whole refl) }
 raised p q s false above cut =
     let next = above_of s in
     record { number = next.number; up = IsUp-next p q s next.number above (cut.lost refl) cut.below (record { one_more = next.one_more }) }
 
-record Product (x y : Pair) : Type 0 where
+pub record Product (x y : Pair) : Type 0 where
   pub pair : Pair
   pub made : IsProduct x y pair
 
-product_of : (x y : Pair) → Product x y
+pub product_of : (x y : Pair) → Product x y
 product_of x y =
     let low = product_cut x.lo y.lo in
     let high = product_cut x.hi y.hi in

@@ -14,7 +14,8 @@ use Rattle.hyd_lex.specs.declared.section.Kind.{Kind}
 use Rattle.hyd_lex.specs.declared.section.Kind.TheVariants.{Nothing, Wrong, Row as RowOf, Opens}
 use Rattle.hyd_lex.proofs.FirstLine.{more_pieces}
 
-longer_first : (x : ℕ) (parts : List (List ℕ)) (n : ℕ) → length (without_empty_end parts) ≤ n → length (without_empty_end (onto_first x parts)) ≤ suc n
+longer_first : (x : ℕ) (parts : List (List ℕ)) (n : ℕ) → length (without_empty_end parts) ≤ n
+    → length (without_empty_end (onto_first x parts)) ≤ suc n
 longer_first x [] n h = let filled : (1 == 0) ≡ false = refl in omega arith
 longer_first x (part ∷ []) n h =
     let filled : (suc (length part) == 0) ≡ false = grind (arith, nat_tests) in
@@ -29,7 +30,11 @@ few_pieces p (x ∷ xs) = elim (cases_Bool (p x)) [
 ]
 
 pub few_lines : (t : List ℕ) → length (text_lines t) ≤ length t
-few_lines t = omega (arith, few_pieces is_line_feed t, length-map (without_empty_end (slice_split is_line_feed t)) strip_carriage_return)
+few_lines t = omega (
+  arith,
+  few_pieces is_line_feed t,
+  length-map (without_empty_end (slice_split is_line_feed t)) strip_carriage_return,
+)
 
 few_given : (k : Kind) (n : ℕ) (line : List ℕ) → length (given k n line) ≤ 1
 few_given Nothing n line = lit≤ tt
@@ -44,7 +49,8 @@ few_items region n (line ∷ lines) =
       arith,
       few_given (kind_of region line) n line,
       few_items (region_after region (kind_of region line)) (n + 1) lines,
-      length-append (given (kind_of region line) n line) (items (region_after region (kind_of region line)) (n + 1) lines),
+      length-append (given (kind_of region line) n line)
+          (items (region_after region (kind_of region line)) (n + 1) lines),
     )
 
 -- ---- a body has at most as many words as bytes
@@ -56,7 +62,8 @@ filled : (x : ℕ) (xs : List ℕ) → is_word (x ∷ xs) ≡ true
 unfolding is_word
 filled x xs = let some : 1 ≤ suc (length xs) = omega arith in grind (arith, nat_tests)
 
-longer_word : (x : ℕ) (parts : List (List ℕ)) → length (filter is_word (onto_first x parts)) ≤ suc (length (filter is_word parts))
+longer_word : (x : ℕ) (parts : List (List ℕ))
+    → length (filter is_word (onto_first x parts)) ≤ suc (length (filter is_word parts))
 longer_word x [] = rw (filled x []) (lit≤ tt)
 longer_word x (part ∷ parts) = elim (cases_Bool (is_word part)) [
   | inl t ↦ rw (t, filled x part) (omega arith)
@@ -68,7 +75,8 @@ unfolding is_word
 few_filled p [] = lit≤ tt
 few_filled p (x ∷ xs) = elim (cases_Bool (p x)) [
   | inl t ↦ rw t (omega (arith, few_filled p xs))
-  | inr f ↦ (let e : length (filter is_word (onto_first x (slice_split p xs))) ≤ suc (length xs) = omega (arith, longer_word x (slice_split p xs), few_filled p xs) in
+  | inr f ↦ (let e : length (filter is_word (onto_first x (slice_split p xs))) ≤ suc (length xs) =
+      omega (arith, longer_word x (slice_split p xs), few_filled p xs) in
       rw f e)
 ]
 
@@ -77,7 +85,8 @@ unfolding words_in is_word
 few_words body = few_filled is_blank body
 
 -- a word that is there has a number below the bytes of its body
-pub word_within : (body : List ℕ) (k most : ℕ) (word : Option (Bor (List ℕ))) → text_of word ≡ slice_get (words_in body) k → length body ≤ most
+pub word_within : (body : List ℕ) (k most : ℕ) (word : Option (Bor (List ℕ))) → text_of word
+    ≡ slice_get (words_in body) k → length body ≤ most
     → IfSome word (λ w. k < most)
 word_within body k most None e l = tt
 word_within body k most (Some w) e l =

@@ -18,12 +18,14 @@ one_piece p (x ∷ xs) h = elim (cases_Bool (p x)) [
       rw (f, i) refl)
 ]
 
-some : (x : List ℕ) (parts : List (List ℕ)) (y : ℕ) → without_empty_end (x ∷ onto_first y parts) ≡ x ∷ without_empty_end (onto_first y parts)
+some : (x : List ℕ) (parts : List (List ℕ)) (y : ℕ) → without_empty_end (x ∷ onto_first y parts) ≡ x
+    ∷ without_empty_end (onto_first y parts)
 some x [] y = refl
 some x (part ∷ parts) y = refl
 
 -- there is always a first piece
-pub more_pieces : (p : ℕ → Bool) (x : List ℕ) (xs : List ℕ) → without_empty_end (x ∷ slice_split p xs) ≡ x ∷ without_empty_end (slice_split p xs)
+pub more_pieces : (p : ℕ → Bool) (x : List ℕ) (xs : List ℕ) → without_empty_end (x ∷ slice_split p xs) ≡ x
+    ∷ without_empty_end (slice_split p xs)
 more_pieces p x [] = refl
 more_pieces p x (y ∷ ys) = elim (cases_Bool (p y)) [
   | inl t ↦ rw t refl
@@ -32,10 +34,12 @@ more_pieces p x (y ∷ ys) = elim (cases_Bool (p y)) [
 
 -- a line before a line feed
 pub line_before_feed : (t : List ℕ) → position_or_len is_line_feed t < length t
-    → text_lines t ≡ strip_carriage_return (take (position_or_len is_line_feed t) t) ∷ text_lines (drop (position_or_len is_line_feed t + 1) t)
+    → text_lines t ≡ strip_carriage_return (take (position_or_len is_line_feed t) t)
+    ∷ text_lines (drop (position_or_len is_line_feed t + 1) t)
 line_before_feed t h =
     ap (λ pieces. map strip_carriage_return (without_empty_end pieces)) (slice_split_first is_line_feed t 0 h)
-    ∙ ap (map strip_carriage_return) (more_pieces is_line_feed (before_first is_line_feed t) (after_first is_line_feed t))
+    ∙ ap (map strip_carriage_return) (more_pieces is_line_feed (before_first is_line_feed t)
+    (after_first is_line_feed t))
 
 -- the last line
 pub line_at_end : (t : List ℕ) → 0 < length t → position_or_len is_line_feed t ≡ length t

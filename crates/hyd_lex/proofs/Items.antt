@@ -16,7 +16,8 @@ nothing_after_end n (line ∷ lines) = nothing_after_end (n + 1) lines
 
 -- one line
 pub one_line : (region : Region) (n : ℕ) (line : List ℕ) (lines all : List (List ℕ)) → all ≡ line ∷ lines
-    → items region n all ≡ given (kind_of region line) n line ++ items (region_after region (kind_of region line)) (n + 1) lines
+    → items region n all ≡ given (kind_of region line) n line
+    ++ items (region_after region (kind_of region line)) (n + 1) lines
 one_line region n line lines all e = rw e refl
 
 -- where the reader of lines stands
@@ -29,17 +30,22 @@ pub record IsAt (reading : Reading) (text : List ℕ) (at number : ℕ) (region 
 
 -- what the line at a place gives, and what follows
 pub line_at : (text : List ℕ) (at used n : ℕ) (region : Region) (line : List ℕ) (kind : Kind)
-    → text_lines (take (length text - at) (drop at text)) ≡ line ∷ text_lines (drop used (take (length text - at) (drop at text)))
+    → text_lines (take (length text - at) (drop at text)) ≡ line
+    ∷ text_lines (drop used (take (length text - at) (drop at text)))
     → kind ≡ kind_of region line
-    → items region n (text_lines (drop at text)) ≡ given kind n line ++ items (region_after region kind) (n + 1) (text_lines (drop (at + used) text))
+    → items region n (text_lines (drop at text)) ≡ given kind n line
+    ++ items (region_after region kind) (n + 1) (text_lines (drop (at + used) text))
 line_at text at used n region line kind e k =
     let f : text_lines (drop at text) ≡ line ∷ text_lines (drop used (drop at text)) = rw (take_rest text at) at e in
-    rw k (one_line region n line _ _ f ∙ ap (λ rest. given (kind_of region line) n line ++ items (region_after region (kind_of region line)) (n + 1) (text_lines rest)) (drop-drop used at text))
+    rw k (one_line region n line _ _ f ∙ ap (λ rest. given (kind_of region line) n line
+    ++ items (region_after region (kind_of region line)) (n + 1) (text_lines rest)) (drop-drop used at text))
 
 -- a line that gives nothing
-pub at_nothing : (reading : Reading) (text : List ℕ) (at used n : ℕ) (region after : Region) (line : List ℕ) (kind : Kind)
+pub at_nothing : (reading : Reading) (text : List ℕ) (at used n : ℕ) (region after : Region) (line : List ℕ)
+    (kind : Kind)
     → IsAt reading text at n region
-    → text_lines (take (length text - at) (drop at text)) ≡ line ∷ text_lines (drop used (take (length text - at) (drop at text)))
+    → text_lines (take (length text - at) (drop at text)) ≡ line
+    ∷ text_lines (drop used (take (length text - at) (drop at text)))
     → 0 < used → used ≤ length (take (length text - at) (drop at text))
     → kind ≡ kind_of region line → after ≡ region_after region kind → given kind (n + 1) line ≡ []
     → IsAt reading text (at + used) (n + 1) after
@@ -48,16 +54,19 @@ at_nothing reading text at used n region after line kind is lines some within k 
     let w : used ≤ length (drop at text) = rw (take_rest text at) at within in
     record {
       text_is = is.text_is;
-      rest = rw a (ap (λ front. front ++ items (region_after region kind) (n + 1 + 1) (text_lines (drop (at + used) text))) (sym g) ∙ sym e ∙ is.rest);
+      rest = rw a (ap (λ front. front ++ items (region_after region kind) (n + 1 + 1)
+          (text_lines (drop (at + used) text))) (sym g) ∙ sym e ∙ is.rest);
       short = is.short;
       within = omega (arith, length-drop at text, is.within);
       few = omega (arith, is.few);
     }
 
 -- what a line gives is the next item
-pub at_item : (reading : Reading) (text : List ℕ) (at used n : ℕ) (region after : Region) (line : List ℕ) (kind : Kind) (item : Result Row LexFault)
+pub at_item : (reading : Reading) (text : List ℕ) (at used n : ℕ) (region after : Region) (line : List ℕ) (kind : Kind)
+    (item : Result Row LexFault)
     → IsAt reading text at n region
-    → text_lines (take (length text - at) (drop at text)) ≡ line ∷ text_lines (drop used (take (length text - at) (drop at text)))
+    → text_lines (take (length text - at) (drop at text)) ≡ line
+    ∷ text_lines (drop used (take (length text - at) (drop at text)))
     → kind ≡ kind_of region line → after ≡ region_after region kind → given kind (n + 1) line ≡ item ∷ []
     → reading.rest ≡ item ∷ items after (n + 1 + 1) (text_lines (drop (at + used) text))
 at_item reading text at used n region after line kind item is lines k a g =
@@ -65,7 +74,8 @@ at_item reading text at used n region after line kind item is lines k a g =
     ∙ rw a (ap (λ front. front ++ items (region_after region kind) (n + 1 + 1) (text_lines (drop (at + used) text))) g)
 
 -- where the words of a row lie
-pub row_is : (text : List ℕ) (at : ℕ) (line front : List ℕ) → line ≡ take (length line) (take (length text - at) (drop at text))
+pub row_is : (text : List ℕ) (at : ℕ) (line front : List ℕ) → line
+    ≡ take (length line) (take (length text - at) (drop at text))
     → front ≡ take (length front) line → length front ≤ length line → slice_range text at (at + length front) ≡ front
 row_is text at line front l f short =
     let n : at + length front - at ≡ length front = omega arith in

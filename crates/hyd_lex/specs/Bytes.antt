@@ -30,8 +30,8 @@ without_empty_end [] = []
 without_empty_end (piece ∷ []) = if length piece == 0 then [] else piece ∷ []
 without_empty_end (piece ∷ next ∷ rest) = piece ∷ without_empty_end (next ∷ rest)
 
--- The lines of a text: what stands before each line feed, and after the last one unless that is nothing; without a carriage
--- return at its end.
+-- The lines of a text: what stands before each line feed, and after the last one unless that is nothing; without a
+-- carriage return at its end.
 abbrev pub text_lines : List ℕ → List (List ℕ)
 text_lines text = map strip_carriage_return (without_empty_end (slice_split is_line_feed text))
 

@@ -17,19 +17,22 @@ first_named (entry ∷ entries) word = if is_keyword entry.0 word then Some entr
 -- the headings of the sections of nodes and links
 abbrev pub network_headings : List (List ℕ × Section)
 network_headings =
-    (codes "[JUNCTIONS]", Junctions) ∷ (codes "[RESERVOIRS]", Reservoirs) ∷ (codes "[TANKS]", Tanks) ∷ (codes "[PIPES]", Pipes)
+    (codes "[JUNCTIONS]", Junctions) ∷ (codes "[RESERVOIRS]", Reservoirs) ∷ (codes "[TANKS]", Tanks)
+    ∷ (codes "[PIPES]", Pipes)
     ∷ (codes "[PUMPS]", Pumps) ∷ (codes "[VALVES]", Valves) ∷ []
 
 -- the headings of the sections of what belongs to them
 abbrev pub data_headings : List (List ℕ × Section)
 data_headings =
-    (codes "[DEMANDS]", Demands) ∷ (codes "[EMITTERS]", Emitters) ∷ (codes "[CURVES]", Curves) ∷ (codes "[PATTERNS]", Patterns)
+    (codes "[DEMANDS]", Demands) ∷ (codes "[EMITTERS]", Emitters) ∷ (codes "[CURVES]", Curves)
+    ∷ (codes "[PATTERNS]", Patterns)
     ∷ (codes "[STATUS]", Status) ∷ []
 
 -- the headings of the sections of how it is run
 abbrev pub run_headings : List (List ℕ × Section)
 run_headings =
-    (codes "[CONTROLS]", Controls) ∷ (codes "[RULES]", Rules) ∷ (codes "[OPTIONS]", Options) ∷ (codes "[TIMES]", Times) ∷ []
+    (codes "[CONTROLS]", Controls) ∷ (codes "[RULES]", Rules) ∷ (codes "[OPTIONS]", Options) ∷ (codes "[TIMES]", Times)
+    ∷ []
 
 -- a word is one of these keywords
 abbrev pub is_one_of : List (List ℕ) → List ℕ → Bool
@@ -39,11 +42,13 @@ is_one_of (keyword ∷ keywords) word = if is_keyword keyword word then true els
 -- the headings of the sections that are passed over
 abbrev pub text_headings : List (List ℕ)
 text_headings =
-    codes "[TITLE]" ∷ codes "[TAGS]" ∷ codes "[ENERGY]" ∷ codes "[QUALITY]" ∷ codes "[SOURCES]" ∷ codes "[REACTIONS]" ∷ []
+    codes "[TITLE]" ∷ codes "[TAGS]" ∷ codes "[ENERGY]" ∷ codes "[QUALITY]" ∷ codes "[SOURCES]" ∷ codes "[REACTIONS]"
+    ∷ []
 
 abbrev pub drawing_headings : List (List ℕ)
 drawing_headings =
-    codes "[MIXING]" ∷ codes "[REPORT]" ∷ codes "[COORDINATES]" ∷ codes "[VERTICES]" ∷ codes "[LABELS]" ∷ codes "[BACKDROP]" ∷ []
+    codes "[MIXING]" ∷ codes "[REPORT]" ∷ codes "[COORDINATES]" ∷ codes "[VERTICES]" ∷ codes "[LABELS]"
+    ∷ codes "[BACKDROP]" ∷ []
 
 -- the first section that is there
 abbrev pub either_section : Option Section → Option Section → Option Section
@@ -53,7 +58,8 @@ either_section None other = other
 -- the section that is read and has this heading
 unfoldable pub read_section : List ℕ → Option Section
 read_section word =
-    either_section (first_named network_headings word) (either_section (first_named data_headings word) (first_named run_headings word))
+    either_section (first_named network_headings word)
+    (either_section (first_named data_headings word) (first_named run_headings word))
 
 -- a section that is passed over has this heading
 unfoldable pub is_passed_over : List ℕ → Bool
@@ -62,7 +68,8 @@ is_passed_over word = is_one_of text_headings word || is_one_of drawing_headings
 -- what a heading opens
 abbrev pub unread_kind : List ℕ → Kind
 unread_kind word =
-    if is_passed_over word then Opens PassedOver else (if is_keyword (codes "[END]") word then Opens Ended else Wrong UnknownSection)
+    if is_passed_over word then Opens PassedOver
+    else (if is_keyword (codes "[END]") word then Opens Ended else Wrong UnknownSection)
 
 abbrev pub kind_by_section : Option Section → List ℕ → Kind
 kind_by_section (Some section) word = Opens (Read section)

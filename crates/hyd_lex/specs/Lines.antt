@@ -1,5 +1,5 @@
--- The rows of a file: for each line of a section that is read and that has a word, its number, section and words, up to the
--- first line that breaks a rule of lines.
+-- The rows of a file: for each line of a section that is read and that has a word, its number, section and words, up
+-- to the first line that breaks a rule of lines.
 -- Source: EPANET 2.2 User Manual, appendix C; that a line has at most 1,024 bytes is this program's.
 use Rattle.std.specs.Prelude.{ℕ, ◌+◌, ◌==◌, nat_le, List, [], ◌∷◌, ◌++◌, length, Option, Some, None, Result, Ok, Err, if◌then◌else◌, slice_index, slice_range, ◌≤◌}
 use Rattle.std.specs.List.{list_all}
@@ -36,7 +36,8 @@ body_kind region body (word ∷ words) =
     else row_kind region body
 
 abbrev pub line_kind : Region → List ℕ → Kind
-line_kind region line = if nat_le (length line) 1024 then body_kind region (body line) (words_in (body line)) else Wrong LongLine
+line_kind region line = if nat_le (length line) 1024 then body_kind region (body line) (words_in (body line))
+    else Wrong LongLine
 
 -- what a line is in a region; after the last section nothing is looked at
 unfoldable pub kind_of : Region → List ℕ → Kind
@@ -55,7 +56,8 @@ pub record Row : Type 0 where
 abbrev pub given : Kind → ℕ → List ℕ → List (Result Row LexFault)
 given Nothing number line = []
 given (Wrong cause) number line = Err (record { line = number; cause = cause }) ∷ []
-given (RowOf section) number line = Ok (record { number = number; section = section; words = words_in (body line) }) ∷ []
+given (RowOf section) number line = Ok (record { number = number; section = section; words = words_in (body line) })
+    ∷ []
 given (Opens region) number line = []
 
 -- the region after a line: what a heading opens; after a fault nothing is read
@@ -91,7 +93,12 @@ fault_in (Err fault ∷ items) = Some fault
 
 -- the row of a line of the reader
 abbrev pub row_of : List ℕ → Line → Row
-row_of text line = record { number = line.number; section = line.section; words = words_in (slice_range text line.from line.to) }
+row_of text line = record {
+  number = line.number;
+  section = line.section;
+  words =
+      words_in (slice_range text line.from line.to);
+}
 
 -- a line that the reader gave
 abbrev pub item_of : List ℕ → Result Line LexFault → Result Row LexFault

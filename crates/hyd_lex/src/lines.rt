@@ -35,7 +35,11 @@ impl<'a> Model for Lines<'a> {
 
     ghost Value = { Reading };
 
-    ghost view = { λ s. record { text = s.text.now; rest = items s.region (s.number + 1) (text_lines (drop s.at s.text.now)) } };
+    ghost view = { λ s. record {
+      text = s.text.now;
+      rest =
+          items s.region (s.number + 1) (text_lines (drop s.at s.text.now));
+    } };
 
     ghost invariant = { λ s. (length s.text.now ≤ 2 ^ 26) × (s.at ≤ length s.text.now) × (s.number ≤ s.at) };
 }

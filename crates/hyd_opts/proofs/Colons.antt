@@ -8,7 +8,8 @@ use Rattle.std.proofs.lemmas.List.Splits.{slice_split_first}
 use Rattle.hyd_lex.proofs.FirstLine.{one_piece}
 use Rattle.hyd_spec_input.specs.Moments.{is_colon, has_colon, are_parts}
 
-pub cut_at : (p : ℕ → Bool) (xs : List ℕ) (k : ℕ) → position p xs ≡ Some k → slice_split p xs ≡ take k xs ∷ slice_split p (take (length xs - (k + 1)) (drop (k + 1) xs))
+pub cut_at : (p : ℕ → Bool) (xs : List ℕ) (k : ℕ) → position p xs ≡ Some k → slice_split p xs ≡ take k xs
+    ∷ slice_split p (take (length xs - (k + 1)) (drop (k + 1) xs))
 cut_at p xs k e = elim (cases_Bool (nat_lt (position_or_len p xs) (length xs))) [
   | inl t ↦ (let f : Some (position_or_len p xs) ≡ Some k = rw t at e in
       let g : position_or_len p xs ≡ k = cc in
@@ -20,7 +21,8 @@ cut_at p xs k e = elim (cases_Bool (nat_lt (position_or_len p xs) (length xs))) 
 pub not_cut : (p : ℕ → Bool) (xs : List ℕ) → position p xs ≡ None → slice_split p xs ≡ xs ∷ []
 not_cut p xs e = elim (cases_Bool (nat_lt (position_or_len p xs) (length xs))) [
   | inl t ↦ (let f : Some (position_or_len p xs) ≡ None = rw t at e in absurd (let x : ⊥ = cc in x))
-  | inr f ↦ one_piece p xs (le_antisymm (prefix_len-le-length (λ x. not (p x)) xs) (ltb-false (position_or_len p xs) (length xs) f))
+  | inr f ↦ one_piece p xs (le_antisymm (prefix_len-le-length (λ x. not (p x)) xs)
+      (ltb-false (position_or_len p xs) (length xs) f))
 ]
 
 pub not_within : (p : ℕ → Bool) (xs : List ℕ) (k : ℕ) → position p xs ≡ Some k → length xs ≤ k → ⊥
@@ -50,18 +52,21 @@ some_piece p (x ∷ xs) = elim (cases_Bool (p x)) [
 ]
 
 -- a word with a colon has a second piece
-some_first : (x : ℕ) (parts : List (List ℕ)) → (a : List ℕ) × (b : List ℕ) × (more : List (List ℕ)) × (parts ≡ a ∷ (b ∷ more))
+some_first : (x : ℕ) (parts : List (List ℕ)) → (a : List ℕ) × (b : List ℕ) × (more : List (List ℕ))
+    × (parts ≡ a ∷ (b ∷ more))
     → (a : List ℕ) × (b : List ℕ) × (more : List (List ℕ)) × (onto_first x parts ≡ a ∷ (b ∷ more))
 some_first x parts s = (x ∷ s.0, s.1, s.2, ap (onto_first x) s.3)
 
-pub two_pieces : (p : ℕ → Bool) (xs : List ℕ) → list_any p xs ≡ true → (a : List ℕ) × (b : List ℕ) × (more : List (List ℕ)) × (slice_split p xs ≡ a ∷ (b ∷ more))
+pub two_pieces : (p : ℕ → Bool) (xs : List ℕ) → list_any p xs ≡ true → (a : List ℕ) × (b : List ℕ)
+    × (more : List (List ℕ)) × (slice_split p xs ≡ a ∷ (b ∷ more))
 two_pieces p [] e = absurd (true≢false (sym e))
 two_pieces p (x ∷ xs) e = elim (cases_Bool (p x)) [
   | inl t ↦ (let s = some_piece p xs in rw t ([], s.0, s.1, ap (λ (ps : List (List ℕ)). [] ∷ ps) s.2))
   | inr f ↦ (let g : list_any p xs ≡ true = rw f at e in rw f (some_first x (slice_split p xs) (two_pieces p xs g)))
 ]
 
-pub too_many : (word hours minutes rest : List ℕ) → slice_split is_colon word ≡ hours ∷ (minutes ∷ slice_split is_colon rest) → has_colon rest ≡ true
+pub too_many : (word hours minutes rest : List ℕ) → slice_split is_colon word ≡ hours
+    ∷ (minutes ∷ slice_split is_colon rest) → has_colon rest ≡ true
     → are_parts (slice_split is_colon word) ≡ false
 too_many word hours minutes rest e h =
     let s = two_pieces is_colon rest h in

@@ -80,9 +80,11 @@ abbrev pub time_said : Option TimeWord → List (List ℕ) → TimeSet
 time_said (Some time.Duration) words = set.Duration (time_seconds 1 words)
 time_said (Some time.Hydraulic) words = set.Hydraulic (time_seconds 2 words)
 time_said (Some time.Pattern) words =
-    either_set (word_is 1 (codes "TIMESTEP") words) (set.Pattern (time_seconds 2 words)) (set.PatternStart (time_seconds 2 words))
+    either_set (word_is 1 (codes "TIMESTEP") words) (set.Pattern (time_seconds 2 words))
+    (set.PatternStart (time_seconds 2 words))
 time_said (Some time.Report) words =
-    either_set (word_is 1 (codes "TIMESTEP") words) (set.Report (time_seconds 2 words)) (set.ReportStart (time_seconds 2 words))
+    either_set (word_is 1 (codes "TIMESTEP") words) (set.Report (time_seconds 2 words))
+    (set.ReportStart (time_seconds 2 words))
 time_said (Some time.Rule) words = set.Rule (time_seconds 2 words)
 time_said (Some time.Start) words = set.StartClock (clock_seconds 2 words)
 time_said _ words = set.Unused
@@ -104,9 +106,11 @@ IsWhen words (Level object node above level) =
     (word_is 3 (codes "IF") words ≡ true) × (node_word (word 4 words) ≡ Some object) × (node ≡ 5)
     × (above ≡ word_is 6 (codes "ABOVE") words) × (level.nano ≡ amount 7 words)
 IsWhen words (Time seconds) =
-    (word_is 3 (codes "IF") words ≡ false) × (word_is 4 (codes "CLOCKTIME") words ≡ false) × (seconds ≡ time_seconds 5 words)
+    (word_is 3 (codes "IF") words ≡ false) × (word_is 4 (codes "CLOCKTIME") words ≡ false)
+    × (seconds ≡ time_seconds 5 words)
 IsWhen words (Clock seconds) =
-    (word_is 3 (codes "IF") words ≡ false) × (word_is 4 (codes "CLOCKTIME") words ≡ true) × (seconds ≡ clock_seconds 5 words)
+    (word_is 3 (codes "IF") words ≡ false) × (word_is 4 (codes "CLOCKTIME") words ≡ true)
+    × (seconds ≡ clock_seconds 5 words)
 
 pub record IsControlLine (words : List (List ℕ)) (line : ControlLine) : Type 0 where
   pub object : link_word (word 0 words) ≡ Some line.object
@@ -147,7 +151,8 @@ pub record IsComparison (k : ℕ) (words : List (List ℕ)) (line : ClauseLine) 
 
 abbrev pub ClauseSays : Option ObjectWord → List (List ℕ) → ClauseLine → Type 0
 ClauseSays None words line = ⊥
-ClauseSays (Some object) words line = (line.object ≡ object_at object) × IsComparison (attribute_place object) words line
+ClauseSays (Some object) words line = (line.object ≡ object_at object)
+    × IsComparison (attribute_place object) words line
 
 abbrev pub IsClauseLine : List (List ℕ) → ClauseLine → Type 0
 IsClauseLine words line = ClauseSays (object_word (word 1 words)) words line
@@ -172,7 +177,8 @@ pub record IsActionLine (words : List (List ℕ)) (line : ActionLine) : Type 0 w
 abbrev pub IsRuleLine : Bool → List (List ℕ) → RuleLine → Type 0
 IsRuleLine acting words (Rule id) = (begins_with words ≡ Some rule.Rule) × (id ≡ 1)
 IsRuleLine acting words (If clause) = (begins_with words ≡ Some rule.If) × IsClauseLine words clause
-IsRuleLine acting words (And clause) = (begins_with words ≡ Some rule.And) × (acting ≡ false) × IsClauseLine words clause
+IsRuleLine acting words (And clause) = (begins_with words ≡ Some rule.And) × (acting ≡ false)
+    × IsClauseLine words clause
 IsRuleLine acting words (Or clause) = (begins_with words ≡ Some rule.Or) × IsClauseLine words clause
 IsRuleLine acting words (Then action) = (begins_with words ≡ Some rule.Then) × IsActionLine words action
 IsRuleLine acting words (Else action) = (begins_with words ≡ Some rule.Else) × IsActionLine words action

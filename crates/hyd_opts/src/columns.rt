@@ -1,4 +1,5 @@
-//! Words of a line against what is asked of them. Words are counted from 0. Each call takes a line that lies in the text.
+//! Words of a line against what is asked of them. Words are counted from 0. Each call takes a line that lies in the
+//! text.
 #![tactic(auto)]
 
 ghost use Rattle.std.specs.Prelude.{◌≡◌, ◌<◌, ◌^◌, [], ◌∷◌, Some, IfOk, slice_get};
@@ -18,7 +19,8 @@ const LONGEST_ID: usize = 31;
 /// A word that is needed: Syntax exactly where the line has no such word.
 pub fn needed<'a>(text: &Lines<'a>, line: &Line, k: u32) -> Result<&'a [u8], Cause>
     requires { LiesIn text.now.text line.now }
-    ensures word { Judged (column.needed any k (words_at text.now line.now)) result (λ word. slice_get (words_at text.now line.now) k ≡ Some word.now) }
+    ensures word { Judged (column.needed any k (words_at text.now line.now)) result
+        (λ word. slice_get (words_at text.now line.now) k ≡ Some word.now) }
     ensures few { IfOk result (λ word. k < 2 ^ 26) }
 {
     match text.word(line, k) {
@@ -40,7 +42,8 @@ pub fn check_id(word: &[u8]) -> Result<(), Cause>
 /// An ID that is needed: Syntax where the word is missing, Limit 3 where it is longer than 31 bytes.
 pub fn id<'a>(text: &Lines<'a>, line: &Line, k: u32) -> Result<&'a [u8], Cause>
     requires { LiesIn text.now.text line.now }
-    ensures { Judged (column.needed column.id k (words_at text.now line.now)) result (λ word. slice_get (words_at text.now line.now) k ≡ Some word.now) }
+    ensures { Judged (column.needed column.id k (words_at text.now line.now)) result
+        (λ word. slice_get (words_at text.now line.now) k ≡ Some word.now) }
 {
     let word = needed(text, line, k)?;
     check_id(word)?;
@@ -57,17 +60,19 @@ pub(crate) fn number_of(word: &[u8]) -> Result<Decimal, Cause>
     }
 }
 
-/// A number that is needed: Syntax where the word is missing, Number where it is no number or one above 10^12 up or down.
+/// A number that is needed: Syntax where the word is missing, Number where it is no number or one above 10^12 up or
+/// down.
 pub fn number(text: &Lines<'_>, line: &Line, k: u32) -> Result<Decimal, Cause>
     requires { LiesIn text.now.text line.now }
-    ensures { Judged (column.needed column.number k (words_at text.now line.now)) result (λ number. number.nano ≡ amount k (words_at text.now line.now)) }
+    ensures { Judged (column.needed column.number k (words_at text.now line.now)) result
+        (λ number. number.nano ≡ amount k (words_at text.now line.now)) }
 {
     let word = needed(text, line, k)?;
     number_of(word)
 }
 
-/// A number that is needed, from one bound to another in billionths, both included: Syntax and Number as for `number`, Range
-/// outside the bounds.
+/// A number that is needed, from one bound to another in billionths, both included: Syntax and Number as for
+/// `number`, Range outside the bounds.
 pub fn number_within(
     text: &Lines<'_>,
     line: &Line,
@@ -76,7 +81,8 @@ pub fn number_within(
     high: i128,
 ) -> Result<Decimal, Cause>
     requires { LiesIn text.now.text line.now }
-    ensures { Judged (column.needed (column.number_within low high) k (words_at text.now line.now)) result (λ number. number.nano ≡ amount k (words_at text.now line.now)) }
+    ensures { Judged (column.needed (column.number_within low high) k (words_at text.now line.now)) result
+        (λ number. number.nano ≡ amount k (words_at text.now line.now)) }
 {
     let word = needed(text, line, k)?;
     let number = number_of(word)?;
@@ -89,7 +95,8 @@ pub fn number_within(
 /// A number of at least 0 that is needed.
 pub(crate) fn not_negative(text: &Lines<'_>, line: &Line, k: u32) -> Result<Decimal, Cause>
     requires { LiesIn text.now.text line.now }
-    ensures { Judged (column.needed column.not_negative k (words_at text.now line.now)) result (λ number. number.nano ≡ amount k (words_at text.now line.now)) }
+    ensures { Judged (column.needed column.not_negative k (words_at text.now line.now)) result
+        (λ number. number.nano ≡ amount k (words_at text.now line.now)) }
 {
     let word = needed(text, line, k)?;
     let number = number_of(word)?;
@@ -124,7 +131,8 @@ pub(crate) fn word_is(text: &Lines<'_>, line: &Line, k: u32, keyword: &[u8]) -> 
 /// A keyword that is needed: Syntax where the word is missing or another.
 pub(crate) fn keyword(text: &Lines<'_>, line: &Line, k: u32, keyword: &[u8]) -> Result<(), Cause>
     requires { LiesIn text.now.text line.now }
-    ensures { Judged (column.needed (column.one_of (keyword.now ∷ [])) k (words_at text.now line.now)) result (λ _. Unit {0}) }
+    ensures { Judged (column.needed (column.one_of (keyword.now ∷ [])) k (words_at text.now line.now)) result
+        (λ _. Unit {0}) }
 {
     if word_is(text, line, k, keyword) {
         return Ok(());
@@ -132,7 +140,8 @@ pub(crate) fn keyword(text: &Lines<'_>, line: &Line, k: u32, keyword: &[u8]) -> 
     Err(Cause::Syntax)
 }
 
-/// One of two keywords that is needed, and whether it is the first of them: Syntax where the word is missing or another.
+/// One of two keywords that is needed, and whether it is the first of them: Syntax where the word is missing or
+/// another.
 pub(crate) fn either_keyword(
     text: &Lines<'_>,
     line: &Line,
@@ -141,7 +150,8 @@ pub(crate) fn either_keyword(
     second: &[u8],
 ) -> Result<bool, Cause>
     requires { LiesIn text.now.text line.now }
-    ensures { Judged (column.needed (column.one_of (first.now ∷ second.now ∷ [])) k (words_at text.now line.now)) result (λ is_first. is_first ≡ column.word_is k first.now (words_at text.now line.now)) }
+    ensures { Judged (column.needed (column.one_of (first.now ∷ second.now ∷ [])) k (words_at text.now line.now)) result
+        (λ is_first. is_first ≡ column.word_is k first.now (words_at text.now line.now)) }
 {
     let word = needed(text, line, k)?;
     if is_keyword(word, first) {

@@ -67,7 +67,8 @@ fn asked_by(word: &[u8]) -> Result<Asked, Cause>
 
 fn asked_at(text: &Lines<'_>, line: &Line, k: u32) -> Result<Asked, Cause>
     requires { LiesIn text.now.text line.now }
-    ensures { Judged (column.needed column.asked k (words_at text.now line.now)) result (IsAsked (column.word k (words_at text.now line.now))) }
+    ensures { Judged (column.needed column.asked k (words_at text.now line.now)) result
+        (IsAsked (column.word k (words_at text.now line.now))) }
 {
     let word = needed(text, line, k)?;
     asked_by(word)
@@ -76,7 +77,8 @@ fn asked_at(text: &Lines<'_>, line: &Line, k: u32) -> Result<Asked, Cause>
 /// A word that names a kind of link: Syntax where it is missing or another.
 pub(crate) fn link_kind(text: &Lines<'_>, line: &Line, k: u32) -> Result<LinkWord, Cause>
     requires { LiesIn text.now.text line.now }
-    ensures { Judged (column.needed (column.meant keyword_form.link_word) k (words_at text.now line.now)) result (λ kind. keyword_form.link_word (column.word k (words_at text.now line.now)) ≡ Some kind) }
+    ensures { Judged (column.needed (column.meant keyword_form.link_word) k (words_at text.now line.now)) result
+        (λ kind. keyword_form.link_word (column.word k (words_at text.now line.now)) ≡ Some kind) }
 {
     let word = needed(text, line, k)?;
     match link_word(word) {
@@ -88,7 +90,8 @@ pub(crate) fn link_kind(text: &Lines<'_>, line: &Line, k: u32) -> Result<LinkWor
 // A word that names a kind of node.
 fn node_kind(text: &Lines<'_>, line: &Line, k: u32) -> Result<NodeWord, Cause>
     requires { LiesIn text.now.text line.now }
-    ensures { Judged (column.needed (column.meant keyword_form.node_word) k (words_at text.now line.now)) result (λ kind. keyword_form.node_word (column.word k (words_at text.now line.now)) ≡ Some kind) }
+    ensures { Judged (column.needed (column.meant keyword_form.node_word) k (words_at text.now line.now)) result
+        (λ kind. keyword_form.node_word (column.word k (words_at text.now line.now)) ≡ Some kind) }
 {
     let word = needed(text, line, k)?;
     match node_word(word) {
@@ -131,10 +134,10 @@ fn at_time(text: &Lines<'_>, line: &Line) -> Result<WhenLine, Cause>
     Ok(WhenLine::Time(seconds))
 }
 
-/// Reads a line of a simple control: `LINK id status IF NODE id ABOVE level`, or BELOW; `LINK id status AT TIME time`; `LINK id
-/// status AT CLOCKTIME clock`. Refused are, at the first word that is wrong: a wrong or missing keyword and a further word
-/// (Syntax), an ID longer than 31 bytes (Limit 3), a number's form or size (Number), and what [`read_time`](crate::read_time)
-/// and [`read_clock`](crate::read_clock) refuse.
+/// Reads a line of a simple control: `LINK id status IF NODE id ABOVE level`, or BELOW; `LINK id status AT TIME
+/// time`; `LINK id status AT CLOCKTIME clock`. Refused are, at the first word that is wrong: a wrong or missing
+/// keyword and a further word (Syntax), an ID longer than 31 bytes (Limit 3), a number's form or size (Number), and
+/// what [`read_time`](crate::read_time) and [`read_clock`](crate::read_clock) refuse.
 pub fn read_control(text: &Lines<'_>, line: &Line) -> Result<ControlLine, Cause>
     requires { LiesIn text.now.text line.now }
     ensures { Judged (form.control (words_at text.now line.now)) result (IsControlLine (words_at text.now line.now)) }

@@ -295,7 +295,8 @@ fn link_object(word: &[u8]) -> Option<ObjectWord>
 }
 
 fn node_or_link_object(word: &[u8]) -> Option<ObjectWord>
-    ensures { result ≡ form.either (form.node_object (form.node_word word.now)) (form.link_object (form.link_word word.now)) }
+    ensures { result ≡ form.either (form.node_object (form.node_word word.now))
+        (form.link_object (form.link_word word.now)) }
 {
     match node_word(word) {
         Some(node) => Some(ObjectWord::Node(node)),

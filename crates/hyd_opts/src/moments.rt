@@ -33,8 +33,8 @@ pub(crate) enum Moment {
     Number(Decimal),
 }
 
-// The first word of a time: Syntax for a word with a colon that isn't hours, minutes and seconds, Number for another word that
-// is no number.
+// The first word of a time: Syntax for a word with a colon that isn't hours, minutes and seconds, Number for another
+// word that is no number.
 fn first_word(word: &[u8]) -> Result<Moment, Cause>
     ensures { Judged (form.moment_word word.now) result (IsMoment word.now) }
 {
@@ -60,11 +60,12 @@ fn nano(word: &[u8], moment: Moment, per: u32) -> i128
     }
 }
 
-// The seconds of a time's unit, of an hour where none is given: Syntax for another word, and for a unit behind a word with a
-// colon.
+// The seconds of a time's unit, of an hour where none is given: Syntax for another word, and for a unit behind a word
+// with a colon.
 fn unit(text: &Lines<'_>, line: &Line, k: u32, moment: &[u8]) -> Result<u32, Cause>
     requires { LiesIn text.now.text line.now }
-    ensures unit { Judged (column.optional (form.unit_word moment.now) k (words_at text.now line.now)) result (λ per. per ≡ form.seconds_per (slice_get (words_at text.now line.now) k)) }
+    ensures unit { Judged (column.optional (form.unit_word moment.now) k (words_at text.now line.now)) result
+        (λ per. per ≡ form.seconds_per (slice_get (words_at text.now line.now) k)) }
     ensures short { IfOk result (λ per. per ≤ 86400) }
 {
     let Some(word) = text.word(line, k) else {
@@ -101,7 +102,8 @@ pub(crate) fn read_time_from(
     least: u32,
 ) -> Result<u32, Cause>
     requires { LiesIn text.now.text line.now }
-    ensures { Judged (form.time least from (words_at text.now line.now)) result (λ seconds. seconds ≡ form.time_seconds from (words_at text.now line.now)) }
+    ensures { Judged (form.time least from (words_at text.now line.now)) result
+        (λ seconds. seconds ≡ form.time_seconds from (words_at text.now line.now)) }
 {
     let word = needed(text, line, from)?;
     let moment = first_word(word)?;
@@ -111,12 +113,14 @@ pub(crate) fn read_time_from(
     Ok(seconds)
 }
 
-/// Reads the words from number `from` to the line's end as a time in whole seconds: a number of hours, a number and a unit, or
-/// `h:mm` or `h:mm:ss`. Refused are, in this order: a missing word or a wrong form (Syntax) or number (Number), a second word
-/// that this time can't have (Syntax), a time that is negative or above 10^8 seconds (Range), and a further word (Syntax).
+/// Reads the words from number `from` to the line's end as a time in whole seconds: a number of hours, a number and a
+/// unit, or `h:mm` or `h:mm:ss`. Refused are, in this order: a missing word or a wrong form (Syntax) or number
+/// (Number), a second word that this time can't have (Syntax), a time that is negative or above 10^8 seconds (Range),
+/// and a further word (Syntax).
 pub fn read_time(text: &Lines<'_>, line: &Line, from: u32) -> Result<u32, Cause>
     requires { LiesIn text.now.text line.now }
-    ensures { Judged (form.time 0 from (words_at text.now line.now)) result (λ seconds. seconds ≡ form.time_seconds from (words_at text.now line.now)) }
+    ensures { Judged (form.time 0 from (words_at text.now line.now)) result
+        (λ seconds. seconds ≡ form.time_seconds from (words_at text.now line.now)) }
 {
     read_time_from(text, line, from, 0)
 }
@@ -142,7 +146,8 @@ fn half_day(text: &Lines<'_>, line: &Line, k: u32) -> Result<(), Cause>
 fn between(nano: i128, low: i128, high: i128) -> Result<u32, Cause>
     requires low { pos 0 ≤ℤ low }
     requires high { high ≤ℤ pos (86400 * 10 ^ 9) }
-    ensures seconds { Judged (unless (le_z low nano && lt_z nano high) Range) result (λ seconds. seconds ≡ form.whole_seconds nano) }
+    ensures seconds { Judged (unless (le_z low nano && lt_z nano high) Range) result
+        (λ seconds. seconds ≡ form.whole_seconds nano) }
     ensures short { IfOk result (λ seconds. seconds < 86400) }
 {
     if nano < low || nano >= high {
@@ -154,7 +159,8 @@ fn between(nano: i128, low: i128, high: i128) -> Result<u32, Cause>
 // The second of the day, by AM or PM where it is there: Range outside its hours.
 fn second_of_day(text: &Lines<'_>, line: &Line, k: u32, nano: i128) -> Result<u32, Cause>
     requires { LiesIn text.now.text line.now }
-    ensures { Judged (form.clock_range (slice_get (words_at text.now line.now) k) nano) result (λ seconds. seconds ≡ form.of_half (slice_get (words_at text.now line.now) k) (form.whole_seconds nano)) }
+    ensures { Judged (form.clock_range (slice_get (words_at text.now line.now) k) nano) result
+        (λ seconds. seconds ≡ form.of_half (slice_get (words_at text.now line.now) k) (form.whole_seconds nano)) }
 {
     let Some(half) = text.word(line, k) else {
         return between(nano, 0, DAY);
@@ -166,13 +172,14 @@ fn second_of_day(text: &Lines<'_>, line: &Line, k: u32, nano: i128) -> Result<u3
     Ok(seconds % 43_200)
 }
 
-/// Reads the words from number `from` to the line's end as a time of day in whole seconds: a time without a unit below 24 hours,
-/// or such a time from 1 to below 13 hours and AM or PM, where 12 counts as 0 and PM adds 12 hours. Refused are, in this order:
-/// a missing word or a wrong form (Syntax) or number (Number), a second word that isn't AM or PM (Syntax), a time outside
-/// its hours (Range), and a further word (Syntax).
+/// Reads the words from number `from` to the line's end as a time of day in whole seconds: a time without a unit
+/// below 24 hours, or such a time from 1 to below 13 hours and AM or PM, where 12 counts as 0 and PM adds 12 hours.
+/// Refused are, in this order: a missing word or a wrong form (Syntax) or number (Number), a second word that isn't
+/// AM or PM (Syntax), a time outside its hours (Range), and a further word (Syntax).
 pub fn read_clock(text: &Lines<'_>, line: &Line, from: u32) -> Result<u32, Cause>
     requires { LiesIn text.now.text line.now }
-    ensures { Judged (form.clock from (words_at text.now line.now)) result (λ seconds. seconds ≡ form.clock_seconds from (words_at text.now line.now)) }
+    ensures { Judged (form.clock from (words_at text.now line.now)) result
+        (λ seconds. seconds ≡ form.clock_seconds from (words_at text.now line.now)) }
 {
     let word = needed(text, line, from)?;
     let moment = first_word(word)?;

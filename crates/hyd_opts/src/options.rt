@@ -51,7 +51,9 @@ pub enum OptionSet {
 // UNITS and a unit of flows.
 fn units(text: &Lines<'_>, line: &Line) -> Result<OptionSet, Cause>
     requires { LiesIn text.now.text line.now }
-    ensures { Judged (form.units_line (words_at text.now line.now)) result (λ set. set ≡ OptionSet.Unit (unwrap_or (keyword_form.flow_unit (column.word 1 (words_at text.now line.now))) Gpm)) }
+    ensures { Judged (form.units_line (words_at text.now line.now)) result
+        (λ set. set ≡ OptionSet.Unit (unwrap_or (keyword_form.flow_unit
+        (column.word 1 (words_at text.now line.now))) Gpm)) }
 {
     let word = needed(text, line, 1)?;
     let Some(unit) = flow_unit(word) else {
@@ -63,7 +65,8 @@ fn units(text: &Lines<'_>, line: &Line) -> Result<OptionSet, Cause>
 
 // A head loss formula: Unsupported 1 for those of Hazen and Williams and of Darcy and Weisbach.
 fn loss_formula(word: &[u8]) -> Result<(), Cause>
-    ensures { Judged (column.supported form.loss_formulas (codes "H-W" ∷ codes "D-W" ∷ []) 1 word.now) result (λ _. Unit {0}) }
+    ensures { Judged (column.supported form.loss_formulas (codes "H-W" ∷ codes "D-W" ∷ []) 1 word.now) result
+        (λ _. Unit {0}) }
 {
     if is_keyword(word, b"H-W") {
         return Err(Cause::Unsupported(1));
@@ -101,7 +104,9 @@ fn default_pattern(text: &Lines<'_>, line: &Line) -> Result<OptionSet, Cause>
 // What follows DEMAND MULTIPLIER or DEMAND MODEL.
 fn demand_value(text: &Lines<'_>, line: &Line) -> Result<OptionSet, Cause>
     requires { LiesIn text.now.text line.now }
-    ensures { Judged (column.needed (form.demand_value (words_at text.now line.now)) 2 (words_at text.now line.now)) result (IsDemandSet (column.word_is 1 (codes "MULTIPLIER") (words_at text.now line.now)) (words_at text.now line.now)) }
+    ensures { Judged (column.needed (form.demand_value (words_at text.now line.now)) 2
+        (words_at text.now line.now)) result (IsDemandSet
+        (column.word_is 1 (codes "MULTIPLIER") (words_at text.now line.now)) (words_at text.now line.now)) }
 {
     if word_is(text, line, 1, b"MULTIPLIER") {
         let multiplier = number_within(text, line, 2, 0, GREATEST_MULTIPLIER)?;
@@ -114,7 +119,9 @@ fn demand_value(text: &Lines<'_>, line: &Line) -> Result<OptionSet, Cause>
 // DEMAND MULTIPLIER and a number, or DEMAND MODEL and DDA or PDA.
 fn demand(text: &Lines<'_>, line: &Line) -> Result<OptionSet, Cause>
     requires { LiesIn text.now.text line.now }
-    ensures { Judged (form.demand_line (words_at text.now line.now)) result (IsDemandSet (column.word_is 1 (codes "MULTIPLIER") (words_at text.now line.now)) (words_at text.now line.now)) }
+    ensures { Judged (form.demand_line (words_at text.now line.now)) result
+        (IsDemandSet (column.word_is 1 (codes "MULTIPLIER") (words_at text.now line.now))
+        (words_at text.now line.now)) }
 {
     either_keyword(text, line, 1, b"MULTIPLIER", b"MODEL")?;
     let set = demand_value(text, line)?;
@@ -125,7 +132,8 @@ fn demand(text: &Lines<'_>, line: &Line) -> Result<OptionSet, Cause>
 // MINIMUM PRESSURE or REQUIRED PRESSURE and a number.
 fn bound(text: &Lines<'_>, line: &Line) -> Result<Decimal, Cause>
     requires { LiesIn text.now.text line.now }
-    ensures { Judged (form.bound_line (words_at text.now line.now)) result (λ number. number.nano ≡ amount 2 (words_at text.now line.now)) }
+    ensures { Judged (form.bound_line (words_at text.now line.now)) result
+        (λ number. number.nano ≡ amount 2 (words_at text.now line.now)) }
 {
     keyword(text, line, 1, b"PRESSURE")?;
     let pressure = not_negative(text, line, 2)?;
@@ -199,10 +207,10 @@ fn specific(text: &Lines<'_>, line: &Line) -> Result<OptionSet, Cause>
     Ok(OptionSet::Unused)
 }
 
-/// Reads a line of options. Refused are, at the first word that is wrong: another first word, a word that is missing or isn't one
-/// of the option's, and a further word (Syntax); an ID longer than 31 bytes (Limit 3); a number's form or size (Number) and range
-/// (Range); and what isn't supported: head loss formulas but C-M (1), exponents but 0.5 (5 of emitters, 6 of pressure), a
-/// specific gravity but 1 (7) and pressures in KPA (13).
+/// Reads a line of options. Refused are, at the first word that is wrong: another first word, a word that is missing
+/// or isn't one of the option's, and a further word (Syntax); an ID longer than 31 bytes (Limit 3); a number's form
+/// or size (Number) and range (Range); and what isn't supported: head loss formulas but C-M (1), exponents but 0.5 (5
+/// of emitters, 6 of pressure), a specific gravity but 1 (7) and pressures in KPA (13).
 pub fn read_option(text: &Lines<'_>, line: &Line) -> Result<OptionSet, Cause>
     requires { LiesIn text.now.text line.now }
     ensures { Judged (form.option (words_at text.now line.now)) result (IsOptionSet (words_at text.now line.now)) }

@@ -90,7 +90,8 @@ fn number(digits: &[u8]) -> u32
 
 // Minutes or seconds: one or two digits, below 60.
 fn sixtieth(part: &[u8]) -> Option<u32>
-    ensures some { IfSome result (λ n. (moments.is_sixtieth part.now ≡ true) × (n ≡ numeral.number part.now) × (n < 60)) }
+    ensures some { IfSome result (λ n. (moments.is_sixtieth part.now ≡ true) × (n ≡ numeral.number part.now)
+        × (n < 60)) }
     ensures none { IfNone result (moments.is_sixtieth part.now ≡ false) }
 {
     if !are_digits(part, 2) {
@@ -105,7 +106,8 @@ fn sixtieth(part: &[u8]) -> Option<u32>
 
 // Hours: one to six digits.
 fn hours(part: &[u8]) -> Option<u32>
-    ensures some { IfSome result (λ n. (moments.are_digits 6 part.now ≡ true) × (n ≡ numeral.number part.now) × (n < 1000000)) }
+    ensures some { IfSome result (λ n. (moments.are_digits 6 part.now ≡ true) × (n ≡ numeral.number part.now)
+        × (n < 1000000)) }
     ensures none { IfNone result (moments.are_digits 6 part.now ≡ false) }
 {
     if !are_digits(part, 6) {
@@ -125,10 +127,11 @@ fn last_sixtieth(part: Option<&[u8]>) -> Option<u32>
     }
 }
 
-/// The seconds of a word of hours, minutes and maybe seconds between colons. `None` comes exactly where a word has another
-/// form.
+/// The seconds of a word of hours, minutes and maybe seconds between colons. `None` comes exactly where a word has
+/// another form.
 pub(crate) fn clock_seconds(word: &[u8]) -> Option<u32>
-    ensures some { IfSome result (λ n. (moments.are_parts (slice_split is_colon word.now) ≡ true) × (n ≡ moments.seconds_of_parts (slice_split is_colon word.now))) }
+    ensures some { IfSome result (λ n. (moments.are_parts (slice_split is_colon word.now) ≡ true)
+        × (n ≡ moments.seconds_of_parts (slice_split is_colon word.now))) }
     ensures none { IfNone result (moments.are_parts (slice_split is_colon word.now) ≡ false) }
 {
     let parts = cut(word)?;

@@ -50,7 +50,8 @@ pub struct ClauseLine {
     pub value: Value,
 }
 
-/// The parts of an action: a link, whose ID is the number of its word, counted from 0, and the state that is asked of it.
+/// The parts of an action: a link, whose ID is the number of its word, counted from 0, and the state that is asked of
+/// it.
 #[derive(Debug, Clone, Copy, PartialEq, Eq, Drop)]
 pub struct ActionLine {
     pub object: LinkWord,
@@ -91,10 +92,12 @@ fn can_have(object: ObjectWord, attribute: Attribute) -> bool
     }
 }
 
-// An attribute that is needed and that its object can have: Unsupported 10 for some that EPANET has, Syntax for all others.
+// An attribute that is needed and that its object can have: Unsupported 10 for some that EPANET has, Syntax for all
+// others.
 fn attribute(text: &Lines<'_>, line: &Line, k: u32, object: ObjectWord) -> Result<Attribute, Cause>
     requires { LiesIn text.now.text line.now }
-    ensures { Judged (column.needed (form.attribute object) k (words_at text.now line.now)) result (λ what. keyword_form.attribute_word (column.word k (words_at text.now line.now)) ≡ Some what) }
+    ensures { Judged (column.needed (form.attribute object) k (words_at text.now line.now)) result
+        (λ what. keyword_form.attribute_word (column.word k (words_at text.now line.now)) ≡ Some what) }
 {
     let word = needed(text, line, k)?;
     let Some(attribute) = attribute_word(word) else {
@@ -118,8 +121,8 @@ fn is_equality(relation: Relation) -> bool
     }
 }
 
-// Whether an attribute compares in this way: Syntax for a status that is less or more, Unsupported 10 for a quantity that is equal
-// or not.
+// Whether an attribute compares in this way: Syntax for a status that is less or more, Unsupported 10 for a quantity
+// that is equal or not.
 fn relates(attribute: Attribute, relation: Relation) -> Result<(), Cause>
     ensures { Judged (form.relates (Some attribute) relation) result (λ _. Unit {0}) }
 {
@@ -145,7 +148,8 @@ fn relates(attribute: Attribute, relation: Relation) -> Result<(), Cause>
 // A relation that is needed, and in which the attribute compares.
 fn relation(text: &Lines<'_>, line: &Line, k: u32, attribute: Attribute) -> Result<Relation, Cause>
     requires { LiesIn text.now.text line.now }
-    ensures { Judged (column.needed (form.relation (Some attribute)) k (words_at text.now line.now)) result (λ relation. keyword_form.relation_word (column.word k (words_at text.now line.now)) ≡ Some relation) }
+    ensures { Judged (column.needed (form.relation (Some attribute)) k (words_at text.now line.now)) result
+        (λ relation. keyword_form.relation_word (column.word k (words_at text.now line.now)) ≡ Some relation) }
 {
     let word = needed(text, line, k)?;
     let Some(relation) = relation_word(word) else {
@@ -156,7 +160,8 @@ fn relation(text: &Lines<'_>, line: &Line, k: u32, attribute: Attribute) -> Resu
 }
 
 fn status_by(word: &[u8]) -> Result<Value, Cause>
-    ensures { Judged (column.one_of (codes "OPEN" ∷ codes "CLOSED" ∷ codes "ACTIVE" ∷ []) word.now) result (λ value. value ≡ status_value word.now) }
+    ensures { Judged (column.one_of (codes "OPEN" ∷ codes "CLOSED" ∷ codes "ACTIVE" ∷ []) word.now) result
+        (λ value. value ≡ status_value word.now) }
 {
     if is_keyword(word, b"OPEN") {
         return Ok(Value::Open);
@@ -179,7 +184,8 @@ fn compared_value(
 ) -> Result<Value, Cause>
     requires lies { LiesIn text.now.text line.now }
     requires small { k ≤ 5 }
-    ensures { Judged (form.value (Some attribute) k (words_at text.now line.now)) result (IsValue attribute k (words_at text.now line.now)) }
+    ensures { Judged (form.value (Some attribute) k (words_at text.now line.now)) result
+        (IsValue attribute k (words_at text.now line.now)) }
 {
     match attribute {
         Attribute::Time => {
@@ -223,7 +229,8 @@ fn comparison(
 ) -> Result<ClauseLine, Cause>
     requires lies { LiesIn text.now.text line.now }
     requires small { k ≤ 3 }
-    ensures { Judged (form.comparison object k (words_at text.now line.now)) result (λ clause. (clause.object ≡ meaning.object_at object) × IsComparison k (words_at text.now line.now) clause) }
+    ensures { Judged (form.comparison object k (words_at text.now line.now)) result
+        (λ clause. (clause.object ≡ meaning.object_at object) × IsComparison k (words_at text.now line.now) clause) }
 {
     let what = attribute(text, line, k, object)?;
     let relation = relation(text, line, k + 1, what)?;
@@ -239,7 +246,9 @@ fn comparison(
 // The ID of an object, and a comparison.
 fn named_comparison(text: &Lines<'_>, line: &Line, object: ObjectWord) -> Result<ClauseLine, Cause>
     requires { LiesIn text.now.text line.now }
-    ensures { Judged (column.or_else (column.needed column.id 2 (words_at text.now line.now)) (form.comparison object 3 (words_at text.now line.now))) result (λ clause. (clause.object ≡ meaning.object_at object) × IsComparison 3 (words_at text.now line.now) clause) }
+    ensures { Judged (column.or_else (column.needed column.id 2 (words_at text.now line.now))
+        (form.comparison object 3 (words_at text.now line.now))) result
+        (λ clause. (clause.object ≡ meaning.object_at object) × IsComparison 3 (words_at text.now line.now) clause) }
 {
     id(text, line, 2)?;
     comparison(text, line, 3, object)
@@ -248,7 +257,8 @@ fn named_comparison(text: &Lines<'_>, line: &Line, object: ObjectWord) -> Result
 // What a clause says of an object: its ID unless it is the system, and a comparison.
 fn clause_about(text: &Lines<'_>, line: &Line, object: ObjectWord) -> Result<ClauseLine, Cause>
     requires { LiesIn text.now.text line.now }
-    ensures { Judged (form.clause_about (Some object) (words_at text.now line.now)) result (meaning.ClauseSays (Some object) (words_at text.now line.now)) }
+    ensures { Judged (form.clause_about (Some object) (words_at text.now line.now)) result
+        (meaning.ClauseSays (Some object) (words_at text.now line.now)) }
 {
     match object {
         ObjectWord::System => comparison(text, line, 2, ObjectWord::System),
@@ -280,7 +290,8 @@ fn has_setting(kind: LinkWord) -> bool
 
 // Whether an action is of a setting, and not of a status.
 fn is_of_setting(word: &[u8], kind: LinkWord) -> Result<bool, Cause>
-    ensures { Judged (form.action_attribute (Some kind) (keyword_form.attribute_word word.now)) result (λ is_setting. keyword_form.attribute_word word.now ≡ Some (meaning.set_attribute is_setting)) }
+    ensures { Judged (form.action_attribute (Some kind) (keyword_form.attribute_word word.now)) result
+        (λ is_setting. keyword_form.attribute_word word.now ≡ Some (meaning.set_attribute is_setting)) }
 {
     let Some(attribute) = attribute_word(word) else {
         return Err(Cause::Syntax);
@@ -302,7 +313,9 @@ fn is_of_setting(word: &[u8], kind: LinkWord) -> Result<bool, Cause>
 fn sets_setting(text: &Lines<'_>, line: &Line, kind: LinkWord) -> Result<bool, Cause>
     requires lies { LiesIn text.now.text line.now }
     requires kind { keyword_form.link_word (column.word 1 (words_at text.now line.now)) ≡ Some kind }
-    ensures { Judged (column.needed (form.set_attribute (words_at text.now line.now)) 3 (words_at text.now line.now)) result (λ is_setting. keyword_form.attribute_word (column.word 3 (words_at text.now line.now)) ≡ Some (meaning.set_attribute is_setting)) }
+    ensures { Judged (column.needed (form.set_attribute (words_at text.now line.now)) 3
+        (words_at text.now line.now)) result (λ is_setting. keyword_form.attribute_word
+        (column.word 3 (words_at text.now line.now)) ≡ Some (meaning.set_attribute is_setting)) }
 {
     let word = needed(text, line, 3)?;
     is_of_setting(word, kind)
@@ -311,8 +324,11 @@ fn sets_setting(text: &Lines<'_>, line: &Line, kind: LinkWord) -> Result<bool, C
 // The value of an action.
 fn set_value(text: &Lines<'_>, line: &Line, is_setting: bool) -> Result<Asked, Cause>
     requires lies { LiesIn text.now.text line.now }
-    requires attribute { keyword_form.attribute_word (column.word 3 (words_at text.now line.now)) ≡ Some (meaning.set_attribute is_setting) }
-    ensures { Judged (column.needed (form.set_value (keyword_form.attribute_word (column.word 3 (words_at text.now line.now)))) 5 (words_at text.now line.now)) result (IsSet (words_at text.now line.now)) }
+    requires attribute { keyword_form.attribute_word (column.word 3 (words_at text.now line.now))
+        ≡ Some (meaning.set_attribute is_setting) }
+    ensures { Judged (column.needed (form.set_value
+        (keyword_form.attribute_word (column.word 3 (words_at text.now line.now)))) 5
+        (words_at text.now line.now)) result (IsSet (words_at text.now line.now)) }
 {
     if is_setting {
         let number = number(text, line, 5)?;
@@ -343,14 +359,15 @@ fn action(text: &Lines<'_>, line: &Line) -> Result<ActionLine, Cause>
     })
 }
 
-/// Reads a line of a rule, whatever stands before it; `acting` says that a THEN of the same rule does, so that an AND line holds
-/// an action. Refused are, at the first word that is wrong: a wrong or missing keyword and a further word (Syntax), an attribute
-/// that its object can't have (Syntax), an ID longer than 31 bytes (Limit 3), a number's form or size (Number), what
-/// [`read_time`](crate::read_time) and [`read_clock`](crate::read_clock) refuse, and what isn't supported: DEMAND, FILLTIME and
-/// DRAINTIME, and quantities that are equal or not (Unsupported 10).
+/// Reads a line of a rule, whatever stands before it; `acting` says that a THEN of the same rule does, so that an AND
+/// line holds an action. Refused are, at the first word that is wrong: a wrong or missing keyword and a further word
+/// (Syntax), an attribute that its object can't have (Syntax), an ID longer than 31 bytes (Limit 3), a number's form
+/// or size (Number), what [`read_time`](crate::read_time) and [`read_clock`](crate::read_clock) refuse, and what
+/// isn't supported: DEMAND, FILLTIME and DRAINTIME, and quantities that are equal or not (Unsupported 10).
 pub fn read_rule_line(text: &Lines<'_>, line: &Line, acting: bool) -> Result<RuleLine, Cause>
     requires { LiesIn text.now.text line.now }
-    ensures { Judged (form.line_words acting (words_at text.now line.now)) result (IsRuleLine acting (words_at text.now line.now)) }
+    ensures { Judged (form.line_words acting (words_at text.now line.now)) result
+        (IsRuleLine acting (words_at text.now line.now)) }
 {
     let Some(word) = rule_word(or_empty(text, line, 0)) else {
         return Err(Cause::Syntax);

@@ -42,7 +42,8 @@ pub enum TimeSet {
 // TIMESTEP and a time of at least a second.
 fn step(text: &Lines<'_>, line: &Line) -> Result<u32, Cause>
     requires { LiesIn text.now.text line.now }
-    ensures { Judged (form.step_line (words_at text.now line.now)) result (λ seconds. seconds ≡ time_seconds 2 (words_at text.now line.now)) }
+    ensures { Judged (form.step_line (words_at text.now line.now)) result
+        (λ seconds. seconds ≡ time_seconds 2 (words_at text.now line.now)) }
 {
     keyword(text, line, 1, b"TIMESTEP")?;
     read_time_from(text, line, 2, 1)
@@ -51,7 +52,9 @@ fn step(text: &Lines<'_>, line: &Line) -> Result<u32, Cause>
 // TIMESTEP and a time of at least a second, or START and a time; and whether it is a step.
 fn step_or_start(text: &Lines<'_>, line: &Line) -> Result<(bool, u32), Cause>
     requires { LiesIn text.now.text line.now }
-    ensures { Judged (form.step_or_start_line (words_at text.now line.now)) result (λ set. (set.0 ≡ column.word_is 1 (codes "TIMESTEP") (words_at text.now line.now)) × (set.1 ≡ time_seconds 2 (words_at text.now line.now))) }
+    ensures { Judged (form.step_or_start_line (words_at text.now line.now)) result
+        (λ set. (set.0 ≡ column.word_is 1 (codes "TIMESTEP") (words_at text.now line.now))
+        × (set.1 ≡ time_seconds 2 (words_at text.now line.now))) }
 {
     let is_step = either_keyword(text, line, 1, b"TIMESTEP", b"START")?;
     let least = if is_step { 1 } else { 0 };
@@ -62,17 +65,20 @@ fn step_or_start(text: &Lines<'_>, line: &Line) -> Result<(bool, u32), Cause>
 // START CLOCKTIME and a time of day.
 fn start(text: &Lines<'_>, line: &Line) -> Result<u32, Cause>
     requires { LiesIn text.now.text line.now }
-    ensures { Judged (form.start_line (words_at text.now line.now)) result (λ seconds. seconds ≡ clock_seconds 2 (words_at text.now line.now)) }
+    ensures { Judged (form.start_line (words_at text.now line.now)) result
+        (λ seconds. seconds ≡ clock_seconds 2 (words_at text.now line.now)) }
 {
     keyword(text, line, 1, b"CLOCKTIME")?;
     read_clock(text, line, 2)
 }
 
-/// Reads a line of times. Refused are, at the first word that is wrong: another first or second word (Syntax), and what
-/// [`read_time`](crate::read_time) and [`read_clock`](crate::read_clock) refuse; a step of less than a second is out of range.
+/// Reads a line of times. Refused are, at the first word that is wrong: another first or second word (Syntax), and
+/// what [`read_time`](crate::read_time) and [`read_clock`](crate::read_clock) refuse; a step of less than a second is
+/// out of range.
 pub fn read_time_line(text: &Lines<'_>, line: &Line) -> Result<TimeSet, Cause>
     requires { LiesIn text.now.text line.now }
-    ensures { Judged (form.time_line (words_at text.now line.now)) result (λ set. set ≡ time_set (words_at text.now line.now)) }
+    ensures { Judged (form.time_line (words_at text.now line.now)) result
+        (λ set. set ≡ time_set (words_at text.now line.now)) }
 {
     let Some(time) = time_word(or_empty(text, line, 0)) else {
         return Err(Cause::Syntax);

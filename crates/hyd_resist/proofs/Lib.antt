@@ -1,4 +1,3 @@
 pub mod Exponents
-pub mod PressurePairs
 pub mod PipePairs
 pub mod Refusals

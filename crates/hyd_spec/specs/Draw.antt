@@ -9,7 +9,8 @@ use Rattle.hyd_spec.specs.Network.{junction_count, tank_count}
 use Rattle.hyd_spec.specs.Outflow.{FollowsDemand, FollowsEmitter}
 use Rattle.hyd_spec.specs.Assignment.{Assignment, LinksFollow, IsBalanced, node_heads, head_at, flow_at, where_so, net_outflow}
 
--- Junction number j, at which q is drawn: its demand and its emitter follow its pressure, and it balances with q besides.
+-- Junction number j, at which q is drawn: its demand and its emitter follow its pressure, and it balances with q
+-- besides.
 pub record JunctionObeysDrawing (network : Project) (time S : ℕ) (assignment : Assignment) (q : ℤ) (j : ℕ)
     (junction : Junction) : Type 0 where
   pub demand : FollowsDemand network time junction S
@@ -19,7 +20,8 @@ pub record JunctionObeysDrawing (network : Project) (time S : ℕ) (assignment :
   pub balance : IsBalanced S (net_outflow j network.links.list assignment.flows +ℤ q)
       (flow_at assignment.demands j) (flow_at assignment.emitters j)
 
--- An assignment, as of a period without a draw, but that q S-th parts of a flow tick are drawn at junction number `place`.
+-- An assignment, as of a period without a draw, but that q S-th parts of a flow tick are drawn at junction number
+-- `place`.
 pub record IsAssignmentDrawing (network : Project) (S time : ℕ) (levels : List ℤ) (tanks : List TankState)
     (links : List LinkState) (place : ℕ) (q : ℤ) (assignment : Assignment) : Type 0 where
   pub scale : 1 ≤ S

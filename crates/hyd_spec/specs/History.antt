@@ -19,7 +19,8 @@ tank_states S (tank ∷ tanks) (level ∷ levels) = tank_state S tank level ∷ 
 
 -- A period begins at a time with levels and volumes, each tank in the state of its level, and the links in the states
 -- that pump patterns and controls give them, from those commanded before.
-pub record Begins (network : Project) (S time : ℕ) (levels volumes : List ℤ) (commanded : List LinkState) (period : Period) : Type 0 where
+pub record Begins (network : Project) (S time : ℕ) (levels volumes : List ℤ) (commanded : List LinkState)
+    (period : Period) : Type 0 where
   pub at_time : period.time ≡ time
   pub at_levels : period.levels ≡ levels
   pub at_volumes : period.volumes ≡ volumes

@@ -75,9 +75,11 @@ reached_after network S period k tank above target seconds =
 -- that wasn't empty that of its minimum, or the level of a control that didn't hold at the start is reached.
 pub data EndsByLevel (network : Project) (S : ℕ) (period : Period) (seconds : ℕ) : Type 0 where
   full : (k : ℕ) (tank : Tank) → slice_get network.tanks.list k ≡ Some tank → slice_get period.tanks k ≢ Some Full
-      → IsTrue (is_at_maximum S (content_bounds (walls_of network tank) tank) (exact_after network period k tank seconds)) → EndsByLevel network S period seconds
+      → IsTrue (is_at_maximum S (content_bounds (walls_of network tank) tank) (exact_after network period k tank seconds))
+      → EndsByLevel network S period seconds
   empty : (k : ℕ) (tank : Tank) → slice_get network.tanks.list k ≡ Some tank → slice_get period.tanks k ≢ Some Empty
-      → IsTrue (is_at_minimum S (content_bounds (walls_of network tank) tank) (exact_after network period k tank seconds)) → EndsByLevel network S period seconds
+      → IsTrue (is_at_minimum S (content_bounds (walls_of network tank) tank) (exact_after network period k tank seconds))
+      → EndsByLevel network S period seconds
   control : (control : Control) (k : ℕ) (above : Bool) (ticks : ℤ) (tank : Tank)
       → Contains network.controls.list control → control.when ≡ AtLevel k above ticks
       → slice_get network.tanks.list k ≡ Some tank

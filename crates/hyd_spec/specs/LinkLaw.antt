@@ -75,7 +75,8 @@ is_empty_tank network tanks node =
 -- The node is a tank that overflows: where it is full it takes further inflow, which is spilled.
 abbrev pub overflows : Project → ℕ → Bool
 overflows network node =
-    is_tank network node && option_map_or (λ (tank : Tank). tank.overflow) (slice_get network.tanks.list (tank_number network node)) false
+    is_tank network node
+    && option_map_or (λ (tank : Tank). tank.overflow) (slice_get network.tanks.list (tank_number network node)) false
 
 -- Nothing flows into the node: it is a full tank that doesn't overflow.
 abbrev pub takes_nothing : Project → List TankState → ℕ → Bool

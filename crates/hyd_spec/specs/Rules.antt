@@ -2,7 +2,7 @@
 -- OR binds tighter than AND: a premise is a row of groups joined by AND, each a row of clauses joined by OR.
 -- Source: EPANET 2.2 User Manual, chapter 3 (rule-based controls) and appendix C ([RULES]); the order of AND and OR,
 -- equality of times within a rule step and flows without their sign are this program's.
-use Rattle.std.specs.Prelude.{ℕ, suc, ◌+◌, ◌*◌, ◌-◌, ◌%◌, ℤ, pos, ◌-ℤ◌, Bool, true, false, ◌&&◌, not, nat_lt, nat_le, List, [], ◌∷◌, ◌++◌, Option, Some, None, map, slice_get, slice_index_or, int_lt, int_le, unsigned_abs, if◌then◌else◌, ◌==◌}
+use Rattle.std.specs.Prelude.{ℕ, suc, ◌+◌, ◌*◌, ◌-◌, ◌%◌, ℤ, pos, ◌-ℤ◌, Bool, true, false, ◌&&◌, not, nat_lt, nat_le, List, [], ◌∷◌, ◌++◌, Option, Some, None, map, slice_get, slice_index_or, int_lt, unsigned_abs, if◌then◌else◌, ◌==◌}
 use Rattle.std.specs.List.{list_any, list_all}
 use Rattle.std.specs.Option.{option_map_or, option_and_then}
 use Rattle.hyd_spec.specs.Types.{Project, Rule, RuleClause, Joined, And, Or, Clause, What, Head, Pressure, Level, Flow, Setting, Status, Time, Clock, Relation, Less, NotMore, More, NotLess, Equal, Unequal, Value, Amount, ValueOpen, ValueClosed, ValueActive, Action, LinkState, Open, Closed, Speed, Throttle, Limit, Change, ByRule}

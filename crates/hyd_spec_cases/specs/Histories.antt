@@ -11,6 +11,7 @@ example_period network = record {
   time = 0;
   length = 0;
   levels = [];
+  volumes = [];
   tanks = [];
   links = initial_links network;
   assignment = record {

@@ -4,11 +4,8 @@ pub mod Capacities
 pub mod City
 pub mod Single
 pub mod Forms
-<<<<<<< HEAD
 pub mod Input
-=======
 pub mod Histories
->>>>>>> origin/main
 pub mod Tanks
 pub mod Curves
 pub mod Cylinders

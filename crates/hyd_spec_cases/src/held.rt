@@ -19,13 +19,17 @@ pub fn flows()
 
 /// The draw with which each junction would pass besides, on both sides, under two vectors.
 pub fn draws()
-    ensures upper_first { map (λ u. passing_draw sample Upper u 0 first) ((pos 90 ∷ pos 70 ∷ []) ∷ (pos 40 ∷ pos 45 ∷ []) ∷ [])
+    ensures upper_first { map (λ u. passing_draw sample Upper u 0 first) ((pos 90 ∷ pos 70 ∷ [])
+        ∷ (pos 40 ∷ pos 45 ∷ []) ∷ [])
         ≡ neg_ℤ (pos 140830) ∷ pos 521316 ∷ [] }
-    ensures upper_second { map (λ u. passing_draw sample Upper u 1 second) ((pos 90 ∷ pos 70 ∷ []) ∷ (pos 40 ∷ pos 45 ∷ []) ∷ [])
+    ensures upper_second { map (λ u. passing_draw sample Upper u 1 second) ((pos 90 ∷ pos 70 ∷ [])
+        ∷ (pos 40 ∷ pos 45 ∷ []) ∷ [])
         ≡ neg_ℤ (pos 52110) ∷ neg_ℤ (pos 40003) ∷ [] }
-    ensures lower_first { map (λ u. passing_draw sample Lower u 0 first) ((pos 90 ∷ pos 70 ∷ []) ∷ (pos 40 ∷ pos 45 ∷ []) ∷ [])
+    ensures lower_first { map (λ u. passing_draw sample Lower u 0 first) ((pos 90 ∷ pos 70 ∷ [])
+        ∷ (pos 40 ∷ pos 45 ∷ []) ∷ [])
         ≡ neg_ℤ (pos 237296) ∷ pos 521172 ∷ [] }
-    ensures lower_second { map (λ u. passing_draw sample Lower u 1 second) ((pos 90 ∷ pos 70 ∷ []) ∷ (pos 40 ∷ pos 45 ∷ []) ∷ [])
+    ensures lower_second { map (λ u. passing_draw sample Lower u 1 second) ((pos 90 ∷ pos 70 ∷ [])
+        ∷ (pos 40 ∷ pos 45 ∷ []) ∷ [])
         ≡ neg_ℤ (pos 140528) ∷ neg_ℤ (pos 40126) ∷ [] }
 {}
 

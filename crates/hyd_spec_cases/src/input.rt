@@ -1,28 +1,30 @@
-//! Small texts of input files, each with the line and cause of its fault, as an independent reader has them. Capacities out of
-//! range are left out.
+//! Small texts of input files, each with the line and cause of its fault, as an independent reader has them. Capacities
+//! out of range are left out.
 #![tactic(auto, unfolding(hyd_lex::specs::Lines::items_of, hyd_lex::specs::Lines::kind_of, hyd_lex::specs::Headings::read_section, hyd_lex::specs::Headings::is_passed_over, hyd_lex::specs::Headings::heading_kind, hyd_lex::specs::Bytes::words_in, hyd_lex::specs::Bytes::is_keyword, hyd_num::specs::Numeral::is_numeral, hyd_num::specs::Numeral::magnitude_of, hyd_num::specs::Numeral::nano_of, hyd_spec_input::specs::Keywords::flow_unit, hyd_spec_input::specs::Keywords::option_word, hyd_spec_input::specs::Keywords::time_word, hyd_spec_input::specs::Keywords::link_word, hyd_spec_input::specs::Keywords::node_word, hyd_spec_input::specs::Keywords::object_word, hyd_spec_input::specs::Keywords::attribute_word, hyd_spec_input::specs::Keywords::relation_word, hyd_spec_input::specs::Keywords::rule_word, hyd_spec_input::specs::Moments::unit_seconds))]
 
-ghost use Rattle.std.specs.Prelude.{◌≡◌, codes, Some, None};
+ghost use Rattle.std.specs.Prelude.{◌≡◌, ◌++◌, codes, Some, None};
 ghost use Rattle.hyd_net.specs.declared.cause.Cause.TheVariants.{Syntax, Number, Range, DuplicateId, UnknownName, Unsupported, Limit, Missing};
-ghost use Rattle.hyd_spec_cases.specs.Input.{fault_of};
+ghost use Rattle.hyd_spec_cases.specs.Input.{fault_of, front, one_valve, town, pump_with, valve_with, tank_with, every_section};
 
 /// Texts without a fault: one that has every section and every kind of row, and a valve.
 pub fn whole_texts()
-    ensures every_section { fault_of (codes "[OPTIONS]\nUNITS CMD\nHEADLOSS C-M\nDEMAND MODEL PDA\nMINIMUM PRESSURE 1\nREQUIRED PRESSURE 2\nDEMAND MULTIPLIER 1.5\nPRESSURE EXPONENT 0.5\nPRESSURE PSI\nSPECIFIC GRAVITY 1\nEMITTER EXPONENT .5\nPATTERN Q\nTRIALS 40\n[TIMES]\nDURATION 24\nHYDRAULIC TIMESTEP 1:00\nPATTERN TIMESTEP 1:00:00\nPATTERN START 0\nREPORT TIMESTEP 60 MIN\nREPORT START 0 SEC\nSTART CLOCKTIME 6 AM\nRULE TIMESTEP 5 MIN\nQUALITY TIMESTEP 0:05\nSTATISTIC NONE\n[PATTERNS]\nQ 1 2 0.5\nQ 1\n[JUNCTIONS]\nJ 0 5 Q\nK 3\n[RESERVOIRS]\nR 100 Q\n[TANKS]\nT 10 5 0 10 20 0\nW 0 4 1 9 0 0 C YES\n[PIPES]\nP R J 100 100 0.01 0 CLOSED\nC J K 100 100 0.01 CV\n[CURVES]\nH 1 30\nE 0 40\nE 10 30\nE 20 0\nL 0 40\nL 1000 30\nL 2000 15\nL 3000 0\nG 0 0\nG 100 1\nG 200 4\nC 0 0\nC 5 500\nC 10 2000\n[PUMPS]\nU R K HEAD H SPEED 1.1 PATTERN Q\nX R K HEAD E\nY R K PATTERN Q HEAD L\n[VALVES]\nV K T 300 TCV 5 0\nF J T 300 FCV 50\nB J W 300 GPV G 2\n[DEMANDS]\nJ 4 Q x\nJ 5\n[EMITTERS]\nK 2\n[STATUS]\nU 0.5\nV OPEN\nB CLOSED\n[CONTROLS]\nLINK P OPEN IF NODE T BELOW 3\nPUMP U 1 AT CLOCKTIME 7:30 PM\nVALVE F 3 AT TIME 4:30\n[RULES]\nRULE 1\nIF TANK T LEVEL > 1\nAND SYSTEM TIME >= 2\nOR LINK P STATUS IS OPEN\nOR NODE J PRESSURE BELOW 4\nAND SYSTEM CLOCKTIME = 3 PM\nAND PUMP U SETTING > 0.5\nOR VALVE V FLOW ABOVE 2\nTHEN VALVE V SETTING IS 5\nAND PIPE P STATUS = CLOSED\nELSE PUMP U STATUS IS OPEN\nPRIORITY 3\n") ≡ None }
-    ensures one_valve { fault_of (codes "[OPTIONS]\nUNITS CMD\nHEADLOSS C-M\n[JUNCTIONS]\nJ 0 1000\n[RESERVOIRS]\nR 100\n[VALVES]\nV R J 304.8 TCV 100 0\n") ≡ None }
+    ensures every_section { fault_of every_section ≡ None }
+    ensures one_valve { fault_of one_valve ≡ None }
 {}
 
-/// Faults of lines: a word before the first heading, headings of no section or of two words, bytes that aren't plain. After [END] nothing is read.
+/// Faults of lines: a word before the first heading, headings of no section or of two words, bytes that aren't plain.
+/// After [END] nothing is read.
 pub fn lines()
     ensures no_section { fault_of (codes "J 0\n[JUNCTIONS]") ≡ Some (1, Syntax) }
     ensures unknown_section { fault_of (codes "[TITLE]\n[SEGMENTS]") ≡ Some (2, Syntax) }
     ensures two_words { fault_of (codes "[PIPES] x") ≡ Some (1, Syntax) }
-    ensures delete { fault_of (codes "[PIPES]\nP\x7f") ≡ Some (2, Syntax) }
+    ensures delete { fault_of (codes "[PIPES]\nP\u{7f}") ≡ Some (2, Syntax) }
     ensures after_a_row { fault_of (codes "[JUNCTIONS]\nJ x\n[SEGMENTS]") ≡ Some (2, Number) }
     ensures after_the_end { fault_of (codes "[END]\n[SEGMENTS]") ≡ Some (0, Unsupported 1) }
 {}
 
-/// Rows of nodes that are wrong by themselves: too few and too many words, no number, an ID of 32 bytes, levels out of order, a diameter out of range, another word than YES or NO.
+/// Rows of nodes that are wrong by themselves: too few and too many words, no number, an ID of 32 bytes, levels out
+/// of order, a diameter out of range, another word than YES or NO.
 pub fn nodes()
     ensures too_few { fault_of (codes "[JUNCTIONS]\nJ") ≡ Some (2, Syntax) }
     ensures too_many { fault_of (codes "[JUNCTIONS]\nJ 0 1 P x") ≡ Some (2, Syntax) }
@@ -32,11 +34,12 @@ pub fn nodes()
     ensures levels { fault_of (codes "[TANKS]\nT 0 5 6 10 20") ≡ Some (2, Range) }
     ensures negative_level { fault_of (codes "[TANKS]\nT 0 -1 0 10 20") ≡ Some (2, Range) }
     ensures small_diameter { fault_of (codes "[TANKS]\nT 0 5 0 10 0.09") ≡ Some (2, Range) }
-    ensures any_diameter_with_a_curve { fault_of (codes "[OPTIONS]\nUNITS CMD\nHEADLOSS C-M\n[CURVES]\nC 0 0\nC 10 500\n[TANKS]\nT 0 4 0 10 0 0 C\n") ≡ None }
+    ensures any_diameter_with_a_curve { fault_of (tank_with (codes "C 0 0\nC 10 500\n")) ≡ None }
     ensures overflow { fault_of (codes "[TANKS]\nT 0 5 0 10 20 0 * MAYBE") ≡ Some (2, Syntax) }
 {}
 
-/// Rows of links that are wrong by themselves: ends that are one, a length of 0, another status, constant power, a keyword twice, no curve, a speed above 10, valves that aren't supported, a loss coefficient below 0.
+/// Rows of links that are wrong by themselves: ends that are one, a length of 0, another status, constant power, a
+/// keyword twice, no curve, a speed above 10, valves that aren't supported, a loss coefficient below 0.
 pub fn links()
     ensures one_end { fault_of (codes "[PIPES]\nP A A 1 1 1") ≡ Some (2, Range) }
     ensures no_length { fault_of (codes "[PIPES]\nP A B 0 1 1") ≡ Some (2, Range) }
@@ -76,7 +79,8 @@ pub fn options()
     ensures unused { fault_of (codes "[OPTIONS]\nMAP any words") ≡ Some (0, Unsupported 1) }
 {}
 
-/// Lines of times that are wrong: minutes of 60, another unit, a unit behind a colon, a time above 10^8 seconds, a step of no second, 13 PM.
+/// Lines of times that are wrong: minutes of 60, another unit, a unit behind a colon, a time above 10^8 seconds, a
+/// step of no second, 13 PM.
 pub fn times()
     ensures minutes { fault_of (codes "[TIMES]\nDURATION 1:60") ≡ Some (2, Syntax) }
     ensures unit { fault_of (codes "[TIMES]\nDURATION 1 WEEK") ≡ Some (2, Syntax) }
@@ -97,75 +101,108 @@ pub fn controls()
     ensures level { fault_of (codes "[CONTROLS]\nLINK P OPEN IF NODE T ABOVE x") ≡ Some (2, Number) }
 {}
 
-/// Lines of rules that are wrong by themselves: out of order, without THEN, attributes and relations that their object can't have or that aren't supported.
+/// Lines of rules that are wrong by themselves: out of order, without THEN, attributes and relations that their
+/// object can't have or that aren't supported.
 pub fn rules()
     ensures no_rule { fault_of (codes "[RULES]\nIF SYSTEM TIME > 1") ≡ Some (2, Syntax) }
     ensures no_if { fault_of (codes "[RULES]\nRULE 1\nTHEN PIPE P STATUS IS OPEN") ≡ Some (3, Syntax) }
     ensures no_then { fault_of (codes "[RULES]\nRULE 1\nIF SYSTEM TIME > x\nRULE 2") ≡ Some (2, Syntax) }
-    ensures order { fault_of (codes "[RULES]\nRULE 1\nIF SYSTEM TIME > 1\nTHEN PIPE P STATUS IS OPEN\nIF SYSTEM TIME > 2") ≡ Some (5, Syntax) }
-    ensures attribute { fault_of (codes "[RULES]\nRULE 1\nIF RESERVOIR R PRESSURE > 1\nTHEN PIPE P STATUS IS OPEN") ≡ Some (3, Syntax) }
-    ensures unsupported_attribute { fault_of (codes "[RULES]\nRULE 1\nIF NODE J DEMAND > 1\nTHEN PIPE P STATUS IS OPEN") ≡ Some (3, Unsupported 10) }
-    ensures equal_heads { fault_of (codes "[RULES]\nRULE 1\nIF NODE J HEAD = 1\nTHEN PIPE P STATUS IS OPEN") ≡ Some (3, Unsupported 10) }
-    ensures greater_status { fault_of (codes "[RULES]\nRULE 1\nIF LINK P STATUS > OPEN\nTHEN PIPE P STATUS IS OPEN") ≡ Some (3, Syntax) }
-    ensures setting_of_a_pipe { fault_of (codes "[RULES]\nRULE 1\nIF SYSTEM TIME > 1\nTHEN PIPE P SETTING IS 5") ≡ Some (4, Syntax) }
+    ensures order { fault_of (
+        codes "[RULES]\nRULE 1\nIF SYSTEM TIME > 1\nTHEN PIPE P STATUS IS OPEN\nIF SYSTEM TIME > 2")
+        ≡ Some (5, Syntax) }
+    ensures attribute { fault_of (codes "[RULES]\nRULE 1\nIF RESERVOIR R PRESSURE > 1\nTHEN PIPE P STATUS IS OPEN")
+        ≡ Some (3, Syntax) }
+    ensures unsupported_attribute { fault_of (
+        codes "[RULES]\nRULE 1\nIF NODE J DEMAND > 1\nTHEN PIPE P STATUS IS OPEN")
+        ≡ Some (3, Unsupported 10) }
+    ensures equal_heads { fault_of (codes "[RULES]\nRULE 1\nIF NODE J HEAD = 1\nTHEN PIPE P STATUS IS OPEN")
+        ≡ Some (3, Unsupported 10) }
+    ensures greater_status { fault_of (codes "[RULES]\nRULE 1\nIF LINK P STATUS > OPEN\nTHEN PIPE P STATUS IS OPEN")
+        ≡ Some (3, Syntax) }
+    ensures setting_of_a_pipe { fault_of (codes "[RULES]\nRULE 1\nIF SYSTEM TIME > 1\nTHEN PIPE P SETTING IS 5")
+        ≡ Some (4, Syntax) }
 {}
 
 /// Rows that are wrong with the others: an ID twice, names that nothing has or that something of another kind has.
 pub fn names()
-    ensures repeated_node { fault_of (codes "[OPTIONS]\nUNITS CMD\nHEADLOSS C-M\n[JUNCTIONS]\nJ 0 1000\nJ 0 0\n[RESERVOIRS]\nR 100\n[VALVES]\nV R J 304.8 TCV 100 0\n") ≡ Some (6, DuplicateId) }
-    ensures no_node { fault_of (codes "[OPTIONS]\nUNITS CMD\nHEADLOSS C-M\n[JUNCTIONS]\nJ 0 1000\n[RESERVOIRS]\nR 100\n[VALVES]\nV R K 304.8 TCV 100 0\n") ≡ Some (9, UnknownName) }
-    ensures no_pattern { fault_of (codes "[OPTIONS]\nUNITS CMD\nHEADLOSS C-M\n[JUNCTIONS]\nJ 0 1 Q") ≡ Some (5, UnknownName) }
-    ensures no_curve { fault_of (codes "[OPTIONS]\nUNITS CMD\nHEADLOSS C-M\n[RESERVOIRS]\nA 0\nB 1\n[PUMPS]\nU A B HEAD C") ≡ Some (8, UnknownName) }
-    ensures no_volume_curve { fault_of (codes "[OPTIONS]\nUNITS CMD\nHEADLOSS C-M\n[TANKS]\nT 0 4 0 10 0 0 C") ≡ Some (5, UnknownName) }
-    ensures demand_of_a_reservoir { fault_of (codes "[OPTIONS]\nUNITS CMD\nHEADLOSS C-M\n[RESERVOIRS]\nR 1\n[DEMANDS]\nR 1") ≡ Some (7, UnknownName) }
-    ensures other_kind { fault_of (codes "[OPTIONS]\nUNITS CMD\nHEADLOSS C-M\n[JUNCTIONS]\nJ 0 0\n[RESERVOIRS]\nR 100\n[TANKS]\nT 0 5 0 10 20 0\n[PIPES]\nP R J 100 100 0.01 0\nC J T 100 100 0.01 0 CV\n[CURVES]\nH 1 30\n[PUMPS]\nU R J HEAD H\n[VALVES]\nV J T 300 TCV 5 0\n[CONTROLS]\nPUMP P OPEN AT TIME 1") ≡ Some (20, UnknownName) }
-    ensures rule_twice { fault_of (codes "[OPTIONS]\nUNITS CMD\nHEADLOSS C-M\n[JUNCTIONS]\nJ 0 0\n[RESERVOIRS]\nR 100\n[TANKS]\nT 0 5 0 10 20 0\n[PIPES]\nP R J 100 100 0.01 0\nC J T 100 100 0.01 0 CV\n[CURVES]\nH 1 30\n[PUMPS]\nU R J HEAD H\n[VALVES]\nV J T 300 TCV 5 0\n[RULES]\nRULE 1\nIF SYSTEM TIME > 1\nTHEN PIPE P STATUS IS OPEN\nRULE 1\nIF SYSTEM TIME > 1\nTHEN PIPE P STATUS IS OPEN") ≡ Some (23, DuplicateId) }
-    ensures level_of_a_junction { fault_of (codes "[OPTIONS]\nUNITS CMD\nHEADLOSS C-M\n[JUNCTIONS]\nJ 0 0\n[RESERVOIRS]\nR 100\n[TANKS]\nT 0 5 0 10 20 0\n[PIPES]\nP R J 100 100 0.01 0\nC J T 100 100 0.01 0 CV\n[CURVES]\nH 1 30\n[PUMPS]\nU R J HEAD H\n[VALVES]\nV J T 300 TCV 5 0\n[RULES]\nRULE 1\nIF TANK J LEVEL > 1\nTHEN PIPE P STATUS IS OPEN") ≡ Some (21, UnknownName) }
+    ensures repeated_node { fault_of (front ++
+        codes "[JUNCTIONS]\nJ 0 1000\nJ 0 0\n[RESERVOIRS]\nR 100\n[VALVES]\nV R J 304.8 TCV 100 0\n")
+        ≡ Some (6, DuplicateId) }
+    ensures no_node { fault_of (front ++
+        codes "[JUNCTIONS]\nJ 0 1000\n[RESERVOIRS]\nR 100\n[VALVES]\nV R K 304.8 TCV 100 0\n")
+        ≡ Some (9, UnknownName) }
+    ensures no_pattern { fault_of (front ++ codes "[JUNCTIONS]\nJ 0 1 Q") ≡ Some (5, UnknownName) }
+    ensures no_curve { fault_of (front ++ codes "[RESERVOIRS]\nA 0\nB 1\n[PUMPS]\nU A B HEAD C")
+        ≡ Some (8, UnknownName) }
+    ensures no_volume_curve { fault_of (front ++ codes "[TANKS]\nT 0 4 0 10 0 0 C") ≡ Some (5, UnknownName) }
+    ensures demand_of_a_reservoir { fault_of (front ++ codes "[RESERVOIRS]\nR 1\n[DEMANDS]\nR 1")
+        ≡ Some (7, UnknownName) }
+    ensures other_kind { fault_of (town ++ codes "[CONTROLS]\nPUMP P OPEN AT TIME 1") ≡ Some (20, UnknownName) }
+    ensures rule_twice { fault_of (town ++
+        codes "[RULES]\nRULE 1\nIF SYSTEM TIME > 1\nTHEN PIPE P STATUS IS OPEN\nRULE 1\nIF SYSTEM TIME > 1\nTHEN PIPE P STATUS IS OPEN")
+        ≡ Some (23, DuplicateId) }
+    ensures level_of_a_junction { fault_of (town ++
+        codes "[RULES]\nRULE 1\nIF TANK J LEVEL > 1\nTHEN PIPE P STATUS IS OPEN")
+        ≡ Some (21, UnknownName) }
 {}
 
-/// States that a link can't have: a number for a pipe or a general purpose valve, any for a check valve, a speed above 10; a control on a reservoir.
+/// States that a link can't have: a number for a pipe or a general purpose valve, any for a check valve, a speed
+/// above 10; a control on a reservoir.
 pub fn states()
-    ensures number_for_a_pipe { fault_of (codes "[OPTIONS]\nUNITS CMD\nHEADLOSS C-M\n[JUNCTIONS]\nJ 0 0\n[RESERVOIRS]\nR 100\n[TANKS]\nT 0 5 0 10 20 0\n[PIPES]\nP R J 100 100 0.01 0\nC J T 100 100 0.01 0 CV\n[CURVES]\nH 1 30\n[PUMPS]\nU R J HEAD H\n[VALVES]\nV J T 300 TCV 5 0\n[STATUS]\nP 1") ≡ Some (20, Syntax) }
-    ensures number_for_a_general_valve { fault_of (codes "[OPTIONS]\nUNITS CMD\nHEADLOSS C-M\n[RESERVOIRS]\nA 12\nB 10\n[CURVES]\nG 0 0\nG 100 1\n[VALVES]\nV A B 300 GPV G 0\n[STATUS]\nV 1") ≡ Some (13, Syntax) }
-    ensures check_valve { fault_of (codes "[OPTIONS]\nUNITS CMD\nHEADLOSS C-M\n[JUNCTIONS]\nJ 0 0\n[RESERVOIRS]\nR 100\n[TANKS]\nT 0 5 0 10 20 0\n[PIPES]\nP R J 100 100 0.01 0\nC J T 100 100 0.01 0 CV\n[CURVES]\nH 1 30\n[PUMPS]\nU R J HEAD H\n[VALVES]\nV J T 300 TCV 5 0\n[STATUS]\nC OPEN") ≡ Some (20, Unsupported 11) }
-    ensures speed { fault_of (codes "[OPTIONS]\nUNITS CMD\nHEADLOSS C-M\n[JUNCTIONS]\nJ 0 0\n[RESERVOIRS]\nR 100\n[TANKS]\nT 0 5 0 10 20 0\n[PIPES]\nP R J 100 100 0.01 0\nC J T 100 100 0.01 0 CV\n[CURVES]\nH 1 30\n[PUMPS]\nU R J HEAD H\n[VALVES]\nV J T 300 TCV 5 0\n[STATUS]\nU 10.5") ≡ Some (20, Range) }
-    ensures coefficient { fault_of (codes "[OPTIONS]\nUNITS CMD\nHEADLOSS C-M\n[JUNCTIONS]\nJ 0 0\n[RESERVOIRS]\nR 100\n[TANKS]\nT 0 5 0 10 20 0\n[PIPES]\nP R J 100 100 0.01 0\nC J T 100 100 0.01 0 CV\n[CURVES]\nH 1 30\n[PUMPS]\nU R J HEAD H\n[VALVES]\nV J T 300 TCV 5 0\n[STATUS]\nV -1") ≡ Some (20, Range) }
-    ensures reservoir { fault_of (codes "[OPTIONS]\nUNITS CMD\nHEADLOSS C-M\n[JUNCTIONS]\nJ 0 0\n[RESERVOIRS]\nR 100\n[TANKS]\nT 0 5 0 10 20 0\n[PIPES]\nP R J 100 100 0.01 0\nC J T 100 100 0.01 0 CV\n[CURVES]\nH 1 30\n[PUMPS]\nU R J HEAD H\n[VALVES]\nV J T 300 TCV 5 0\n[CONTROLS]\nLINK P OPEN IF NODE R ABOVE 1") ≡ Some (20, Unsupported 8) }
-    ensures reservoir_before_check_valve { fault_of (codes "[OPTIONS]\nUNITS CMD\nHEADLOSS C-M\n[JUNCTIONS]\nJ 0 0\n[RESERVOIRS]\nR 100\n[TANKS]\nT 0 5 0 10 20 0\n[PIPES]\nP R J 100 100 0.01 0\nC J T 100 100 0.01 0 CV\n[CURVES]\nH 1 30\n[PUMPS]\nU R J HEAD H\n[VALVES]\nV J T 300 TCV 5 0\n[CONTROLS]\nLINK C OPEN IF NODE R ABOVE 1") ≡ Some (20, Unsupported 8) }
-    ensures number_before_reservoir { fault_of (codes "[OPTIONS]\nUNITS CMD\nHEADLOSS C-M\n[JUNCTIONS]\nJ 0 0\n[RESERVOIRS]\nR 100\n[TANKS]\nT 0 5 0 10 20 0\n[PIPES]\nP R J 100 100 0.01 0\nC J T 100 100 0.01 0 CV\n[CURVES]\nH 1 30\n[PUMPS]\nU R J HEAD H\n[VALVES]\nV J T 300 TCV 5 0\n[CONTROLS]\nLINK C 1 IF NODE R ABOVE 1") ≡ Some (20, Syntax) }
+    ensures number_for_a_pipe { fault_of (town ++ codes "[STATUS]\nP 1") ≡ Some (20, Syntax) }
+    ensures number_for_a_general_valve { fault_of (valve_with (codes "G 0 0\nG 100 1\n") ++ codes "[STATUS]\nV 1")
+        ≡ Some (13, Syntax) }
+    ensures check_valve { fault_of (town ++ codes "[STATUS]\nC OPEN") ≡ Some (20, Unsupported 11) }
+    ensures speed { fault_of (town ++ codes "[STATUS]\nU 10.5") ≡ Some (20, Range) }
+    ensures coefficient { fault_of (town ++ codes "[STATUS]\nV -1") ≡ Some (20, Range) }
+    ensures reservoir { fault_of (town ++ codes "[CONTROLS]\nLINK P OPEN IF NODE R ABOVE 1")
+        ≡ Some (20, Unsupported 8) }
+    ensures reservoir_before_check_valve { fault_of (town ++ codes "[CONTROLS]\nLINK C OPEN IF NODE R ABOVE 1")
+        ≡ Some (20, Unsupported 8) }
+    ensures number_before_reservoir { fault_of (town ++ codes "[CONTROLS]\nLINK C 1 IF NODE R ABOVE 1")
+        ≡ Some (20, Syntax) }
 {}
 
-/// Quantities out of range with the file's units: an elevation above 10,000 m, a demand above 10^8 m3/d, levels that are too close, pressures that are too close.
+/// Quantities out of range with the file's units: an elevation above 10,000 m, a demand above 10^8 m3/d, levels that
+/// are too close, pressures that are too close.
 pub fn ranges()
-    ensures elevation { fault_of (codes "[OPTIONS]\nUNITS CMD\nHEADLOSS C-M\n[JUNCTIONS]\nJ 10001") ≡ Some (5, Range) }
-    ensures demand { fault_of (codes "[OPTIONS]\nUNITS CMD\nHEADLOSS C-M\n[JUNCTIONS]\nJ 0 100000001") ≡ Some (5, Range) }
-    ensures flow_of_a_valve { fault_of (codes "[OPTIONS]\nUNITS CMD\nHEADLOSS C-M\n[JUNCTIONS]\nJ 0 1000\n[RESERVOIRS]\nR 100\n[VALVES]\nV R J 304.8 FCV 100000001 0\n") ≡ Some (9, Range) }
-    ensures reservoir_times_multiplier { fault_of (codes "[OPTIONS]\nUNITS CMD\nHEADLOSS C-M\n[RESERVOIRS]\nR 10000 P\n[PATTERNS]\nP 1 1.000000001") ≡ Some (5, Range) }
-    ensures close_levels { fault_of (codes "[OPTIONS]\nUNITS CMD\nHEADLOSS C-M\n[TANKS]\nT 0 0 0 0.003 20") ≡ Some (5, Range) }
-    ensures close_pressures { fault_of (codes "[OPTIONS]\nUNITS CMD\nHEADLOSS C-M\nDEMAND MODEL PDA\nREQUIRED PRESSURE 0.099999999") ≡ Some (5, Range) }
-    ensures level_of_a_control { fault_of (codes "[OPTIONS]\nUNITS CMD\nHEADLOSS C-M\n[JUNCTIONS]\nJ 0 0\n[RESERVOIRS]\nR 100\n[TANKS]\nT 0 5 0 10 20 0\n[PIPES]\nP R J 100 100 0.01 0\nC J T 100 100 0.01 0 CV\n[CURVES]\nH 1 30\n[PUMPS]\nU R J HEAD H\n[VALVES]\nV J T 300 TCV 5 0\n[CONTROLS]\nLINK P OPEN IF NODE T ABOVE 10001") ≡ Some (20, Range) }
+    ensures elevation { fault_of (front ++ codes "[JUNCTIONS]\nJ 10001") ≡ Some (5, Range) }
+    ensures demand { fault_of (front ++ codes "[JUNCTIONS]\nJ 0 100000001") ≡ Some (5, Range) }
+    ensures flow_of_a_valve { fault_of (front ++
+        codes "[JUNCTIONS]\nJ 0 1000\n[RESERVOIRS]\nR 100\n[VALVES]\nV R J 304.8 FCV 100000001 0\n")
+        ≡ Some (9, Range) }
+    ensures reservoir_times_multiplier { fault_of (front ++
+        codes "[RESERVOIRS]\nR 10000 P\n[PATTERNS]\nP 1 1.000000001")
+        ≡ Some (5, Range) }
+    ensures close_levels { fault_of (front ++ codes "[TANKS]\nT 0 0 0 0.003 20") ≡ Some (5, Range) }
+    ensures close_pressures { fault_of (front ++ codes "DEMAND MODEL PDA\nREQUIRED PRESSURE 0.099999999")
+        ≡ Some (5, Range) }
+    ensures level_of_a_control { fault_of (town ++ codes "[CONTROLS]\nLINK P OPEN IF NODE T ABOVE 10001")
+        ≡ Some (20, Range) }
 {}
 
 /// Curves: of a pump with one point, three and four, of a general purpose valve, and of a tank.
 pub fn curves()
-    ensures one_point { fault_of (codes "[OPTIONS]\nUNITS CMD\nHEADLOSS C-M\n[RESERVOIRS]\nA 0\nB 10\n[CURVES]\nC 1 30\n[PUMPS]\nU A B HEAD C\n") ≡ None }
-    ensures no_flow { fault_of (codes "[OPTIONS]\nUNITS CMD\nHEADLOSS C-M\n[RESERVOIRS]\nA 0\nB 10\n[CURVES]\nC 0 30\n[PUMPS]\nU A B HEAD C\n") ≡ Some (10, Unsupported 4) }
-    ensures two_points { fault_of (codes "[OPTIONS]\nUNITS CMD\nHEADLOSS C-M\n[RESERVOIRS]\nA 0\nB 10\n[CURVES]\nC 0 40\nC 1 30\n[PUMPS]\nU A B HEAD C\n") ≡ Some (11, Unsupported 4) }
-    ensures three_points { fault_of (codes "[OPTIONS]\nUNITS CMD\nHEADLOSS C-M\n[RESERVOIRS]\nA 0\nB 10\n[CURVES]\nC 0 40\nC 10 30\nC 20 0\n[PUMPS]\nU A B HEAD C\n") ≡ None }
-    ensures no_parabola { fault_of (codes "[OPTIONS]\nUNITS CMD\nHEADLOSS C-M\n[RESERVOIRS]\nA 0\nB 10\n[CURVES]\nC 0 40\nC 10 30\nC 20 1\n[PUMPS]\nU A B HEAD C\n") ≡ Some (12, Unsupported 4) }
-    ensures four_points { fault_of (codes "[OPTIONS]\nUNITS CMD\nHEADLOSS C-M\n[RESERVOIRS]\nA 0\nB 10\n[CURVES]\nC 0 40\nC 1000 30\nC 2000 15\nC 3000 0\n[PUMPS]\nU A B HEAD C\n") ≡ None }
-    ensures rising_heads { fault_of (codes "[OPTIONS]\nUNITS CMD\nHEADLOSS C-M\n[RESERVOIRS]\nA 0\nB 10\n[CURVES]\nC 0 40\nC 1000 30\nC 2000 31\nC 3000 0\n[PUMPS]\nU A B HEAD C\n") ≡ Some (13, Range) }
-    ensures high_start { fault_of (codes "[OPTIONS]\nUNITS CMD\nHEADLOSS C-M\n[RESERVOIRS]\nA 0\nB 10\n[CURVES]\nC 1000 900\nC 1001 800\nC 2000 15\nC 3000 0\n[PUMPS]\nU A B HEAD C\n") ≡ Some (13, Range) }
-    ensures losses { fault_of (codes "[OPTIONS]\nUNITS CMD\nHEADLOSS C-M\n[RESERVOIRS]\nA 12\nB 10\n[CURVES]\nG 0 0\nG 100 1\nG 200 4\n[VALVES]\nV A B 300 GPV G 0\n") ≡ None }
-    ensures loss_at_no_flow { fault_of (codes "[OPTIONS]\nUNITS CMD\nHEADLOSS C-M\n[RESERVOIRS]\nA 12\nB 10\n[CURVES]\nG 0 1\nG 100 2\n[VALVES]\nV A B 300 GPV G 0\n") ≡ Some (11, Range) }
-    ensures one_loss { fault_of (codes "[OPTIONS]\nUNITS CMD\nHEADLOSS C-M\n[RESERVOIRS]\nA 12\nB 10\n[CURVES]\nG 0 0\n[VALVES]\nV A B 300 GPV G 0\n") ≡ Some (10, Range) }
-    ensures volumes { fault_of (codes "[OPTIONS]\nUNITS CMD\nHEADLOSS C-M\n[CURVES]\nC 0 0\nC 5 500\nC 10 2000\n[TANKS]\nT 0 4 0 10 0 0 C\n") ≡ None }
-    ensures volumes_that_stay { fault_of (codes "[OPTIONS]\nUNITS CMD\nHEADLOSS C-M\n[CURVES]\nC 0 0\nC 5 0\nC 10 2000\n[TANKS]\nT 0 4 0 10 0 0 C\n") ≡ Some (9, Range) }
-    ensures short_of_the_maximum { fault_of (codes "[OPTIONS]\nUNITS CMD\nHEADLOSS C-M\n[CURVES]\nC 0 0\nC 9.9 2000\n[TANKS]\nT 0 4 0 10 0 0 C\n") ≡ Some (8, Range) }
+    ensures one_point { fault_of (pump_with (codes "C 1 30\n")) ≡ None }
+    ensures no_flow { fault_of (pump_with (codes "C 0 30\n")) ≡ Some (10, Unsupported 4) }
+    ensures two_points { fault_of (pump_with (codes "C 0 40\nC 1 30\n")) ≡ Some (11, Unsupported 4) }
+    ensures three_points { fault_of (pump_with (codes "C 0 40\nC 10 30\nC 20 0\n")) ≡ None }
+    ensures no_parabola { fault_of (pump_with (codes "C 0 40\nC 10 30\nC 20 1\n")) ≡ Some (12, Unsupported 4) }
+    ensures four_points { fault_of (pump_with (codes "C 0 40\nC 1000 30\nC 2000 15\nC 3000 0\n")) ≡ None }
+    ensures rising_heads { fault_of (pump_with (codes "C 0 40\nC 1000 30\nC 2000 31\nC 3000 0\n"))
+        ≡ Some (13, Range) }
+    ensures high_start { fault_of (pump_with (codes "C 1000 900\nC 1001 800\nC 2000 15\nC 3000 0\n"))
+        ≡ Some (13, Range) }
+    ensures losses { fault_of (valve_with (codes "G 0 0\nG 100 1\nG 200 4\n")) ≡ None }
+    ensures loss_at_no_flow { fault_of (valve_with (codes "G 0 1\nG 100 2\n")) ≡ Some (11, Range) }
+    ensures one_loss { fault_of (valve_with (codes "G 0 0\n")) ≡ Some (10, Range) }
+    ensures volumes { fault_of (tank_with (codes "C 0 0\nC 5 500\nC 10 2000\n")) ≡ None }
+    ensures volumes_that_stay { fault_of (tank_with (codes "C 0 0\nC 5 0\nC 10 2000\n")) ≡ Some (9, Range) }
+    ensures short_of_the_maximum { fault_of (tank_with (codes "C 0 0\nC 9.9 2000\n")) ≡ Some (8, Range) }
 {}
 
 /// What a whole file lacks: a head loss formula, and a reservoir or tank.
 pub fn lacks()
     ensures formula { fault_of (codes "") ≡ Some (0, Unsupported 1) }
-    ensures source { fault_of (codes "[OPTIONS]\nUNITS CMD\nHEADLOSS C-M\n") ≡ Some (0, Missing) }
+    ensures source { fault_of front ≡ Some (0, Missing) }
 {}

@@ -11,12 +11,9 @@ pub mod curves;
 pub mod decisions;
 pub mod enclosing;
 pub mod forms;
-<<<<<<< HEAD
-pub mod input;
-=======
 pub mod held;
 pub mod histories;
->>>>>>> origin/main
+pub mod input;
 pub mod levels;
 pub mod links;
 pub mod losses;

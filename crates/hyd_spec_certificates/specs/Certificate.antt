@@ -40,8 +40,8 @@ pub record IsCertificateHolding (held : Option HeldJunction) (grid : Grid) (prob
   pub in_box : All IsInBox u
   pub passes : Each grid.junctions (Suits held grid problem side u)
 
--- A vector that isn't one fails first at a junction: the first whose head lies outside the box; where all lie inside, the
--- first at which what is asked of it doesn't hold.
+-- A vector that isn't one fails first at a junction: the first whose head lies outside the box; where all lie inside,
+-- the first at which what is asked of it doesn't hold.
 pub data FailsFirst (held : Option HeldJunction) (grid : Grid) (problem : Problem) (side : Side) (u : List ℤ)
     : ℕ → Type 0 where
   outside : {i : ℕ} → i < length u → (IsInBox (head_at u i) → ⊥)

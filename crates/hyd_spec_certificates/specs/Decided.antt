@@ -158,8 +158,8 @@ greatest_magnitude x = unsigned_abs (int_max x.hi (neg_ℤ x.lo))
 -- The carried level intervals some seconds after the start.
 abbrev pub carried_at : Project → Grid → Standing → Record → ℕ → List Interval
 carried_at network grid standing row seconds =
-    map_from (λ k tank. carried_levels (walls_of network tank) tank (stocks_of_tank standing k) (inflow_of_tank network grid row k) seconds)
-    0 network.tanks.list
+    map_from (λ k tank. carried_levels (walls_of network tank) tank (stocks_of_tank standing k)
+    (inflow_of_tank network grid row k) seconds) 0 network.tanks.list
 
 -- What the rules look at, from below.
 abbrev pub readings_below : Project → Grid → Standing → Record → ℕ → Readings

@@ -16,9 +16,9 @@ use Rattle.hyd_spec_certificates.specs.NetOutflow.{net_low, net_high, margin}
 abbrev pub held_in : List ℤ → ℕ → HeldJunction
 held_in u junction = record { junction = junction; head = head_at u junction }
 
--- The flow box of a link whose first node was held: from the low flow under the UPPER vector, in which it stands at the
--- LOWER head of the certificates with none held, to the high flow under the LOWER vector, in which it stands at their UPPER
--- head; widened by the tolerance.
+-- The flow box of a link whose first node was held: from the low flow under the UPPER vector, in which it stands at
+-- the LOWER head of the certificates with none held, to the high flow under the LOWER vector, in which it stands at
+-- their UPPER head; widened by the tolerance.
 abbrev pub held_flow_box : GridLink → List ℤ → List ℤ → Interval
 held_flow_box link held_below held_above = widened (pos 10) (record {
   lo = low link.law (head_at held_above link.from -ℤ head_at held_above link.to);

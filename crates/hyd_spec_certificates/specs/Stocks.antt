@@ -1,7 +1,7 @@
 -- Stock intervals: what a tank's level interval and volume interval become under an interval of inflow, and when the tank
 -- reaches a target. Levels are in head ticks, volumes in volume ticks, inflows in flow ticks.
 -- Source: EPANET 2.2 User Manual, chapter 3 (tanks; curves), over intervals.
-use Rattle.std.specs.Prelude.{◌≡◌, ℕ, ◌≤◌, ℤ, pos, ◌+ℤ◌, ◌-ℤ◌, Bool, true, false, List, Option, Some, None, if◌then◌else◌}
+use Rattle.std.specs.Prelude.{ℕ, ℤ, pos, ◌+ℤ◌, ◌-ℤ◌, Bool, true, false, List, Option, Some, None, if◌then◌else◌}
 use Rattle.std.specs.Int.{int_max, int_min}
 use Rattle.hyd_spec.specs.Types.{Tank, VolumePoint}
 use Rattle.hyd_spec.specs.declared.TankState.{TankState}
@@ -123,11 +123,15 @@ state_of tank level = shared_state (tank_state 1 tank level.lo) (tank_state 1 ta
 -- At a second the stock that moves fastest toward the target has reached it: a rising one from the greatest stock and inflow, a
 -- falling one from the least.
 abbrev pub may_reach : Walls → Tank → Stocks → Interval → ℤ → Bool → ℕ → Bool
-may_reach walls tank stocks inflow target true seconds = has_reached 1 walls tank (greatest_stock stocks) inflow.hi true target seconds
-may_reach walls tank stocks inflow target false seconds = has_reached 1 walls tank (least_stock stocks) inflow.lo false target seconds
+may_reach walls tank stocks inflow target true seconds =
+    has_reached 1 walls tank (greatest_stock stocks) inflow.hi true target seconds
+may_reach walls tank stocks inflow target false seconds =
+    has_reached 1 walls tank (least_stock stocks) inflow.lo false target seconds
 
 -- At a second the stock that moves slowest toward the target has reached it: a rising one from the least stock and inflow, a
 -- falling one from the greatest.
 abbrev pub must_reach : Walls → Tank → Stocks → Interval → ℤ → Bool → ℕ → Bool
-must_reach walls tank stocks inflow target true seconds = has_reached 1 walls tank (least_stock stocks) inflow.lo true target seconds
-must_reach walls tank stocks inflow target false seconds = has_reached 1 walls tank (greatest_stock stocks) inflow.hi false target seconds
+must_reach walls tank stocks inflow target true seconds =
+    has_reached 1 walls tank (least_stock stocks) inflow.lo true target seconds
+must_reach walls tank stocks inflow target false seconds =
+    has_reached 1 walls tank (greatest_stock stocks) inflow.hi false target seconds

@@ -10,6 +10,5 @@ pub mod Commanding
 pub mod Stepping
 pub mod PrintedValues
 pub mod LinesHold
-pub mod Words
 pub mod Lines
 pub mod Running

@@ -9,7 +9,7 @@ use Rattle.hyd_num.proofs.Integers.{times_plus, times_minus}
 use Rattle.hyd_num.specs.Rational.{whole}
 use Rattle.hyd_num.specs.Decimals.{head_quantity, flow_quantity}
 use Rattle.hyd_net.specs.Sizes.{HasSizes}
-use Rattle.hyd_net.specs.Made.{IsKindMade, IsStateMade}
+use Rattle.hyd_net.specs.Made.{IsKindMade}
 use Rattle.hyd_net.specs.Commands.{IsControl, IsMoment}
 use Rattle.hyd_net.specs.Sound.{Sound}
 use Rattle.hyd_spec.specs.Types.{Project, Tank, Link, LinkState, Closed, Control, When, AtLevel, AtTime, AtClock}
@@ -56,7 +56,7 @@ use Rattle.hyd_spec_histories.proofs.Watching.{contains-here, contains-later, co
 use Rattle.hyd_spec_laws.proofs.Vessels.{sound_tank}
 use Rattle.hyd_spec_histories.proofs.PrintedValues.{prints_hold, head_proportional, flow_proportional}
 use Rattle.hyd_spec_histories.proofs.LinesHold.{IsCovered, all_after, flow_holds}
-use Rattle.hyd_spec_histories.proofs.Words.{IsWhole, status_holds}
+use Rattle.hyd_spec_laws.proofs.StatusWords.{status_holds}
 
 -- ---- lists
 
@@ -317,18 +317,18 @@ module _ (network : Project) (sound : Sound network) (S : ℕ) (commanded : List
             );
       }))
 
-  whole-link : (l : ℕ) (link : Link) (state : LinkState) → slice_get network.links.list l ≡ Some link
-      → IsStateMade network.options.unit state
-      → IsWhole network.options.unit network.patterns.list network.bends.list link.kind state
-  whole-link l link state at made =
-      let inside = slice_get_within network.links.list l link at in
-      let e = get_or_from_slice_get network.links.list l link link at in
-      record {
-        made = subst (λ (x : Link). IsKindMade network.options.unit x.kind) e (sound.made.links l link inside);
-        sizes = subst (λ (x : Link). HasSizes network.options.unit network.patterns.list network.bends.list x.kind) e
-            (sound.quantities.links l link inside);
-        state_made = made;
-      }
+  link-made : (l : ℕ) (link : Link) → slice_get network.links.list l ≡ Some link → IsKindMade network.options.unit link.kind
+  link-made l link at =
+      subst (λ (x : Link). IsKindMade network.options.unit x.kind)
+      (get_or_from_slice_get network.links.list l link link at)
+      (sound.made.links l link (slice_get_within network.links.list l link at))
+
+  link-sizes : (l : ℕ) (link : Link) → slice_get network.links.list l ≡ Some link
+      → HasSizes network.options.unit network.patterns.list network.bends.list link.kind
+  link-sizes l link at =
+      subst (λ (x : Link). HasSizes network.options.unit network.patterns.list network.bends.list x.kind)
+      (get_or_from_slice_get network.links.list l link link at)
+      (sound.quantities.links l link (slice_get_within network.links.list l link at))
 
   pub link_holds : (l : ℕ) (link : Link) (each : ReportLine) → slice_get network.links.list l ≡ Some link
       → IsLinkLine network grid standing row l link each → Holds each
@@ -354,7 +354,7 @@ module _ (network : Project) (sound : Sound network) (S : ℕ) (commanded : List
             (difference_along network S period link)) (sym same)
             (status_holds network.options.unit (is_us network) network.patterns.list network.bends.list link.kind state
             S d (difference_along network S period link) under.compared.some
-            (whole-link l link state at found.holds.made) (difference-lies link line.place ends.0 ends.1));
+            (link-made l link at) (link-sizes l link at) (difference-lies link line.place ends.0 ends.1));
       })
 
   -- ---- events

@@ -9,7 +9,8 @@ use Rattle.hyd_net.specs.declared.cause.Cause.{Cause}
 -- IF NODE id ABOVE or BELOW a level
 abbrev pub level_control : List (List ℕ) → Option Cause
 level_control words =
-    first (needed (meant node_word) 4 words ∷ needed id 5 words ∷ needed (one_of (codes "ABOVE" ∷ codes "BELOW" ∷ [])) 6 words
+    first (needed (meant node_word) 4 words ∷ needed id 5 words
+    ∷ needed (one_of (codes "ABOVE" ∷ codes "BELOW" ∷ [])) 6 words
     ∷ needed number 7 words ∷ ends 8 words ∷ [])
 
 -- AT TIME time, or AT CLOCKTIME clock

@@ -1,6 +1,6 @@
 -- Curves: what pumps, general purpose valves and tanks ask of theirs.
--- Source: EPANET 2.2 User Manual, chapter 3 (pumps, valves, tanks) and appendix C ([CURVES]); which curves are accepted is
--- this program's choice.
+-- Source: EPANET 2.2 User Manual, chapter 3 (pumps, valves, tanks) and appendix C ([CURVES]); which curves are
+-- accepted is this program's choice.
 use Rattle.std.specs.Prelude.{ℕ, ◌*◌, ◌^◌, Bool, true, false, ◌&&◌, nat_le, List, [], ◌∷◌, length, map, ℤ, pos, neg_ℤ, ◌*ℤ◌, ◌-ℤ◌, int_div}
 use Rattle.std.specs.Ordering.{int_eq}
 use Rattle.std.specs.List.{list_all}
@@ -91,8 +91,8 @@ is_pump_curve points = is_bent points
 abbrev pub are_flows : FlowUnit → List Point → Bool
 are_flows unit points = list_all (λ point. is_flow unit point.x) points
 
--- the head at which a pump of one point or three gives no flow is at most 10^16 ticks: four thirds of the one head, or the first
--- of three, up or down. The drop of a curve of three points is at most 10^12, as numbers of a file are.
+-- the head at which a pump of one point or three gives no flow is at most 10^16 ticks: four thirds of the one head,
+-- or the first of three, up or down. The drop of a curve of three points is at most 10^12, as numbers of a file are.
 abbrev pub has_shutoff : Bool → List Point → Bool
 has_shutoff us (a ∷ []) = le_z (pos 4 *ℤ head_ticks us a.y) (pos (3 * 10 ^ 16))
 has_shutoff us (a ∷ b ∷ c ∷ []) = is_within (10 ^ 16) (head_ticks us a.y) && le_z (a.y -ℤ b.y) (pos (10 ^ 21))
@@ -122,8 +122,8 @@ is_faster a b = lt_z a.flow b.flow && lt_z a.head b.head
 abbrev pub has_flow : HeadPoint → Bool
 has_flow point = is_within (10 ^ 15) point.flow
 
--- a pump's curve of four and more points: flows of at least 0 that rise, heads that fall to at least 0, and at flow 0, by the line of
--- the first two points, a head of at most 10^16 ticks
+-- a pump's curve of four and more points: flows of at least 0 that rise, heads that fall to at least 0, and at flow
+-- 0, by the line of the first two points, a head of at most 10^16 ticks
 abbrev pub is_pump_bend : List HeadPoint → Bool
 is_pump_bend points =
     (list_all has_flow points && in_turn is_slower points)
@@ -137,7 +137,8 @@ begins_at_0 points = at_start (λ (point : Point). int_eq point.x (pos 0) && int
 -- it has two points at least, and its flows and losses rise
 abbrev pub is_valve_bend : List HeadPoint → Bool
 is_valve_bend points =
-    (nat_le 2 (length points) && in_turn is_faster points) && list_all (λ point. has_flow point && is_head point.head) points
+    (nat_le 2 (length points) && in_turn is_faster points)
+    && list_all (λ point. has_flow point && is_head point.head) points
 
 -- ---- volume curves, in ticks
 
@@ -150,10 +151,11 @@ abbrev pub covers : ℤ → ℤ → List VolumePoint → Bool
 covers minimum maximum points =
     at_start (λ point. le_z point.level minimum) points && at_end (λ point. le_z maximum point.level) points
 
--- levels in range and volumes that rise, from at least 0 to at most 10^18 ticks, over all levels of the tank; between its minimum and
--- its maximum there are 10^6 volume ticks at least
+-- levels in range and volumes that rise, from at least 0 to at most 10^18 ticks, over all levels of the tank; between
+-- its minimum and its maximum there are 10^6 volume ticks at least
 abbrev pub is_volume_curve : ℤ → ℤ → List VolumePoint → Bool
 is_volume_curve minimum maximum points =
     ((nat_le 2 (length points) && (list_all (λ point. is_head point.level) points && in_turn is_fuller points))
-    && (at_start (λ point. le_z (pos 0) point.volume) points && at_end (λ point. le_z point.volume (pos (10 ^ 18))) points))
+    && (at_start (λ point. le_z (pos 0) point.volume) points
+    && at_end (λ point. le_z point.volume (pos (10 ^ 18))) points))
     && (covers minimum maximum points && le_z (pos (10 ^ 6)) (volume_at points maximum -ℤ volume_at points minimum))

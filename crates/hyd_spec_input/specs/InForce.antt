@@ -53,10 +53,12 @@ abbrev pub names_head_loss : List Row → Bool
 names_head_loss rows = say false (λ row. true) (option_row (codes "HEADLOSS") rows)
 
 abbrev pub depends_on_pressure : List Row → Bool
-depends_on_pressure rows = say false (λ row. word_is 2 (codes "PDA") row.words) (option_row_of (codes "DEMAND") (codes "MODEL") rows)
+depends_on_pressure rows = say false (λ row. word_is 2 (codes "PDA") row.words)
+    (option_row_of (codes "DEMAND") (codes "MODEL") rows)
 
 abbrev pub demand_multiplier : List Row → ℤ
-demand_multiplier rows = say (pos (10 ^ 9)) (λ row. amount 2 row.words) (option_row_of (codes "DEMAND") (codes "MULTIPLIER") rows)
+demand_multiplier rows = say (pos (10 ^ 9)) (λ row. amount 2 row.words)
+    (option_row_of (codes "DEMAND") (codes "MULTIPLIER") rows)
 
 abbrev pub minimum_pressure : List Row → ℤ
 minimum_pressure rows = say (pos 0) (λ row. amount 2 row.words) (option_row (codes "MINIMUM") rows)
@@ -111,7 +113,8 @@ hydraulic_step rows = min (written_step rows) (min (pattern_step rows) (report_s
 
 -- a tenth of the hydraulic step as written, where none is given; then reduced to the hydraulic step
 abbrev pub rule_step : List Row → ℕ
-rule_step rows = min (seconds_of (max 1 (written_step rows / 10)) (codes "RULE") (codes "TIMESTEP") rows) (hydraulic_step rows)
+rule_step rows = min (seconds_of (max 1 (written_step rows / 10)) (codes "RULE") (codes "TIMESTEP") rows)
+    (hydraulic_step rows)
 
 abbrev pub start_clock : List Row → ℕ
 start_clock rows = say 0 (λ row. clock_seconds 2 row.words) (time_row_of (codes "START") (codes "CLOCKTIME") rows)

@@ -98,7 +98,8 @@ time_word word = either (first_named time_words word) (first_named more_time_wor
 -- ---- controls and rules
 
 abbrev pub link_words : List (List ℕ × LinkWord)
-link_words = (codes "LINK", link.Link) ∷ (codes "PIPE", link.Pipe) ∷ (codes "PUMP", link.Pump) ∷ (codes "VALVE", link.Valve) ∷ []
+link_words = (codes "LINK", link.Link) ∷ (codes "PIPE", link.Pipe) ∷ (codes "PUMP", link.Pump)
+    ∷ (codes "VALVE", link.Valve) ∷ []
 
 unfoldable pub link_word : List ℕ → Option LinkWord
 link_word word = first_named link_words word

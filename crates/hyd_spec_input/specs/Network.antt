@@ -95,7 +95,8 @@ or_own own (demand ∷ demands) = demand ∷ demands
 
 -- the demands of a junction: the rows of DEMANDS that name it or, where there are none, its own
 abbrev pub demands_of : List Row → Row → List Demand
-demands_of rows row = or_own (own_demand rows row) (map (demand_of_row rows) (rows_with (own_id row) (rows_of Demands rows)))
+demands_of rows row = or_own (own_demand rows row)
+    (map (demand_of_row rows) (rows_with (own_id row) (rows_of Demands rows)))
 
 -- ---- a later row wins
 
@@ -126,7 +127,8 @@ rule_groups (words ∷ lines) =
 abbrev pub lines_at : (Stage → Bool) → Stage → List (List (List ℕ)) → List (List (List ℕ))
 lines_at passes stage [] = []
 lines_at passes stage (words ∷ lines) =
-    if passes (stage_by stage (begins_with words)) then words ∷ lines_at passes (stage_by stage (begins_with words)) lines
+    if passes (stage_by stage (begins_with words)) then words
+    ∷ lines_at passes (stage_by stage (begins_with words)) lines
     else lines_at passes (stage_by stage (begins_with words)) lines
 
 abbrev pub is_asking : Stage → Bool

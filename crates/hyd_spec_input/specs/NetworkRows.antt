@@ -15,7 +15,8 @@ use Rattle.hyd_net.specs.declared.cause.Cause.TheVariants.{Syntax, Range, Unsupp
 -- ID, elevation, base demand, pattern
 abbrev pub junction : List (List ℕ) → Option Cause
 junction words =
-    first (needed id 0 words ∷ needed number 1 words ∷ optional number 2 words ∷ optional id 3 words ∷ ends 4 words ∷ [])
+    first (needed id 0 words ∷ needed number 1 words ∷ optional number 2 words ∷ optional id 3 words ∷ ends 4 words
+    ∷ [])
 
 -- ID, head, pattern
 abbrev pub reservoir : List (List ℕ) → Option Cause
@@ -48,8 +49,8 @@ least_diameter (Some curve) = pos 0
 abbrev pub diameter : List (List ℕ) → Column
 diameter words = number_within (least_diameter (tank_curve words)) (units 1000)
 
--- ID, bottom, initial, minimum and maximum level, diameter, minimum volume, volume curve, overflow. The three levels are
--- compared at the first word at which their order can be seen to fail.
+-- ID, bottom, initial, minimum and maximum level, diameter, minimum volume, volume curve, overflow. The three levels
+-- are compared at the first word at which their order can be seen to fail.
 abbrev pub tank : List (List ℕ) → Option Cause
 tank words =
     first (needed id 0 words ∷ needed number 1 words ∷ needed not_negative 2 words
@@ -86,7 +87,8 @@ minor_or_status words word = if has_status_alone words then None else up_to (10 
 abbrev pub pipe : List (List ℕ) → Option Cause
 pipe words =
     first (link_ends words ∷ needed (above_0_to (10 ^ 6)) 3 words ∷ needed (above_0_to (10 ^ 4)) 4 words
-    ∷ needed (above_0_to 10) 5 words ∷ optional (minor_or_status words) 6 words ∷ optional (one_of pipe_statuses) 7 words
+    ∷ needed (above_0_to 10) 5 words ∷ optional (minor_or_status words) 6 words
+    ∷ optional (one_of pipe_statuses) 7 words
     ∷ ends 8 words ∷ [])
 
 -- the place of the word that is a pipe's status
@@ -194,7 +196,8 @@ valve_setting words word =
 -- ID, two nodes, diameter, type, setting, minor loss coefficient
 abbrev pub valve : List (List ℕ) → Option Cause
 valve words =
-    first (link_ends words ∷ needed (above_0_to (10 ^ 4)) 3 words ∷ needed (supported valve_types unsupported_types 2) 4 words
+    first (link_ends words ∷ needed (above_0_to (10 ^ 4)) 3 words
+    ∷ needed (supported valve_types unsupported_types 2) 4 words
     ∷ needed (valve_setting words) 5 words ∷ optional (up_to (10 ^ 6)) 6 words ∷ ends 7 words ∷ [])
 
 -- the curve of a general purpose valve

@@ -32,7 +32,8 @@ abbrev pub demand_words : List (List ℕ)
 demand_words = codes "MULTIPLIER" ∷ codes "MODEL" ∷ []
 
 abbrev pub demand_value : List (List ℕ) → Column
-demand_value words = if word_is 1 (codes "MULTIPLIER") words then up_to (10 ^ 6) else one_of (codes "DDA" ∷ codes "PDA" ∷ [])
+demand_value words = if word_is 1 (codes "MULTIPLIER") words then up_to (10 ^ 6)
+    else one_of (codes "DDA" ∷ codes "PDA" ∷ [])
 
 abbrev pub demand_line : List (List ℕ) → Option Cause
 demand_line words =
@@ -57,7 +58,8 @@ pressure_line words =
     else first (needed (supported pressure_units (codes "KPA" ∷ []) 13) 1 words ∷ ends 2 words ∷ [])
 
 abbrev pub emitter_line : List (List ℕ) → Option Cause
-emitter_line words = first (needed (one_of (codes "EXPONENT" ∷ [])) 1 words ∷ needed (half 5) 2 words ∷ ends 3 words ∷ [])
+emitter_line words = first (needed (one_of (codes "EXPONENT" ∷ [])) 1 words ∷ needed (half 5) 2 words ∷ ends 3 words
+    ∷ [])
 
 abbrev pub specific_line : List (List ℕ) → Option Cause
 specific_line words =

@@ -1,4 +1,5 @@
--- The network that a file without a fault describes, item by item: each junction, link, control and rule is that of its row.
+-- The network that a file without a fault describes, item by item: each junction, link, control and rule is that of
+-- its row.
 use Rattle.std.specs.Prelude.{◌≡◌, ℕ, ◌+◌, Bool, true, false, ◌&&◌, not, List, [], ◌∷◌, ◌++◌, codes, Option, Some, None, slice_get, if◌then◌else◌, ℤ, pos, ◌<ℤ◌, ◌*ℤ◌, ⊤}
 use Rattle.std.specs.Ordering.{int_eq}
 use Rattle.hyd_num.specs.Numeral.{nano_of}
@@ -186,7 +187,8 @@ IsPumpKind rows row (Pump cap shutoff head pattern) =
     × IsShutoffOf (pump_points rows row) head × IsShutoffMade (unit rows) head shutoff
     × (pattern ≡ pattern_number rows (pump_pattern row.words))
 IsPumpKind rows row (CurvePump bend pattern) =
-    (is_bent (pump_points rows row) ≡ true) × (number_in (bend_names rows) (or_empty (pump_curve row.words)) ≡ Some bend)
+    (is_bent (pump_points rows row) ≡ true) × (number_in (bend_names rows) (or_empty (pump_curve row.words))
+    ≡ Some bend)
     × (pattern ≡ pattern_number rows (pump_pattern row.words))
 IsPumpKind rows row _ = ⊥
 
@@ -293,7 +295,8 @@ IsWhen rows words (LevelAt tank above ticks) =
     (word_is 3 (codes "IF") words ≡ true) × (number_in (tank_ids rows) (word 5 words) ≡ Some tank)
     × (above ≡ word_is 6 (codes "ABOVE") words) × (ticks ≡ head_ticks (us rows) (amount 7 words))
 IsWhen rows words (TimeAt seconds) =
-    ((word_is 3 (codes "AT") words && not (word_is 4 (codes "CLOCKTIME") words)) ≡ true) × (seconds ≡ time_seconds 5 words)
+    ((word_is 3 (codes "AT") words && not (word_is 4 (codes "CLOCKTIME") words)) ≡ true)
+    × (seconds ≡ time_seconds 5 words)
 IsWhen rows words (ClockAt seconds) =
     ((word_is 3 (codes "AT") words && word_is 4 (codes "CLOCKTIME") words) ≡ true) × (seconds ≡ clock_seconds 5 words)
 
@@ -339,7 +342,8 @@ status_value name =
 -- what a clause compares with: a status, or an amount
 abbrev pub IsValue : FlowUnit → What → ℕ → List (List ℕ) → Value → Type 0
 IsValue unit (Status link) k words found = found ≡ status_value (word k words)
-IsValue unit what k words (value.Amount span number) = (number.nano ≡ compared what k words) × IsAmount unit what number.nano span
+IsValue unit what k words (value.Amount span number) = (number.nano ≡ compared what k words)
+    × IsAmount unit what number.nano span
 IsValue unit what k words _ = ⊥
 
 -- the place of a clause's attribute

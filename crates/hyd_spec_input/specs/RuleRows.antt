@@ -208,7 +208,8 @@ some_then (words ∷ lines) = is_then (begins_with words) || some_then lines
 abbrev pub gets_then : List (List ℕ) → List (List (List ℕ)) → Bool
 gets_then words later = if is_rule (begins_with words) then some_then (until_rule later) else true
 
--- a line of a rule by itself, between the earlier and the later lines of rules: the order of lines is seen at its first word
+-- a line of a rule by itself, between the earlier and the later lines of rules: the order of lines is seen at its
+-- first word
 abbrev pub rule_line : List (List (List ℕ)) → List (List ℕ) → List (List (List ℕ)) → Option Cause
 rule_line earlier words later =
     first (in_order (stage_after earlier) (begins_with words) ∷ line_words (is_acting (stage_after earlier)) words

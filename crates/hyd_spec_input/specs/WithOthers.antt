@@ -117,7 +117,7 @@ volume_curve rows row (Some name) =
     (volume_points (us rows) (curve_named rows name)))
     Range
 
--- maximum and minimum level are a tenth of a foot apart at least
+-- maximum and minimum level are a hundredth of a foot apart at least
 abbrev pub levels_apart : List Row → Row → Option Cause
 levels_apart rows row =
     unless (le_z (pos 30480000000) (head_ticks (us rows) (amount 4 row.words -ℤ amount 3 row.words))) Range
@@ -210,7 +210,8 @@ is_check_valve link = is_of Pipes link && has_check_valve link.words
 abbrev pub set_link : List Row → Option Row → List ℕ → Option Cause → Option Cause
 set_link rows None word between = None
 set_link rows (Some link) word between =
-    first (unless (is_status word || takes_number link) Syntax ∷ between ∷ unless (not (is_check_valve link)) (Unsupported 11)
+    first (unless (is_status word || takes_number link) Syntax ∷ between
+    ∷ unless (not (is_check_valve link)) (Unsupported 11)
     ∷ (if is_status word then None else state_range rows link (nano_of word)) ∷ [])
 
 abbrev pub status_faults : List Row → ℕ → Row → List (Option Cause)
@@ -365,8 +366,8 @@ abbrev pub pressure : List Row → ℤ → Option Cause
 pressure rows nano =
     unless (le_z (pressure_numerator (us rows) nano) (pos (10 ^ 17 * pressure_denominator (us rows)))) Range
 
--- where demands depend on pressure, the required pressure exceeds the minimum by a tenth of a unit at least; this is judged
--- at the greater of their lines
+-- where demands depend on pressure, the required pressure exceeds the minimum by a tenth of a unit at least; this is
+-- judged at the greater of their lines
 abbrev pub pressures_apart : List Row → Row → Option Cause
 pressures_apart rows row =
     if depends_on_pressure rows && (row.number == pressure_line rows)

@@ -1,6 +1,6 @@
 -- A vector that isn't a certificate fails first at one junction.
 use Rattle.std.proofs.Common.{◌≡◌, ℕ, ◌<◌, ℤ, pos, List, arith, inl, inr}
-use Rattle.std.specs.Prelude.{Option, Some, slice_get, All}
+use Rattle.std.specs.Prelude.{Option}
 use Rattle.std.proofs.lemmas.Bool.{cases_lt}
 use Rattle.hyd_spec_certificates.specs.declared.Problem.{Problem}
 use Rattle.hyd_spec_certificates.specs.declared.Side.{Side}
@@ -9,7 +9,8 @@ use Rattle.hyd_spec_certificates.specs.Grid.{Grid}
 use Rattle.hyd_spec_certificates.specs.Certificate.{IsCertificateHolding, FailsFirst, outside, fails}
 
 module _ (held : Option HeldJunction) (grid : Grid) (problem : Problem) (side : Side) (u : List ℤ) where
-  pub fails-no-certificate : (i : ℕ) → FailsFirst held grid problem side u i → IsCertificateHolding held grid problem side u → ⊥
+  pub fails-no-certificate : (i : ℕ) → FailsFirst held grid problem side u i
+      → IsCertificateHolding held grid problem side u → ⊥
   fails-no-certificate _ (outside {i = i} lt out before) is = out (is.in_box i (pos 0) lt)
   fails-no-certificate _ (fails {i = i} junction all at missed before) is = missed (is.passes i junction at)
 

@@ -1,5 +1,5 @@
--- Certificates with a junction held, against an assignment in which water may be drawn at that junction. On both sides at
--- once: heads are read in the direction of the side.
+-- Certificates with a junction held, against an assignment in which water may be drawn at that junction. On both
+-- sides at once: heads are read in the direction of the side.
 use Rattle.std.proofs.Common.{◌≡◌, ℕ, zero, suc, ◌+◌, ◌*◌, ◌<◌, ℤ, pos, ◌+ℤ◌, ◌-ℤ◌, ◌*ℤ◌, ◌≤ℤ◌, neg_ℤ, refl, sym, ap, subst, ◌∙◌, arith, Bool, false, ◌==◌, List, [], ◌∷◌, ◌++◌, length, inl, inr}
 use Rattle.std.specs.Prelude.{Some, map, MatchBool}
 use Rattle.std.specs.List.{AllByRecursion}
@@ -101,7 +101,8 @@ module _ (network : Project) (S time : ℕ) (intervals : List Interval) (levels 
 
   -- ---- one junction
 
-  -- at the junction that lies farthest beyond a vector the net outflow on that side, with the draw, is within the margin
+  -- at the junction that lies farthest beyond a vector the net outflow on that side, with the draw, is within the
+  -- margin
   pub within-margin : (side : Side) (u : List ℤ) (i : ℕ) (p : IsPlace
       (IsJunctionOf network time) network.junctions.list grid.junctions i)
       → IsFarthest side S heads (all_heads grid Main side u) i → pos 0 ≤ℤ ahead side S assignment.heads u i
@@ -197,8 +198,8 @@ module _ (network : Project) (S time : ℕ) (intervals : List Interval) (levels 
       (ahead-after side S assignment.heads u _ _ (ahead side S assignment.heads u i) same
       (fixed-ahead side (ahead side S assignment.heads u i) beyond) best.each m)
 
-  -- of a vector with the junction held at which water may be drawn: where that junction's head lies beyond the vector's, it
-  -- lies farthest
+  -- of a vector with the junction held at which water may be drawn: where that junction's head lies beyond the
+  -- vector's, it lies farthest
   pub held-farthest : (side : Side) (h : ℤ) (u : List ℤ) → IsCertificateHolding
       (Some (record { junction = place; head = h })) grid Main side u
       → place < length assignment.heads → length assignment.heads ≡ length u

@@ -241,7 +241,8 @@ module _ (network : Project) (S time : ℕ) (intervals : List Interval) (levels 
           omega (arith, ints, under_it, e, turned)
 
 pub held_flow : (network : Project) (S time : ℕ) (intervals : List Interval) (levels : List ℤ) (tanks : List TankState)
-    (links : List LinkState) (assignment : Assignment) (grid : Grid) (below above held_below held_above : List ℤ) (l : ℕ)
+    (links : List LinkState) (assignment : Assignment) (grid : Grid) (below above held_below held_above : List ℤ)
+    (l : ℕ)
     (link : GridLink) → IsCompared network S time intervals levels tanks links assignment grid
     → IsCertificate grid Main Lower below → IsCertificate grid Main Upper above
     → slice_get grid.links l ≡ Some link → link.from < length grid.junctions → link.to < length grid.junctions

@@ -1,6 +1,7 @@
 pub mod Roots
 pub mod CurveKnots
 pub mod StatusWords
+pub mod HeldEnds
 pub mod LossLaws
 pub mod LinkLaws
 pub mod EachLaw

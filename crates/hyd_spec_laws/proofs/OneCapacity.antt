@@ -43,7 +43,8 @@ one-scaled : (s t : Scaled) → AtMost (as_fraction s) (as_fraction t) → AtMos
 one-scaled s t le ge = Scaled-equal s t mantissa (same-exponent s.exp t.exp shifts)
   where
     value : s.mant * 2 ^ shift s t ≡ t.mant * 2 ^ shift t s
-    value = let a = crossed s t in let b = crossed t s in let l = le.crossed in let g = ge.crossed in omega (arith, a, b, l, g)
+    value = let a = crossed s t in let b = crossed t s in let l = le.crossed in let g = ge.crossed in omega
+        (arith, a, b, l, g)
 
     shifts : shift s t ≡ shift t s
     shifts = elim (cases_lt (shift s t) (shift t s)) [

@@ -67,7 +67,7 @@ module _ (network : Project) (grid : Grid) (standing : Standing) where
     clause_is = is.clause_is;
   }
 
-  ends_again : (row : Record) (m : ℕ) (e : End) → EndsBy network grid standing row e → EndsBy network grid standing (again row m) e
+  pub ends_again : (row : Record) (m : ℕ) (e : End) → EndsBy network grid standing row e → EndsBy network grid standing (again row m) e
   ends_again row m _ (by_rules {seconds = s} is closed) = by_rules (first_again row m s is) closed
   ends_again row m _ (rule_is_open {seconds = s} {open_rule = o} is found) = rule_is_open (first_again row m s is) (open_again row m s o found)
   ends_again row m _ (by_clock {second = e} none latest) = by_clock (none_again row m e none) (latest_again row m e latest)

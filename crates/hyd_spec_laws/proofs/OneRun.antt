@@ -1,5 +1,5 @@
 -- A standing has one grid, and a network one tight run of each number of periods.
-use Rattle.std.proofs.Common.{◌≡◌, ℕ, suc, ◌<◌, ℤ, pos, Bool, true, false, MatchBool, List, [], ◌∷◌, length, int_le, refl, sym, ap, subst, ◌∙◌, arith}
+use Rattle.std.proofs.Common.{◌≡◌, ℕ, suc, ◌<◌, ℤ, Bool, true, false, MatchBool, List, [], ◌∷◌, length, refl, sym, ap, subst, ◌∙◌, arith}
 use Rattle.std.specs.Prelude.{slice_index_or}
 use Rattle.std.specs.List.{AllZip, AllByRecursion}
 use Rattle.hyd_spec.specs.Types.{Project, Junction, Capacity}

@@ -1,7 +1,7 @@
 -- The status word of a link holds at each head difference of the interval by which it was chosen.
 use Rattle.std.proofs.Common.{◌≡◌, ℕ, ◌<◌, ℤ, pos, ◌+ℤ◌, ◌*ℤ◌, ◌≤ℤ◌, ◌<ℤ◌, List, ap, arith, Bool, true}
 use Rattle.std.specs.Prelude.{int_le, int_lt, if◌then◌else◌}
-use Rattle.std.proofs.lemmas.Int.{ints, by_lt_z}
+use Rattle.std.proofs.lemmas.Int.{ints}
 use Rattle.std.proofs.lemmas.Bool.{cond_both}
 use Rattle.hyd_num.proofs.Integers.{times_plus, times_rises, times_reflects, times_one}
 use Rattle.hyd_num.specs.Rational.{Rational, floor, ceiling}
@@ -24,8 +24,7 @@ use Rattle.hyd_spec_laws.specs.Laws.{LiesIn, AreInOrder}
 use Rattle.hyd_spec_laws.proofs.EachLaw.{IsLaw-each}
 use Rattle.hyd_spec_laws.proofs.Grids.{valve-sound, bend-sound, lift-above}
 use Rattle.hyd_spec_laws.proofs.CurveKnots.{pump_knots-in_order}
-use Rattle.hyd_spec_laws.proofs.Leading.{Leads}
-use Rattle.hyd_spec_laws.proofs.RisingLines.{value-den, value-rises}
+use Rattle.hyd_spec_laws.proofs.RisingLines.{value-positive, value-negative}
 
 lt-yes : (a b : ℤ) → int_lt a b ≡ true → a <ℤ b
 lt-yes a b e = grind (arith, ints)
@@ -48,14 +47,6 @@ positive-times s a b some le h = let m = times_rises s (pos 1) a (omega (arith, 
 
 negative-times : (s : ℕ) (a b : ℤ) → b ≤ℤ (pos s *ℤ a) → a ≤ℤ pos 0 → b ≤ℤ pos 0
 negative-times s a b le h = let m = times_rises s a (pos 0) h in omega (arith, ints, m, le)
-
-positive-from : (s : ℕ) (a : ℤ) → pos 0 <ℤ (pos s *ℤ a) → pos 0 <ℤ a
-positive-from s a h = by_lt_z (pos 0) a (λ lt. lt) (λ ge. absurd (let m = times_rises s a (pos 0) ge in omega (arith, ints, m, h)))
-
-negative-from : (s : ℕ) (a : ℤ) → 0 < s → (pos s *ℤ a) ≤ℤ pos 0 → a ≤ℤ pos 0
-negative-from s a some h = by_lt_z (pos 0) a
-    (λ lt. absurd (let m = positive-times s a (pos s *ℤ a) some (omega (arith, ints)) lt in omega (arith, ints, m, h)))
-    (λ ge. ge)
 
 -- ---- check valves and pumps
 
@@ -90,23 +81,7 @@ lift-drives S lift d x some above lies = drive-by (record { lo = d.lo +ℤ floor
 knots-drive : (S : ℕ) (knots : List Knot) (d : Interval) (x : ℤ) → 0 < S → AreInOrder knots → LiesIn S d x
     → DriveIs (by_knots knots d) (value_at S knots x).num
 knots-drive S knots d x some order lies = drive-by (record { lo = (value_at 1 knots d.lo).num; hi = (value_at 1 knots d.hi).num }) (value_at S knots x).num
-    (λ h. positive-along (value_at 1 knots d.lo) (value_at S knots x) (value-den S knots x)
-    (value-rises 1 S knots d.lo x (omega arith) order (let l = lies.low in let m : (pos S *ℤ d.lo) ≤ℤ (pos 1 *ℤ x) = omega (arith, ints, l) in m)) h)
-    (λ h. negative-along (value_at S knots x) (value_at 1 knots d.hi) (value-den 1 knots d.hi) (value-den S knots x)
-    (value-rises S 1 knots x d.hi some order (let l = lies.high in let m : (pos 1 *ℤ x) ≤ℤ (pos S *ℤ d.hi) = omega (arith, ints, l) in m)) h)
-  where
-    -- a value above 0 leads to one above 0 alone, and one that leads to a value of 0 or less is 0 or less
-    positive-along : (p q : Rational) → 0 < q.den → Leads 1 S p q → pos 0 <ℤ p.num → pos 0 <ℤ q.num
-    positive-along p q above leads h =
-        positive-from 1 q.num (positive-from p.den (pos 1 *ℤ q.num)
-        (positive-times q.den (pos S *ℤ p.num) (pos p.den *ℤ (pos 1 *ℤ q.num)) above leads.crossed
-        (positive-times S p.num (pos S *ℤ p.num) some (let l : (pos S *ℤ p.num) ≤ℤ (pos S *ℤ p.num) = omega (arith, ints) in l) h)))
-
-    negative-along : (p q : Rational) → 0 < q.den → 0 < p.den → Leads S 1 p q → q.num ≤ℤ pos 0 → p.num ≤ℤ pos 0
-    negative-along p q above own leads h =
-        negative-from 1 p.num (omega arith) (negative-from q.den (pos 1 *ℤ p.num) above
-        (negative-times p.den (pos S *ℤ q.num) (pos q.den *ℤ (pos 1 *ℤ p.num)) leads.crossed
-        (negative-times S q.num (pos S *ℤ q.num) (let l : (pos S *ℤ q.num) ≤ℤ (pos S *ℤ q.num) = omega (arith, ints) in l) h)))
+    (value-positive S knots d.lo x some order lies.low) (value-negative S knots d.hi x some order lies.high)
 
 -- ---- flow control valves
 

@@ -1,23 +1,21 @@
 -- Targets of a tank with a volume curve, as volumes.
-use Rattle.std.proofs.Common.{◌≡◌, ℕ, zero, suc, ◌*◌, ◌<◌, ◌≤◌, ℤ, pos, ◌+ℤ◌, ◌-ℤ◌, ◌*ℤ◌, ◌≤ℤ◌, ◌<ℤ◌, inl, inr, refl, sym, ap, subst, ◌∙◌, arith, Bool, true, false, ◌&&◌, List, [], ◌∷◌, length, mul-pos}
-use Rattle.std.specs.Prelude.{int_le, map, AllPairs, if◌then◌else◌}
+use Rattle.std.proofs.Common.{◌≡◌, ℕ, ◌*◌, ◌<◌, ℤ, pos, ◌+ℤ◌, ◌*ℤ◌, ◌≤ℤ◌, ◌<ℤ◌, refl, sym, ap, subst, ◌∙◌, arith, Bool, true, false, ◌&&◌, List, [], ◌∷◌, mul-pos}
+use Rattle.std.specs.Prelude.{int_le, map, if◌then◌else◌}
 use Rattle.std.proofs.Math.IntN.{*ℤ_comm}
 use Rattle.std.proofs.lemmas.Int.{ints}
-use Rattle.std.proofs.lemmas.Bool.{cases_Bool}
 use Rattle.hyd_num.proofs.Integers.{times_plus, times_rises, times_reflects, times_one, times_times}
-use Rattle.hyd_num.specs.Rational.{Rational, floor, is_at_most, whole}
+use Rattle.hyd_num.specs.Rational.{Rational, floor, is_at_most}
 use Rattle.hyd_net.specs.Curves.{value_at, volume_knots, volume_at, AreRising, IsVolumeCurve}
 use Rattle.hyd_spec.specs.Types.{Tank, VolumePoint}
-use Rattle.hyd_spec.specs.Scale.{at_scale}
 use Rattle.hyd_spec.specs.Tank.{Curve, Stock, level_bounds, content_bounds, level_knots, level_on_curve, level_at_volume, carried_level, exact_content, reaches, is_bound, has_reached}
-use Rattle.hyd_spec_laws.specs.Laws.{in_parts, IsVessel}
+use Rattle.hyd_spec_laws.specs.Laws.{in_parts}
 use Rattle.hyd_lemmas.proofs.Integers.{exchanged, floor_low}
 use Rattle.hyd_spec_laws.proofs.RisingLines.{some-den}
-use Rattle.hyd_spec_laws.proofs.CurveLevels.{AreAlike, same, above, below, Rises, AreRisingPoints, at-level, at-volume, levels_undo, volumes-climb, over-level, over-volume}
+use Rattle.hyd_spec_laws.proofs.CurveLevels.{AreAlike, same, above, below, AreRisingPoints, at-level, levels_undo, over-level, over-volume}
 use Rattle.hyd_spec_laws.proofs.Leading.{one_times}
 use Rattle.hyd_spec_laws.proofs.Placing.{le-from, above-yes, above-from, below-yes, below-from, placed-is}
 use Rattle.hyd_spec_laws.proofs.Outflows.{le-yes}
-use Rattle.hyd_spec_laws.proofs.Levelling.{pairs-tail, exact-some, curve-some}
+use Rattle.hyd_spec_laws.proofs.Levelling.{pairs-tail, exact-some}
 
 -- tests that follow from each other are one
 pub one-test : (a b : Bool) → (a ≡ true → b ≡ true) → (b ≡ true → a ≡ true) → a ≡ b

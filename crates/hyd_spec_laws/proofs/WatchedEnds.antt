@@ -1,6 +1,5 @@
 -- The earliest and the latest end of a period from the first seconds of its watched levels, one by one.
-use Rattle.std.proofs.Common.{◌≡◌, ℕ, ◌+◌, ◌≤◌, ℤ, Bool, IsTrue, List, refl, sym, subst, arith, inl, inr, ◌⊎◌}
-use Rattle.std.specs.Prelude.{Some, slice_get, Contains}
+use Rattle.std.proofs.Common.{◌≡◌, ℕ, ◌+◌, ◌≤◌, ℤ, Bool, IsTrue, sym, subst, arith, inl, inr, ◌⊎◌}
 use Rattle.hyd_spec.specs.Types.{Project, Tank}
 use Rattle.hyd_spec.specs.Tank.{Walls, walls_of}
 use Rattle.hyd_spec.specs.Length.{IsLeast}
@@ -8,8 +7,7 @@ use Rattle.hyd_spec_certificates.specs.Interval.{Interval}
 use Rattle.hyd_spec_certificates.specs.Stocks.{Stocks}
 use Rattle.hyd_spec_certificates.specs.Grid.{Grid}
 use Rattle.hyd_spec_certificates.specs.Record.{Record, Standing}
-use Rattle.hyd_spec_certificates.specs.FirstSeconds.{IsFirstSecond}
-use Rattle.hyd_spec_certificates.specs.Decided.{Watch, watches, SomeReaches, IsClockLength, stocks_of_tank, inflow_of_tank}
+use Rattle.hyd_spec_certificates.specs.Decided.{SomeReaches, IsClockLength, stocks_of_tank, inflow_of_tank}
 use Rattle.hyd_spec_laws.specs.Laws.{SomeReachesFirst, NoneReachesBefore}
 
 module _ (test : Walls → Tank → Stocks → Interval → ℤ → Bool → ℕ → Bool) (network : Project) (grid : Grid)

@@ -1,5 +1,5 @@
 -- What the comparison of heads uses of the laws of links, demands and emitters.
-use Rattle.std.specs.Prelude.{map, Some, slice_get, Contains, IsTrue, ℕ, ◌<◌, ◌≤◌, ℤ, ◌-ℤ◌, ◌≤ℤ◌, unsigned_abs, ⊤, List, All, AllPairs, ◌≡◌, ◌*ℤ◌, Bool, true, false, pos}
+use Rattle.std.specs.Prelude.{map, Some, slice_get, Contains, ℕ, ◌<◌, ◌≤◌, ℤ, ◌-ℤ◌, ◌≤ℤ◌, unsigned_abs, ⊤, List, All, AllPairs, ◌≡◌, ◌*ℤ◌, Bool, true, false, pos}
 use Rattle.std.specs.List.{AllByRecursion, AllZip}
 use Rattle.std.specs.Option.{IfSome}
 use Rattle.hyd_num.specs.Quantity.{billionths}
@@ -134,7 +134,8 @@ LieBetween S below above heads =
 -- Walls hold water: a cylinder has an area; the levels of a volume curve rise, and so do its volumes.
 abbrev pub HoldWater : Walls → Type 0
 HoldWater (Cylinder area) = 0 < area
-HoldWater (Curve points) = AreRisingNumbers (map (λ (p : VolumePoint). p.level) points) × AreRisingNumbers (map (λ (p : VolumePoint). p.volume) points)
+HoldWater (Curve points) =
+    AreRisingNumbers (map (λ (p : VolumePoint). p.level) points) × AreRisingNumbers (map (λ (p : VolumePoint). p.volume) points)
 
 -- A tank's walls hold water; its minimum is at most its maximum, and so is the content there.
 pub record IsVessel (walls : Walls) (tank : Tank) : Type 0 where

@@ -70,8 +70,8 @@ pub fn inflows()
         → LiesIn S (inflow_box grid k (tank_node network k) below above) (tank_inflow network k assignment.flows) }
 {}
 
-/// The flow of a link between two junctions lies in the box of the vectors that hold its first node: the UPPER one at the
-/// LOWER head of the certificates with none held, the LOWER one at their UPPER head.
+/// The flow of a link between two junctions lies in the box of the vectors that hold its first node: the UPPER one at
+/// the LOWER head of the certificates with none held, the LOWER one at their UPPER head.
 pub fn held_flows()
     ensures flow { (network : Project) (S time : ℕ) (intervals : List Interval) (levels : List ℤ)
         (tanks : List TankState) (links : List LinkState) (assignment : Assignment) (grid : Grid)
@@ -84,8 +84,9 @@ pub fn held_flows()
         → LiesIn S (held_flow_box link held_below held_above) (flow_at assignment.flows l) }
 {}
 
-/// Where water is drawn at a junction besides, and a vector holds that junction: with the draw with which the junction of a
-/// LOWER vector would pass, or less, its head lies above the held one; with that of an UPPER vector, or more, below.
+/// Where water is drawn at a junction besides, and a vector holds that junction: with the draw with which the
+/// junction of a LOWER vector would pass, or less, its head lies above the held one; with that of an UPPER vector, or
+/// more, below.
 pub fn draws()
     ensures enough_head { (network : Project) (S time : ℕ) (intervals : List Interval) (levels : List ℤ)
         (tanks : List TankState) (links : List LinkState) (held : HeldJunction) (q : ℤ) (assignment : Assignment)

@@ -38,9 +38,9 @@ pub fn events()
         → has_reached S walls tank stock q rising target seconds ≡ true }
 {}
 
-/// The earliest (latest) end of a period is the least of the length that the clock allows and of the earliest (latest)
-/// first seconds of the watched levels, one by one, with that length as cap: for the test of levels that may, or must, have
-/// reached their targets.
+/// The earliest (latest) end of a period is the least of the length that the clock allows and of the earliest
+/// (latest) first seconds of the watched levels, one by one, with that length as cap: for the test of levels that
+/// may, or must, have reached their targets.
 pub fn ends()
     ensures { (test : Walls → Tank → Stocks → Interval → ℤ → Bool → ℕ → Bool) (network : Project) (grid : Grid)
         (standing : Standing) (row : Record) (cap : ℕ) → IsClockLength network standing.time cap

@@ -1,6 +1,6 @@
-//! What a record decides is one, in every network: the grid of a standing and its tight vectors, the end of the period, the
-//! standing that it leads on to, and the lines of its report. So a tight run that the relations accept is the only tight
-//! one of as many periods.
+//! What a record decides is one, in every network: the grid of a standing and its tight vectors, the end of the
+//! period, the standing that it leads on to, and the lines of its report. So a tight run that the relations accept is
+//! the only tight one of as many periods.
 #![tactic(auto)]
 
 ghost use Rattle.std.specs.Prelude.{◌≡◌, ℕ, ℤ, List, length};

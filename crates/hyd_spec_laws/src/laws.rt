@@ -1,7 +1,7 @@
 //! Laws of losses and of the laws of links.
 #![tactic(auto)]
 
-ghost use Rattle.std.specs.Prelude.{ℕ, ◌<◌, ℤ, Bool, List, Option};
+ghost use Rattle.std.specs.Prelude.{◌≡◌, ◌↔◌, ℕ, ◌<◌, ℤ, pos, ◌≤ℤ◌, Bool, List, Option};
 ghost use Rattle.hyd_num.specs.Roots.{IsSquareRootDown, IsSquareRootUp};
 ghost use Rattle.hyd_num.specs.declared.units.FlowUnit.{FlowUnit};
 ghost use Rattle.hyd_net.specs.ListView.{ListView};
@@ -11,7 +11,7 @@ ghost use Rattle.hyd_spec.specs.Types.{Origin, Capacity, Pattern, HeadPoint, Lin
 ghost use Rattle.hyd_spec_certificates.specs.Interval.{Interval};
 ghost use Rattle.hyd_spec_reports.specs.Report.{status_of};
 ghost use Rattle.hyd_spec_reports.specs.Claims.{StatusHolds};
-ghost use Rattle.hyd_spec.specs.Law.{Law, loss_at_most, loss_at_least, flow_at_least, flow_at_most};
+ghost use Rattle.hyd_spec.specs.Law.{Law, ForwardOnly, ReverseOnly, Held, loss_at_most, loss_at_least, flow_at_least, flow_at_most};
 ghost use Rattle.hyd_spec_certificates.specs.Enclosing.{low, high, root_down, root_up, DemandLaw, demand_low, demand_high, emitter_low, emitter_high};
 ghost use Rattle.hyd_spec_laws.specs.Laws.{IsLossLaw, HasPositiveNumbers, IsLaw, IsSoundLaw, AreRising, IsSoundDemand, LiesIn};
 
@@ -24,6 +24,27 @@ pub fn losses()
 /// Each sound law of a link is a law, and its enclosing functions enclose it.
 pub fn link_laws()
     ensures each { (law : Law) → IsSoundLaw law → IsLaw (flow_at_least law) (flow_at_most law) (low law) (high law) }
+{}
+
+/// A law that is held between two flows around 0 and may pass one way only is held with 0 as the end
+/// of the other way: its exact flow and its enclosing functions are the same.
+pub fn held_ends()
+    ensures reverse_low { (least greatest : ℤ) (law : Law) (d : ℤ) → least ≤ℤ pos 0 → pos 0 ≤ℤ greatest
+        → low (ReverseOnly (Held least greatest law)) d ≡ low (Held least (pos 0) law) d }
+    ensures reverse_high { (least greatest : ℤ) (law : Law) (d : ℤ) → least ≤ℤ pos 0 → pos 0 ≤ℤ greatest
+        → high (ReverseOnly (Held least greatest law)) d ≡ high (Held least (pos 0) law) d }
+    ensures forward_low { (least greatest : ℤ) (law : Law) (d : ℤ) → least ≤ℤ pos 0 → pos 0 ≤ℤ greatest
+        → low (ForwardOnly (Held least greatest law)) d ≡ low (Held (pos 0) greatest law) d }
+    ensures forward_high { (least greatest : ℤ) (law : Law) (d : ℤ) → least ≤ℤ pos 0 → pos 0 ≤ℤ greatest
+        → high (ForwardOnly (Held least greatest law)) d ≡ high (Held (pos 0) greatest law) d }
+    ensures reverse_at_least { (least greatest : ℤ) (law : Law) (S : ℕ) (x a : ℤ) → least ≤ℤ pos 0 → pos 0 ≤ℤ greatest
+        → flow_at_least (ReverseOnly (Held least greatest law)) S x a ↔ flow_at_least (Held least (pos 0) law) S x a }
+    ensures reverse_at_most { (least greatest : ℤ) (law : Law) (S : ℕ) (x a : ℤ) → least ≤ℤ pos 0 → pos 0 ≤ℤ greatest
+        → flow_at_most (ReverseOnly (Held least greatest law)) S x a ↔ flow_at_most (Held least (pos 0) law) S x a }
+    ensures forward_at_least { (least greatest : ℤ) (law : Law) (S : ℕ) (x a : ℤ) → least ≤ℤ pos 0 → pos 0 ≤ℤ greatest
+        → flow_at_least (ForwardOnly (Held least greatest law)) S x a ↔ flow_at_least (Held (pos 0) greatest law) S x a }
+    ensures forward_at_most { (least greatest : ℤ) (law : Law) (S : ℕ) (x a : ℤ) → least ≤ℤ pos 0 → pos 0 ≤ℤ greatest
+        → flow_at_most (ForwardOnly (Held least greatest law)) S x a ↔ flow_at_most (Held (pos 0) greatest law) S x a }
 {}
 
 /// The status word of a link holds at each head difference of the interval by which it was chosen.

@@ -26,7 +26,8 @@ pub fn fronts()
         → RunBreaksOff network rounds sharpness written printed }
 {}
 
-/// A check accepts the certificate that a run wrote, and prints its report, with `PARTIAL` in place of the line of a stop.
+/// A check accepts the certificate that a run wrote, and prints its report, with `PARTIAL` in place of the line of a
+/// stop.
 pub fn acceptance()
     ensures { (network : Project) (rounds : ℕ) (sharpness : Sharpness) (outcome : Outcome) (certificate report : List ℕ)
         (run : RunWrites network rounds sharpness outcome certificate report)
@@ -43,8 +44,8 @@ pub fn histories()
         → IsHistory network S front }
 {}
 
-/// What is found at the standing that a run leaves makes the run longer by one, and so does a record that is valid there
-/// with the records of a run.
+/// What is found at the standing that a run leaves makes the run longer by one, and so does a record that is valid
+/// there with the records of a run.
 pub fn longer_runs()
     ensures runs { (network : Project) (founds : List Found) (last : Standing) (found : Found) → IsRun network founds last
         → found.standing ≡ last → IsFound network found → IsRun network (founds ++ (found ∷ [])) found.next }

@@ -68,7 +68,7 @@ demands-sound network time (x ∷ xs) (y ∷ ys) all =
 
 -- ---- lists
 
-long-numbered : (X Y : Type 0) (f : ℕ → X → Y) (from : ℕ) (xs : List X) → length (map_from f from xs) ≡ length xs
+pub long-numbered : (X Y : Type 0) (f : ℕ → X → Y) (from : ℕ) (xs : List X) → length (map_from f from xs) ≡ length xs
 long-numbered X Y f from [] = refl
 long-numbered X Y f from (x ∷ xs) = let r = long-numbered X Y f (suc from) xs in omega (arith, r)
 

@@ -6,3 +6,9 @@ pub mod Holding
 pub mod Watched
 pub mod Walking
 pub mod Excluding
+pub mod Placed
+pub mod Ending
+pub mod Reporting
+pub mod Gridding
+pub mod GoingOn
+pub mod Extending

@@ -1,7 +1,7 @@
 -- Records inside others: what is asked of two records so that what the outer one decides the inner one decides in the
 -- same way.
 -- Source: this program's; intervals that lie inside others are those of Moore 1966.
-use Rattle.std.specs.Prelude.{◌≡◌, ℕ, ◌≤◌, ℤ, ◌≤ℤ◌, List, ⊤, length, ◌⊎◌, Bool, false, IsTrue, Contains, slice_get}
+use Rattle.std.specs.Prelude.{◌≡◌, ℕ, ◌≤◌, ℤ, ◌≤ℤ◌, List, [], ◌∷◌, ◌++◌, ⊤, length, ◌⊎◌, Bool, false, IsTrue, Contains, slice_get}
 use Rattle.std.specs.Option.{option_map_or}
 use Rattle.hyd_spec.specs.Types.{Project, Tank}
 use Rattle.hyd_spec.specs.Lists.{Each}
@@ -17,9 +17,11 @@ use Rattle.hyd_spec_certificates.specs.Certificate.{IsTight}
 use Rattle.hyd_spec_certificates.specs.Record.{Record, Standing, vector_of}
 use Rattle.hyd_spec_certificates.specs.Stocks.{Stocks}
 use Rattle.hyd_spec_certificates.specs.Decided.{Watch, stocks_of_tank, inflow_of_tank, RulesMatter}
-use Rattle.hyd_spec_certificates.specs.Valid.{AreCertificates, IsProblem, IsGridAt}
+use Rattle.hyd_spec_certificates.specs.Valid.{AreCertificates, IsProblem, IsGridAt, IsValid}
 use Rattle.hyd_spec_reports.specs.declared.StopCause.{StopCause}
 use Rattle.hyd_spec_reports.specs.declared.StopCause.TheVariants.{Demand as DemandOutOfRange, NoCertificate, RoundsSpent, RuleOpen, EventOpen, TankOpen, ControlOpen}
+use Rattle.hyd_spec_reports.specs.Stops.{Stops}
+use Rattle.hyd_spec_reports.specs.Headline.{Found, IsRun}
 use Rattle.hyd_spec_laws.specs.Laws.{HasStock, IsVessel, IsSteady}
 
 -- ---- records
@@ -110,3 +112,23 @@ IsReason (RuleOpen period rule clause lo hi) = ⊤
 IsReason (EventOpen period earliest latest) = ⊤
 IsReason (TankOpen period tank lo hi) = ⊤
 IsReason (ControlOpen period control lo hi) = ⊤
+
+-- ---- going on
+
+-- Some record is valid at a standing and leads on.
+pub record LeadsSomewhere (network : Project) (standing : Standing) : Type 0 where
+  pub grid : Grid
+  pub row : Record
+  pub next : Standing
+  pub valid : IsValid network standing grid row next
+
+-- A cause of a stop other than spent rounds holds at a standing.
+pub record IsStopped (network : Project) (standing : Standing) (rounds : ℕ) : Type 0 where
+  pub cause : StopCause
+  pub reason : IsReason cause
+  pub stops : Stops network standing rounds cause
+
+-- A run goes on by one more period.
+pub record IsLonger (network : Project) (founds : List Found) : Type 0 where
+  pub found : Found
+  pub is_run : IsRun network (founds ++ (found ∷ [])) found.next

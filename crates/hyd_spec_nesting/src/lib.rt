@@ -3,7 +3,7 @@
 //! leads on or a stop holds. Each statement is the contract of a small function.
 #![tactic(auto)]
 
-ghost use Rattle.std.specs.Prelude.{◌≡◌, ◌≢◌, ◌<◌, ◌≤◌, ◌%◌, ◌+◌, ◌-◌, ◌≤ℤ◌, ◌<ℤ◌, ◌+ℤ◌, ◌-ℤ◌, ℕ, ℤ, pos, List, [], length, slice_get, Some, ◌∷◌, min};
+ghost use Rattle.std.specs.Prelude.{◌⊎◌, false, ◌≡◌, ◌≢◌, ◌<◌, ◌≤◌, ◌%◌, ◌+◌, ◌-◌, ◌≤ℤ◌, ◌<ℤ◌, ◌+ℤ◌, ◌-ℤ◌, ℕ, ℤ, pos, List, [], length, slice_get, Some, ◌∷◌, min};
 ghost use Rattle.hyd_net.specs.Sound.{Sound};
 ghost use Rattle.hyd_spec.specs.Types.{Project, Tank, LinkState};
 ghost use Rattle.hyd_spec.specs.Assignment.{head_at};
@@ -17,13 +17,16 @@ ghost use Rattle.hyd_spec_certificates.specs.Grid.{Grid, GridLink, fixed_heads};
 ghost use Rattle.hyd_spec_certificates.specs.Boxes.{flow_box};
 ghost use Rattle.hyd_spec_certificates.specs.Certificate.{IsCertificate};
 ghost use Rattle.hyd_spec_certificates.specs.Record.{Record, Standing, initial_standing};
-ghost use Rattle.hyd_spec_certificates.specs.Decided.{Watch, watches, stocks_of_tank, inflow_of_tank, heads_below, heads_above, IsClockLength, IsEarliestEnd, IsLatestEnd, RulesMatter};
-ghost use Rattle.hyd_spec_certificates.specs.Valid.{LeavesLinks, IsValid, Continues, stocks_next, levels_next, volumes_next};
+ghost use Rattle.hyd_spec_certificates.specs.Decided.{Watch, watches, stocks_of_tank, inflow_of_tank, heads_below, heads_above, IsClockLength, IsEarliestEnd, IsLatestEnd, RulesMatter, End, EndsBy};
+ghost use Rattle.hyd_spec_certificates.specs.Valid.{DemandsAreInRange, IsGridAt, LeavesLinks, LeadsOn, IsValid, Continues, stocks_next, levels_next, volumes_next};
 ghost use Rattle.hyd_spec_reports.specs.declared.StopCause.{StopCause};
 ghost use Rattle.hyd_spec_reports.specs.Stops.{Stops};
+ghost use Rattle.hyd_spec_reports.specs.ReportLine.{ReportLine};
+ghost use Rattle.hyd_spec_reports.specs.Report.{IsReport};
+ghost use Rattle.hyd_spec_reports.specs.Headline.{Found, IsRun};
 ghost use Rattle.hyd_spec_laws.specs.Laws.{IsInside, AreInside, HasStock, IsSteady};
 ghost use Rattle.hyd_spec_histories.specs.Agreement.{IsKept};
-ghost use Rattle.hyd_spec_nesting.specs.Nesting.{IsOrdered, AreNested, IsTightened, IsTidy, ReachTest, watch_passes, IsFirstAmong, IsWalked, IsReason};
+ghost use Rattle.hyd_spec_nesting.specs.Nesting.{IsOrdered, AreNested, IsTightened, IsTidy, ReachTest, watch_passes, IsFirstAmong, IsWalked, IsReason, LeadsSomewhere, IsStopped, IsLonger};
 
 // ---- certificates of two sides
 
@@ -137,4 +140,51 @@ pub fn multiples()
     ensures found { (network : Project) (grid : Grid) (standing : Standing) (row : Record) (current : ℕ)
         → RulesMatter network grid standing row current → IsWalked network grid standing row current
         → IsLeast (RulesMatter network grid standing row) current }
+{}
+
+// ---- nothing is missing
+
+/// A standing at which the demands are in range has a grid.
+pub fn grids()
+    ensures { (network : Project) → Sound network → (standing : Standing) → DemandsAreInRange network standing.time
+        → (grid : Grid) × IsGridAt network standing grid }
+{}
+
+/// Under each record a period that doesn't begin at the end of the run ends in some way: the clock allows it a
+/// length, it has an earliest and a latest end, and it is decided or open.
+pub fn ends()
+    ensures lengths { (network : Project) → Sound network → (time : ℕ) → (cap : ℕ) × IsClockLength network time cap }
+    ensures earliest { (network : Project) → Sound network → (grid : Grid) (standing : Standing) (row : Record)
+        → (e : ℕ) × IsEarliestEnd network grid standing row e }
+    ensures latest { (network : Project) → Sound network → (grid : Grid) (standing : Standing) (row : Record)
+        → (e : ℕ) × IsLatestEnd network grid standing row e }
+    ensures some { (network : Project) → Sound network → (grid : Grid) (standing : Standing) (row : Record)
+        → standing.time ≢ network.times.duration → (e : End) × EndsBy network grid standing row e }
+{}
+
+/// Each record that leads on has a report.
+pub fn reports()
+    ensures { (network : Project) → Sound network → (grid : Grid) (standing : Standing) (row : Record) (next : Standing)
+        → IsKept network standing → IsTidy network standing → IsGridAt network standing grid
+        → LeadsOn network grid standing row next
+        → (lines : List ReportLine) × IsReport network grid standing row lines }
+{}
+
+/// At each unfinished standing of a run a valid record leads on, or a cause of a stop holds, whatever the number of
+/// rounds.
+pub fn onward()
+    ensures { (network : Project) → Sound network → (standing : Standing) → IsKept network standing
+        → standing.finished ≡ false
+        → (rounds : ℕ) → LeadsSomewhere network standing ⊎ IsStopped network standing rounds }
+{}
+
+/// Every standing that a run leaves keeps what standings keep. A run that isn't finished goes on by one more period,
+/// or a cause of a stop holds at the standing that it leaves, whatever the number of rounds.
+pub fn runs()
+    ensures keep { (network : Project) → Sound network → (founds : List Found) (last : Standing)
+        → IsRun network founds last
+        → IsKept network last × IsTidy network last }
+    ensures go_on { (network : Project) → Sound network → (founds : List Found) (last : Standing)
+        → IsRun network founds last
+        → last.finished ≡ false → (rounds : ℕ) → IsLonger network founds ⊎ IsStopped network last rounds }
 {}

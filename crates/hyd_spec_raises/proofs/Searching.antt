@@ -46,7 +46,8 @@ pub each-cons : {X : Type 0} (P : ℕ → X → Type 0) (x : X) (xs : List X) �
 each-cons {X} P x xs first rest zero y e = subst (P 0) (same_item X x y e) first
 each-cons {X} P x xs first rest (suc k) y e = rest k y e
 
-lacks-later : {X : Type 0} (P : ℕ → X → Type 0) (x : X) (xs : List X) → P 0 x → Lacks (λ k y. P (suc k) y) xs → Lacks P (x ∷ xs)
+lacks-later : {X : Type 0} (P : ℕ → X → Type 0) (x : X) (xs : List X) → P 0 x → Lacks (λ k y. P (suc k) y) xs
+    → Lacks P (x ∷ xs)
 lacks-later {X} P x xs first lacks = record {
   place = suc lacks.place;
   item = lacks.item;
@@ -63,7 +64,14 @@ pub each-or-lacks : {X : Type 0} (P : ℕ → X → Type 0) → ((k : ℕ) (x : 
     → Each xs P ⊎ Lacks P xs
 each-or-lacks P decide [] = inl (λ k x e. absurd (cc))
 each-or-lacks P decide (x ∷ xs) = elim (decide 0 x) [
-  | inr missing ↦ inr (record { place = 0; item = x; is_item = refl; lacks = missing; before = λ k y lt e. absurd (omega (arith, lt)) })
+  | inr missing ↦ inr (record {
+    place = 0;
+    item = x;
+    is_item = refl;
+    lacks = missing;
+    before = λ k y lt e. absurd
+        (omega (arith, lt));
+  })
   | inl is ↦ elim (each-or-lacks (λ k y. P (suc k) y) (λ k y. decide (suc k) y) xs) [
     | inl rest ↦ inl (each-cons P x xs is rest)
     | inr lacks ↦ inr (lacks-later P x xs is lacks)

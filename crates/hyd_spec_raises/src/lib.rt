@@ -17,7 +17,8 @@ ghost use Rattle.hyd_spec_certificates.specs.Climbing.{LiesBeyond, IsStart, IsLe
 ghost use Rattle.hyd_spec_reports.specs.Stops.{beginning};
 ghost use Rattle.hyd_spec_laws.specs.Laws.{IsSteady};
 
-/// A vector with a head for each junction is a certificate, or fails first at a junction; not both, and at one junction.
+/// A vector with a head for each junction is a certificate, or fails first at a junction; not both, and at one
+/// junction.
 pub fn failures()
     ensures found { (held : Option HeldJunction) (grid : Grid) (problem : Problem) (side : Side) (u : List ℤ)
         → length u ≡ length grid.junctions → IsCertificateHolding held grid problem side u

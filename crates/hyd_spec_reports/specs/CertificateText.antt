@@ -85,7 +85,8 @@ pub record IsRow (junctions tanks : ℕ) (row : Record) : Type 0 where
 
 -- The text is that of this version, 1 or 2, of these counts and records, and of an end line with this number and word. All
 -- numbers but heads are below 2^32, so that no line has more than 64 bytes.
-pub record IsCertificateText (text : List ℕ) (version junctions tanks : ℕ) (rows : List Record) (periods : ℕ) (finished : Bool) : Type 0 where
+pub record IsCertificateText (text : List ℕ) (version junctions tanks : ℕ) (rows : List Record) (periods : ℕ)
+    (finished : Bool) : Type 0 where
   pub known : (version ≡ 1) ⊎ (version ≡ 2)
   pub junctions_fit : junctions < 2 ^ 32
   pub tanks_fit : tanks < 2 ^ 32

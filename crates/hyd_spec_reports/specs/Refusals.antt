@@ -1,6 +1,6 @@
 -- Why a record of a certificate is refused at a standing: the first of six causes that holds.
 -- Source: this program's.
-use Rattle.std.specs.Prelude.{◌≡◌, ◌≢◌, ℕ, ◌<◌, Bool, true, false, List, Option, Some, None, position}
+use Rattle.std.specs.Prelude.{◌≡◌, ◌≢◌, ℕ, ◌<◌, true, false, List, Some, None, position}
 use Rattle.hyd_spec.specs.Types.{Project, LinkState}
 use Rattle.hyd_spec_certificates.specs.declared.Problem.{Problem}
 use Rattle.hyd_spec_certificates.specs.declared.Side.{Side}
@@ -21,8 +21,8 @@ pub record IsDue (standing : Standing) (row : Record) : Type 0 where
   pub number : row.number ≡ standing.number
   pub time : row.time ≡ standing.time
 
--- The first vector of the record that isn't a certificate, in the order of problems and sides, and the junction at which it
--- fails first.
+-- The first vector of the record that isn't a certificate, in the order of problems and sides, and the junction at
+-- which it fails first.
 pub record IsFirstToFail (network : Project) (grid : Grid) (row : Record) (problem : Problem) (side : Side)
     (junction : ℕ)
     : Type 0 where
@@ -31,8 +31,8 @@ pub record IsFirstToFail (network : Project) (grid : Grid) (row : Record) (probl
       → IsCertificate grid before other (vector_of row before other)
   pub fails : FailsFirst None grid problem side (vector_of row problem side) junction
 
--- The certificates of the record leave a matter of the period open: its end, or at a decided end a tank's state or a level
--- control. (The period at the end of the run has no matters.)
+-- The certificates of the record leave a matter of the period open: its end, or at a decided end a tank's state or a
+-- level control. (The period at the end of the run has no matters.)
 pub data LeavesOpen (network : Project) (grid : Grid) (standing : Standing) (row : Record) : Type 0 where
   rule : (open_rule : OpenRule) → EndsBy network grid standing row (RuleIsOpen open_rule)
       → LeavesOpen network grid standing row
@@ -72,8 +72,8 @@ pub record IsCertified (network : Project) (standing : Standing) (grid : Grid) (
 
 -- ---- the cause
 
--- What a cause says of a record at a standing. Those before it in the order (after the end, place, demands, vectors, matters,
--- length) don't hold.
+-- What a cause says of a record at a standing. Those before it in the order (after the end, place, demands, vectors,
+-- matters, length) don't hold.
 abbrev pub IsRefusedBy : Project → Standing → Record → CertRefused → Type 0
 IsRefusedBy network standing row (After period) = standing.finished ≡ true
 IsRefusedBy network standing row (Place period) = (standing.finished ≡ false) × (IsDue standing row → ⊥)
@@ -87,8 +87,8 @@ IsRefusedBy network standing row (Length period) =
     (grid : Grid) × (IsCertified network standing grid row
     × ((LeavesOpen network grid standing row → ⊥) × HasOtherLength network grid standing row))
 
--- A record with the network's counts of junctions and tanks is refused at a standing by this cause, which names the period
--- that was due.
+-- A record is refused at a standing by this cause, which names the period that was due. (This is asked of records
+-- with the network's counts of junctions and tanks.)
 pub record IsRefused (network : Project) (standing : Standing) (row : Record) (cause : CertRefused) : Type 0 where
   pub period_is : refused_period cause ≡ standing.number
   pub refused_by : IsRefusedBy network standing row cause

@@ -1,18 +1,18 @@
 -- A history of each basin, and that it agrees with the run.
-use Rattle.std.proofs.Common.{◌≡◌, ◌≢◌, ℕ, zero, suc, ◌+◌, ◌<◌, ◌≤◌, ◌%◌, ℤ, pos, ◌<ℤ◌, ◌≤ℤ◌, ◌+ℤ◌, ◌-ℤ◌, Bool, true, false, ◌&&◌, ◌||◌, not, List, [], ◌∷◌, ◌++◌, inl, inr, refl, sym, subst, arith}
-use Rattle.std.specs.Prelude.{slice_get, slice_index_or, Option, Some, None}
+use Rattle.std.proofs.Common.{◌≡◌, ◌≢◌, ℕ, zero, suc, ◌+◌, ◌<◌, ◌≤◌, ◌%◌, ℤ, pos, ◌+ℤ◌, ◌-ℤ◌, Bool, true, false, ◌&&◌, ◌||◌, not, [], ◌∷◌, ◌++◌, refl, subst, arith}
+use Rattle.std.specs.Prelude.{slice_get, slice_index_or, Some, None}
 use Rattle.std.specs.Option.{option_map_or}
 use Rattle.std.proofs.lemmas.Int.{ints}
-use Rattle.hyd_spec.specs.Types.{Project, Tank, Junction, Link}
+use Rattle.hyd_spec.specs.Types.{Tank, Junction}
 use Rattle.hyd_spec.specs.declared.TankState.{TankState}
-use Rattle.hyd_spec.specs.declared.TankState.TheVariants.{Empty, Between, Full}
+use Rattle.hyd_spec.specs.declared.TankState.TheVariants.{Between, Full}
 use Rattle.hyd_spec.specs.Lists.{Each}
 use Rattle.hyd_spec.specs.Scale.{at_scale}
-use Rattle.hyd_spec.specs.Law.{LinearLaw, Capped, Follows}
+use Rattle.hyd_spec.specs.Law.{Follows}
 use Rattle.hyd_spec.specs.LinkLaw.{is_full, is_empty, law_of}
-use Rattle.hyd_spec.specs.Assignment.{IsAssignment, JunctionObeys, head_at, none as no_link, more as one_link}
+use Rattle.hyd_spec.specs.Assignment.{IsAssignment, none as no_link, more as one_link}
 use Rattle.hyd_spec.specs.Tank.{Walls, walls_of, content_bounds, is_at_maximum, is_at_minimum, IsNextStock, tank_inflow}
-use Rattle.hyd_spec.specs.Length.{Period, EndsByLevel, full, empty, control as at_control, EndsByRules, MayEnd, EndsByClock, by_clock, by_level, by_rules, step, duration, HasItsLength, at_end, before_end, stock_at_start, exact_after, values_at}
+use Rattle.hyd_spec.specs.Length.{Period, EndsByLevel, full, empty, control as at_control, MayEnd, by_clock, by_level, by_rules, step, duration, HasItsLength, at_end, before_end, stock_at_start, exact_after, values_at}
 use Rattle.hyd_spec.specs.History.{IsHistory, IsPeriod, AreNextStocks, ComesAfter, initial_links, commanded_after}
 use Rattle.hyd_spec_reports.specs.Headline.{Agrees, AllAgree}
 use Rattle.hyd_spec_certificates.specs.Interval.{exactly}

@@ -1,6 +1,6 @@
 -- The runs of the two basins: records, lines and texts.
-use Rattle.std.proofs.Common.{◌≡◌, ◌≢◌, ℕ, zero, suc, ◌+◌, ◌%◌, ◌<◌, ◌≤◌, ℤ, Bool, true, false, List, [], ◌∷◌, ◌⊎◌, inl, inr, refl, sym, ap, subst, arith, lit<}
-use Rattle.std.specs.Prelude.{slice_get, Some, ◌^◌, All, Contains, slice_index_or, pos, ◌++◌, unsigned_abs}
+use Rattle.std.proofs.Common.{◌≡◌, ◌≢◌, ℕ, zero, suc, ◌+◌, ◌%◌, ◌<◌, ◌≤◌, Bool, true, false, List, [], ◌∷◌, ◌⊎◌, inl, inr, refl, sym, ap, subst, arith, lit<}
+use Rattle.std.specs.Prelude.{slice_get, Some, ◌^◌, All, Contains, pos, ◌++◌, unsigned_abs}
 use Rattle.std.proofs.lemmas.List.Elements.{All-nil, All-cons}
 use Rattle.hyd_spec_certificates.specs.declared.Problem.{Problem}
 use Rattle.hyd_spec_certificates.specs.declared.Problem.TheVariants.{Main, Pinned}
@@ -22,7 +22,7 @@ use Rattle.hyd_spec_certificates.specs.Stocks.{may_reach, must_reach}
 use Rattle.hyd_lemmas.proofs.Trials.{none_below, from, any_of}
 use Rattle.hyd_spec_certificates.specs.Grid.{Grid, GridLink, GridJunction, tank_intervals, grid_links}
 use Rattle.hyd_spec_certificates.specs.Boxes.{difference}
-use Rattle.hyd_spec_certificates.specs.Certificate.{IsInBox, IsCertificate, Passes}
+use Rattle.hyd_spec_certificates.specs.Certificate.{IsInBox, IsCertificate}
 use Rattle.hyd_spec_certificates.specs.Record.{Record, Standing, Vectors, no_vectors, vector_of}
 use Rattle.hyd_spec_certificates.specs.Decided.{heads_below, heads_above, flow_boxes, level_of_tank, links_at, Watch, watches, stocks_of_tank, inflow_of_tank, SomeMayReach, SomeMustReach, RulesMatter, NoRuleMatters, IsClockLength, IsEarliestEnd, IsLatestEnd, EndsBy, WithoutRules, by_clock}
 use Rattle.hyd_spec_certificates.specs.Valid.{IsProblem, IsGridAt, AreCertificates, demand_limit, LeavesLinks, levels_next, volumes_next, AreStates, IsValid, continues, finishes, by_clock as left_by_clock}

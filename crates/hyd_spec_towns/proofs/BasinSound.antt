@@ -1,12 +1,12 @@
 -- The basins are networks that a file can stand for.
-use Rattle.std.proofs.Common.{◌≡◌, ◌≢◌, ℕ, zero, suc, ◌<◌, ◌≤◌, ◌*◌, ◌^◌, ℤ, pos, ◌<ℤ◌, ◌-ℤ◌, List, [], ◌∷◌, length, refl, arith}
-use Rattle.std.specs.Prelude.{slice_index_or, codes, AllPairs, map, sum_by}
+use Rattle.std.proofs.Common.{◌≡◌, ◌≢◌, ℕ, zero, suc, ◌<◌, ◌≤◌, ◌^◌, ℤ, pos, ◌<ℤ◌, List, [], ◌∷◌, length, refl, arith}
+use Rattle.std.specs.Prelude.{codes, sum_by}
 use Rattle.std.specs.List.{All, HoldsAt}
 use Rattle.std.proofs.lemmas.Int.{ints}
 use Rattle.std.proofs.lemmas.List.Elements.{All-from_recursion}
 use Rattle.std.proofs.lemmas.List.Kept.{AllPairs-cons}
 use Rattle.hyd_net.specs.ListView.{ListView}
-use Rattle.hyd_net.specs.Ids.{AreDistinct, IsId}
+use Rattle.hyd_net.specs.Ids.{IsId}
 use Rattle.hyd_net.specs.Curves.{AreRising, IsVolumeCurve}
 use Rattle.hyd_net.specs.Ranges.{Lies, IsHead}
 use Rattle.hyd_net.specs.Sound.{HasIds, HasEnds, IsPattern, Sound}

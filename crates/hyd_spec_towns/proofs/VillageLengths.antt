@@ -11,7 +11,7 @@ use Rattle.hyd_spec.specs.declared.TankState.{TankState}
 use Rattle.hyd_spec.specs.declared.TankState.TheVariants.{Empty, Between, Full}
 use Rattle.hyd_spec.specs.LinkLaw.{is_full, is_empty}
 use Rattle.hyd_spec.specs.Lists.{Each}
-use Rattle.hyd_spec.specs.Tank.{walls_of, content_bounds, reaches, is_at_maximum, is_at_minimum, Stock, IsNextStock, tank_inflow}
+use Rattle.hyd_spec.specs.Tank.{walls_of, content_bounds, reaches, is_at_maximum, is_at_minimum, IsNextStock, tank_inflow}
 use Rattle.hyd_spec.specs.Rules.{rule_changes}
 use Rattle.hyd_spec.specs.Length.{Period, EndsByLevel, full, empty, control as at_control, EndsByRules, MayEnd, by_clock, by_level, by_rules, step, duration, HasItsLength, at_end, before_end, level_at_start, stock_at_start, exact_after, reached_after, values_at}
 use Rattle.hyd_spec.specs.History.{AreNextStocks, ComesAfter}

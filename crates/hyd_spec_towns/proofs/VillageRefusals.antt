@@ -1,18 +1,18 @@
 -- Records of the village that are refused.
-use Rattle.std.proofs.Common.{◌≡◌, ◌≢◌, ℕ, zero, suc, ◌<◌, ◌≤◌, ◌^◌, pos, ◌≤ℤ◌, false, true, List, [], ◌∷◌, refl, arith, lit≤, lit<}
-use Rattle.std.specs.Prelude.{None, Some}
+use Rattle.std.proofs.Common.{◌≡◌, ◌≢◌, ℕ, zero, suc, ◌<◌, ◌≤◌, ◌^◌, pos, List, refl, arith, lit≤, lit<}
+use Rattle.std.specs.Prelude.{None}
 use Rattle.std.proofs.lemmas.Int.{ints}
 use Rattle.hyd_spec.specs.Types.{Project, LinkState}
 use Rattle.hyd_spec.specs.Assignment.{head_at}
 use Rattle.hyd_spec_certificates.specs.declared.Problem.TheVariants.{Main}
 use Rattle.hyd_spec_certificates.specs.declared.Side.TheVariants.{Upper}
 use Rattle.hyd_spec_certificates.specs.Grid.{Grid}
-use Rattle.hyd_spec_certificates.specs.Certificate.{IsInBox, Passes, FailsFirst, outside, fails}
+use Rattle.hyd_spec_certificates.specs.Certificate.{IsInBox, FailsFirst, outside, fails}
 use Rattle.hyd_spec_certificates.specs.Record.{Record, Standing, initial_standing}
 use Rattle.hyd_spec_certificates.specs.Decided.{End, EndsBy, by_rules, rule_is_open, by_clock, event_is_open, RuleIsOpen, EventIsOpen, ByRules, WithoutRules}
 use Rattle.hyd_spec_certificates.specs.Valid.{DemandsAreInRange, IsGridAt, LeavesLinks, by_rules as left_by_rules, by_clock as left_by_clock}
 use Rattle.hyd_spec_reports.specs.declared.CertRefused.TheVariants.{Place, Demand, Fails, Open as MatterOpen, Length, After}
-use Rattle.hyd_spec_reports.specs.Refusals.{IsRefused, HasItsGrid, IsFirstToFail, IsCertified, LeavesOpen, rule, event, tank, control, at_end}
+use Rattle.hyd_spec_reports.specs.Refusals.{IsRefused, HasItsGrid, LeavesOpen, rule, event, tank, control, at_end}
 use Rattle.hyd_spec_towns.specs.Village.{Choice, usual, village, village_with, mill}
 use Rattle.hyd_spec_towns.specs.VillageRun.{standing_0, standing_1, standing_4, left, grid_0, grid_4, row_0, row_1, row_4}
 use Rattle.hyd_spec_towns.specs.VillageParts.{grid_mill}

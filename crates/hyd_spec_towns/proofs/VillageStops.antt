@@ -1,5 +1,5 @@
 -- Villages whose run stops at its start.
-use Rattle.std.proofs.Common.{◌^◌, ◌≡◌, pos, true, [], ◌∷◌, inl, inr, refl, subst, arith, lit≤, lit<}
+use Rattle.std.proofs.Common.{ℕ, ◌^◌, ◌≡◌, pos, true, [], ◌∷◌, inl, inr, refl, subst, arith, lit≤, lit<}
 use Rattle.hyd_spec_certificates.specs.declared.Problem.TheVariants.{Main}
 use Rattle.hyd_spec_certificates.specs.declared.Side.TheVariants.{Upper, Lower}
 use Rattle.hyd_spec.specs.Law.{LinearLaw, Shut, Capped}
@@ -7,10 +7,12 @@ use Rattle.hyd_spec.specs.Length.{step}
 use Rattle.hyd_spec_certificates.specs.Grid.{Grid}
 use Rattle.hyd_spec_certificates.specs.Certificate.{IsCertificate, none}
 use Rattle.hyd_spec_certificates.specs.Record.{initial_standing}
-use Rattle.hyd_spec_certificates.specs.Decided.{Watch, IsClockLength, RulesMatter, IsFirstMatter, IsOpenRule, EndsBy, WithoutRules, EventIsOpen, rule_is_open, by_clock, event_is_open}
+use Rattle.hyd_spec_certificates.specs.Decided.{IsTruthBetween, readings_below, readings_above, Watch, IsClockLength, RulesMatter, IsFirstMatter, IsOpenRule, EndsBy, WithoutRules, EventIsOpen, rule_is_open, by_clock, event_is_open}
 use Rattle.hyd_spec_certificates.specs.Valid.{IsGridAt, levels_next, by_clock as left_by_clock}
 use Rattle.hyd_spec_reports.specs.Stops.{IsFirstDemand, HasNoCertificate, SpendsRounds, IsTightRow, LeavesRuleOpen, LeavesEventOpen, LeavesTankOpen, LeavesControlOpen, EndsAtLevels}
-use Rattle.hyd_spec_towns.specs.Village.{Choice, usual, village, village_with, mill, farm, tower}
+use Rattle.hyd_spec_certificates.specs.declared.Truth.{Truth}
+use Rattle.hyd_spec_certificates.specs.declared.Truth.TheVariants.{True, False, Open}
+use Rattle.hyd_spec_towns.specs.Village.{Choice, usual, village, village_with, mill, farm, tower, refill_rule}
 use Rattle.hyd_spec_towns.specs.VillageRun.{standing_0, grid_0, row_0}
 use Rattle.hyd_spec_towns.specs.VillageParts.{grid_mill, grid_farm}
 use Rattle.hyd_spec_towns.specs.VillageStops.{thirsty, dry, unsure_rule, open_rule, unsure_event, unsure_control, unsure_tank, last_level}
@@ -103,6 +105,21 @@ unsure_rule_first = record {
 
 pub rule_is : IsOpenRule (village_with unsure_rule) grid_0 standing_0 row_0 2 open_rule
 rule_is = record { first_rule = refl; rule = _; is_rule = refl; clause_is = record { first_clause = refl; each = _; is_clause = refl; lo_is = refl; hi_is = refl } }
+
+-- the same between the two readings alone, and decided a second earlier and a second later
+abbrev pub truth_after : ℕ → Truth → Type 0
+truth_after seconds truth =
+    IsTruthBetween (village_with unsure_rule) seconds (readings_below (village_with unsure_rule) grid_0 standing_0 row_0 seconds)
+    (readings_above (village_with unsure_rule) grid_0 standing_0 row_0 seconds) (refill_rule unsure_rule.clauses) truth
+
+pub rule_truth_open : truth_after 2 (Open 1 (pos 20014736562746) (pos 20014736577608))
+rule_truth_open = (refl, record { first_clause = refl; each = _; is_clause = refl; lo_is = refl; hi_is = refl })
+
+pub rule_truth_before : truth_after 1 True
+rule_truth_before = refl
+
+pub rule_truth_later : truth_after 3 False
+rule_truth_later = refl
 
 pub rule_stops : LeavesRuleOpen (village_with unsure_rule) standing_0 open_rule
 rule_stops = record {

@@ -94,7 +94,8 @@ basin_grid basin level = record {
 
 -- Without a junction each vector is empty.
 abbrev pub basin_row : ℕ → ℕ → ℕ → Record
-basin_row number time length = record { number = number; time = time; length = length; main = no_vectors; pinned = no_vectors ∷ [] }
+basin_row number time length =
+    record { number = number; time = time; length = length; main = no_vectors; pinned = no_vectors ∷ [] }
 
 abbrev pub basin_period : Basin → ℕ → ℕ → ℤ → ℤ → TankState → ℤ → Period
 basin_period basin time length level volume state flow = record {
@@ -155,10 +156,12 @@ abbrev pub curved_0 : Standing
 curved_0 = basin_standing curved 0 0 (exactly (pos 40000000000000)) (exactly (pos 400000000000)) Between
 
 abbrev pub curved_1 : Standing
-curved_1 = basin_standing curved 1 3600 (record { lo = pos 53611111109356; hi = pos 53611111112844 }) (record { lo = pos 608333333281; hi = pos 608333333385 }) Between
+curved_1 = basin_standing curved 1 3600 (record { lo = pos 53611111109356; hi = pos 53611111112844 })
+    (record { lo = pos 608333333281; hi = pos 608333333385 }) Between
 
 abbrev pub curved_2 : Standing
-curved_2 = basin_standing curved 2 7200 (record { lo = pos 60555555552056; hi = pos 60555555559010 }) (record { lo = pos 816666666562; hi = pos 816666666770 }) Between
+curved_2 = basin_standing curved 2 7200 (record { lo = pos 60555555552056; hi = pos 60555555559010 })
+    (record { lo = pos 816666666562; hi = pos 816666666770 }) Between
 
 abbrev pub curved_left : Standing
 curved_left = record curved_2 { number = 3; finished = true }

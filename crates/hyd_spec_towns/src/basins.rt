@@ -8,7 +8,7 @@ ghost use Rattle.hyd_spec_certificates.specs.Record.{initial_standing};
 ghost use Rattle.hyd_spec.specs.History.{IsHistory, initial_links};
 ghost use Rattle.hyd_spec_reports.specs.ReportLine.{report_text, done_line};
 ghost use Rattle.hyd_spec_reports.specs.CertificateText.{IsCertificateText, version_of};
-ghost use Rattle.hyd_spec_reports.specs.Headline.{IsRun, AllAgree, rows_of, lines_of};
+ghost use Rattle.hyd_spec_reports.specs.Headline.{IsRun, AllAgree, EveryHistoryAgrees, rows_of, lines_of};
 ghost use Rattle.hyd_spec_towns.specs.Basin.{basin_network, curved, curved_0, curved_founds, curved_left, curved_periods, curved_written, curved_printed};
 ghost use Rattle.hyd_spec_towns.specs.Basin.{spilling, spilling_0, spilling_founds, spilling_left, spilling_periods, spilling_written, spilling_printed};
 
@@ -46,8 +46,10 @@ pub fn histories()
     ensures spilling { IsHistory (basin_network spilling) 1000 spilling_periods }
 {}
 
-/// The histories agree with the runs.
+/// The histories agree with the runs, by their numbers, and every other history does by the theorem.
 pub fn agreement()
     ensures curved { AllAgree (basin_network curved) 1000 (initial_links (basin_network curved)) curved_periods curved_founds }
     ensures spilling { AllAgree (basin_network spilling) 1000 (initial_links (basin_network spilling)) spilling_periods spilling_founds }
+    ensures curved_every { EveryHistoryAgrees (basin_network curved) curved_founds }
+    ensures spilling_every { EveryHistoryAgrees (basin_network spilling) spilling_founds }
 {}

@@ -28,7 +28,8 @@ pub fn demand()
 pub fn fails()
     ensures nearer { IsRefused village standing_0 low_row (Fails 0 Main Upper 0) }
     ensures out_of_box { IsRefused village standing_0 far_row (Fails 0 Main Upper 1) }
-    ensures line { refused_line village (Fails 0 Main Upper 1) ≡ codes "BADCERT period 0 FAILS MAIN UPPER JUNCTION Farm\n" }
+    ensures line { refused_line village (Fails 0 Main Upper 1)
+        ≡ codes "BADCERT period 0 FAILS MAIN UPPER JUNCTION Farm\n" }
 {}
 
 /// A matter that isn't decided: a rule, the end between two seconds, the state of a tank, a level control.

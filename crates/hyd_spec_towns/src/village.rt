@@ -11,7 +11,7 @@ ghost use Rattle.hyd_spec.specs.History.{IsHistory, initial_links};
 ghost use Rattle.hyd_spec_reports.specs.Report.{IsReport};
 ghost use Rattle.hyd_spec_reports.specs.ReportLine.{report_text, done_line};
 ghost use Rattle.hyd_spec_reports.specs.CertificateText.{IsCertificateText};
-ghost use Rattle.hyd_spec_reports.specs.Headline.{Found, IsTightThroughout, IsRun, AllAgree, rows_of, lines_of};
+ghost use Rattle.hyd_spec_reports.specs.Headline.{Found, IsTightThroughout, IsRun, AllAgree, EveryHistoryAgrees, rows_of, lines_of};
 ghost use Rattle.hyd_spec_certificates.specs.Valid.{IsGridAt, AreCertificates, IsValid, AreValid};
 ghost use Rattle.hyd_spec_towns.specs.Village.{village};
 ghost use Rattle.hyd_spec_towns.specs.VillageHistory.{periods};
@@ -100,7 +100,9 @@ pub fn texts()
     ensures report { printed ≡ report_text village (lines_of founds) (done_line 5) }
 {}
 
-/// The history agrees with the run: its heads lie strictly between the vectors, and each line holds of it.
+/// The history agrees with the run: its heads lie strictly between the vectors, and each line holds of it. This follows from
+/// the numbers; that every other history agrees too, at every scale, from the theorem.
 pub fn agreement()
-    ensures { AllAgree village 1000 (initial_links village) periods founds }
+    ensures this { AllAgree village 1000 (initial_links village) periods founds }
+    ensures every { EveryHistoryAgrees village founds }
 {}

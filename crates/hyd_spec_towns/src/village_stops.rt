@@ -9,7 +9,10 @@ ghost use Rattle.hyd_spec_reports.specs.Stops.{Stops};
 ghost use Rattle.hyd_spec_reports.specs.declared.StopCause.TheVariants.{Demand as DemandOutOfRange, NoCertificate, RoundsSpent, RuleOpen, EventOpen, TankOpen, ControlOpen};
 ghost use Rattle.hyd_spec_reports.specs.ReportLine.{stop_line};
 ghost use Rattle.hyd_spec_certificates.specs.Record.{initial_standing};
-ghost use Rattle.hyd_spec_towns.specs.Village.{village, village_with};
+ghost use Rattle.hyd_spec_certificates.specs.declared.Truth.TheVariants.{True, False, Open};
+ghost use Rattle.hyd_spec_certificates.specs.Decided.{IsTruthBetween, readings_below, readings_above};
+ghost use Rattle.hyd_spec_towns.specs.Village.{village, village_with, refill_rule};
+ghost use Rattle.hyd_spec_towns.specs.VillageRun.{standing_0, grid_0, row_0};
 ghost use Rattle.hyd_spec_towns.specs.VillageStops.{thirsty, dry, unsure_rule, open_rule, unsure_event, unsure_control, unsure_tank, last_level};
 
 /// A demand is out of range.
@@ -30,6 +33,18 @@ pub fn source()
 pub fn rounds()
     ensures stops { Stops village (initial_standing village) 0 (RoundsSpent 0 Main Upper 0) }
     ensures line { stop_line village 0 (RoundsSpent 0 Main Upper 0) ≡ codes "STOP period 0 time 0:00:00 ROUNDS MAIN UPPER 0\n" }
+{}
+
+/// What is known of a rule between two readings: one second after the start it is true, after two it is open by its second
+/// clause, after three it is false.
+pub fn truths()
+    ensures first { IsTruthBetween (village_with unsure_rule) 1 (readings_below (village_with unsure_rule) grid_0 standing_0 row_0 1)
+        (readings_above (village_with unsure_rule) grid_0 standing_0 row_0 1) (refill_rule unsure_rule.clauses) True }
+    ensures second { IsTruthBetween (village_with unsure_rule) 2 (readings_below (village_with unsure_rule) grid_0 standing_0 row_0 2)
+        (readings_above (village_with unsure_rule) grid_0 standing_0 row_0 2) (refill_rule unsure_rule.clauses)
+        (Open 1 (pos 20014736562746) (pos 20014736577608)) }
+    ensures third { IsTruthBetween (village_with unsure_rule) 3 (readings_below (village_with unsure_rule) grid_0 standing_0 row_0 3)
+        (readings_above (village_with unsure_rule) grid_0 standing_0 row_0 3) (refill_rule unsure_rule.clauses) False }
 {}
 
 /// A rule is open.

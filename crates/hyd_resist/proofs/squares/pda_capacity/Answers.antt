@@ -3,7 +3,7 @@ use Rattle.std.proofs.lemmas.Int.{ints, to_z-of_z}
 use borrow.Author.Differences.{up}
 use Rattle.hyd_num.specs.Chain.{IsPressurePair}
 use Rattle.hyd_spec.specs.Types.{PressureDemand}
-use Rattle.hyd_resist.proofs.PressurePairs.{pressure_pair, size_is, pressure-least, pressure-greatest}
+use Rattle.hyd_lemmas.proofs.PressurePairs.{IsInReach, pressure_pair, size_is, pressure-least, pressure-greatest}
 use Rattle.hyd_resist.proofs.squares.pda_capacity.Goals as goal
 
 -- the demand as it is passed on
@@ -25,17 +25,25 @@ made : (c : goal.After-square_over) → IsPressurePair c.args.demand c.args.p0 c
 made c = pressure_pair c.args.demand c.args.p0 c.args.pf c.args.us c.from.result c.unsigned_abs-2.result c.ratio-flows.result c.pressure_in_ticks-head.result c.square_over.result
     (demand_size c) (head_size c) c.ratio-flows.ensures.ratio c.pressure_in_ticks-head.ensures.value c.square_over.ensures
 
+reach : (c : goal.After-square_over) → IsInReach c.args.demand c.args.p0 c.args.pf c.args.us
+reach c = record {
+  some = c.requires.demanded;
+  not_negative = c.requires.pressures.not_negative;
+  apart = c.requires.pressures.apart;
+  at_most = c.requires.pressures.at_most;
+}
+
 pub capacity_inside-requires-clause-pair : goal.capacity_inside-requires-clause-pair
 capacity_inside-requires-clause-pair c =
     subst (λ (z : ℤ). IsPressurePair z c.args.p0 c.args.pf c.args.us c.square_over.result) (sym (demand_is c)) (made c)
 
 pub capacity_inside-requires-clause-least : goal.capacity_inside-requires-clause-least
 capacity_inside-requires-clause-least c =
-    pressure-least c.args.demand c.args.p0 c.args.pf c.args.us c.square_over.result c.requires.demanded c.requires.pressures (made c)
+    pressure-least c.args.demand c.args.p0 c.args.pf c.args.us c.square_over.result (reach c) (made c)
 
 pub capacity_inside-requires-clause-greatest : goal.capacity_inside-requires-clause-greatest
 capacity_inside-requires-clause-greatest c =
-    pressure-greatest c.args.demand c.args.p0 c.args.pf c.args.us c.square_over.result c.requires.demanded c.requires.demand c.requires.pressures (made c)
+    pressure-greatest c.args.demand c.args.p0 c.args.pf c.args.us c.square_over.result c.requires.demand (reach c) (made c)
 
 pub returns-clause-origin : goal.returns-clause-origin
 returns-clause-origin c =

@@ -12,7 +12,7 @@ use Rattle.hyd_spec.specs.Lists.{Each}
 use Rattle.hyd_spec.specs.Quantity.{demand_of}
 use Rattle.hyd_spec.specs.Assignment.{LinksFollow, none, more, JunctionObeys, IsAssignment, node_heads, head_at}
 use Rattle.hyd_spec.specs.Length.{at_end}
-use Rattle.hyd_spec.specs.History.{Begins, initial_links, initial_levels}
+use Rattle.hyd_spec.specs.History.{Begins, initial_links, initial_levels, initial_volumes}
 use Rattle.hyd_spec_input.specs.FirstForm.{Words, HasForm, IsFirstForm, form_lines}
 use Rattle.hyd_spec_cases.specs.Forms.{example, example_words}
 use Rattle.hyd_spec_cases.specs.Histories.{example_period}
@@ -145,10 +145,11 @@ assigned network first =
 pub returns : goal.returns
 returns c network first =
     let parts = first.has_parts in
-    let begins : Begins network 2 0 (initial_levels network 2) (initial_links network) (example_period network) =
+    let begins : Begins network 2 0 (initial_levels network 2) (initial_volumes network 2) (initial_links network) (example_period network) =
     record {
       at_time = refl;
       at_levels = rw parts.plain.no_tanks refl;
+      at_volumes = rw parts.plain.no_tanks refl;
       tanks = rw parts.plain.no_tanks refl;
       links = rw (parts.links, parts.plain.no_controls, parts.link_is.kind) refl;
     } in

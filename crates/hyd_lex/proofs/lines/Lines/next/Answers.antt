@@ -28,8 +28,16 @@ loop-self-preserved c =
 
 pub invariant_of-self-in-Wrong : goal.invariant_of-self-in-Wrong
 invariant_of-self-in-Wrong c =
-    let i = c.loop-self.invariant in
-    (i.short, omega (arith, i.within, c.first_line-used.ensures.within, length-drop c.loop-self.self-inside.at c.loop-self.self-inside.text.now), omega (arith, i.few, c.first_line-used.ensures.some))
+    let i = c.loop-self.invariant in (
+      i.short,
+      omega (
+        arith,
+        i.within,
+        c.first_line-used.ensures.within,
+        length-drop c.loop-self.self-inside.at c.loop-self.self-inside.text.now,
+      ),
+      omega (arith, i.few, c.first_line-used.ensures.some),
+    )
 
 pub returns-in-Wrong-clause-text : goal.returns-in-Wrong-clause-text
 returns-in-Wrong-clause-text c = c.loop-self.invariant.text_is
@@ -46,8 +54,16 @@ returns-in-Wrong-clause-fault c =
 
 pub invariant_of-self-in-Row : goal.invariant_of-self-in-Row
 invariant_of-self-in-Row c =
-    let i = c.loop-self.invariant in
-    (i.short, omega (arith, i.within, c.first_line-used.ensures.within, length-drop c.loop-self.self-inside.at c.loop-self.self-inside.text.now), omega (arith, i.few, c.first_line-used.ensures.some))
+    let i = c.loop-self.invariant in (
+      i.short,
+      omega (
+        arith,
+        i.within,
+        c.first_line-used.ensures.within,
+        length-drop c.loop-self.self-inside.at c.loop-self.self-inside.text.now,
+      ),
+      omega (arith, i.few, c.first_line-used.ensures.some),
+    )
 
 pub returns-in-Row-clause-text : goal.returns-in-Row-clause-text
 returns-in-Row-clause-text c = c.loop-self.invariant.text_is
@@ -56,12 +72,15 @@ pub returns-in-Row-clause-some : goal.returns-in-Row-clause-some
 returns-in-Row-clause-some c =
     let s = c.loop-self.self-inside in
     let line = c.first_line-used.result.0.now in
-    let place = row_is s.text.now s.at line c.body.result.now c.first_line-used.ensures.front c.body.ensures.front c.body.ensures.shorter in
+    let place =
+    row_is s.text.now s.at line c.body.result.now c.first_line-used.ensures.front c.body.ensures.front c.body.ensures.shorter in
     at_item c.args.self.now s.text.now s.at c.first_line-used.result.1 s.number s.region _ _ _ _ c.loop-self.invariant c.first_line-used.ensures.lines
-    c.kind_of-kind.ensures c.region_after-self-inside.ensures (rw (c.in-Row.is, ← c.loop-self.invariant.text_is, place, c.body.ensures.body) refl)
+    c.kind_of-kind.ensures c.region_after-self-inside.ensures
+    (rw (c.in-Row.is, ← c.loop-self.invariant.text_is, place, c.body.ensures.body) refl)
 
 pub returns-clause-none : goal.returns-clause-none
 returns-clause-none c =
     let s = c.loop-self.self-inside in
-    let e : items s.region (s.number + 1) (text_lines (drop s.at s.text.now)) ≡ [] = rw (drop_all s.at s.text.now c.loop-self-test.false) refl in
+    let e : items s.region (s.number + 1) (text_lines (drop s.at s.text.now)) ≡ [] =
+    rw (drop_all s.at s.text.now c.loop-self-test.false) refl in
     (sym c.loop-self.invariant.rest ∙ e, e)

@@ -1,0 +1,3 @@
+pub mod NetView
+pub mod Ties
+pub mod Settings

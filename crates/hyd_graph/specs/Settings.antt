@@ -1,0 +1,110 @@
+-- The laws of links in their states, between tanks that may be full or empty.
+use Rattle.std.specs.Prelude.{◌≡◌, ◌<◌, ◌≤◌, ◌*◌, ◌^◌, ℕ, ℤ, Bool, List, unsigned_abs, length, slice_index_or, if◌then◌else◌, ⊤, Option, None, slice_get}
+use Rattle.std.specs.Prelude.{All, true, false}
+use Rattle.hyd_net.specs.ListView.{ListView}
+use Rattle.hyd_net.specs.Made.{IsKindMade, IsStateMade, IsValveMade}
+use Rattle.hyd_num.specs.Chain.{IsMade}
+use Rattle.hyd_net.specs.Sizes.{HasSizes}
+use Rattle.hyd_net.specs.States.{CanHave}
+use Rattle.hyd_net.specs.declared.curves.HeadPoint.{HeadPoint}
+use Rattle.hyd_spec.specs.Types.{Project, Link, LinkKind, PipeLink, CheckPipe, PumpLink, CurvePump, Tcv, Fcv, Gpv, LinkState, ShutoffHead}
+use Rattle.hyd_spec.specs.declared.TankState.{TankState}
+use Rattle.hyd_spec.specs.Network.{is_tank, tank_number}
+use Rattle.hyd_spec.specs.Quantity.{is_us, shutoff_head}
+use Rattle.hyd_spec.specs.Law.{Law, ForwardOnly, ReverseOnly}
+use Rattle.hyd_spec.specs.LinkLaw.{own_law, forbids_forward, forbids_reverse}
+use Rattle.hyd_spec_certificates.specs.Enclosing.{low, high}
+use Rattle.hyd_law.specs.LinkLaws.{link_low, link_high, IsSoundLink, LinkAccepts}
+use Rattle.hyd_law.specs.declared.link_law.LinkLaw.{LinkLaw}
+use Rattle.hyd_graph.specs.declared.parts.Setting.{Setting}
+
+-- a law of the program stands for an exact law: it has its enclosing functions, its numbers are sound, and it accepts each
+-- difference of two heads of at most 10^18 head ticks
+pub record Stands (law : LinkLaw) (exact : Law) : Type 0 where
+  pub low_is : (d : ℤ) → link_low law d ≡ low exact d
+  pub high_is : (d : ℤ) → link_high law d ≡ high exact d
+  pub sound : IsSoundLink law
+  pub accepts : (d : ℤ) → unsigned_abs d ≤ 2 * 10 ^ 18 → LinkAccepts law d
+
+-- where a law's own flow would go a forbidden way, it is 0
+abbrev pub restricted : Bool → Bool → Law → Law
+restricted no_forward no_reverse own =
+    let one_way = (if no_forward then ReverseOnly own else own) in
+    if no_reverse then ForwardOnly one_way else one_way
+
+-- the state of a node that is a tank
+abbrev pub tank_state : Project → List TankState → ℕ → Option TankState
+tank_state project tanks node = if is_tank project node then slice_get tanks (tank_number project node) else None
+
+-- the setting of a link in its state, between tanks in theirs
+abbrev pub setting_of : Project → List TankState → Link → LinkState → Setting
+setting_of project tanks link state =
+    record { state = state; no_forward = forbids_forward project tanks link; no_reverse = forbids_reverse project tanks link }
+
+-- the two laws of a link are those of its setting: its own, and the one between its tanks
+pub record AreLawsOf (us : Bool) (bends : List (ListView HeadPoint)) (kind : LinkKind) (setting : Setting) (own law : LinkLaw) : Type 0 where
+  pub own_is : Stands own (own_law us bends kind setting.state)
+  pub law_is : Stands law (restricted setting.no_forward setting.no_reverse (own_law us bends kind setting.state))
+
+-- so it is for each link
+abbrev pub AreLaws : Project → List Setting → List LinkLaw → List LinkLaw → Type 0
+AreLaws project settings own laws = (k : ℕ) (link : Link) (setting : Setting) (o l : LinkLaw) → k < length project.links.list
+    → AreLawsOf (is_us project) project.bends.list (slice_index_or project.links.list k link).kind (slice_index_or settings k setting)
+    (slice_index_or own k o) (slice_index_or laws k l)
+
+-- the first n links have the settings of their states
+abbrev pub AreSet : Project → List TankState → List LinkState → List Setting → ℕ → Type 0
+AreSet project tanks states settings n = (k : ℕ) (link : Link) (state : LinkState) (setting : Setting) → k < n
+    → slice_index_or settings k setting ≡ setting_of project tanks (slice_index_or project.links.list k link) (slice_index_or states k state)
+
+-- what is known of a link of a sound project in a state that it can have
+pub record CanStand (project : Project) (kind : LinkKind) (state : LinkState) : Type 0 where
+  pub made : IsKindMade project.options.unit kind
+  pub sizes : HasSizes project.options.unit project.patterns.list project.bends.list kind
+  pub can : CanHave kind state
+  pub state_made : IsStateMade project.options.unit state
+
+-- each link can have its state, whose numbers are made of the file's
+pub record AreStates (project : Project) (states : List LinkState) : Type 0 where
+  pub each : length states ≡ length project.links.list
+  pub can : (k : ℕ) (link : Link) (state : LinkState) → k < length states → CanHave (slice_index_or project.links.list k link).kind (slice_index_or states k state)
+  pub made : All (IsStateMade project.options.unit) states
+
+-- a kind without a curve by straight lines
+abbrev pub IsPlain : LinkKind → Type 0
+IsPlain (PipeLink cap) = ⊤
+IsPlain (CheckPipe cap) = ⊤
+IsPlain (PumpLink cap shutoff head pattern) = ⊤
+IsPlain (CurvePump bend pattern) = ⊥
+IsPlain (Tcv valve) = ⊤
+IsPlain (Fcv valve) = ⊤
+IsPlain (Gpv bend) = ⊥
+
+-- a shutoff head of at most 10^16 head ticks either way
+abbrev pub IsShutoff : Bool → ShutoffHead → Type 0
+IsShutoff us head = unsigned_abs (shutoff_head us head).num ≤ 10 ^ 16 * (shutoff_head us head).den
+
+-- the law that passes one way only
+abbrev pub one_way_law : Bool → Law → Law
+one_way_law true law = ForwardOnly law
+one_way_law false law = ReverseOnly law
+
+-- the capacities of a kind are made of the file's numbers
+abbrev pub IsLawMade : LinkKind → Type 0
+IsLawMade (PipeLink cap) = IsMade cap
+IsLawMade (CheckPipe cap) = IsMade cap
+IsLawMade (PumpLink cap shutoff head pattern) = IsMade cap
+IsLawMade (CurvePump bend pattern) = ⊤
+IsLawMade (Tcv valve) = IsValveMade valve
+IsLawMade (Fcv valve) = IsValveMade valve
+IsLawMade (Gpv bend) = ⊤
+
+-- a pump's shutoff head is in range
+abbrev pub HasShutoff : Bool → LinkKind → Type 0
+HasShutoff us (PipeLink cap) = ⊤
+HasShutoff us (CheckPipe cap) = ⊤
+HasShutoff us (PumpLink cap shutoff head pattern) = IsShutoff us head
+HasShutoff us (CurvePump bend pattern) = ⊤
+HasShutoff us (Tcv valve) = ⊤
+HasShutoff us (Fcv valve) = ⊤
+HasShutoff us (Gpv bend) = ⊤
