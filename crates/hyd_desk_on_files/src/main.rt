@@ -21,6 +21,9 @@ const MADE: [&str; 3] = [
 /// How many bytes each of them gets by one call: more than any buffer holds.
 const LENGTH: usize = 120_000;
 
+/// What each of them gets when it is made anew: of the longer bytes nothing is left.
+const SHORT: &[u8] = b"one line\n";
+
 /// What went wrong.
 enum Wrong {
     /// There was no memory.
@@ -79,6 +82,10 @@ fn try_all<R: Files + Print + Drop>(alloc: Global, desk: &mut FileDesk<R>) -> Re
     }
     for (place, name) in MADE.iter().enumerate() {
         expect(alloc, desk, name, varied(alloc, place)?.as_slice())?;
+    }
+    for name in MADE {
+        make(desk, name, SHORT)?;
+        expect(alloc, desk, name, SHORT)?;
     }
     match desk.open("no_such_file.tmp") {
         Ok(()) => Err(Wrong::Content),
