@@ -10,4 +10,4 @@ pub mod FirstRun
 pub mod Texts
 pub mod Delivery
 pub mod Reading
-pub mod Network
+pub mod OneItem

@@ -6,7 +6,7 @@ ghost use Rattle.hyd_num.specs.Quantity as quantity;
 ghost use Rattle.hyd_num.specs.declared.units.FlowUnit.TheVariants.{Cmd};
 ghost use Rattle.hyd_spec.specs.Types.{Throttle, Quadratic};
 ghost use Rattle.hyd_spec_input.specs.FirstForm.{IsPlain, IsJunction, IsValve};
-ghost use Rattle.hyd_cli.specs.Network.{IsOnly};
+ghost use Rattle.hyd_cli.specs.OneItem.{IsOnly};
 
 use hyd_net::{
     Demand, Junction, Link, LinkKind, LinkState, List, Names, OpenValve, Options, OutOfMemory,

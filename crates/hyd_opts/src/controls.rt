@@ -29,7 +29,7 @@ pub enum Asked {
 /// When a control acts. An ID is the number of its word, counted from 0.
 #[derive(Debug, Clone, Copy, PartialEq, Eq, Drop)]
 pub enum WhenLine {
-    /// Where the level of a node is above a number, or below it, in the file's units.
+    /// Where the level of a tank is at least a number (ABOVE), or at most it (BELOW), in the file's units.
     Level {
         object: NodeWord,
         node: u32,
