@@ -13,7 +13,7 @@ use Rattle.hyd_spec.specs.Network.{junction_count, tank_count}
 use Rattle.hyd_spec.specs.Quantity.{demand_of}
 use Rattle.hyd_spec_certificates.specs.Grid.{Grid}
 use Rattle.hyd_spec_certificates.specs.Certificate.{IsCertificate, IsTight}
-use Rattle.hyd_spec_reports.specs.CertificateText.{IsVector, IsRow, certificate_text, version_of}
+use Rattle.hyd_spec_reports.specs.CertificateText.{IsVector, IsRow, header_line, certificate_text, version_of}
 use Rattle.hyd_spec_certificates.specs.Record.{Record, Vectors, initial_standing, vector_of}
 use Rattle.hyd_spec_certificates.specs.Valid.{IsProblem, IsGridAt, DemandsAreInRange, demand_limit, finishes}
 use Rattle.hyd_spec_reports.specs.Stops.{HasNoCertificate}
@@ -22,6 +22,7 @@ use Rattle.hyd_spec_reports.specs.ReportLine.{ReportLine, report_text, done_line
 use Rattle.hyd_spec_reports.specs.Report.{IsReport}
 use Rattle.hyd_spec_input.specs.FirstForm.{IsFirstNetwork}
 use Rattle.hyd_spec_reports.specs.Headline.{EveryHistoryAgrees, IsFound, IsRun, none, more, Sharpness, IsTightThroughout, IsSharpFound, Finished, Stopped, RunWrites}
+use Rattle.hyd_spec_laws.proofs.CertificateLines.{header-short}
 use Rattle.hyd_spec_histories.proofs.Running.{every_history as run_agrees_so}
 use Rattle.hyd_cli.specs.FirstRun.{first_row, first_found, last_standing}
 use Rattle.hyd_cli.specs.Solution.{IsTightHead}
@@ -36,10 +37,10 @@ one_junction network first = ap (λ (js : List Junction). length js) first.has_p
 no_tank : (network : Project) → IsFirstNetwork network → tank_count network ≡ 0
 no_tank network first = rw first.has_parts.plain.no_tanks refl
 
-few_junctions : (network : Project) → IsFirstNetwork network → junction_count network < 2 ^ 32
+few_junctions : (network : Project) → IsFirstNetwork network → junction_count network < 10 ^ 64
 few_junctions network first = let e = one_junction network first in omega (arith, e)
 
-few_tanks : (network : Project) → IsFirstNetwork network → tank_count network < 2 ^ 32
+few_tanks : (network : Project) → IsFirstNetwork network → tank_count network < 10 ^ 64
 few_tanks network first = let e = no_tank network first in omega (arith, e)
 
 -- ---- demands
@@ -145,6 +146,14 @@ first_version network first = rw first.has_parts.plain.no_tanks refl
 known_version : (network : Project) → IsFirstNetwork network → (version_of network ≡ 1) ⊎ (version_of network ≡ 2)
 known_version network first = inl (first_version network first)
 
+short_header : (network : Project) → IsFirstNetwork network
+    → length (header_line (version_of network) (junction_count network) (tank_count network)) ≤ 64
+short_header network first =
+    let v = first_version network first in
+    let n = one_junction network first in
+    let k = no_tank network first in
+    header-short (version_of network) (junction_count network) (tank_count network) (omega (arith, v)) (omega (arith, n)) (omega (arith, k))
+
 same_counts : (network : Project) → IsFirstNetwork network → (rows : List Record) (periods : ℕ) (finished : Bool)
     → certificate_text 1 1 0 rows periods finished ≡ certificate_text (version_of network) (junction_count network) (tank_count network) rows periods finished
 same_counts network first rows periods finished =
@@ -180,6 +189,7 @@ writes_finished network first upper lower above below lines reports written prin
         known = known_version network first;
         junctions_fit = few_junctions network first;
         tanks_fit = few_tanks network first;
+        header_fits = short_header network first;
         rows_fit = first_rows network first grid upper lower over.is_certificate under.is_certificate;
         periods_fit = omega arith;
         is_text = written_is ∙ same_counts network first (first_row upper lower ∷ []) 1 true;
@@ -205,6 +215,7 @@ writes_stopped network first side lacks written printed written_is printed_is =
         known = known_version network first;
         junctions_fit = few_junctions network first;
         tanks_fit = few_tanks network first;
+        header_fits = short_header network first;
         rows_fit = All-nil (IsRow (junction_count network) (tank_count network));
         periods_fit = omega arith;
         is_text = written_is ∙ same_counts network first [] 0 false;

@@ -94,7 +94,8 @@ pub trait Desk {
         ensures besides { open_also self.old name.now (is_err result) self.new };
 
     /// Takes the front of what is left to read into the front of `buffer`, and returns how many
-    /// bytes; 0 means that nothing is left. Fails only where the read faults rose.
+    /// bytes; 0 means that nothing is left. Fails only where the read faults rose, and what is left to read is then not
+    /// told.
     fn read(&mut self, buffer: &mut [u8]) -> Result<usize, Failed>
         requires room { 0 < length buffer.old }
         ensures within { IfOk result (λ n. n ≤ length buffer.new) }

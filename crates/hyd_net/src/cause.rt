@@ -10,9 +10,9 @@ pub enum Cause {
     Number,
     /// A value outside its range.
     Range,
-    /// An ID that another row has.
+    /// An ID that an earlier row has.
     DuplicateId,
-    /// A name that nothing has.
+    /// A name that nothing of the kind that is asked for has.
     UnknownName,
     /// A part of EPANET's input that isn't supported, by its number.
     Unsupported(u8),

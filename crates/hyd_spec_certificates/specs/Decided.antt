@@ -179,8 +179,8 @@ readings_above network grid standing row seconds = record {
   links = links_at network standing;
 }
 
--- A clause at a time, where what the rules look at lies between two readings. Comparisons go one way, so that both ends
--- decide.
+-- A clause at a time, where what the rules look at lies between two readings. A comparison goes one way, so that both ends
+-- decide; `=` and `<>` compare times and status words alone, which are the same in both readings.
 abbrev pub clause_between : Project → ℕ → Readings → Readings → Clause → Verdict
 clause_between network time below above clause =
     at_both_ends (clause_holds network 1 time below clause) (clause_holds network 1 time above clause)

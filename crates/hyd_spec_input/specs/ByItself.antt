@@ -1,4 +1,5 @@
 -- A row that is wrong by itself.
+-- Source: EPANET 2.2 User Manual, appendix C.
 use Rattle.std.specs.Prelude.{◌≡◌, ℕ, ◌+◌, List, take, drop, Option, Some, slice_get}
 use Rattle.hyd_lex.specs.Lines.{Row}
 use Rattle.hyd_lex.specs.declared.section.Section.{Section}

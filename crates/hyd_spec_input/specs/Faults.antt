@@ -1,5 +1,6 @@
 -- The fault of a text: its first row that is wrong by itself, or the fault that ends its rows; else its first row
 -- that is wrong with the others; else what the whole file lacks.
+-- Source: EPANET 2.2 User Manual, appendix C; the order of faults is this program's.
 use Rattle.std.specs.Prelude.{◌≡◌, ℕ, ◌^◌, ◌<◌, ◌≤◌, Bool, ◌||◌, nat_le, List, [], ◌∷◌, length, take, Option, Some, None, slice_get, ◌⊎◌, Result}
 use Rattle.hyd_lex.specs.Lines.{Row, items_of, rows_in, fault_in}
 use Rattle.hyd_lex.specs.declared.fault.LexFault.{LexFault}

@@ -1,4 +1,5 @@
 -- What rows say of the network: numbers of names, values that later rows replace, groups of the lines of rules.
+-- Source: EPANET 2.2 User Manual, appendix C.
 use Rattle.std.specs.Prelude.{ℕ, Bool, true, false, ◌||◌, List, [], ◌∷◌, ◌++◌, map, filter, position, Option, Some, None, slice_get, if◌then◌else◌, ℤ, pos}
 use Rattle.std.specs.List.{flat_map}
 use Rattle.std.specs.Str.{bytes_eq}
@@ -153,12 +154,12 @@ then_lines group = lines_at is_doing Outside group
 abbrev pub else_lines : List (List (List ℕ)) → List (List (List ℕ))
 else_lines group = lines_at is_otherwise Outside group
 
--- the words of a rule's RULE line
+-- the ID of a rule, on its RULE line
 abbrev pub rule_id : List (List (List ℕ)) → List ℕ
 rule_id [] = []
 rule_id (words ∷ lines) = word 1 words
 
--- the number of a rule's PRIORITY line, in billionths
+-- the line is a PRIORITY line
 abbrev pub is_priority : Option RuleWord → Bool
 is_priority (Some Priority) = true
 is_priority _ = false
@@ -167,5 +168,6 @@ abbrev pub first_amount : List (List (List ℕ)) → Option ℤ
 first_amount [] = None
 first_amount (words ∷ lines) = Some (amount 1 words)
 
+-- the number of a rule's PRIORITY line, in billionths
 abbrev pub priority_of : List (List (List ℕ)) → Option ℤ
 priority_of group = first_amount (filter (λ words. is_priority (begins_with words)) group)

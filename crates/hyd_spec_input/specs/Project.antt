@@ -1,5 +1,6 @@
 -- The network that a file without a fault describes, item by item: each junction, link, control and rule is that of
 -- its row.
+-- Source: EPANET 2.2 User Manual, appendix C.
 use Rattle.std.specs.Prelude.{◌≡◌, ℕ, ◌+◌, Bool, true, false, ◌&&◌, not, List, [], ◌∷◌, ◌++◌, codes, Option, Some, None, slice_get, if◌then◌else◌, ℤ, pos, ◌<ℤ◌, ◌*ℤ◌, ⊤}
 use Rattle.std.specs.Ordering.{int_eq}
 use Rattle.hyd_num.specs.Numeral.{nano_of}

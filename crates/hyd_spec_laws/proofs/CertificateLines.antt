@@ -1,18 +1,18 @@
 -- The lines of a certificate text are read in one way.
-use Rattle.std.proofs.Common.{subst, ◌≡◌, ℕ, suc, ◌^◌, ◌<◌, ℤ, pos, negsuc, Bool, true, false, List, [], ◌∷◌, ◌++◌, length, map, codes, refl, sym, ap, ap₂, ◌∙◌, append_assoc, arith, ◌⊎◌, inl, inr}
+use Rattle.std.proofs.Common.{subst, ◌≡◌, ℕ, suc, ◌^◌, ◌<◌, ◌≤◌, ◌+◌, ℤ, pos, negsuc, Bool, true, false, List, [], ◌∷◌, ◌++◌, length, map, codes, refl, sym, ap, ap₂, ◌∙◌, append_assoc, arith, ◌⊎◌, inl, inr}
 use Rattle.std.specs.Prelude.{All, if◌then◌else◌}
 use Rattle.std.specs.Fmt.{decimal, signed_decimal}
 use Rattle.std.specs.Str.Parse.{AllDigits, digits_value}
-use Rattle.std.proofs.lemmas.Fmt.{decimal_is_IsNumeral_wide, signed_decimal_injective}
+use Rattle.std.proofs.lemmas.Fmt.{decimal_is_IsNumeral_wide, signed_decimal_injective, length-decimal-le_wide}
 use Rattle.std.proofs.lemmas.Int.{ints}
 use Rattle.std.proofs.lemmas.Str.Parse.{digit_from_value}
-use Rattle.std.proofs.lemmas.List.{append-nil, append_cancel_left}
+use Rattle.std.proofs.lemmas.List.{append-nil, append_cancel_left, length-append}
 use Rattle.std.proofs.lemmas.List.Elements.{All-head, All-tail}
 use lib.Signed.{mag}
 use Rattle.hyd_spec.specs.Lists.{joined}
 use Rattle.hyd_spec_certificates.specs.Certificate.{IsInBox}
 use Rattle.hyd_spec_certificates.specs.Record.{Record, Vectors}
-use Rattle.hyd_spec_reports.specs.CertificateText.{line, header_line, period_line, head_lines, vectors_text, record_text, end_line, IsVector, IsRow, IsCertificateText}
+use Rattle.hyd_spec_reports.specs.CertificateText.{words, line, header_line, period_line, head_lines, vectors_text, record_text, end_line, IsVector, IsRow, IsCertificateText}
 use Rattle.hyd_spec_laws.proofs.Pieces.{IsWord, AreWords, line-same}
 
 -- ---- numerals
@@ -195,8 +195,17 @@ header-words : (version junctions tanks : ℕ) → version < 10 ^ 64 → junctio
 header-words version junctions tanks short_version short_junctions short_tanks =
     (search arith, (decimal-word version short_version, (decimal-word junctions short_junctions, (decimal-word tanks short_tanks, tt))))
 
-small : (n : ℕ) → n < 2 ^ 32 → n < 10 ^ 64
-small n le = omega arith
+-- a header with counts below 2^32 has at most 64 bytes with its line feed
+pub header-short : (version junctions tanks : ℕ) → version < 10 → junctions < 2 ^ 32 → tanks < 2 ^ 32
+    → length (header_line version junctions tanks) ≤ 64
+header-short version junctions tanks one_digit few_junctions few_tanks =
+    let v = length-decimal-le_wide 1 version (omega arith) (omega (arith, one_digit)) (omega (arith, one_digit)) in
+    let n = length-decimal-le_wide 10 junctions (omega arith) (omega (arith, few_junctions)) (omega (arith, few_junctions)) in
+    let k = length-decimal-le_wide 10 tanks (omega arith) (omega (arith, few_tanks)) (omega (arith, few_tanks)) in
+    let last = length-append (decimal junctions) (32 ∷ decimal tanks) in
+    let middle = length-append (decimal version) (32 ∷ (decimal junctions ++ (32 ∷ decimal tanks))) in
+    let whole = length-append (words (codes "HYDCERT" ∷ (decimal version ∷ (decimal junctions ∷ (decimal tanks ∷ []))))) (10 ∷ []) in
+    omega (arith, v, n, k, last, middle, whole)
 
 known-small : (version : ℕ) → (version ≡ 1) ⊎ (version ≡ 2) → version < 10 ^ 64
 known-small version (inl is) = omega (arith, is)
@@ -208,10 +217,10 @@ pub counts-same : (text : List ℕ) (version version' junctions junctions' tanks
 counts-same text version version' junctions junctions' tanks tanks' periods periods' rows rows' finished finished' a b =
     let v = known-small version a.known in
     let v' = known-small version' b.known in
-    let n = small junctions a.junctions_fit in
-    let n' = small junctions' b.junctions_fit in
-    let k = small tanks a.tanks_fit in
-    let k' = small tanks' b.tanks_fit in
+    let n = a.junctions_fit in
+    let n' = b.junctions_fit in
+    let k = a.tanks_fit in
+    let k' = b.tanks_fit in
     let words = (line-same (codes "HYDCERT") (codes "HYDCERT") (decimal version ∷ (decimal junctions ∷ (decimal tanks ∷ [])))
     (decimal version' ∷ (decimal junctions' ∷ (decimal tanks' ∷ [])))
     (joined (map record_text rows) ++ end_line periods finished) (joined (map record_text rows') ++ end_line periods' finished')
