@@ -1,3 +1,6 @@
 pub mod NetView
 pub mod Ties
+pub mod ExactLaw
 pub mod Settings
+pub mod GridOf
+pub mod Nets
