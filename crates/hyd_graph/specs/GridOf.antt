@@ -2,29 +2,22 @@
 use Rattle.std.specs.Prelude.{ℕ, ◌+◌, ℤ, List, [], ◌∷◌, map, length}
 use Rattle.std.specs.Option.{option_map}
 use Rattle.hyd_spec.specs.Types.{LinkState, Capacity}
-use Rattle.hyd_spec.specs.Quantity.{pressure_value}
 use Rattle.hyd_spec.specs.Law.{Law}
 use Rattle.hyd_spec_certificates.specs.Interval.{Interval}
-use Rattle.hyd_spec_certificates.specs.Enclosing.{DemandLaw, Fixed, Driven}
 use Rattle.hyd_spec_certificates.specs.Grid.{Grid, GridLink, GridJunction}
 use Rattle.hyd_law.specs.declared.kinds.Quad.{Quad}
 use Rattle.hyd_law.specs.declared.link_law.LinkLaw.{LinkLaw}
 use Rattle.hyd_law.specs.declared.outflows.OutLaw.{OutLaw}
-use Rattle.hyd_law.specs.declared.outflows.OutLaw.TheVariants.{Fixed as FixedOut, Pda as PdaOut}
 use Rattle.hyd_graph.specs.declared.parts.NetJunction.{NetJunction}
 use Rattle.hyd_graph.specs.declared.parts.Ends.{Ends}
 use Rattle.hyd_graph.specs.declared.parts.LevelSpan.{LevelSpan}
 use Rattle.hyd_graph.specs.declared.parts.Setting.{Setting}
 use Rattle.hyd_graph.specs.NetView.{NetView}
+use Rattle.hyd_graph.specs.Demands.{demand_of_law}
 use Rattle.hyd_graph.specs.ExactLaw.{exact_law}
 use Rattle.hyd_graph.specs.Settings.{restricted}
 
 -- ---- junctions
-
--- the law of a demand
-abbrev pub demand_of_law : OutLaw → DemandLaw
-demand_of_law (FixedOut l) = Fixed l.demand
-demand_of_law (PdaOut l) = Driven l.demand l.cap (pressure_value l.us l.minimum) (pressure_value l.us l.required)
 
 -- the capacity of an emitter's law
 abbrev pub capacity_of : Quad → Capacity

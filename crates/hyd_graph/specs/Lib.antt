@@ -1,5 +1,6 @@
 pub mod NetView
 pub mod Ties
+pub mod Demands
 pub mod ExactLaw
 pub mod Settings
 pub mod GridOf

@@ -12,8 +12,9 @@ ghost use Rattle.hyd_spec_certificates.specs.NetOutflow.{net, margin};
 ghost use Rattle.hyd_spec_laws.specs.Laws.{IsSteady, IsSoundCapacity};
 ghost use Rattle.hyd_law.specs.OutLaws.{IsSoundOut, OutAccepts, out_low, out_high};
 ghost use Rattle.hyd_graph.specs.ExactLaw.{exact_law};
+ghost use Rattle.hyd_graph.specs.Demands.{demand_of_law};
 ghost use Rattle.hyd_graph.specs.Settings.{Stands};
-ghost use Rattle.hyd_graph.specs.GridOf.{grid_of, node_count, states_of, demand_of_law, capacity_of};
+ghost use Rattle.hyd_graph.specs.GridOf.{grid_of, node_count, states_of, capacity_of};
 ghost use Rattle.hyd_graph.specs.Nets.{HasProblem, is_upper};
 ghost use Rattle.hyd_graph.specs.Ties.{ties_from, ties_share, IsTie, HasEnds};
 
