@@ -22,7 +22,8 @@ use Rattle.hyd_law.specs.declared.kinds.Held.{Held}
 use Rattle.hyd_law.specs.declared.kinds.Bent.{Bent as BentValue}
 use Rattle.hyd_law.specs.declared.link_law.LinkLaw.{LinkLaw}
 use Rattle.hyd_law.specs.declared.link_law.LinkLaw.TheVariants.{Shut, Quad, Linear, QuadOneWay, LinearOneWay, Pump, Limit, LinearLimit, LimitOneWay, LinearLimitOneWay, Bent}
-use Rattle.hyd_graph.specs.Settings.{Stands, one_way_law}
+use Rattle.hyd_graph.specs.ExactLaw.{one_way_law}
+use Rattle.hyd_graph.specs.Settings.{Stands}
 
 pub shut_stands : (s : ShutValue) → Stands (Shut s) ShutLaw
 shut_stands s = record { low_is = λ d. refl; high_is = λ d. refl; sound = tt; accepts = λ d le. tt }

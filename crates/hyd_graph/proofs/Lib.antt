@@ -1,4 +1,9 @@
+pub mod Counts
+pub mod Fixing
 pub mod Lifting
 pub mod LawsStand
 pub mod Ranging
 pub mod SettingOne
+pub mod Steady
+pub mod Summing
+pub mod TieLemmas

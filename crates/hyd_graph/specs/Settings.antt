@@ -84,11 +84,6 @@ IsPlain (Gpv bend) = ⊥
 abbrev pub IsShutoff : Bool → ShutoffHead → Type 0
 IsShutoff us head = unsigned_abs (shutoff_head us head).num ≤ 10 ^ 16 * (shutoff_head us head).den
 
--- the law that passes one way only
-abbrev pub one_way_law : Bool → Law → Law
-one_way_law true law = ForwardOnly law
-one_way_law false law = ReverseOnly law
-
 -- the capacities of a kind are made of the file's numbers
 abbrev pub IsLawMade : LinkKind → Type 0
 IsLawMade (PipeLink cap) = IsMade cap

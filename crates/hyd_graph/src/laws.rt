@@ -13,7 +13,8 @@ ghost use Rattle.hyd_spec.specs.Law.{Law};
 ghost use Rattle.hyd_spec.specs.Law as exact;
 ghost use Rattle.hyd_spec.specs.LinkLaw as spec;
 ghost use Rattle.hyd_spec.specs.Quantity.{is_us};
-ghost use Rattle.hyd_graph.specs.Settings.{Stands, IsPlain, IsLawMade, HasShutoff, CanStand, AreLawsOf, one_way_law, restricted};
+ghost use Rattle.hyd_graph.specs.Settings.{Stands, IsPlain, IsLawMade, HasShutoff, CanStand, AreLawsOf, restricted};
+ghost use Rattle.hyd_graph.specs.ExactLaw.{one_way_law};
 
 use crate::parts::Setting;
 use crate::pumps::pump_law;

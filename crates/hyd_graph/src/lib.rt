@@ -1,12 +1,15 @@
 //! The network of a period: its links with their laws, and the link ends at each junction.
 #![tactic(auto)]
 
+mod accessors;
 mod fault;
 mod laws;
+mod net;
 mod parts;
 mod pumps;
 mod rows;
 mod settings;
 
 pub use fault::PeriodDemand;
+pub use net::Net;
 pub use parts::{Ends, LevelSpan, NetJunction, Setting, Tie};
