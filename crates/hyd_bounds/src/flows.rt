@@ -1,0 +1,66 @@
+//! Flows of links.
+#![tactic(auto)]
+
+ghost use Rattle.std.specs.Prelude.{◌≡◌, ◌<◌, ◌≤◌, ◌*◌, ◌^◌, ◌≤ℤ◌, ℤ, pos, length, unsigned_abs};
+ghost use Rattle.std.specs.Option.{IfSome};
+ghost use Rattle.hyd_spec_certificates.specs.declared.Problem.TheVariants.{Main};
+ghost use Rattle.hyd_spec_certificates.specs.declared.Side.TheVariants.{Upper, Lower};
+ghost use Rattle.hyd_spec.specs.Law.{Law as ExactLaw};
+ghost use Rattle.hyd_spec_certificates.specs.Enclosing.{low, high};
+ghost use Rattle.hyd_spec_certificates.specs.Grid.{all_heads};
+ghost use Rattle.hyd_spec_certificates.specs.Boxes.{flow_box};
+ghost use Rattle.hyd_graph.specs.GridOf.{grid_of};
+ghost use Rattle.hyd_graph.specs.Settings.{Stands};
+ghost use Rattle.hyd_law.specs.LinkLaws.{link_low, link_high, IsSoundLink, LinkAccepts};
+ghost use Rattle.hyd_bounds.specs.Bounds.{IsSpan, IsVector, AreInOrder};
+
+use crate::heads::{difference, node_head};
+use hyd_graph::Net;
+use hyd_law::{Law, LinkLaw};
+use hyd_num::Span;
+use hyd_spec_certificates::{Problem, Side};
+
+/// By how much every flow may miss its law, in flow ticks.
+pub(crate) const TOLERANCE: i128 = 10;
+
+// The flow of a link between two head differences, widened by the tolerance.
+fn between(law: &LinkLaw, least: i64, greatest: i64) -> Span
+    requires sound { IsSoundLink law.now }
+    requires least { LinkAccepts law.now least }
+    requires greatest { LinkAccepts law.now greatest }
+    requires ordered { least ≤ℤ greatest }
+    ensures lo { result.lo ≡ (link_low law.now least -ℤ pos 10) }
+    ensures hi { result.hi ≡ (link_high law.now greatest +ℤ pos 10) }
+    ensures small_lo { unsigned_abs result.lo ≤ 2 ^ 82 }
+    ensures small_hi { unsigned_abs result.hi ≤ 2 ^ 82 }
+{
+    Span {
+        lo: law.low(least) - TOLERANCE,
+        hi: law.high(greatest) + TOLERANCE,
+    }
+}
+
+/// What flows in a link from its first node to its second, in flow ticks: from the low flow at its least head
+/// difference to the high flow at its greatest, widened by the tolerance. `low` and `high` are heads of the junctions
+/// below and above those of every assignment, as a LOWER and an UPPER certificate of `Problem::Main`.
+pub fn flow_box(net: &Net, link: u32, low: &[i64], high: &[i64]) -> Span
+    requires in_range { link < length net.now.ends }
+    requires low { IsVector net.now low.now }
+    requires high { IsVector net.now high.now }
+    requires ordered { AreInOrder (pos 0) (all_heads (grid_of net.now) Main Lower low.now) (all_heads (grid_of net.now) Main Upper high.now) }
+    ensures flow { IfSome (slice_get (grid_of net.now).links link) (λ l.
+        IsSpan result (flow_box l (all_heads (grid_of net.now) Main Lower low.now) (all_heads (grid_of net.now) Main Upper high.now))) }
+    ensures small_lo { unsigned_abs result.lo ≤ 10 ^ 27 }
+    ensures small_hi { unsigned_abs result.hi ≤ 10 ^ 27 }
+{
+    let ends = net.ends(link);
+    let least = difference(
+        node_head(net, Problem::Main, Side::Lower, low, ends.from),
+        node_head(net, Problem::Main, Side::Upper, high, ends.to),
+    );
+    let greatest = difference(
+        node_head(net, Problem::Main, Side::Upper, high, ends.from),
+        node_head(net, Problem::Main, Side::Lower, low, ends.to),
+    );
+    between(net.law(link), least, greatest)
+}

@@ -1,0 +1,14 @@
+//! Bounds from certificates: what flows in a link, out of a junction and into a tank, at least and at most, and the status
+//! word of a link.
+#![tactic(auto)]
+
+mod flows;
+mod heads;
+mod inflows;
+mod outflows;
+mod status;
+
+pub use flows::flow_box;
+pub use inflows::tank_inflow;
+pub use outflows::out_box;
+pub use status::status_of;
