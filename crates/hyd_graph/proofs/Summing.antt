@@ -72,7 +72,10 @@ sum_over_ties out into heads node network es eo =
 -- ---- how many they are
 
 ends_of_one : (node k : ℕ) (e : Ends) → length (ties_of node k e) ≡ one_if (e.from == node) + one_if (e.to == node)
-ends_of_one node k e = simp (length-append) (by_cases (e.from == node) (e.to == node) _ _)
+ends_of_one node k e =
+    let first : Tie = record { link = k; other = e.to; out = true } in
+    let second : Tie = record { link = k; other = e.from; out = false } in
+    length-append (tie_if (e.from == node) first) (tie_if (e.to == node) second) ∙ by_cases (e.from == node) (e.to == node) first second
   where
     by_cases : (a b : Bool) (s t : Tie) → length (tie_if a s) + length (tie_if b t) ≡ one_if a + one_if b
     by_cases true true s t = refl
@@ -88,4 +91,5 @@ count_of_ties node k (e ∷ ends) (s ∷ settings) [] es eo = absurd (omega arit
 count_of_ties node k (e ∷ ends) (s ∷ settings) (o ∷ own) es eo =
     let here = ends_of_one node k e in
     let rest = count_of_ties node (suc k) ends settings own (omega arith) (omega arith) in
-    simp (length-append) (omega (arith, here, rest))
+    let all = length-append (ties_of node k e) (ties_from node (suc k) ends) in
+    omega (arith, here, rest, all)
