@@ -1,11 +1,10 @@
 -- What is read of a net by number is what its grid has there.
-use Rattle.std.proofs.Common.{◌≡◌, ℕ, zero, suc, ◌<◌, ◌≤◌, ◌*◌, ◌+◌, ◌^◌, ℤ, pos, ◌*ℤ◌, List, [], ◌∷◌, length, All, Option, Some, slice_get, slice_index_or, IfSome, false, refl, sym, ap, subst, ◌∙◌, arith}
+use Rattle.std.proofs.Common.{◌≡◌, ℕ, ◌<◌, ◌*◌, ◌+◌, ℤ, pos, List, length, All, Option, Some, slice_get, slice_index_or, IfSome, false, sym, ap, subst, ◌∙◌, arith}
 use Rattle.std.specs.Option.{option_map}
-use Rattle.std.proofs.lemmas.Int.{ints}
 use Rattle.std.proofs.lemmas.Option.{slice_get_within, get_or_from_slice_get}
 use Rattle.smallvec.specs.SmallVec.{SmallVec}
 use Rattle.hyd_spec.specs.Types.{Closed}
-use Rattle.hyd_spec_certificates.specs.NetOutflow.{margin, link_ends}
+use Rattle.hyd_spec_certificates.specs.NetOutflow.{margin}
 use Rattle.hyd_law.specs.declared.kinds.Quad.{Quad}
 use Rattle.hyd_law.specs.declared.link_law.LinkLaw.{LinkLaw}
 use Rattle.hyd_law.specs.declared.outflows.OutLaw.{OutLaw}

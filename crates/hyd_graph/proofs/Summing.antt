@@ -1,5 +1,5 @@
 -- The sum over all links of what they take out of a node is the sum over the link ends there, and so is their number.
-use Rattle.std.proofs.Common.{◌≡◌, ℕ, zero, suc, ◌+◌, ℤ, pos, neg_ℤ, ◌+ℤ◌, ◌-ℤ◌, Bool, true, false, List, [], ◌∷◌, ◌++◌, ◌==◌, length, Some, slice_get, subst, ap, ◌∙◌, refl, arith}
+use Rattle.std.proofs.Common.{◌≡◌, ℕ, suc, ◌+◌, ℤ, neg_ℤ, ◌+ℤ◌, ◌-ℤ◌, Bool, true, false, List, [], ◌∷◌, ◌++◌, ◌==◌, length, Some, slice_get, subst, ap, ◌∙◌, refl, arith}
 use Rattle.std.proofs.Math.ListN.{length-append}
 use Rattle.std.proofs.lemmas.Int.{ints}
 use Rattle.hyd_spec.specs.Assignment.{head_at, where_so}
@@ -12,7 +12,7 @@ use Rattle.hyd_graph.specs.declared.parts.Setting.{Setting}
 use Rattle.hyd_graph.specs.declared.parts.Tie.{Tie}
 use Rattle.hyd_graph.specs.NetView.{NetView}
 use Rattle.hyd_graph.specs.GridOf.{grid_of, link_of, links_of}
-use Rattle.hyd_graph.specs.Ties.{tie_if, ties_of, ties_from, share, tie_share, ties_share}
+use Rattle.hyd_graph.specs.Ties.{tie_if, ties_of, ties_from, tie_share, ties_share}
 
 pub joined : (out into : Law → ℤ → ℤ) (all : List GridLink) (heads : List ℤ) (here : ℤ) (xs ys : List Tie)
     → ties_share out into all heads here (xs ++ ys) ≡ ties_share out into all heads here xs +ℤ ties_share out into all heads here ys
