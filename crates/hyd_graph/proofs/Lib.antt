@@ -4,6 +4,7 @@ pub mod Lifting
 pub mod LawsStand
 pub mod Ranging
 pub mod SettingOne
+pub mod Reading
 pub mod Steady
 pub mod Summing
 pub mod TieLemmas

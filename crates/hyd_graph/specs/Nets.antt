@@ -1,5 +1,5 @@
 -- What is so of every net.
-use Rattle.std.specs.Prelude.{◌≡◌, ℕ, ◌<◌, ◌≤◌, ◌*◌, ◌^◌, ℤ, List, length, slice_index_or, unsigned_abs, All, Option, Bool, true, false, ⊤}
+use Rattle.std.specs.Prelude.{◌≡◌, ℕ, ◌<◌, ◌≤◌, ◌*◌, ◌^◌, ℤ, List, length, slice_index_or, unsigned_abs, All, Bool, true, false, ⊤}
 use Rattle.std.specs.Option.{IfSome}
 use Rattle.hyd_net.specs.Ranges.{IsHead}
 use Rattle.hyd_spec_certificates.specs.declared.Problem.{Problem}

@@ -1,6 +1,6 @@
 -- The laws of links in their states, between tanks that may be full or empty.
 use Rattle.std.specs.Prelude.{◌≡◌, ◌<◌, ◌≤◌, ◌*◌, ◌^◌, ℕ, ℤ, Bool, List, unsigned_abs, length, slice_index_or, if◌then◌else◌, ⊤, Option, None, slice_get}
-use Rattle.std.specs.Prelude.{All, true, false}
+use Rattle.std.specs.Prelude.{All}
 use Rattle.hyd_net.specs.ListView.{ListView}
 use Rattle.hyd_net.specs.Made.{IsKindMade, IsStateMade, IsValveMade}
 use Rattle.hyd_num.specs.Chain.{IsMade}
