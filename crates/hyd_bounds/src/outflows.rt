@@ -41,7 +41,7 @@ fn emitter_between(emitter: Option<&Quad>, least: i64, greatest: i64) -> Span
     requires least { unsigned_abs least ≤ 2 * 10 ^ 18 }
     requires greatest { unsigned_abs greatest ≤ 2 * 10 ^ 18 }
     requires ordered { least ≤ℤ greatest }
-    ensures box { IsSpan result (emitter_box (option_map capacity_of (option_copied emitter)) (record { lo = least; hi = greatest })) }
+    ensures emitter { IsSpan result (emitter_box (option_map capacity_of (option_copied emitter)) (record { lo = least; hi = greatest })) }
     ensures small_lo { unsigned_abs result.lo ≤ 2 ^ 66 }
     ensures small_hi { unsigned_abs result.hi ≤ 2 ^ 66 }
 {
