@@ -49,6 +49,11 @@ PassesWith grid problem side u i h =
     (junction : GridJunction) → slice_get grid.junctions i ≡ Some junction
     → Passes grid problem side (slice_set u i h) i junction
 
+-- junction number i passes
+abbrev pub PassesAt : Grid → Problem → Side → List ℤ → ℕ → Type 0
+PassesAt grid problem side u i =
+    (junction : GridJunction) → slice_get grid.junctions i ≡ Some junction → Passes grid problem side u i junction
+
 -- the first head that lies outside the box
 pub record IsFirstOutside (u : List ℤ) (i : ℕ) : Type 0 where
   pub inside : i < length u

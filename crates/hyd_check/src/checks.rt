@@ -1,7 +1,7 @@
 //! Certificates decided.
 #![tactic(auto)]
 
-ghost use Rattle.std.specs.Prelude.{◌≡◌, ◌<◌, ◌≤◌, ◌^◌, ℕ, length, All, OnOk, IfErr, None, IfSome, IfNone};
+ghost use Rattle.std.specs.Prelude.{◌≡◌, ℕ, length, All, OnOk, IfErr, None, IfSome, IfNone};
 ghost use Rattle.hyd_spec.specs.Lists.{Each};
 ghost use Rattle.hyd_spec_certificates.specs.declared.Problem.TheVariants.{Main, Pinned};
 ghost use Rattle.hyd_spec_certificates.specs.declared.Side.TheVariants.{Upper, Lower};
@@ -12,7 +12,7 @@ ghost use Rattle.hyd_check.specs.Sides.{IsFirstOutside};
 ghost use Rattle.hyd_check.specs.Comparing.{LiesAbove, LiesBelow, LiesAbovePinned, LiesBelowPinned, LiesAboveLower, LiesBelowUpper};
 
 use crate::heads::{head_of, is_in_box};
-use crate::passing::passes_with;
+use crate::passing::passes;
 use hyd_graph::Net;
 use hyd_spec_certificates::{Problem, Side};
 use thiserror::Error;
@@ -27,14 +27,14 @@ pub struct Fails {
 }
 
 // The first junction whose head lies outside the box.
-fn first_outside(u: &[i64]) -> Option<u32>
-    requires { length u.now < 2 ^ 32 }
+fn first_outside(net: &Net, u: &[i64]) -> Option<u32>
+    requires { length u.now ≡ length net.now.junctions }
     ensures some { IfSome result (λ i. IsFirstOutside u.now i) }
     ensures none { IfNone result (All IsInBox u.now) }
 {
-    for i in 0..u.len() {
-        if !is_in_box(head_of(u, i as u32)) {
-            return Some(i as u32);
+    for i in 0..net.junctions() {
+        if !is_in_box(head_of(u, i)) {
+            return Some(i);
         }
     }
     None
@@ -43,16 +43,14 @@ fn first_outside(u: &[i64]) -> Option<u32>
 // The first junction that doesn't pass.
 fn first_failing(net: &Net, problem: Problem, side: Side, u: &[i64]) -> Option<u32>
     requires one_each { length u.now ≡ length net.now.junctions }
-    requires grid_each { length (grid_of net.now).junctions ≡ length net.now.junctions }
-    requires few { length u.now < 2 ^ 32 }
     requires in_box { All IsInBox u.now }
     requires pinned { HasProblem net.now problem }
     ensures some { IfSome result (λ i. FailsFirst None (grid_of net.now) problem side u.now i) }
     ensures none { IfNone result (Each (grid_of net.now).junctions (Suits None (grid_of net.now) problem side u.now)) }
 {
-    for i in 0..u.len() {
-        if !passes_with(net, problem, side, u, i as u32, head_of(u, i as u32)) {
-            return Some(i as u32);
+    for i in 0..net.junctions() {
+        if !passes(net, problem, side, u, i) {
+            return Some(i);
         }
     }
     None
@@ -66,9 +64,8 @@ pub fn check(net: &Net, problem: Problem, side: Side, u: &[i64]) -> Result<(), F
     ensures certificate { OnOk result (IsCertificate (grid_of net.now) problem side u.now) }
     ensures fails { IfErr result (λ e. FailsFirst None (grid_of net.now) problem side u.now e.junction) }
 {
-    let _count = net.junctions();
-    let _nodes = net.nodes();
-    if let Some(junction) = first_outside(u) {
+    let _junctions = net.junctions();
+    if let Some(junction) = first_outside(net, u) {
         return Err(Fails { junction });
     }
     match first_failing(net, problem, side, u) {
@@ -88,6 +85,7 @@ pub fn check_super(net: &Net, problem: Problem, u: &[i64]) -> Result<(), Fails>
     ensures above_pinned { (tank : ℕ) → problem ≡ Pinned tank → OnOk result (LiesAbovePinned (grid_of net.now) tank u.now) }
     ensures above_lower { OnOk result (LiesAboveLower (grid_of net.now) problem u.now) }
 {
+    let _junctions = net.junctions();
     check(net, problem, Side::Upper, u)
 }
 
@@ -102,5 +100,6 @@ pub fn check_sub(net: &Net, problem: Problem, u: &[i64]) -> Result<(), Fails>
     ensures below_pinned { (tank : ℕ) → problem ≡ Pinned tank → OnOk result (LiesBelowPinned (grid_of net.now) tank u.now) }
     ensures below_upper { OnOk result (LiesBelowUpper (grid_of net.now) problem u.now) }
 {
+    let _junctions = net.junctions();
     check(net, problem, Side::Lower, u)
 }

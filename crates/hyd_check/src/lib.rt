@@ -10,4 +10,4 @@ mod passing;
 
 pub use checks::{Fails, check, check_sub, check_super};
 pub use heads::{head_of, is_in_box};
-pub use passing::{net_high, net_low, passes_with, surplus};
+pub use passing::{net_high, net_low, passes, surplus};

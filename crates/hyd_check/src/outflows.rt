@@ -35,8 +35,8 @@ fn demand_flow(law: &OutLaw, high: bool, pressure: i64) -> i128
 fn emitter_flow(law: Option<&Quad>, high: bool, pressure: i64) -> i128
     requires sound { IfSome (option_copied law) (λ quad. IsSoundCapacity (capacity_of quad)) }
     requires accepted { unsigned_abs pressure ≤ 2 * 10 ^ 18 }
-    ensures low { high ≡ false → result ≡ emitter_low (option_map capacity_of (option_copied law)) pressure }
-    ensures high { high ≡ true → result ≡ emitter_high (option_map capacity_of (option_copied law)) pressure }
+    ensures low { high ≡ false → result ≡ emitter_low (option_map capacity_of (option_copied law.entry)) pressure }
+    ensures high { high ≡ true → result ≡ emitter_high (option_map capacity_of (option_copied law.entry)) pressure }
     ensures small { unsigned_abs result ≤ 2 ^ 65 }
 {
     let Some(law) = law else {

@@ -7,7 +7,7 @@ ghost use Rattle.hyd_spec_certificates.specs.Certificate.{IsInBox};
 ghost use Rattle.hyd_spec_certificates.specs.NetOutflow.{net_low, net_high};
 ghost use Rattle.hyd_graph.specs.GridOf.{grid_of};
 ghost use Rattle.hyd_graph.specs.Nets.{HasProblem};
-ghost use Rattle.hyd_check.specs.Sides.{net_outflow, PassesWith};
+ghost use Rattle.hyd_check.specs.Sides.{net_outflow, PassesWith, PassesAt};
 
 use crate::flows::flows;
 use crate::heads::head_of;
@@ -68,12 +68,19 @@ pub fn surplus(net: &Net, problem: Problem, side: Side, u: &[i64], i: u32, head:
     ensures passes { pos 0 ≤ℤ result ↔ PassesWith (grid_of net.now) problem side u.now i head }
     ensures small { unsigned_abs result ≤ 2 ^ 115 }
 {
+    let _junctions = net.junctions();
     let outflow = net_outflow(net, problem, side, u, i, head);
     let needed = i128::from(net.margin(i)) + 1;
     match side {
         Side::Upper => outflow - needed,
         Side::Lower => -outflow - needed,
     }
+}
+
+fn is_some(surplus: i128) -> bool
+    ensures { IsTrue result ↔ pos 0 ≤ℤ surplus }
+{
+    surplus >= 0
 }
 
 /// Whether junction i passes with `head` in place of its own: for UPPER its margin and 1 flow out of it on balance, for
@@ -86,5 +93,16 @@ pub fn passes_with(net: &Net, problem: Problem, side: Side, u: &[i64], i: u32, h
     requires pinned { HasProblem net.now problem }
     ensures { IsTrue result ↔ PassesWith (grid_of net.now) problem side u.now i head }
 {
-    surplus(net, problem, side, u, i, head) >= 0
+    is_some(surplus(net, problem, side, u, i, head))
+}
+
+/// Whether junction i passes.
+pub fn passes(net: &Net, problem: Problem, side: Side, u: &[i64], i: u32) -> bool
+    requires one_each { length u.now ≡ length net.now.junctions }
+    requires in_box { All IsInBox u.now }
+    requires inside { i < length u.now }
+    requires pinned { HasProblem net.now problem }
+    ensures { IsTrue result ↔ PassesAt (grid_of net.now) problem side u.now i }
+{
+    passes_with(net, problem, side, u, i, head_of(u, i))
 }
