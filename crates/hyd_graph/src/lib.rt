@@ -1,6 +1,9 @@
 //! The network of a period: its links with their laws, and the link ends at each junction.
 #![tactic(auto)]
 
+mod closed;
+mod curves;
+mod demands;
 mod fault;
 mod laws;
 mod parts;
