@@ -1,5 +1,5 @@
 -- The heads of reservoirs and tanks among those of all nodes.
-use Rattle.std.proofs.Common.{◌≡◌, ℕ, zero, suc, ◌+◌, ◌-◌, ◌<◌, ◌≤◌, ℤ, pos, Bool, true, false, List, [], ◌∷◌, ◌++◌, length, map, slice_index_or, refl, sym, ap, subst, ◌∙◌, arith}
+use Rattle.std.proofs.Common.{◌≡◌, ℕ, zero, suc, ◌+◌, ◌-◌, ◌<◌, ◌≤◌, ℤ, pos, true, false, List, [], ◌∷◌, length, map, slice_index_or, refl, sym, ap, ◌∙◌, arith}
 use Rattle.std.proofs.lemmas.List.{get_or_append_left, get_or-append_right}
 use Rattle.hyd_spec.specs.Assignment.{head_at}
 use Rattle.hyd_spec.specs.Lists.{map_from}
@@ -27,13 +27,15 @@ fixed_reservoir net problem side node r h u e le is lt value =
     ∙ sym (get_or-append_right u (fixed_heads (grid_of net) problem side) (length net.junctions) node (pos 0) e le
     ∙ get_or_append_left net.reservoirs _ (pos 0) (node - length net.junctions) (omega (arith, is, lt)))
 
-pub fixed_tank : (net : NetView) (problem : Problem) (side : Side) (node t : ℕ) (d : LevelSpan) (h : ℤ) (u : List ℤ) → length u ≡ length net.junctions → length net.junctions ≤ node
-    → length net.reservoirs ≤ node - length net.junctions → t ≡ node - length net.junctions - length net.reservoirs → t < length net.tanks
-    → h ≡ end_on (tank_side problem side t) (interval_of (slice_index_or net.tanks t d)) → h ≡ head_at (all_heads (grid_of net) problem side u) node
-fixed_tank net problem side node t d h u e le past is lt value =
-    value ∙ sym (tank_end problem side 0 net.tanks t d lt) ∙ ap (head_at (map_from (λ k tank. end_on (tank_side problem side k) tank) 0 (map interval_of net.tanks))) is
-    ∙ sym (get_or-append_right u (fixed_heads (grid_of net) problem side) (length net.junctions) node (pos 0) e le
-    ∙ get_or-append_right net.reservoirs _ (length net.reservoirs) (node - length net.junctions) (pos 0) refl past)
+pub fixed_tank : (net : NetView) (problem : Problem) (side : Side) (node nj nr : ℕ) (tank : LevelSpan) (h : ℤ) (u : List ℤ) → nj ≡ length net.junctions → nr ≡ length net.reservoirs
+    → length u ≡ length net.junctions → nj ≤ node → nr ≤ node - nj → node - nj - nr < length net.tanks → tank ≡ slice_index_or net.tanks (node - nj - nr) tank
+    → h ≡ end_on (tank_side problem side (node - nj - nr)) (interval_of tank) → h ≡ head_at (all_heads (grid_of net) problem side u) node
+fixed_tank net problem side node nj nr tank h u ej er e le past lt at value =
+    value ∙ ap (λ (x : LevelSpan). end_on (tank_side problem side (node - nj - nr)) (interval_of x)) at
+    ∙ ap (λ (n : ℕ). end_on (tank_side problem side n) (interval_of (slice_index_or net.tanks (node - nj - nr) tank))) (let z : node - nj - nr ≡ 0 + (node - nj - nr) = omega arith in z)
+    ∙ sym (get_or-append_right u (fixed_heads (grid_of net) problem side) nj node (pos 0) (e ∙ sym ej) le
+    ∙ get_or-append_right net.reservoirs _ nr (node - nj) (pos 0) (sym er) past
+    ∙ tank_end problem side 0 net.tanks (node - nj - nr) tank lt)
 
 pub upper_end : (side : Side) (x : LevelSpan) → is_upper side ≡ true → x.hi ≡ end_on side (interval_of x)
 upper_end Upper x e = refl

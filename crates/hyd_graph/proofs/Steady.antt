@@ -60,10 +60,10 @@ links_sound [] settings own laws e all = tt
 links_sound (x ∷ ends) [] own laws e all = tt
 links_sound (x ∷ ends) (s ∷ settings) [] laws e all = tt
 links_sound (x ∷ ends) (s ∷ settings) (o ∷ own) [] e all =
-    (restricted_sound s.no_forward s.no_reverse (exact_law o) (exact_sound o (all 0 s o o (omega arith)).own.sound),
+    (restricted_sound s.no_forward s.no_reverse (exact_law o) (exact_sound o (all 0 s o o (omega arith)).own_is.sound),
     links_sound ends settings own [] (omega arith) (λ k setting a b h. all (suc k) setting a b (omega arith)))
 links_sound (x ∷ ends) (s ∷ settings) (o ∷ own) (l ∷ laws) e all =
-    (restricted_sound s.no_forward s.no_reverse (exact_law o) (exact_sound o (all 0 s o l (omega arith)).own.sound),
+    (restricted_sound s.no_forward s.no_reverse (exact_law o) (exact_sound o (all 0 s o l (omega arith)).own_is.sound),
     links_sound ends settings own laws (omega arith) (λ k setting a b h. all (suc k) setting a b (omega arith)))
 
 emitter_sound : (e : Option QuadValue) → IfSome e (λ law. IsSoundCapacity (capacity_of law)) → IfSome (option_map capacity_of e) IsSoundCapacity

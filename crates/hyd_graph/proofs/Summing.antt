@@ -1,5 +1,5 @@
 -- The sum over all links of what they take out of a node is the sum over the link ends there, and so is their number.
-use Rattle.std.proofs.Common.{◌≡◌, ℕ, zero, suc, ◌+◌, ℤ, pos, neg_ℤ, ◌+ℤ◌, ◌-ℤ◌, Bool, true, false, List, [], ◌∷◌, ◌++◌, ◌==◌, length, Some, slice_get, subst, ap, ◌∙◌, refl, arith}
+use Rattle.std.proofs.Common.{◌≡◌, ℕ, suc, ◌+◌, ℤ, neg_ℤ, ◌+ℤ◌, ◌-ℤ◌, Bool, true, false, List, [], ◌∷◌, ◌++◌, ◌==◌, length, Some, slice_get, subst, ap, ◌∙◌, refl, arith}
 use Rattle.std.proofs.Math.ListN.{length-append}
 use Rattle.std.proofs.lemmas.Int.{ints}
 use Rattle.hyd_spec.specs.Assignment.{head_at, where_so}
@@ -12,7 +12,7 @@ use Rattle.hyd_graph.specs.declared.parts.Setting.{Setting}
 use Rattle.hyd_graph.specs.declared.parts.Tie.{Tie}
 use Rattle.hyd_graph.specs.NetView.{NetView}
 use Rattle.hyd_graph.specs.GridOf.{grid_of, link_of, links_of}
-use Rattle.hyd_graph.specs.Ties.{tie_if, ties_of, ties_from, share, tie_share, ties_share}
+use Rattle.hyd_graph.specs.Ties.{tie_if, ties_of, ties_from, tie_share, ties_share}
 
 pub joined : (out into : Law → ℤ → ℤ) (all : List GridLink) (heads : List ℤ) (here : ℤ) (xs ys : List Tie)
     → ties_share out into all heads here (xs ++ ys) ≡ ties_share out into all heads here xs +ℤ ties_share out into all heads here ys
@@ -72,7 +72,10 @@ sum_over_ties out into heads node network es eo =
 -- ---- how many they are
 
 ends_of_one : (node k : ℕ) (e : Ends) → length (ties_of node k e) ≡ one_if (e.from == node) + one_if (e.to == node)
-ends_of_one node k e = simp (length-append) (by_cases (e.from == node) (e.to == node) _ _)
+ends_of_one node k e =
+    let first : Tie = record { link = k; other = e.to; out = true } in
+    let second : Tie = record { link = k; other = e.from; out = false } in
+    length-append (tie_if (e.from == node) first) (tie_if (e.to == node) second) ∙ by_cases (e.from == node) (e.to == node) first second
   where
     by_cases : (a b : Bool) (s t : Tie) → length (tie_if a s) + length (tie_if b t) ≡ one_if a + one_if b
     by_cases true true s t = refl
@@ -88,4 +91,5 @@ count_of_ties node k (e ∷ ends) (s ∷ settings) [] es eo = absurd (omega arit
 count_of_ties node k (e ∷ ends) (s ∷ settings) (o ∷ own) es eo =
     let here = ends_of_one node k e in
     let rest = count_of_ties node (suc k) ends settings own (omega arith) (omega arith) in
-    simp (length-append) (omega (arith, here, rest))
+    let all = length-append (ties_of node k e) (ties_from node (suc k) ends) in
+    omega (arith, here, rest, all)

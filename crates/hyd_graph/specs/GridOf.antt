@@ -1,5 +1,5 @@
 -- The grid that a net is: contracts see a net as the network of the definitions.
-use Rattle.std.specs.Prelude.{ℕ, ◌+◌, ℤ, List, [], ◌∷◌, map, length}
+use Rattle.std.specs.Prelude.{ℕ, ◌+◌, List, [], ◌∷◌, map, length}
 use Rattle.std.specs.Option.{option_map}
 use Rattle.hyd_spec.specs.Types.{LinkState, Capacity}
 use Rattle.hyd_spec.specs.Law.{Law}

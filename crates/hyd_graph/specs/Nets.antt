@@ -1,5 +1,5 @@
 -- What is so of every net.
-use Rattle.std.specs.Prelude.{◌≡◌, ℕ, ◌<◌, ◌≤◌, ◌*◌, ◌^◌, ℤ, List, length, slice_index_or, unsigned_abs, All, Option, Bool, true, false, ⊤}
+use Rattle.std.specs.Prelude.{◌≡◌, ℕ, ◌<◌, ◌≤◌, ◌*◌, ◌^◌, ℤ, List, length, slice_index_or, unsigned_abs, All, Bool, true, false, ⊤}
 use Rattle.std.specs.Option.{IfSome}
 use Rattle.hyd_net.specs.Ranges.{IsHead}
 use Rattle.hyd_spec_certificates.specs.declared.Problem.{Problem}
@@ -36,8 +36,8 @@ pub record AreHeads (span : LevelSpan) : Type 0 where
 
 -- the own law of a link stands for its exact one, and its law for that of its setting
 pub record HasLaws (setting : Setting) (own law : LinkLaw) : Type 0 where
-  pub own : Stands own (exact_law own)
-  pub law : Stands law (restricted setting.no_forward setting.no_reverse (exact_law own))
+  pub own_is : Stands own (exact_law own)
+  pub law_is : Stands law (restricted setting.no_forward setting.no_reverse (exact_law own))
 
 -- so it is for each link
 abbrev pub HaveLaws : List Setting → List LinkLaw → List LinkLaw → Type 0

@@ -31,7 +31,7 @@ pub record AreRows (links : List Ends) (rows : List (SmallVec Tie)) : Type 0 whe
 -- there is a row for each of so many nodes, with the link ends there
 pub record AreRowsOf (nodes : ℕ) (links : List Ends) (rows : List (SmallVec Tie)) : Type 0 where
   pub count : length rows ≡ nodes
-  pub rows : AreRows links rows
+  pub are_rows : AreRows links rows
 
 -- a link end is appended to the row of a node, where the node has one
 pub record AddsTie (node : ℕ) (tie : Tie) (old new : List (SmallVec Tie)) : Type 0 where

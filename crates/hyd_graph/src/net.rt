@@ -22,10 +22,9 @@ pub struct Net {
 }
 
 impl Model for Net {
-    ghost use Rattle.std.specs.Prelude.{◌≡◌, length};
+    ghost use Rattle.std.specs.Prelude.{◌+◌, length};
     ghost use Rattle.hyd_graph.specs.NetView.{NetView};
     ghost use Rattle.hyd_graph.specs.Nets.{IsSoundNet};
-    ghost use Rattle.hyd_graph.specs.GridOf.{node_count};
     ghost use Rattle.hyd_graph.specs.Ties.{AreRowsOf};
 
     ghost Value = { NetView };
