@@ -1,0 +1,13 @@
+//! Certificates decided: whether a vector of heads lies above, or below, the heads of every assignment, and if it isn't
+//! a certificate of that, where it fails first.
+#![tactic(auto)]
+
+mod checks;
+mod flows;
+mod heads;
+mod outflows;
+mod passing;
+
+pub use checks::{Fails, check, check_sub, check_super};
+pub use heads::{head_of, is_in_box};
+pub use passing::{net_high, net_low, passes, surplus};

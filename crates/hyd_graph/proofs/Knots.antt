@@ -1,0 +1,99 @@
+-- The knots of curves: their ranges, and that they are curves of a law.
+use Rattle.std.proofs.Common.{◌≡◌, ℕ, zero, suc, ◌+◌, ◌*◌, ◌^◌, ◌<◌, ◌≤◌, ℤ, pos, negsuc, ◌+ℤ◌, ◌-ℤ◌, ◌*ℤ◌, ◌≤ℤ◌, ◌<ℤ◌, neg_ℤ, true, List, [], ◌∷◌, length, map, slice_index_or, unsigned_abs, refl, sym, ap, subst, ◌∙◌, arith}
+use Rattle.std.specs.Prelude.{int_lt, int_le, All}
+use Rattle.std.proofs.Math.IntN.{*ℤ_comm, zero-*ℤ, negsuc-*ℤ-pos, negsuc-*ℤ-negsuc}
+use Rattle.std.proofs.lemmas.Int.{ints}
+use Rattle.std.proofs.lemmas.List.{length-map, get_or-map}
+use Rattle.hyd_num.specs.Rational.{Rational, whole, is_at_most}
+use Rattle.hyd_num.proofs.Integers.{times_one_more, times_reflects}
+use Rattle.hyd_net.specs.Curves.{Knot as Place, on_line, value_at, head_knots, IsPumpCurve, IsLossCurve}
+use Rattle.hyd_net.specs.Ranges.{Lies, IsHead, IsFlow}
+use Rattle.hyd_net.specs.declared.curves.HeadPoint.{HeadPoint}
+use Rattle.hyd_spec.specs.Scale.{cut}
+use Rattle.hyd_spec.specs.Quantity.{pump_knots, valve_knots}
+use Rattle.hyd_spec_laws.specs.Laws.{AreInOrder}
+use Rattle.hyd_spec_laws.proofs.CurveKnots.{pump_knots-in_order, valve_knots-in_order}
+use Rattle.hyd_law.specs.declared.kinds.Knot.{Knot}
+use Rattle.hyd_law.specs.Curves.{IsKnot, IsCurve, places, place_of}
+
+-- ---- the heads of a pump's points
+
+before : (a b : ℤ) → a <ℤ b → int_lt a b ≡ true
+before a b less = grind (arith, ints)
+
+at_most : (a b : ℤ) → int_le a b ≡ true → a ≤ℤ b
+at_most a b test = grind (arith, ints)
+
+one_times : (z : ℤ) → pos 1 *ℤ z ≡ z
+one_times z = omega (arith, ints, times_one_more 0 z, zero-*ℤ z)
+
+not_below : (x y : ℤ) → x ≤ℤ pos 0 → y ≤ℤ pos 0 → pos 0 ≤ℤ (x *ℤ y)
+not_below (pos zero) y f g = omega (arith, ints, zero-*ℤ y)
+not_below (pos (suc n)) y f g = absurd (omega (arith, ints, f))
+not_below (negsuc m) (pos zero) f g = omega (arith, ints, negsuc-*ℤ-pos m 0)
+not_below (negsuc m) (pos (suc n)) f g = absurd (omega (arith, ints, g))
+not_below (negsuc m) (negsuc n) f g = rw (negsuc-*ℤ-negsuc m n) (omega (arith, ints))
+
+times_one_right : (z : ℤ) → z *ℤ pos 1 ≡ z
+times_one_right z = *ℤ_comm z (pos 1) ∙ one_times z
+
+-- the line of two points by rising flows and falling heads has at flow 0 at least the first head
+line_from : (w : ℕ) (a m r : ℤ) → 0 < w → pos 0 ≤ℤ r → (((pos w *ℤ a) +ℤ r) *ℤ pos 1) ≤ℤ (m *ℤ pos w) → a ≤ℤ m
+line_from w a m r some above le =
+    times_reflects w a m some (omega (arith, ints, le, above, times_one_right ((pos w *ℤ a) +ℤ r), *ℤ_comm m (pos w)))
+
+first_low : (x y z : HeadPoint) (rest : List HeadPoint) → pos 0 ≤ℤ x.flow → x.flow <ℤ y.flow → y.head <ℤ x.head
+    → is_at_most (value_at 1 (head_knots (x ∷ (y ∷ (z ∷ rest)))) (pos 0)) (whole (pos (10 ^ 16))) ≡ true → x.head ≤ℤ pos (10 ^ 16)
+first_low x y z rest forward rise fall most =
+    let later : int_lt (pos 0) (pos 1 *ℤ y.flow) ≡ true = before (pos 0) (pos 1 *ℤ y.flow) (omega (arith, ints, one_times y.flow, forward, rise)) in
+    let apart : int_lt x.flow y.flow ≡ true = before x.flow y.flow rise in
+    let w = unsigned_abs (y.flow -ℤ x.flow) in
+    let le : (((pos (1 * w) *ℤ x.head) +ℤ ((y.head -ℤ x.head) *ℤ (pos 0 -ℤ (pos 1 *ℤ x.flow)))) *ℤ pos 1) ≤ℤ (pos (10 ^ 16) *ℤ pos w) =
+    at_most _ _ (rw (later, apart) at most) in
+    line_from w x.head (pos (10 ^ 16)) ((y.head -ℤ x.head) *ℤ (pos 0 -ℤ (pos 1 *ℤ x.flow))) (omega (arith, ints, rise))
+    (not_below (y.head -ℤ x.head) (pos 0 -ℤ (pos 1 *ℤ x.flow)) (omega (arith, ints, fall)) (omega (arith, ints, one_times x.flow, forward)))
+    (let e : 1 * w ≡ w = omega arith in rw e at le)
+
+first_head : (points : List HeadPoint) → IsPumpCurve points → (d : HeadPoint) → (slice_index_or points 0 d).head ≤ℤ pos (10 ^ 16)
+first_head [] curve d = absurd (omega (arith, curve.four))
+first_head (x ∷ []) curve d = absurd (omega (arith, curve.four))
+first_head (x ∷ (y ∷ [])) curve d = absurd (omega (arith, curve.four))
+first_head (x ∷ (y ∷ (z ∷ rest))) curve d =
+    first_low x y z rest (curve.forward 0 x (omega arith)) (curve.flows_rise 0 1 (pos 0) (omega arith) (omega (arith, length-map rest (λ (p : HeadPoint). p.flow))))
+    (curve.heads_fall 0 1 (pos 0) (omega arith) (omega (arith, length-map rest (λ (p : HeadPoint). p.head)))) curve.shutoff
+
+-- the heads of a pump's points are at least 0 and at most 10^16 head ticks
+pub heads_within : (points : List HeadPoint) → IsPumpCurve points → All (λ (p : HeadPoint). Lies (pos 0) (pos (10 ^ 16)) p.head) points
+heads_within points curve zero d within = record { at_least = curve.lifts 0 d within; at_most = first_head points curve d }
+heads_within points curve (suc k) d within = record {
+  at_least = curve.lifts (suc k) d within;
+  at_most =
+      let f : HeadPoint → ℤ = λ p. p.head in
+      let l = curve.heads_fall 0 (suc k) d.head (omega arith) (rw (length-map points f) within) in
+      let a = get_or-map f points 0 d d.head (omega (arith, within)) in
+      let b = get_or-map f points (suc k) d d.head within in
+      let c = first_head points curve d in
+      omega (arith, ints, l, a, b, c);
+}
+
+-- ---- curves of a law
+
+places_length : (knots : List Knot) → length (places knots) ≡ length knots
+places_length knots = length-map knots place_of
+
+pub pump_curve : (points : List HeadPoint) (speed : ℤ) (knots : List Knot) → IsPumpCurve points → places knots ≡ pump_knots points speed → All IsKnot knots → IsCurve knots
+pump_curve points speed knots curve e ranges = record {
+  two = let n = ap length e in let m = places_length knots in let k = length-map points (at_speed (unsigned_abs speed)) in omega (arith, n, m, k, curve.four);
+  ordered = subst AreInOrder (sym e) (pump_knots-in_order points speed curve);
+  ranges = ranges;
+}
+  where
+    at_speed : ℕ → HeadPoint → Place
+    at_speed w p = record { place = cut (neg_ℤ (pos (w * w) *ℤ p.head)) (10 ^ 18); value = cut (pos w *ℤ p.flow) (10 ^ 9) }
+
+pub valve_curve : (points : List HeadPoint) (knots : List Knot) → IsLossCurve points → places knots ≡ valve_knots points → All IsKnot knots → IsCurve knots
+valve_curve points knots curve e ranges = record {
+  two = ?;
+  ordered = subst AreInOrder (sym e) (valve_knots-in_order points curve);
+  ranges = ranges;
+}

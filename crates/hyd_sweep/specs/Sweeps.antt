@@ -1,0 +1,118 @@
+-- What raises and sweeps give.
+-- Source: this program's; rounds in any order are chaotic iterations (Chazan and Miranker 1969).
+use Rattle.std.specs.Prelude.{◌≡◌, ◌≢◌, ℕ, ◌<◌, ℤ, pos, ◌+ℤ◌, ◌-ℤ◌, List, [], ◌∷◌, ◌++◌, length, take, All, slice_get, slice_set, slice_index_or, Option, Some, None, suc, zero, ⊤, ◌<ℤ◌, Bool, true, false, ◌⊎◌}
+use Rattle.hyd_spec.specs.Assignment.{head_at}
+use Rattle.hyd_spec_certificates.specs.declared.Problem.{Problem}
+use Rattle.hyd_spec_certificates.specs.declared.Side.{Side}
+use Rattle.hyd_spec_certificates.specs.declared.Side.TheVariants.{Upper, Lower}
+use Rattle.hyd_spec_certificates.specs.declared.HeldJunction.{HeldJunction}
+use Rattle.hyd_spec_certificates.specs.Grid.{Grid, GridJunction}
+use Rattle.hyd_spec_certificates.specs.Certificate.{IsInBox, IsBeyond, Suits, IsCertificateHolding, IsCandidateHolding, IsRaisedHolding, AreRoundsHolding, IsTightHolding}
+use Rattle.hyd_spec_certificates.specs.Climbing.{Climbs, Fails}
+use Rattle.hyd_spec_laws.specs.Sides.{along}
+use Rattle.hyd_sweep.specs.declared.answers.Raised.{Raised}
+use Rattle.hyd_sweep.specs.declared.answers.Raised.TheVariants.{Passed, Moved, NoValue}
+use Rattle.hyd_sweep.specs.declared.answers.Swept.{Swept}
+use Rattle.hyd_sweep.specs.declared.answers.Swept.TheVariants.{Least, NoCertificate, RoundsSpent}
+
+-- ---- the held junction
+
+-- junction i isn't the held one
+abbrev pub IsFree : Option HeldJunction → ℕ → Type 0
+IsFree None i = ⊤
+IsFree (Some held) i = held.junction ≢ i
+
+-- junction i is held at h
+abbrev pub IsHeldAt : Option HeldJunction → ℕ → ℤ → Type 0
+IsHeldAt held i h = held ≡ Some (record { junction = i; head = h })
+
+-- where a junction is held, its head lies in the box
+abbrev pub HoldsInBox : Option HeldJunction → Type 0
+HoldsInBox None = ⊤
+HoldsInBox (Some held) = IsInBox held.head
+
+-- ---- one junction
+
+-- the head so many ticks farther out
+abbrev pub further : Side → ℤ → ℕ → ℤ
+further Upper h k = h +ℤ pos k
+further Lower h k = h -ℤ pos k
+
+-- what is asked of junction i holds
+abbrev pub SuitsAt : Option HeldJunction → Grid → Problem → Side → List ℤ → ℕ → Type 0
+SuitsAt held grid problem side u i =
+    (junction : GridJunction) → slice_get grid.junctions i ≡ Some junction → Suits held grid problem side u i junction
+
+-- the raise of junction i puts it to x
+abbrev pub RaisesTo : Option HeldJunction → Grid → Problem → Side → List ℤ → ℕ → ℤ → Type 0
+RaisesTo held grid problem side u i x =
+    (junction : GridJunction) → slice_get grid.junctions i ≡ Some junction
+    → IsRaisedHolding held grid problem side u i junction x
+
+-- there is no raise of junction i
+abbrev pub HasNoValue : Option HeldJunction → Grid → Problem → Side → List ℤ → ℕ → Type 0
+HasNoValue held grid problem side u i =
+    (junction : GridJunction) → slice_get grid.junctions i ≡ Some junction → (x : ℤ)
+    → IsCandidateHolding held grid problem side u i junction x → ⊥
+
+-- what the raise of junction i gives
+abbrev pub RaiseGives : Option HeldJunction → Grid → Problem → Side → ℕ → List ℤ → List ℤ → Raised → Type 0
+RaiseGives held grid problem side i old new Passed =
+    (new ≡ old) × RaisesTo held grid problem side old i (head_at old i)
+RaiseGives held grid problem side i old new Moved =
+    (x : ℤ) × ((new ≡ slice_set old i x) × ((x ≢ head_at old i) × RaisesTo held grid problem side old i x))
+RaiseGives held grid problem side i old new NoValue = (new ≡ old) × HasNoValue held grid problem side old i
+
+-- a junction that a leap from u to v may move as it does
+pub record MayMove (held : Option HeldJunction) (grid : Grid) (problem : Problem) (side : Side) (u v : List ℤ) (i : ℕ)
+    : Type 0 where
+  pub beyond : IsBeyond side (head_at u i) (head_at v i)
+  pub fails : (junction : GridJunction) → slice_get grid.junctions i ≡ Some junction
+      → (head_at v i ≡ head_at u i) ⊎ Fails held grid problem side v i junction
+
+-- ---- junctions in an order
+
+-- what raises in an order give: all of them where each exists, else those before the first that doesn't
+abbrev pub FollowGives : Option HeldJunction → Grid → Problem → Side → List ℕ → List ℤ → List ℤ → Raised → Type 0
+FollowGives held grid problem side order old new Passed =
+    (new ≡ old) × Climbs held grid problem side order old new
+FollowGives held grid problem side order old new Moved =
+    (new ≢ old) × Climbs held grid problem side order old new
+FollowGives held grid problem side order old new NoValue =
+    (k : ℕ) × ((k < length order) × (Climbs held grid problem side (take k order) old new
+    × HasNoValue held grid problem side new (slice_index_or order k 0)))
+
+-- the raises in an order so far, and whether one moved a head
+pub record IsFollowing (held : Option HeldJunction) (grid : Grid) (problem : Problem) (side : Side) (order : List ℕ)
+    (old u : List ℤ) (moved : Bool) : Type 0 where
+  pub one_each : length u ≡ length grid.junctions
+  pub in_box : All IsInBox u
+  pub climbs : Climbs held grid problem side order old u
+  pub still : moved ≡ false → u ≡ old
+  pub ahead : moved ≡ true → (m : ℕ) × ((m < length old) × (along side (head_at old m) <ℤ along side (head_at u m)))
+
+-- ---- rounds
+
+-- the numbers below n, in order
+abbrev pub numbers : ℕ → List ℕ
+numbers zero = []
+numbers (suc n) = numbers n ++ (n ∷ [])
+
+-- what a round in file order gives: the junction without a value, if there is one
+abbrev pub RoundGives : Option HeldJunction → Grid → Problem → Side → List ℤ → List ℤ → Option ℕ → Type 0
+RoundGives held grid problem side old new None =
+    Climbs held grid problem side (numbers (length grid.junctions)) old new
+RoundGives held grid problem side old new (Some j) =
+    (j < length grid.junctions) × (Climbs held grid problem side (numbers j) old new
+    × HasNoValue held grid problem side new j)
+
+-- what a sweep of at most so many rounds gives: the tight vector; or a junction without a value at the heads that were
+-- reached, and then there is no certificate; or so many rounds from the first heads exist, and lead to none
+abbrev pub SweepGives : Option HeldJunction → Grid → Problem → Side → ℕ → List ℤ → List ℤ → Swept → Type 0
+SweepGives held grid problem side rounds old new Least = IsTightHolding held grid problem side new
+SweepGives held grid problem side rounds old new (NoCertificate j) =
+    (j < length grid.junctions) × (HasNoValue held grid problem side new j
+    × ((w : List ℤ) → IsCertificateHolding held grid problem side w → ⊥))
+SweepGives held grid problem side rounds old new RoundsSpent =
+    (v : List ℤ) × (AreRoundsHolding held grid problem side rounds old v
+    × (IsCertificateHolding held grid problem side v → ⊥))

@@ -1,0 +1,65 @@
+//! Raises in an order.
+#![tactic(auto)]
+
+ghost use Rattle.std.specs.Prelude.{◌≡◌, ◌<◌, length, All, None};
+ghost use Rattle.hyd_spec_certificates.specs.declared.Side.TheVariants.{Upper, Lower};
+ghost use Rattle.hyd_spec_certificates.specs.Certificate.{IsInBox};
+ghost use Rattle.hyd_graph.specs.GridOf.{grid_of};
+ghost use Rattle.hyd_graph.specs.Nets.{HasProblem};
+ghost use Rattle.hyd_sweep.specs.Sweeps.{FollowGives, HoldsInBox};
+
+use crate::answers::Raised;
+use crate::raising::raise;
+use hyd_graph::Net;
+use hyd_spec_certificates::{HeldJunction, Problem, Side};
+
+/// Raises the junctions of an order one after another, each from the heads that the ones before it left, up to the first
+/// that has no value.
+pub fn follow(
+    net: &Net,
+    problem: Problem,
+    side: Side,
+    held: Option<HeldJunction>,
+    u: &mut [i64],
+    order: &[u32],
+) -> Raised
+    requires one_each { length u.old ≡ length net.now.junctions }
+    requires pinned { HasProblem net.now problem }
+    requires inside { All (λ i. i < length u.old) order.now }
+    requires in_box { All IsInBox u.old }
+    requires held_in_box { HoldsInBox held }
+    ensures { FollowGives held (grid_of net.now) problem side order.now u.old u.new result }
+{
+    let _junctions = net.junctions();
+    let mut moved = false;
+    for i in order {
+        match raise(net, problem, side, held, u, *i) {
+            Raised::Passed => {}
+            Raised::Moved => moved = true,
+            Raised::NoValue => return Raised::NoValue,
+        }
+    }
+    if moved { Raised::Moved } else { Raised::Passed }
+}
+
+/// Raises the junctions of an order on the UPPER side.
+pub fn follow_super(net: &Net, problem: Problem, u: &mut [i64], order: &[u32]) -> Raised
+    requires one_each { length u.old ≡ length net.now.junctions }
+    requires pinned { HasProblem net.now problem }
+    requires inside { All (λ i. i < length u.old) order.now }
+    requires in_box { All IsInBox u.old }
+    ensures { FollowGives None (grid_of net.now) problem Upper order.now u.old u.new result }
+{
+    follow(net, problem, Side::Upper, None, u, order)
+}
+
+/// Raises the junctions of an order on the LOWER side.
+pub fn follow_sub(net: &Net, problem: Problem, u: &mut [i64], order: &[u32]) -> Raised
+    requires one_each { length u.old ≡ length net.now.junctions }
+    requires pinned { HasProblem net.now problem }
+    requires inside { All (λ i. i < length u.old) order.now }
+    requires in_box { All IsInBox u.old }
+    ensures { FollowGives None (grid_of net.now) problem Lower order.now u.old u.new result }
+{
+    follow(net, problem, Side::Lower, None, u, order)
+}

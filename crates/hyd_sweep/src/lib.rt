@@ -1,0 +1,18 @@
+//! Raises, rounds and leaps: the way to the tight vector of a problem and side, with or without a junction held.
+#![tactic(auto)]
+
+mod aim;
+mod answers;
+mod following;
+mod leaps;
+mod raising;
+mod rounds;
+mod ticks;
+mod sweeper;
+
+pub use answers::{Raised, Swept};
+pub use following::{follow, follow_sub, follow_super};
+pub use leaps::leap;
+pub use raising::{raise, raise_sub, raise_super};
+pub use rounds::tighten;
+pub use sweeper::{Sweeper, tighten_by_leaps};
