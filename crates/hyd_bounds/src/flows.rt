@@ -1,16 +1,13 @@
 //! Flows of links.
 #![tactic(auto)]
 
-ghost use Rattle.std.specs.Prelude.{◌≡◌, ◌<◌, ◌≤◌, ◌*◌, ◌^◌, ◌≤ℤ◌, ℤ, pos, length, unsigned_abs};
+ghost use Rattle.std.specs.Prelude.{◌≡◌, ◌<◌, ◌≤◌, ◌^◌, ◌≤ℤ◌, ◌+ℤ◌, ◌-ℤ◌, pos, slice_get, length, unsigned_abs};
 ghost use Rattle.std.specs.Option.{IfSome};
 ghost use Rattle.hyd_spec_certificates.specs.declared.Problem.TheVariants.{Main};
 ghost use Rattle.hyd_spec_certificates.specs.declared.Side.TheVariants.{Upper, Lower};
-ghost use Rattle.hyd_spec.specs.Law.{Law as ExactLaw};
-ghost use Rattle.hyd_spec_certificates.specs.Enclosing.{low, high};
 ghost use Rattle.hyd_spec_certificates.specs.Grid.{all_heads};
 ghost use Rattle.hyd_spec_certificates.specs.Boxes.{flow_box};
 ghost use Rattle.hyd_graph.specs.GridOf.{grid_of};
-ghost use Rattle.hyd_graph.specs.Settings.{Stands};
 ghost use Rattle.hyd_law.specs.LinkLaws.{link_low, link_high, IsSoundLink, LinkAccepts};
 ghost use Rattle.hyd_bounds.specs.Bounds.{IsSpan, IsVector, AreInOrder};
 
