@@ -1,9 +1,13 @@
 //! Status words of links.
 #![tactic(auto)]
 
-ghost use Rattle.std.specs.Prelude.{◌≡◌, ◌<◌, ◌≤◌, ◌*◌, ◌^◌, Some, slice_get, length, unsigned_abs};
-ghost use Rattle.hyd_spec.specs.Types.{Project, Link, LinkState};
-ghost use Rattle.hyd_spec.specs.Quantity.{is_us, lift_of};
+ghost use Rattle.std.specs.Prelude.{◌≡◌, ◌<◌, ◌≤◌, ◌*◌, ◌^◌, Bool, List, ℤ, Some, slice_get, length, unsigned_abs};
+ghost use Rattle.hyd_net.specs.ListView.{ListView};
+ghost use Rattle.hyd_net.specs.States.{CanHave};
+ghost use Rattle.hyd_net.specs.declared.curves.HeadPoint.{HeadPoint};
+ghost use Rattle.hyd_spec.specs.Types.{LinkKind, LinkState};
+ghost use Rattle.hyd_spec.specs.LinkLaw.{own_law};
+ghost use Rattle.hyd_spec.specs.Quantity.{lift_of};
 ghost use Rattle.hyd_spec.specs.Law.{Law as ExactLaw};
 ghost use Rattle.hyd_spec_certificates.specs.declared.Problem.TheVariants.{Main};
 ghost use Rattle.hyd_spec_certificates.specs.declared.Side.TheVariants.{Upper, Lower};
@@ -11,9 +15,7 @@ ghost use Rattle.hyd_spec_certificates.specs.Grid.{GridLink, all_heads};
 ghost use Rattle.hyd_spec_certificates.specs.Boxes.{difference};
 ghost use Rattle.hyd_spec_reports.specs.Report.{by_drive, by_setting, status_of};
 ghost use Rattle.hyd_graph.specs.ExactLaw.{exact_law, one_way_law};
-ghost use Rattle.hyd_graph.specs.GridOf.{grid_of, states_of};
-ghost use Rattle.hyd_graph.specs.Periods.{IsNetOf};
-ghost use Rattle.hyd_graph.specs.Settings.{AreStates};
+ghost use Rattle.hyd_graph.specs.GridOf.{grid_of, states_of, own_laws};
 ghost use Rattle.hyd_law.specs.Curves.{IsCurve};
 ghost use Rattle.hyd_law.specs.Wrapped.{IsLift};
 ghost use Rattle.hyd_law.specs.LinkLaws.{IsSoundLink};
@@ -160,10 +162,10 @@ pub fn status_of(net: &Net, link: u32, low: &[i64], high: &[i64]) -> StatusWord
     requires in_range { link < length net.now.ends }
     requires low { IsVector net.now low.now }
     requires high { IsVector net.now high.now }
-    ensures { (project : Project) (kind : Link) (place : GridLink) (state : LinkState) → IsNetOf project net.now
-        → AreStates project (states_of net.now) → slice_get project.links.list link ≡ Some kind
-        → slice_get (grid_of net.now).links link ≡ Some place → slice_get (states_of net.now) link ≡ Some state
-        → result ≡ status_of (is_us project) project.bends.list kind.kind state
+    ensures { (us : Bool) (bends : List (ListView HeadPoint)) (kind : LinkKind) (state : LinkState) (place : GridLink)
+        → CanHave kind state → slice_get (states_of net.now) link ≡ Some state
+        → slice_get (own_laws net.now) link ≡ Some (own_law us bends kind state)
+        → slice_get (grid_of net.now).links link ≡ Some place → result ≡ status_of us bends kind state
         (difference place (all_heads (grid_of net.now) Main Lower low.now) (all_heads (grid_of net.now) Main Upper high.now)) }
 {
     let ends = net.ends(link);
