@@ -1,0 +1,4 @@
+pub mod Flowing
+pub mod Inflowing
+pub mod Leaving
+pub mod Wording

@@ -50,6 +50,7 @@ pub fn flow_box(net: &Net, link: u32, low: &[i64], high: &[i64]) -> Span
     ensures small_lo { unsigned_abs result.lo ≤ 10 ^ 27 }
     ensures small_hi { unsigned_abs result.hi ≤ 10 ^ 27 }
 {
+    let _links = net.links();
     let ends = net.ends(link);
     let least = difference(
         node_head(net, Problem::Main, Side::Lower, low, ends.from),

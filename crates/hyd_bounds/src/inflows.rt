@@ -42,6 +42,7 @@ pub fn tank_inflow(net: &Net, tank: u32, low: &[i64], high: &[i64]) -> Span
     ensures small_lo { unsigned_abs result.lo ≤ 10 ^ 27 }
     ensures small_hi { unsigned_abs result.hi ≤ 10 ^ 27 }
 {
+    let _junctions = net.junctions();
     let node = net.nodes() - net.tanks() + tank;
     let missed = TOLERANCE * net.row(node).len() as i128;
     let least = -tank_flows(net, tank, Side::Lower, low, node);

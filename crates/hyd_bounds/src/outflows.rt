@@ -1,18 +1,31 @@
 //! Outflows of junctions.
 #![tactic(auto)]
 
-ghost use Rattle.std.specs.Prelude.{◌≡◌, ◌<◌, ◌≤◌, ◌^◌, ◌≤ℤ◌, slice_get, length, unsigned_abs};
-ghost use Rattle.std.specs.Option.{IfSome};
+ghost use Rattle.std.specs.Prelude.{◌≡◌, ◌<◌, ◌≤◌, ◌^◌, ◌≤ℤ◌, pos, is_some, slice_get, length, unsigned_abs, if◌then◌else◌};
+ghost use Rattle.std.specs.Option.{IfSome, option_map, option_copied};
 ghost use Rattle.hyd_spec_certificates.specs.Certificate.{IsInBox};
 ghost use Rattle.hyd_spec_certificates.specs.Boxes.{out_box};
-ghost use Rattle.hyd_graph.specs.GridOf.{grid_of};
+ghost use Rattle.hyd_graph.specs.GridOf.{grid_of, capacity_of};
 ghost use Rattle.hyd_bounds.specs.Bounds.{IsSpan};
 
 use crate::flows::TOLERANCE;
 use hyd_check::outflow;
 use hyd_graph::Net;
+use hyd_law::Quad;
 use hyd_num::Span;
 use hyd_spec_certificates::Side;
+
+// By how much the outflows of a junction may miss, in flow ticks: the tolerance, once more where there is an emitter.
+fn missed(emitter: Option<&Quad>) -> i128
+    ensures value { result ≡ (if is_some (option_map capacity_of (option_copied emitter.entry)) then pos 20 else pos 10) }
+    ensures least { pos 0 ≤ℤ result }
+    ensures small { unsigned_abs result ≤ 20 }
+{
+    match emitter {
+        Some(_) => 2 * TOLERANCE,
+        None => TOLERANCE,
+    }
+}
 
 /// What leaves a junction beside its links between two of its heads (head ticks), in flow ticks: its demand flow, widened
 /// by the tolerance, and its emitter flow, widened by it where there is an emitter.
@@ -25,12 +38,8 @@ pub fn out_box(net: &Net, junction: u32, low: i64, high: i64) -> Span
     ensures small_lo { unsigned_abs result.lo ≤ 10 ^ 27 }
     ensures small_hi { unsigned_abs result.hi ≤ 10 ^ 27 }
 {
-    let missed = if net.emitter_law(junction).is_some() {
-        2 * TOLERANCE
-    } else {
-        TOLERANCE
-    };
-    let _count = net.junctions();
+    let _junctions = net.junctions();
+    let missed = missed(net.emitter_law(junction));
     Span {
         lo: outflow(net, Side::Upper, junction, low) - missed,
         hi: outflow(net, Side::Lower, junction, high) + missed,

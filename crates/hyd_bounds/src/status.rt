@@ -1,7 +1,7 @@
 //! Status words of links.
 #![tactic(auto)]
 
-ghost use Rattle.std.specs.Prelude.{◌≡◌, ◌<◌, ◌≤◌, ◌*◌, ◌^◌, Bool, List, ℤ, Some, slice_get, length, unsigned_abs};
+ghost use Rattle.std.specs.Prelude.{◌≡◌, ◌<◌, ◌≤◌, ◌*◌, ◌^◌, ◌+ℤ◌, Bool, List, ℤ, Some, slice_get, length, unsigned_abs};
 ghost use Rattle.hyd_net.specs.ListView.{ListView};
 ghost use Rattle.hyd_net.specs.States.{CanHave};
 ghost use Rattle.hyd_net.specs.declared.curves.HeadPoint.{HeadPoint};
@@ -17,8 +17,8 @@ ghost use Rattle.hyd_spec_reports.specs.Report.{by_drive, by_setting, status_of}
 ghost use Rattle.hyd_graph.specs.ExactLaw.{exact_law, one_way_law};
 ghost use Rattle.hyd_graph.specs.GridOf.{grid_of, states_of, own_laws};
 ghost use Rattle.hyd_law.specs.Curves.{IsCurve};
-ghost use Rattle.hyd_law.specs.Wrapped.{IsLift};
-ghost use Rattle.hyd_law.specs.LinkLaws.{IsSoundLink};
+ghost use Rattle.hyd_law.specs.Wrapped.{IsDifference, IsLift};
+ghost use Rattle.hyd_law.specs.LinkLaws.{IsSoundLink, LinkAccepts};
 ghost use Rattle.hyd_law.specs.declared.link_law.LinkLaw.TheVariants.{Pump, Bent as BentLaw};
 ghost use Rattle.hyd_bounds.specs.Bounds.{IsVector};
 ghost use Rattle.hyd_bounds.specs.Words.{open_word, running_word, limited_word, word_of};
@@ -83,8 +83,8 @@ fn open(law: &LinkLaw, least: i64, greatest: i64) -> StatusWord
 // The word of a pump with a capacity that runs.
 fn lifted(pump: &OneWay<Lifted<Quad>>, least: i64, greatest: i64) -> StatusWord
     requires lift { IsLift (lift_of pump.now.inner.us pump.now.inner.head pump.now.inner.speed) pump.now.inner.lift }
-    requires least { unsigned_abs least ≤ 2 * 10 ^ 18 }
-    requires greatest { unsigned_abs greatest ≤ 2 * 10 ^ 18 }
+    requires least { IsDifference (least +ℤ pump.now.inner.lift.lo) }
+    requires greatest { IsDifference (greatest +ℤ pump.now.inner.lift.hi) }
     ensures { result ≡ running_word (exact_law (Pump pump.now)) (record { lo = least; hi = greatest }) }
 {
     if !pump.forward {
@@ -99,8 +99,8 @@ fn lifted(pump: &OneWay<Lifted<Quad>>, least: i64, greatest: i64) -> StatusWord
 // The word of a pump with a curve by straight lines.
 fn bent(held: &Held<Bent>, least: i64, greatest: i64) -> StatusWord
     requires curve { IsCurve held.now.inner.knots.list }
-    requires least { unsigned_abs least ≤ 2 * 10 ^ 18 }
-    requires greatest { unsigned_abs greatest ≤ 2 * 10 ^ 18 }
+    requires least { IsDifference least }
+    requires greatest { IsDifference greatest }
     ensures { result ≡ running_word (exact_law (BentLaw held.now)) (record { lo = least; hi = greatest }) }
 {
     if held.least == 0 && held.most == 0 {
@@ -112,8 +112,8 @@ fn bent(held: &Held<Bent>, least: i64, greatest: i64) -> StatusWord
 // The word of a running pump, between two head differences.
 fn running(law: &LinkLaw, least: i64, greatest: i64) -> StatusWord
     requires sound { IsSoundLink law.now }
-    requires least { unsigned_abs least ≤ 2 * 10 ^ 18 }
-    requires greatest { unsigned_abs greatest ≤ 2 * 10 ^ 18 }
+    requires least { LinkAccepts law.now least }
+    requires greatest { LinkAccepts law.now greatest }
     ensures { result ≡ running_word (exact_law law.now) (record { lo = least; hi = greatest }) }
 {
     match law {
@@ -126,8 +126,8 @@ fn running(law: &LinkLaw, least: i64, greatest: i64) -> StatusWord
 // The word of a valve that limits the flow, between two head differences.
 fn limited(law: &LinkLaw, ticks: i64, least: i64, greatest: i64) -> StatusWord
     requires sound { IsSoundLink law.now }
-    requires least { unsigned_abs least ≤ 2 * 10 ^ 18 }
-    requires greatest { unsigned_abs greatest ≤ 2 * 10 ^ 18 }
+    requires least { LinkAccepts law.now least }
+    requires greatest { LinkAccepts law.now greatest }
     ensures { result ≡ limited_word ticks (exact_law law.now) (record { lo = least; hi = greatest }) }
 {
     match law {
@@ -141,8 +141,8 @@ fn limited(law: &LinkLaw, ticks: i64, least: i64, greatest: i64) -> StatusWord
 
 fn word_of(state: &LinkState, law: &LinkLaw, least: i64, greatest: i64) -> StatusWord
     requires sound { IsSoundLink law.now }
-    requires least { unsigned_abs least ≤ 2 * 10 ^ 18 }
-    requires greatest { unsigned_abs greatest ≤ 2 * 10 ^ 18 }
+    requires least { LinkAccepts law.now least }
+    requires greatest { LinkAccepts law.now greatest }
     ensures { result ≡ word_of state.now (exact_law law.now) (record { lo = least; hi = greatest }) }
 {
     match state {
@@ -168,6 +168,7 @@ pub fn status_of(net: &Net, link: u32, low: &[i64], high: &[i64]) -> StatusWord
         → slice_get (grid_of net.now).links link ≡ Some place → result ≡ status_of us bends kind state
         (difference place (all_heads (grid_of net.now) Main Lower low.now) (all_heads (grid_of net.now) Main Upper high.now)) }
 {
+    let _links = net.links();
     let ends = net.ends(link);
     let least = difference(
         node_head(net, Problem::Main, Side::Lower, low, ends.from),

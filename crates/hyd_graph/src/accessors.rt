@@ -8,7 +8,7 @@ ghost use Rattle.hyd_spec.specs.Assignment.{head_at};
 ghost use Rattle.hyd_spec.specs.Law.{Law};
 ghost use Rattle.hyd_spec_certificates.specs.Enclosing.{demand_low, demand_high};
 ghost use Rattle.hyd_spec_certificates.specs.Grid.{all_heads, tank_side};
-ghost use Rattle.hyd_spec_certificates.specs.NetOutflow.{net, margin};
+ghost use Rattle.hyd_spec_certificates.specs.NetOutflow.{net, link_ends, margin};
 ghost use Rattle.hyd_spec_laws.specs.Laws.{IsSteady, IsSoundCapacity};
 ghost use Rattle.hyd_law.specs.OutLaws.{IsSoundOut, OutAccepts, out_low, out_high};
 ghost use Rattle.hyd_graph.specs.ExactLaw.{exact_law};
@@ -159,6 +159,7 @@ impl Net {
         ensures row { result.now ≡ ties_from node 0 self.now.ends }
         ensures ties { All (IsTie (node_count self.now) (length self.now.ends)) result.now }
         ensures few { length result.now ≤ 40000 }
+        ensures count { length result.now ≡ link_ends node (grid_of self.now).links }
         ensures sum { (out into : Law → ℤ → ℤ) (heads : List ℤ) → ties_share out into (grid_of self.now).links heads (head_at heads node) result.now ≡ net out into heads node (grid_of self.now).links }
     {
         self.rows[node as usize].as_slice()

@@ -1,18 +1,26 @@
-use Rattle.std.proofs.Common.{rules, ◌≡◌, ◌<◌, ◌≤◌, ◌^◌, ◌≤ℤ◌, ◌+ℤ◌, ◌-ℤ◌, pos, slice_get, length, unsigned_abs, ℕ, ◌+◌, ◌-◌, ◌*◌, ◌/◌, ◌%◌, Bool, true, false, nat_eq, nat_lt, List, [], ◌∷◌, ◌++◌, slice_index_or, slice_set, bit_and, bit_or, Fits, w8, w32, w64, Bor, MutBor, ℤ, ◌*ℤ◌, ◌<ℤ◌, FitsSigned, to_z, of_z}
-use Rattle.std.specs.Option.{IfSome}
-use Rattle.hyd_spec_certificates.specs.declared.Problem.TheVariants.{Main}
-use Rattle.hyd_spec_certificates.specs.declared.Side.TheVariants.{Upper, Lower}
-use Rattle.hyd_spec_certificates.specs.Grid.{all_heads}
-use Rattle.hyd_spec_certificates.specs.Boxes.{flow_box}
-use Rattle.hyd_graph.specs.GridOf.{grid_of}
-use Rattle.hyd_law.specs.LinkLaws.{link_low, link_high, IsSoundLink, LinkAccepts}
-use Rattle.hyd_bounds.specs.Bounds.{IsSpan, IsVector, AreInOrder}
+use Rattle.std.proofs.Common.{◌≡◌, ◌≤ℤ◌, ◌∙◌, ap, w64, to_z, of_z, arith, ℤ}
+use Rattle.std.proofs.lemmas.Int.{ints}
+use Rattle.hyd_law.specs.LinkLaws.{link_low, link_high, IsLaw-link}
 use Rattle.hyd_bounds.proofs.flows.between.Goals as goal
 
--- src/flows.rt:24:1
 pub invariant_of-result : goal.invariant_of-result
-invariant_of-result c = ?
+invariant_of-result c =
+    let law = IsLaw-link c.args.law.now c.requires.sound in
+    let a = to_z w64 (of_z w64 c.args.least) in
+    let b = to_z w64 (of_z w64 c.args.greatest) in
+    let given = c.requires.ordered in
+    let le : a ≤ℤ b = omega (arith, ints, given) in
+    let first = law.ordered a in
+    let second = law.high_rises a b le in
+    let low = c.low.ensures.value in
+    let high = c.high.ensures.value in
+    let low_small = c.low.ensures.small in
+    let high_small = c.high.ensures.small in
+    record { ordered = omega (arith, ints, first, second, low, high, low_small, high_small) }
 
--- src/flows.rt:24:1
 pub returns-clause-lo : goal.returns-clause-lo
-returns-clause-lo c = ?
+returns-clause-lo c =
+    let kept : to_z w64 (of_z w64 c.args.least) ≡ c.args.least = omega (arith, ints) in
+    let value : c.low.result ≡ link_low c.args.law.now c.args.least = c.low.ensures.value ∙ ap (link_low c.args.law.now) kept in
+    let small = c.low.ensures.small in
+    omega (arith, ints, value, small)

@@ -1,14 +1,21 @@
-use Rattle.std.proofs.Common.{rules, ◌≡◌, ◌<◌, ◌≤◌, ◌*◌, ◌^◌, pos, length, unsigned_abs, slice_index_or, ℕ, ◌+◌, ◌-◌, ◌/◌, ◌%◌, Bool, true, false, nat_eq, nat_lt, List, [], ◌∷◌, ◌++◌, slice_set, bit_and, bit_or, Fits, w8, w32, w64, Bor, MutBor, ℤ, ◌+ℤ◌, ◌-ℤ◌, ◌*ℤ◌, ◌≤ℤ◌, ◌<ℤ◌, FitsSigned, to_z, of_z}
+use Rattle.std.proofs.Common.{◌≡◌, ◌∙◌, ap, w64, to_z, of_z, arith, ℤ, List}
+use Rattle.std.specs.Int.{w128}
+use Rattle.std.specs.Prelude.{slice_set}
+use Rattle.std.proofs.lemmas.Int.{ints}
 use Rattle.hyd_spec_certificates.specs.declared.Problem.TheVariants.{Pinned}
-use Rattle.hyd_spec_certificates.specs.declared.Side.TheVariants.{Upper, Lower}
-use Rattle.hyd_spec_certificates.specs.Interval.{exactly, width}
 use Rattle.hyd_spec_certificates.specs.Grid.{all_heads}
-use Rattle.hyd_spec_certificates.specs.Boxes.{inflow_box}
 use Rattle.hyd_graph.specs.GridOf.{grid_of}
-use Rattle.hyd_bounds.specs.Bounds.{IsSpan, IsVector, AreInOrder, tank_node_of}
 use Rattle.hyd_check.specs.Sides.{flows_out}
+use Rattle.hyd_bounds.proofs.Flowing.{set-beyond}
 use Rattle.hyd_bounds.proofs.inflows.tank_flows.Goals as goal
 
--- src/inflows.rt:21:1
 pub returns-clause-value : goal.returns-clause-value
-returns-clause-value c = ?
+returns-clause-value c =
+    let grid = grid_of c.args.net.now in
+    let small = c.flows_out.ensures.small in
+    let kept : to_z w128 (of_z w128 c.flows_out.result) ≡ c.flows_out.result = omega (arith, ints, small) in
+    let one_each = c.requires.vector.one_each in
+    let node = c.requires.node in
+    kept ∙ (c.flows_out.ensures.value
+    ∙ ap (λ (v : List ℤ). flows_out c.args.side (all_heads grid (Pinned c.args.tank) c.args.side v) c.args.node grid.links)
+    (set-beyond c.args.u.now c.args.node _ (omega (arith, one_each, node))))

@@ -1,26 +1,61 @@
-use Rattle.std.proofs.Common.{rules, ◌≡◌, ◌<◌, ◌≤◌, ◌*◌, ◌^◌, pos, length, unsigned_abs, slice_index_or, ℕ, ◌+◌, ◌-◌, ◌/◌, ◌%◌, Bool, true, false, nat_eq, nat_lt, List, [], ◌∷◌, ◌++◌, slice_set, bit_and, bit_or, Fits, w8, w32, w64, Bor, MutBor, ℤ, ◌+ℤ◌, ◌-ℤ◌, ◌*ℤ◌, ◌≤ℤ◌, ◌<ℤ◌, FitsSigned, to_z, of_z}
+use Rattle.std.proofs.Common.{◌≡◌, ◌+◌, ◌-◌, ◌*◌, ◌≤◌, ◌≤ℤ◌, ◌∙◌, ap, sym, subst, to_z, of_z, arith, ℕ, ℤ, pos, length}
+use Rattle.std.specs.Int.{w128}
+use Rattle.std.proofs.lemmas.Int.{ints}
 use Rattle.hyd_spec_certificates.specs.declared.Problem.TheVariants.{Pinned}
 use Rattle.hyd_spec_certificates.specs.declared.Side.TheVariants.{Upper, Lower}
-use Rattle.hyd_spec_certificates.specs.Interval.{exactly, width}
+use Rattle.hyd_spec_certificates.specs.Enclosing.{low, high}
 use Rattle.hyd_spec_certificates.specs.Grid.{all_heads}
-use Rattle.hyd_spec_certificates.specs.Boxes.{inflow_box}
-use Rattle.hyd_graph.specs.GridOf.{grid_of}
-use Rattle.hyd_bounds.specs.Bounds.{IsSpan, IsVector, AreInOrder, tank_node_of}
-use Rattle.hyd_check.specs.Sides.{flows_out}
+use Rattle.hyd_spec_certificates.specs.NetOutflow.{net, link_ends}
+use Rattle.hyd_graph.specs.GridOf.{grid_of, node_count}
+use Rattle.hyd_bounds.specs.Bounds.{tank_node_of}
+use Rattle.hyd_bounds.proofs.Inflowing.{flows-in-order}
 use Rattle.hyd_bounds.proofs.inflows.tank_inflow.Goals as goal
 
--- src/inflows.rt:35:1
 pub invariant_of-result : goal.invariant_of-result
-invariant_of-result c = ?
+invariant_of-result c =
+    let grid = grid_of c.args.net.now in
+    let nodes = c.nodes.ensures.count in
+    let tanks = c.tanks.ensures.count in
+    let each = c.tanks.ensures.each in
+    let given = c.requires.in_range in
+    let node = c.nodes.result - c.tanks.result + c.args.tank in
+    let ordered = flows-in-order grid c.junctions-junctions.ensures.steady c.args.tank node (length c.args.net.now.junctions) c.args.low.now c.args.high.now
+    c.requires.low.one_each c.requires.high.one_each (omega (arith, nodes, tanks, given)) (omega (arith, each, given)) c.requires.ordered in
+    let low_value = c.tank_flows-least.ensures.value in
+    let high_value = c.tank_flows-greatest.ensures.value in
+    let low_small = c.tank_flows-least.ensures.small in
+    let high_small = c.tank_flows-greatest.ensures.small in
+    let few = c.row.ensures.few in
+    record { ordered = omega (arith, ints, ordered, low_value, high_value, low_small, high_small, few) }
 
--- src/inflows.rt:35:1
 pub returns-clause-inflow : goal.returns-clause-inflow
-returns-clause-inflow c = ?
+returns-clause-inflow c =
+    let grid = grid_of c.args.net.now in
+    let nodes = c.nodes.ensures.count in
+    let tanks = c.tanks.ensures.count in
+    let given = c.requires.in_range in
+    let node : c.nodes.result - c.tanks.result + c.args.tank ≡ tank_node_of c.args.net.now c.args.tank = omega (arith, nodes, tanks, given) in
+    let ends = c.row.ensures.count ∙ ap (λ (n : ℕ). link_ends n grid.links) node in
+    let low_value = c.tank_flows-least.ensures.value
+    ∙ ap (λ (n : ℕ). net high low (all_heads grid (Pinned c.args.tank) Lower c.args.low.now) n grid.links) node in
+    let high_value = c.tank_flows-greatest.ensures.value
+    ∙ ap (λ (n : ℕ). net low high (all_heads grid (Pinned c.args.tank) Upper c.args.high.now) n grid.links) node in
+    let low_small = c.tank_flows-least.ensures.small in
+    let high_small = c.tank_flows-greatest.ensures.small in
+    let few = c.row.ensures.few in
+    record {
+      lo_is = omega (arith, ints, ends, low_value, low_small, few);
+      hi_is = omega (arith, ints, ends, high_value, high_small, few);
+    }
 
--- src/inflows.rt:35:1
 pub returns-clause-small_lo : goal.returns-clause-small_lo
-returns-clause-small_lo c = ?
+returns-clause-small_lo c =
+    let small = c.tank_flows-least.ensures.small in
+    let few = c.row.ensures.few in
+    omega (arith, ints, small, few)
 
--- src/inflows.rt:35:1
 pub returns-clause-small_hi : goal.returns-clause-small_hi
-returns-clause-small_hi c = ?
+returns-clause-small_hi c =
+    let small = c.tank_flows-greatest.ensures.small in
+    let few = c.row.ensures.few in
+    omega (arith, ints, small, few)

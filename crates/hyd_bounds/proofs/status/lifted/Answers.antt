@@ -1,35 +1,34 @@
-use Rattle.std.proofs.Common.{rules, ◌≡◌, ◌<◌, ◌≤◌, ◌*◌, ◌^◌, Bool, List, ℤ, Some, slice_get, length, unsigned_abs, ℕ, ◌+◌, ◌-◌, ◌/◌, ◌%◌, true, false, nat_eq, nat_lt, [], ◌∷◌, ◌++◌, slice_index_or, slice_set, bit_and, bit_or, Fits, w8, w32, w64, Bor, MutBor, pos, ◌+ℤ◌, ◌-ℤ◌, ◌*ℤ◌, ◌≤ℤ◌, ◌<ℤ◌, FitsSigned, to_z, of_z}
-use Rattle.hyd_net.specs.ListView.{ListView}
-use Rattle.hyd_net.specs.States.{CanHave}
-use Rattle.hyd_net.specs.declared.curves.HeadPoint.{HeadPoint}
-use Rattle.hyd_spec.specs.Types.{LinkKind, LinkState}
-use Rattle.hyd_spec.specs.LinkLaw.{own_law}
+use Rattle.std.proofs.Common.{◌≡◌, ◌∙◌, ap₂, to_z, of_z, arith, ℤ, ◌+ℤ◌}
+use Rattle.std.specs.Int.{w128}
+use Rattle.std.proofs.lemmas.Int.{ints}
+use Rattle.hyd_num.specs.Rational.{floor, ceiling}
 use Rattle.hyd_spec.specs.Quantity.{lift_of}
-use Rattle.hyd_spec.specs.Law.{Law as ExactLaw}
-use Rattle.hyd_spec_certificates.specs.declared.Problem.TheVariants.{Main}
-use Rattle.hyd_spec_certificates.specs.declared.Side.TheVariants.{Upper, Lower}
-use Rattle.hyd_spec_certificates.specs.Grid.{GridLink, all_heads}
-use Rattle.hyd_spec_certificates.specs.Boxes.{difference}
-use Rattle.hyd_spec_reports.specs.Report.{by_drive, by_setting, status_of}
-use Rattle.hyd_graph.specs.ExactLaw.{exact_law, one_way_law}
-use Rattle.hyd_graph.specs.GridOf.{grid_of, states_of, own_laws}
-use Rattle.hyd_law.specs.Curves.{IsCurve}
-use Rattle.hyd_law.specs.Wrapped.{IsLift}
-use Rattle.hyd_law.specs.LinkLaws.{IsSoundLink}
-use Rattle.hyd_law.specs.declared.link_law.LinkLaw.TheVariants.{Pump}
-use Rattle.hyd_law.specs.declared.link_law.LinkLaw.TheVariants.{Bent as BentLaw}
-use Rattle.hyd_bounds.specs.Bounds.{IsVector}
-use Rattle.hyd_bounds.specs.Words.{open_word, running_word, limited_word, word_of}
+use Rattle.hyd_spec_reports.specs.Report.{by_drive}
 use Rattle.hyd_bounds.proofs.status.lifted.Goals as goal
 
--- src/status.rt:94:9
 pub overflow_add-from : goal.overflow_add-from
-overflow_add-from c = ?
+overflow_add-from c =
+    let from = c.from.ensures in
+    let given = c.requires.least in
+    omega (arith, ints, from, given)
 
--- src/status.rt:95:9
 pub overflow_add-from-2 : goal.overflow_add-from-2
-overflow_add-from-2 c = ?
+overflow_add-from-2 c =
+    let from = c.from-2.ensures in
+    let given = c.requires.greatest in
+    omega (arith, ints, from, given)
 
--- src/status.rt:84:1
 pub returns : goal.returns
-returns c = ?
+returns c =
+    let lift = lift_of c.args.pump.now.inner.us c.args.pump.now.inner.head c.args.pump.now.inner.speed in
+    let from = c.from.ensures in
+    let to = c.from-2.ensures in
+    let below = c.requires.least in
+    let above = c.requires.greatest in
+    let floor_is = c.requires.lift.floor_is in
+    let ceiling_is = c.requires.lift.ceiling_is in
+    let lo : to_z w128 (of_z w128 (to_z w128 (of_z w128 c.from.result) +ℤ to_z w128 (of_z w128 c.args.pump.now.inner.lift.lo))) ≡ (c.args.least +ℤ floor lift) =
+    omega (arith, ints, from, below, floor_is) in
+    let hi : to_z w128 (of_z w128 (to_z w128 (of_z w128 c.from-2.result) +ℤ to_z w128 (of_z w128 c.args.pump.now.inner.lift.hi))) ≡ (c.args.greatest +ℤ ceiling lift) =
+    omega (arith, ints, to, above, ceiling_is) in
+    rw (c.if-not-pump.false) (c.by_drive.ensures ∙ ap₂ (λ (a b : ℤ). by_drive (record { lo = a; hi = b })) lo hi)

@@ -1,27 +1,40 @@
-use Rattle.std.proofs.Common.{rules, ◌≡◌, ◌<◌, ◌≤◌, ◌*◌, ◌^◌, Bool, List, ℤ, Some, slice_get, length, unsigned_abs, ℕ, ◌+◌, ◌-◌, ◌/◌, ◌%◌, true, false, nat_eq, nat_lt, [], ◌∷◌, ◌++◌, slice_index_or, slice_set, bit_and, bit_or, Fits, w8, w32, w64, Bor, MutBor, pos, ◌+ℤ◌, ◌-ℤ◌, ◌*ℤ◌, ◌≤ℤ◌, ◌<ℤ◌, FitsSigned, to_z, of_z}
-use Rattle.hyd_net.specs.ListView.{ListView}
-use Rattle.hyd_net.specs.States.{CanHave}
-use Rattle.hyd_net.specs.declared.curves.HeadPoint.{HeadPoint}
-use Rattle.hyd_spec.specs.Types.{LinkKind, LinkState}
-use Rattle.hyd_spec.specs.LinkLaw.{own_law}
-use Rattle.hyd_spec.specs.Quantity.{lift_of}
-use Rattle.hyd_spec.specs.Law.{Law as ExactLaw}
+use Rattle.std.proofs.Common.{◌≡◌, ◌∙◌, ap, sym, w64, to_z, of_z, arith, ℕ, ℤ, ◌-ℤ◌, Some}
+use Rattle.std.proofs.lemmas.Int.{ints}
+use Rattle.hyd_spec.specs.Assignment.{head_at}
 use Rattle.hyd_spec_certificates.specs.declared.Problem.TheVariants.{Main}
 use Rattle.hyd_spec_certificates.specs.declared.Side.TheVariants.{Upper, Lower}
-use Rattle.hyd_spec_certificates.specs.Grid.{GridLink, all_heads}
+use Rattle.hyd_spec_certificates.specs.Grid.{all_heads}
 use Rattle.hyd_spec_certificates.specs.Boxes.{difference}
-use Rattle.hyd_spec_reports.specs.Report.{by_drive, by_setting, status_of}
-use Rattle.hyd_graph.specs.ExactLaw.{exact_law, one_way_law}
-use Rattle.hyd_graph.specs.GridOf.{grid_of, states_of, own_laws}
-use Rattle.hyd_law.specs.Curves.{IsCurve}
-use Rattle.hyd_law.specs.Wrapped.{IsLift}
-use Rattle.hyd_law.specs.LinkLaws.{IsSoundLink}
-use Rattle.hyd_law.specs.declared.link_law.LinkLaw.TheVariants.{Pump}
-use Rattle.hyd_law.specs.declared.link_law.LinkLaw.TheVariants.{Bent as BentLaw}
-use Rattle.hyd_bounds.specs.Bounds.{IsVector}
-use Rattle.hyd_bounds.specs.Words.{open_word, running_word, limited_word, word_of}
+use Rattle.hyd_graph.specs.ExactLaw.{exact_law}
+use Rattle.hyd_graph.specs.GridOf.{grid_of}
+use Rattle.hyd_bounds.proofs.Flowing.{placed-ends, some-same, law-at}
+use Rattle.hyd_bounds.proofs.Wording.{status-is}
 use Rattle.hyd_bounds.proofs.status.status_of.Goals as goal
 
--- src/status.rt:161:1
 pub returns : goal.returns
-returns c = ?
+returns c us bends kind state place can state_is own_is place_is =
+    let grid = grid_of c.args.net.now in
+    let below = all_heads grid Main Lower c.args.low.now in
+    let above = all_heads grid Main Upper c.args.high.now in
+    let ends = placed-ends grid.links c.args.link c.ends-ends.result place place_is c.ends-ends.ensures.grid in
+    let from = ends.0 in
+    let to = ends.1 in
+    let a = c.node_head.ensures.value ∙ ap (head_at below) (sym from) in
+    let b = c.node_head-2.ensures.value ∙ ap (head_at above) (sym to) in
+    let d = c.node_head-3.ensures.value ∙ ap (head_at above) (sym from) in
+    let e = c.node_head-4.ensures.value ∙ ap (head_at below) (sym to) in
+    let a_small = c.node_head.ensures.small in
+    let b_small = c.node_head-2.ensures.small in
+    let d_small = c.node_head-3.ensures.small in
+    let e_small = c.node_head-4.ensures.small in
+    let l_value = c.difference-least.ensures.value in
+    let g_value = c.difference-greatest.ensures.value in
+    let least : to_z w64 (of_z w64 c.difference-least.result) ≡ (head_at below place.from -ℤ head_at above place.to) =
+    omega (arith, ints, a, b, a_small, b_small, l_value) in
+    let greatest : to_z w64 (of_z w64 c.difference-greatest.result) ≡ (head_at above place.from -ℤ head_at below place.to) =
+    omega (arith, ints, d, e, d_small, e_small, g_value) in
+    c.word_of.ensures
+    ∙ status-is us bends kind state c.state.result.now (exact_law c.own_law.result.now) (to_z w64 (of_z w64 c.difference-least.result))
+    (to_z w64 (of_z w64 c.difference-greatest.result)) (difference place below above).lo (difference place below above).hi can
+    (some-same _ _ (sym c.state.ensures ∙ state_is)) (some-same _ _ (sym (law-at c.args.net.now.own c.args.link c.own_law.result.now c.own_law.ensures.value) ∙ own_is))
+    least greatest

@@ -5,7 +5,7 @@ use Rattle.hyd_graph.specs.Nets.{IsSoundNet}
 use Rattle.hyd_graph.specs.GridOf.{grid_of, node_count}
 use Rattle.hyd_graph.specs.Ties.{ties_from, ties_share, IsTie}
 use Rattle.hyd_graph.proofs.Reading.{row_at}
-use Rattle.hyd_graph.proofs.Summing.{sum_over_ties}
+use Rattle.hyd_graph.proofs.Summing.{sum_over_ties, count_of_ties}
 use Rattle.hyd_graph.proofs.TieLemmas.{few, are_ties}
 use Rattle.hyd_graph.proofs.net.Net.row.Goals as goal
 
@@ -30,3 +30,9 @@ returns-clause-sum c out into heads =
     let sound = subst IsSoundNet c.self.view_is c.self.invariant.0 in
     ap (ties_share out into (grid_of c.args.self.now).links heads (head_at heads c.args.node)) (row_is c ∙ ap (λ (n : NetView). ties_from c.args.node 0 n.ends) c.self.view_is)
     ∙ sum_over_ties out into heads c.args.node c.args.self.now sound.each_setting sound.each_own
+
+pub returns-clause-count : goal.returns-clause-count
+returns-clause-count c =
+    let sound = subst IsSoundNet c.self.view_is c.self.invariant.0 in
+    ap length (row_is c ∙ ap (λ (n : NetView). ties_from c.args.node 0 n.ends) c.self.view_is)
+    ∙ count_of_ties c.args.node 0 c.args.self.now.ends c.args.self.now.settings c.args.self.now.own sound.each_setting sound.each_own
