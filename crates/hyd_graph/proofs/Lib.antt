@@ -10,6 +10,6 @@ pub mod Sounding
 pub mod Steady
 pub mod Summing
 pub mod TieLemmas
+pub mod Writing
 pub mod Standing
-pub mod Closed
 pub mod Junctions
