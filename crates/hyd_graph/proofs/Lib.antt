@@ -1,9 +1,11 @@
 pub mod Counts
 pub mod Fixing
+pub mod Gridding
 pub mod Lifting
 pub mod LawsStand
 pub mod Knots
 pub mod Ranging
+pub mod Refilling
 pub mod SettingOne
 pub mod Reading
 pub mod Sounding
