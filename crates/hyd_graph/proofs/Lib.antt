@@ -2,7 +2,9 @@ pub mod Lifting
 pub mod LawsStand
 pub mod Knots
 pub mod Ranging
+pub mod Rooms
 pub mod SettingOne
 pub mod Standing
-pub mod Closed
+pub mod ClosedLaws
 pub mod Junctions
+pub mod Driving
