@@ -69,7 +69,7 @@ nothing_between q = omega (arith, ints, clamps)
 
 pub closed_represents : (b : BentValue) → IsCurve b.knots.list → Represents (Bent (record { least = pos 0; most = pos 0; inner = b })) ShutLaw
 closed_represents b curve = record {
-  stands = record { low_is = λ d. nothing_between _; high_is = λ d. nothing_between _; sound = (omega (arith, ints), curve); accepts = λ d le. omega arith };
+  stands = record { low_is = λ d. nothing_between (floor (value_at 1 (places b.knots.list) d)); high_is = λ d. nothing_between (ceiling (value_at 1 (places b.knots.list) d)); sound = (omega (arith, ints), curve); accepts = λ d le. omega arith };
   is_exact = refl;
 }
 

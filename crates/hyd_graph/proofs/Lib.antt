@@ -6,6 +6,7 @@ pub mod LawsStand
 pub mod Knots
 pub mod Ranging
 pub mod Refilling
+pub mod Rooms
 pub mod SettingOne
 pub mod Reading
 pub mod Sounding
@@ -14,4 +15,6 @@ pub mod Summing
 pub mod TieLemmas
 pub mod Writing
 pub mod Standing
+pub mod ClosedLaws
 pub mod Junctions
+pub mod Driving
