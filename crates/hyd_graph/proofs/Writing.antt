@@ -67,7 +67,17 @@ intervals (t ∷ tanks) (l ∷ levels) (h ∷ heads) el eh all =
     let rest = intervals tanks levels heads (omega arith) (omega arith) (λ k s lt tank span. all (suc k) s (omega arith) tank span) in
     rw (first, rest) refl
 
-pub copies_all : {X : Type 0} (n : ℕ) (x : X) → All (λ (y : X). y ≡ x) (replicate n x)
+copies_all : {X : Type 0} (n : ℕ) (x : X) → All (λ (y : X). y ≡ x) (replicate n x)
 copies_all zero x k d h = absurd (omega arith)
 copies_all (suc n) x zero d h = refl
 copies_all (suc n) x (suc k) d h = copies_all n x k d (omega arith)
+
+pub all_copies : {X : Type 0} (n : ℕ) (x : X) (xs : List X) → xs ≡ replicate n x → All (λ (y : X). y ≡ x) xs
+all_copies n x xs e = subst (λ ys. All (λ y. y ≡ x) ys) (sym e) (copies_all n x)
+
+copies_count : {X : Type 0} (n : ℕ) (x : X) → length (replicate n x) ≡ n
+copies_count zero x = refl
+copies_count (suc n) x = ap suc (copies_count n x)
+
+pub count_copies : {X : Type 0} (n : ℕ) (x : X) (xs : List X) → xs ≡ replicate n x → length xs ≡ n
+count_copies n x xs e = ap length e ∙ copies_count n x
