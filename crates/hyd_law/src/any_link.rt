@@ -20,7 +20,7 @@ impl Law for LinkLaw {
 
     ghost accepts = { LinkAccepts };
 
-    ghost most = { 26 * 10 ^ 21 };
+    ghost most = { 241 * 10 ^ 20 };
 
     fn low(&self, d: i64) -> i128 {
         match self {
