@@ -1,27 +1,24 @@
 -- The demands of a period: the first that is out of range, and the laws of those that are in range.
-use Rattle.std.proofs.Common.{◌≡◌, ℕ, zero, ◌+◌, ◌*◌, ◌^◌, ◌<◌, ◌≤◌, ℤ, pos, ◌+ℤ◌, ◌*ℤ◌, ◌≤ℤ◌, Bool, true, false, List, [], None, Some, length, slice_get, slice_index_or, slice_set, unsigned_abs, refl, sym, ap, subst, ◌∙◌, ◌⊎◌, inl, inr, arith}
-use Rattle.std.specs.Prelude.{MatchBool, int_le, if◌then◌else◌, Option}
+use Rattle.std.proofs.Common.{◌≡◌, ℕ, ◌+◌, ◌*◌, ◌^◌, ◌<◌, ◌≤◌, ℤ, pos, ◌≤ℤ◌, Bool, true, false, List, [], None, length, slice_index_or, slice_set, unsigned_abs, refl, sym, ap, subst, ◌∙◌, inl, inr, arith}
+use Rattle.std.specs.Prelude.{int_le, Option}
 use Rattle.std.specs.Option.{option_map_or}
 use Rattle.std.proofs.lemmas.Int.{ints}
 use Rattle.std.proofs.lemmas.Option.{slice_get-get_or, get_or_from_slice_get}
 use Rattle.hyd_num.specs.Chain.{IsMade}
-use Rattle.hyd_num.specs.Quantity.{is_us_unit, pressure_numerator, pressure_denominator}
-use Rattle.hyd_num.specs.Rational.{Rational, floor, ceiling}
+use Rattle.hyd_num.specs.Quantity.{pressure_numerator, pressure_denominator}
 use Rattle.hyd_num.specs.Roots.{IsFloor, IsCeiling}
 use Rattle.hyd_num.specs.declared.decimals.Decimal.{Decimal}
 use Rattle.hyd_num.specs.declared.decimals.Span.{Span}
-use Rattle.hyd_net.specs.Sizes.{HasOptions, IsPressure}
+use Rattle.hyd_net.specs.Sizes.{IsPressure}
 use Rattle.hyd_spec.specs.Types.{Project, Junction, Capacity, PressureDemand}
 use Rattle.hyd_spec.specs.Quantity.{is_us, demand_of, pressure_value}
 use Rattle.hyd_spec.specs.Outflow.{is_pressure_driven}
-use Rattle.hyd_spec_certificates.specs.Enclosing.{DemandLaw, Fixed, Driven}
-use Rattle.hyd_spec_certificates.specs.Grid.{IsDriven, IsDemandLaw}
+use Rattle.hyd_spec_certificates.specs.Enclosing.{Driven}
 use Rattle.hyd_spec_certificates.specs.Valid.{DemandsAreInRange}
 use Rattle.hyd_spec_reports.specs.Stops.{IsFirstDemand}
 use Rattle.hyd_spec_laws.proofs.EachLaw.{IsSoundCapacity-made}
 use Rattle.hyd_demand.specs.Asked.{junction_demand}
-use Rattle.hyd_law.specs.Wrapped.{IsLift, IsDifference}
-use Rattle.hyd_law.specs.declared.outflows.Pda.{Pda}
+use Rattle.hyd_law.specs.Wrapped.{IsLift}
 use Rattle.hyd_law.specs.declared.outflows.OutLaw.{OutLaw}
 use Rattle.hyd_law.specs.declared.outflows.OutLaw.TheVariants.{Fixed as FixedOut, Pda as PdaOut}
 use Rattle.hyd_units.proofs.Wholes.{IsFloor-floor, IsCeiling-ceiling}

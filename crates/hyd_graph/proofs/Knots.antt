@@ -1,14 +1,16 @@
 -- The knots of curves: their ranges, and that they are curves of a law.
-use Rattle.std.proofs.Common.{◌≡◌, ℕ, zero, suc, ◌+◌, ◌*◌, ◌^◌, ◌<◌, ◌≤◌, ℤ, pos, negsuc, ◌+ℤ◌, ◌-ℤ◌, ◌*ℤ◌, ◌≤ℤ◌, ◌<ℤ◌, neg_ℤ, true, List, [], ◌∷◌, ◌++◌, ◌-◌, length, map, reverse, drop, drop-cons, add-one, append_assoc, slice_index_or, unsigned_abs, refl, sym, ap, subst, ◌∙◌, arith}
+use Rattle.std.proofs.Common.{◌≡◌, ℕ, zero, suc, ◌+◌, ◌*◌, ◌^◌, ◌<◌, ◌≤◌, ℤ, pos, negsuc, ◌+ℤ◌, ◌-ℤ◌, ◌*ℤ◌, ◌≤ℤ◌, ◌<ℤ◌, neg_ℤ, true, List, [], ◌∷◌, ◌++◌, ◌-◌, length, map, reverse, drop, drop-cons, add-one, append_assoc, slice_index_or, unsigned_abs, refl, sym, ap, subst, ◌∙◌, w64, arith}
 use Rattle.std.specs.Prelude.{int_lt, int_le, All}
+use Rattle.std.specs.Int.{w128}
+use Rattle.std.proofs.Common.{FitsSigned}
 use Rattle.std.proofs.Math.IntN.{*ℤ_comm, zero-*ℤ, negsuc-*ℤ-pos, negsuc-*ℤ-negsuc}
 use Rattle.std.proofs.lemmas.Int.{ints}
 use Rattle.std.proofs.lemmas.List.{length-map, get_or-map, length-reverse, get_or-reverse, map-append, length-append, append-nil, drop_all}
 use Rattle.std.proofs.lemmas.List.Elements.{All-append}
-use Rattle.hyd_num.specs.Rational.{Rational, whole, is_at_most}
+use Rattle.hyd_num.specs.Rational.{whole, is_at_most}
 use Rattle.hyd_num.proofs.Integers.{times_one_more, times_reflects}
-use Rattle.hyd_net.specs.Curves.{Knot as Place, on_line, value_at, head_knots, IsPumpCurve, IsLossCurve}
-use Rattle.hyd_net.specs.Ranges.{Lies, IsHead, IsFlow}
+use Rattle.hyd_net.specs.Curves.{Knot as Place, value_at, head_knots, IsPumpCurve, IsLossCurve}
+use Rattle.hyd_net.specs.Ranges.{Lies}
 use Rattle.hyd_net.specs.States.{IsSpeed}
 use Rattle.hyd_net.specs.declared.curves.HeadPoint.{HeadPoint}
 use Rattle.hyd_spec.specs.Scale.{cut}
@@ -116,6 +118,14 @@ cut_head (negsuc n) small = omega (arith, ints, small)
 pub cut_flow : (z : ℤ) → unsigned_abs z ≤ 10 ^ 25 → unsigned_abs (cut z (10 ^ 9)) ≤ 10 ^ 16
 cut_flow (pos n) small = omega (arith, ints, small)
 cut_flow (negsuc n) small = omega (arith, ints, small)
+
+pub fits_128 : (z : ℤ) → unsigned_abs z ≤ 10 ^ 18 → FitsSigned w128 z
+fits_128 (pos n) small = record { sfits = omega (arith, ints, small) }
+fits_128 (negsuc n) small = record { sfits = omega (arith, ints, small) }
+
+pub fits_64 : (z : ℤ) → unsigned_abs z ≤ 10 ^ 18 → FitsSigned w64 z
+fits_64 (pos n) small = record { sfits = omega (arith, ints, small) }
+fits_64 (negsuc n) small = record { sfits = omega (arith, ints, small) }
 
 pub pump_knot_is : (point : HeadPoint) (speed h f : ℤ) (knot : Knot) → IsSpeed speed → h ≡ (speed *ℤ speed) *ℤ point.head → f ≡ speed *ℤ point.flow
     → knot.head ≡ cut (neg_ℤ h) (10 ^ 18) → knot.flow ≡ cut f (10 ^ 9) → place_of knot ∷ [] ≡ pump_knots (point ∷ []) speed

@@ -1,5 +1,5 @@
 -- The room of the knots of a link's curve.
-use Rattle.std.proofs.Common.{◌*◌, ◌≤◌, ℕ, List, [], length, sym, ap, subst, Option, arith}
+use Rattle.std.proofs.Common.{◌*◌, ℕ, List, [], length, sym, ap, subst, Option}
 use Rattle.std.specs.Option.{option_map_or}
 use Rattle.std.proofs.lemmas.Option.{slice_get-get_or}
 use Rattle.hyd_net.specs.Sizes.{HasBend}

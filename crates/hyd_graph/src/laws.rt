@@ -148,7 +148,11 @@ fn own_law(project: &Project, kind: &LinkKind, state: &LinkState, held: LinkLaw)
         LinkKind::Pipe(_) => plain_law(project, kind, state),
         LinkKind::CheckPipe(_) => plain_law(project, kind, state),
         LinkKind::Pump { .. } => plain_law(project, kind, state),
-        LinkKind::CurvePump { bend, pattern: _ } => curve_pump_law(points_of(project, *bend), state, knots_of(held)),
+        LinkKind::CurvePump { bend, pattern: _ } => curve_pump_law(
+            points_of(project, *bend),
+            state,
+            knots_of(held),
+        ),
         LinkKind::Tcv { .. } => plain_law(project, kind, state),
         LinkKind::Fcv { .. } => plain_law(project, kind, state),
         LinkKind::Gpv { bend } => curve_valve_law(points_of(project, *bend), state, knots_of(held)),

@@ -1,4 +1,4 @@
-use Rattle.std.proofs.Common.{List, [], ◌∷◌, length, slice_index_or, subst, sym, ap, ℕ, ◌<◌, arith}
+use Rattle.std.proofs.Common.{List, [], ◌∷◌, length, subst, ap, ℕ, arith}
 use Rattle.std.proofs.lemmas.List.{length-append}
 use Rattle.hyd_spec.specs.Types.{Link}
 use Rattle.hyd_law.specs.declared.link_law.LinkLaw.{LinkLaw}

@@ -1,4 +1,4 @@
-use Rattle.std.proofs.Common.{◌≡◌, pos, [], ◌∷◌, drop, ◌+◌, length, ap, to_z, of_z, w64, arith}
+use Rattle.std.proofs.Common.{pos, [], ◌∷◌, drop, ◌+◌, length, ap, to_z, of_z, w64, arith}
 use Rattle.std.proofs.lemmas.List.{length-append}
 use Rattle.hyd_spec.specs.Quantity.{pump_knots}
 use Rattle.hyd_law.specs.Curves.{places}

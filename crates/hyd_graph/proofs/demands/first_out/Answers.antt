@@ -1,4 +1,4 @@
-use Rattle.std.proofs.Common.{◌≡◌, ◌<◌, length, ℤ, to_z, of_z, subst, sym, ap, arith}
+use Rattle.std.proofs.Common.{◌≡◌, ℤ, to_z, of_z, subst, sym, arith}
 use Rattle.std.specs.Int.{w128}
 use Rattle.std.proofs.lemmas.Int.{ints}
 use Rattle.hyd_spec_reports.specs.Stops.{IsFirstDemand}

@@ -1,6 +1,5 @@
-use Rattle.std.proofs.Common.{◌*◌, List, length, subst, sym, ap, arith}
+use Rattle.std.proofs.Common.{◌*◌, length, subst, sym, ap, arith}
 use Rattle.hyd_net.specs.Curves.{IsLossCurve}
-use Rattle.hyd_net.specs.declared.curves.HeadPoint.{HeadPoint}
 use Rattle.hyd_spec.specs.Quantity.{is_us, points_of}
 use Rattle.hyd_graph.proofs.Rooms.{bend_points}
 use Rattle.hyd_graph.proofs.laws.own_law.Goals as goal
