@@ -20,13 +20,13 @@ use Rattle.hyd_graph.proofs.Sounding.{sound_net}
 use Rattle.hyd_graph.proofs.Writing.{all_copies, count_copies}
 use Rattle.hyd_graph.proofs.net.Net.open.Goals as goal
 
-nothing : OutLaw
+abbrev nothing : OutLaw
 nothing = Fixed (record { demand = pos 0 })
 
-nowhere : LevelSpan
+abbrev nowhere : LevelSpan
 nowhere = record { lo = pos 0; hi = pos 0 }
 
-new : goal.After-in_ok-rows → NetView
+abbrev new : goal.In_ok-rows → NetView
 new c = record {
   junctions = c.in_ok-junctions.junctions.items;
   demands = c.in_ok-demands.demands.items;
@@ -38,7 +38,7 @@ new c = record {
   laws = c.in_ok-laws.laws.items;
 }
 
-fresh : (c : goal.After-in_ok-rows) → IsFresh (new c)
+fresh : (c : goal.In_ok-rows) → IsFresh (new c)
 fresh c = record {
   links = all_copies c.len-4.result closed_setting c.in_ok-settings.settings.items c.in_ok-settings.ensures;
   demands = all_copies c.len.result nothing c.in_ok-demands.demands.items c.in_ok-demands.ensures;
@@ -46,7 +46,7 @@ fresh c = record {
   tanks = all_copies c.len-3.result nowhere c.in_ok-tanks.tanks.items c.in_ok-tanks.ensures;
 }
 
-of : (c : goal.After-in_ok-rows) → IsNetOf c.args.project.now (new c)
+of : (c : goal.In_ok-rows) → IsNetOf c.args.project.now (new c)
 of c = record {
   ends = c.in_ok-ends.ensures ∙ ap (map ends_of) c.as_slice-2.ensures;
   junctions = subst (λ (js : List Junction). AllZip IsNetJunction js c.in_ok-junctions.junctions.items) c.as_slice.ensures c.in_ok-junctions.ensures;
