@@ -46,7 +46,7 @@ impl Net {
     pub fn links(&self) -> u32
         ensures count { result ≡ length self.now.ends }
         ensures each { length (grid_of self.now).links ≡ length self.now.ends }
-        ensures few { length self.now.ends ≤ 2 ^ 31 }
+        ensures few { length self.now.ends ≤ 20000 }
     {
         self.ends.len() as u32
     }
@@ -141,7 +141,11 @@ impl Net {
         }
         let tank = number - self.reservoirs.len();
         let heads = self.tanks[tank];
-        if is_upper(problem, side, tank) { heads.hi } else { heads.lo }
+        if is_upper(problem, side, tank) {
+            heads.hi
+        } else {
+            heads.lo
+        }
     }
 
     /// The margin of a junction, in flow ticks: ten for each of its link ends, and thirty for its demand, its emitter and
@@ -158,7 +162,7 @@ impl Net {
         requires { node < node_count self.now }
         ensures row { result.now ≡ ties_from node 0 self.now.ends }
         ensures ties { All (IsTie (node_count self.now) (length self.now.ends)) result.now }
-        ensures few { length result.now ≤ 2 ^ 32 }
+        ensures few { length result.now ≤ 40000 }
         ensures sum { (out into : Law → ℤ → ℤ) (heads : List ℤ) → ties_share out into (grid_of self.now).links heads (head_at heads node) result.now ≡ net out into heads node (grid_of self.now).links }
     {
         self.rows[node as usize].as_slice()
