@@ -141,7 +141,11 @@ impl Net {
         }
         let tank = number - self.reservoirs.len();
         let heads = self.tanks[tank];
-        if is_upper(problem, side, tank) { heads.hi } else { heads.lo }
+        if is_upper(problem, side, tank) {
+            heads.hi
+        } else {
+            heads.lo
+        }
     }
 
     /// The margin of a junction, in flow ticks: ten for each of its link ends, and thirty for its demand, its emitter and
