@@ -1,0 +1,4 @@
+pub mod Places
+pub mod Faultless
+pub mod Occurs
+pub mod Names

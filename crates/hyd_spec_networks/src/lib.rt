@@ -1,0 +1,15 @@
+//! The project of a text without a fault is sound: whatever rows say, the network that they describe meets every range
+//! that the computation rests on. Each part is the contract of a small function, on the definitions alone.
+#![tactic(auto)]
+
+ghost use Rattle.std.specs.Prelude.{ℕ, List};
+ghost use Rattle.hyd_lex.specs.Lines.{items_of, rows_in};
+ghost use Rattle.hyd_net.specs.declared.project.Project.{Project};
+ghost use Rattle.hyd_net.specs.Sound.{HasIds};
+ghost use Rattle.hyd_spec_input.specs.Faults.{HasNoFault};
+ghost use Rattle.hyd_spec_input.specs.Project.{IsProject};
+
+/// Each node and each link has one ID of 1 to 31 bytes, and no two nodes and no two links have the same one.
+pub fn ids()
+    ensures { (text : List ℕ) (p : Project) → HasNoFault text → IsProject (rows_in (items_of text)) p → HasIds p }
+{}
