@@ -292,6 +292,3 @@ has_ids rows p right of = record {
   node_ids = subst (λ ids. All IsId ids) (sym of.node_ids_are) (node_ids_right rows right);
   link_ids = subst (λ ids. All IsId ids) (sym of.link_ids_are) (link_ids_right rows right);
 }
-
-pub ids_of_text : (text : List ℕ) (p : Project) → HasNoFault text → IsProject (rows_in (items_of text)) p → HasIds p
-ids_of_text text p none of = has_ids (rows_in (items_of text)) p (right_rows text none) of

@@ -5,11 +5,16 @@
 ghost use Rattle.std.specs.Prelude.{ℕ, List};
 ghost use Rattle.hyd_lex.specs.Lines.{items_of, rows_in};
 ghost use Rattle.hyd_net.specs.declared.project.Project.{Project};
-ghost use Rattle.hyd_net.specs.Sound.{HasIds};
+ghost use Rattle.hyd_net.specs.Sound.{HasIds, AreTimes};
 ghost use Rattle.hyd_spec_input.specs.Faults.{HasNoFault};
 ghost use Rattle.hyd_spec_input.specs.Project.{IsProject};
 
 /// Each node and each link has one ID of 1 to 31 bytes, and no two nodes and no two links have the same one.
 pub fn ids()
     ensures { (text : List ℕ) (p : Project) → HasNoFault text → IsProject (rows_in (items_of text)) p → HasIds p }
+{}
+
+/// Times are at most 10^8 seconds and steps at least one, in their order; the clock starts within a day.
+pub fn times()
+    ensures { (text : List ℕ) (p : Project) → HasNoFault text → IsProject (rows_in (items_of text)) p → AreTimes p.times }
 {}
