@@ -4,4 +4,6 @@ pub mod Occurs
 pub mod Names
 pub mod InForce
 pub mod Moments
+pub mod Numbered
+pub mod OptionRanges
 pub mod Parts

@@ -1,6 +1,7 @@
 -- What holds of the rows of a text without a fault, of its project.
 use Rattle.std.proofs.Common.{ℕ, List}
 use Rattle.hyd_lex.specs.Lines.{items_of, rows_in}
+use Rattle.hyd_net.specs.Sizes.{HasOptions}
 use Rattle.hyd_net.specs.Sound.{HasIds, AreTimes}
 use Rattle.hyd_net.specs.declared.project.Project.{Project}
 use Rattle.hyd_spec_input.specs.Faults.{HasNoFault}
@@ -8,9 +9,13 @@ use Rattle.hyd_spec_input.specs.Project.{IsProject}
 use Rattle.hyd_spec_networks.proofs.Faultless.{right_rows}
 use Rattle.hyd_spec_networks.proofs.Names.{has_ids}
 use Rattle.hyd_spec_networks.proofs.Moments.{are_times}
+use Rattle.hyd_spec_networks.proofs.OptionRanges.{has_options}
 
 pub ids_right : (text : List ℕ) (p : Project) → HasNoFault text → IsProject (rows_in (items_of text)) p → HasIds p
 ids_right text p none of = has_ids (rows_in (items_of text)) p (right_rows text none) of
 
 pub times_right : (text : List ℕ) (p : Project) → HasNoFault text → IsProject (rows_in (items_of text)) p → AreTimes p.times
 times_right text p none of = are_times (rows_in (items_of text)) p.times (right_rows text none) of.times
+
+pub options_right : (text : List ℕ) (p : Project) → HasNoFault text → IsProject (rows_in (items_of text)) p → HasOptions p.options p.patterns.list
+options_right text p none of = has_options (rows_in (items_of text)) p (right_rows text none) of

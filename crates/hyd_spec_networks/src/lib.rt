@@ -5,6 +5,7 @@
 ghost use Rattle.std.specs.Prelude.{ℕ, List};
 ghost use Rattle.hyd_lex.specs.Lines.{items_of, rows_in};
 ghost use Rattle.hyd_net.specs.declared.project.Project.{Project};
+ghost use Rattle.hyd_net.specs.Sizes.{HasOptions};
 ghost use Rattle.hyd_net.specs.Sound.{HasIds, AreTimes};
 ghost use Rattle.hyd_spec_input.specs.Faults.{HasNoFault};
 ghost use Rattle.hyd_spec_input.specs.Project.{IsProject};
@@ -17,4 +18,10 @@ pub fn ids()
 /// Times are at most 10^8 seconds and steps at least one, in their order; the clock starts within a day.
 pub fn times()
     ensures { (text : List ℕ) (p : Project) → HasNoFault text → IsProject (rows_in (items_of text)) p → AreTimes p.times }
+{}
+
+/// The numbers of the options are in range; where demands depend on pressure, the required pressure exceeds the minimum.
+pub fn options()
+    ensures { (text : List ℕ) (p : Project) → HasNoFault text → IsProject (rows_in (items_of text)) p
+        → HasOptions p.options p.patterns.list }
 {}
