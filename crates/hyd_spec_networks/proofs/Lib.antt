@@ -6,4 +6,6 @@ pub mod InForce
 pub mod Moments
 pub mod Numbered
 pub mod OptionRanges
+pub mod Points
+pub mod NodeRanges
 pub mod Parts

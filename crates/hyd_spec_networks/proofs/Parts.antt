@@ -1,7 +1,8 @@
 -- What holds of the rows of a text without a fault, of its project.
 use Rattle.std.proofs.Common.{ℕ, List}
+use Rattle.std.specs.Prelude.{All}
 use Rattle.hyd_lex.specs.Lines.{items_of, rows_in}
-use Rattle.hyd_net.specs.Sizes.{HasOptions}
+use Rattle.hyd_net.specs.Sizes.{HasOptions, IsJunction, IsReservoir, IsTank}
 use Rattle.hyd_net.specs.Sound.{HasIds, AreTimes}
 use Rattle.hyd_net.specs.declared.project.Project.{Project}
 use Rattle.hyd_spec_input.specs.Faults.{HasNoFault}
@@ -10,6 +11,7 @@ use Rattle.hyd_spec_networks.proofs.Faultless.{right_rows}
 use Rattle.hyd_spec_networks.proofs.Names.{has_ids}
 use Rattle.hyd_spec_networks.proofs.Moments.{are_times}
 use Rattle.hyd_spec_networks.proofs.OptionRanges.{has_options}
+use Rattle.hyd_spec_networks.proofs.NodeRanges as nodes
 
 pub ids_right : (text : List ℕ) (p : Project) → HasNoFault text → IsProject (rows_in (items_of text)) p → HasIds p
 ids_right text p none of = has_ids (rows_in (items_of text)) p (right_rows text none) of
@@ -19,3 +21,13 @@ times_right text p none of = are_times (rows_in (items_of text)) p.times (right_
 
 pub options_right : (text : List ℕ) (p : Project) → HasNoFault text → IsProject (rows_in (items_of text)) p → HasOptions p.options p.patterns.list
 options_right text p none of = has_options (rows_in (items_of text)) p (right_rows text none) of
+
+pub junctions_right : (text : List ℕ) (p : Project) → HasNoFault text → IsProject (rows_in (items_of text)) p
+    → All (IsJunction p.options.unit p.patterns.list) p.junctions.list
+junctions_right text p none of = nodes.junctions_right (rows_in (items_of text)) p (right_rows text none) of
+
+pub reservoirs_right : (text : List ℕ) (p : Project) → HasNoFault text → IsProject (rows_in (items_of text)) p → All (IsReservoir p.patterns.list) p.reservoirs.list
+reservoirs_right text p none of = nodes.reservoirs_right (rows_in (items_of text)) p (right_rows text none) of
+
+pub tanks_right : (text : List ℕ) (p : Project) → HasNoFault text → IsProject (rows_in (items_of text)) p → All (IsTank p.shapes.list) p.tanks.list
+tanks_right text p none of = nodes.tanks_right (rows_in (items_of text)) p (right_rows text none) of

@@ -2,10 +2,10 @@
 //! that the computation rests on. Each part is the contract of a small function, on the definitions alone.
 #![tactic(auto)]
 
-ghost use Rattle.std.specs.Prelude.{ℕ, List};
+ghost use Rattle.std.specs.Prelude.{ℕ, List, All};
 ghost use Rattle.hyd_lex.specs.Lines.{items_of, rows_in};
 ghost use Rattle.hyd_net.specs.declared.project.Project.{Project};
-ghost use Rattle.hyd_net.specs.Sizes.{HasOptions};
+ghost use Rattle.hyd_net.specs.Sizes.{HasOptions, IsJunction, IsReservoir, IsTank};
 ghost use Rattle.hyd_net.specs.Sound.{HasIds, AreTimes};
 ghost use Rattle.hyd_spec_input.specs.Faults.{HasNoFault};
 ghost use Rattle.hyd_spec_input.specs.Project.{IsProject};
@@ -24,4 +24,14 @@ pub fn times()
 pub fn options()
     ensures { (text : List ℕ) (p : Project) → HasNoFault text → IsProject (rows_in (items_of text)) p
         → HasOptions p.options p.patterns.list }
+{}
+
+/// Junctions, reservoirs and tanks are in range, with their demands, emitters, patterns and volume curves.
+pub fn nodes()
+    ensures junctions { (text : List ℕ) (p : Project) → HasNoFault text → IsProject (rows_in (items_of text)) p
+        → All (IsJunction p.options.unit p.patterns.list) p.junctions.list }
+    ensures reservoirs { (text : List ℕ) (p : Project) → HasNoFault text → IsProject (rows_in (items_of text)) p
+        → All (IsReservoir p.patterns.list) p.reservoirs.list }
+    ensures tanks { (text : List ℕ) (p : Project) → HasNoFault text → IsProject (rows_in (items_of text)) p
+        → All (IsTank p.shapes.list) p.tanks.list }
 {}
