@@ -8,4 +8,5 @@ pub mod Numbered
 pub mod OptionRanges
 pub mod Points
 pub mod NodeRanges
+pub mod LinkKinds
 pub mod Parts

@@ -2,8 +2,9 @@
 use Rattle.std.proofs.Common.{ℕ, List}
 use Rattle.std.specs.Prelude.{All}
 use Rattle.hyd_lex.specs.Lines.{items_of, rows_in}
-use Rattle.hyd_net.specs.Sizes.{HasOptions, IsJunction, IsReservoir, IsTank}
-use Rattle.hyd_net.specs.Sound.{HasIds, AreTimes}
+use Rattle.hyd_net.specs.Sizes.{HasOptions, IsJunction, IsReservoir, IsTank, HasSizes}
+use Rattle.hyd_net.specs.Sound.{HasIds, AreTimes, HasEnds}
+use Rattle.hyd_net.specs.Commands.{node_count}
 use Rattle.hyd_net.specs.declared.project.Project.{Project}
 use Rattle.hyd_spec_input.specs.Faults.{HasNoFault}
 use Rattle.hyd_spec_input.specs.Project.{IsProject}
@@ -12,6 +13,7 @@ use Rattle.hyd_spec_networks.proofs.Names.{has_ids}
 use Rattle.hyd_spec_networks.proofs.Moments.{are_times}
 use Rattle.hyd_spec_networks.proofs.OptionRanges.{has_options}
 use Rattle.hyd_spec_networks.proofs.NodeRanges as nodes
+use Rattle.hyd_spec_networks.proofs.LinkKinds as links
 
 pub ids_right : (text : List ℕ) (p : Project) → HasNoFault text → IsProject (rows_in (items_of text)) p → HasIds p
 ids_right text p none of = has_ids (rows_in (items_of text)) p (right_rows text none) of
@@ -31,3 +33,10 @@ reservoirs_right text p none of = nodes.reservoirs_right (rows_in (items_of text
 
 pub tanks_right : (text : List ℕ) (p : Project) → HasNoFault text → IsProject (rows_in (items_of text)) p → All (IsTank p.shapes.list) p.tanks.list
 tanks_right text p none of = nodes.tanks_right (rows_in (items_of text)) p (right_rows text none) of
+
+pub ends_right : (text : List ℕ) (p : Project) → HasNoFault text → IsProject (rows_in (items_of text)) p → All (HasEnds (node_count p)) p.links.list
+ends_right text p none of = links.ends_right (rows_in (items_of text)) p (right_rows text none) of
+
+pub sizes_right : (text : List ℕ) (p : Project) → HasNoFault text → IsProject (rows_in (items_of text)) p
+    → All (λ l. HasSizes p.options.unit p.patterns.list p.bends.list l.kind) p.links.list
+sizes_right text p none of = links.sizes_right (rows_in (items_of text)) p (right_rows text none) of

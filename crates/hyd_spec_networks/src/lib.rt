@@ -5,8 +5,9 @@
 ghost use Rattle.std.specs.Prelude.{ℕ, List, All};
 ghost use Rattle.hyd_lex.specs.Lines.{items_of, rows_in};
 ghost use Rattle.hyd_net.specs.declared.project.Project.{Project};
-ghost use Rattle.hyd_net.specs.Sizes.{HasOptions, IsJunction, IsReservoir, IsTank};
-ghost use Rattle.hyd_net.specs.Sound.{HasIds, AreTimes};
+ghost use Rattle.hyd_net.specs.Commands.{node_count};
+ghost use Rattle.hyd_net.specs.Sizes.{HasOptions, HasSizes, IsJunction, IsReservoir, IsTank};
+ghost use Rattle.hyd_net.specs.Sound.{HasIds, HasEnds, AreTimes};
 ghost use Rattle.hyd_spec_input.specs.Faults.{HasNoFault};
 ghost use Rattle.hyd_spec_input.specs.Project.{IsProject};
 
@@ -34,4 +35,12 @@ pub fn nodes()
         → All (IsReservoir p.patterns.list) p.reservoirs.list }
     ensures tanks { (text : List ℕ) (p : Project) → HasNoFault text → IsProject (rows_in (items_of text)) p
         → All (IsTank p.shapes.list) p.tanks.list }
+{}
+
+/// Both ends of a link are nodes and differ; pipes, pumps and valves are in range, with their patterns and curves.
+pub fn links()
+    ensures ends { (text : List ℕ) (p : Project) → HasNoFault text → IsProject (rows_in (items_of text)) p
+        → All (HasEnds (node_count p)) p.links.list }
+    ensures sizes { (text : List ℕ) (p : Project) → HasNoFault text → IsProject (rows_in (items_of text)) p
+        → All (λ l. HasSizes p.options.unit p.patterns.list p.bends.list l.kind) p.links.list }
 {}
