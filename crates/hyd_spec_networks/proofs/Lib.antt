@@ -9,4 +9,5 @@ pub mod OptionRanges
 pub mod Points
 pub mod NodeRanges
 pub mod LinkKinds
+pub mod LinkStates
 pub mod Parts

@@ -62,6 +62,10 @@ pub where_false : (b : Bool) (P Q : Type 0) → b ≡ false → Where b P Q → 
 where_false true P Q e w = absurd (true≢false e)
 where_false false P Q e w = w
 
+pub to_where : (b : Bool) (P Q : Type 0) → b ≡ true → P → Where b P Q
+to_where true P Q e h = h
+to_where false P Q e h = absurd (true≢false (sym e))
+
 -- a row of one section is of no other
 pub not_of : (section other : Section) (row : Row) → is_of section row ≡ true → (place section == place other) ≡ false → is_of other row ≡ false
 not_of section other row of apart = ap (λ (s : Section). place s == place other) (section_is section row of) ∙ apart

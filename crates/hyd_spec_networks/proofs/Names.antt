@@ -56,7 +56,7 @@ named_stands name (x ∷ xs) row e = elim (cases_Bool (bytes_eq name (own_id x))
 
 -- ---- names of a table occur once
 
-abbrev own_ids : List Row → List (List ℕ)
+abbrev pub own_ids : List Row → List (List ℕ)
 own_ids rows = map own_id rows
 
 absent : (name : List ℕ) (xs : List Row) → has_id name xs ≡ false → occurs name (own_ids xs) ≡ 0

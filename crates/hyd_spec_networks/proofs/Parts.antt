@@ -3,6 +3,7 @@ use Rattle.std.proofs.Common.{ℕ, List}
 use Rattle.std.specs.Prelude.{All}
 use Rattle.hyd_lex.specs.Lines.{items_of, rows_in}
 use Rattle.hyd_net.specs.Sizes.{HasOptions, IsJunction, IsReservoir, IsTank, HasSizes}
+use Rattle.hyd_net.specs.States.{CanHave}
 use Rattle.hyd_net.specs.Sound.{HasIds, AreTimes, HasEnds}
 use Rattle.hyd_net.specs.Commands.{node_count}
 use Rattle.hyd_net.specs.declared.project.Project.{Project}
@@ -14,6 +15,7 @@ use Rattle.hyd_spec_networks.proofs.Moments.{are_times}
 use Rattle.hyd_spec_networks.proofs.OptionRanges.{has_options}
 use Rattle.hyd_spec_networks.proofs.NodeRanges as nodes
 use Rattle.hyd_spec_networks.proofs.LinkKinds as links
+use Rattle.hyd_spec_networks.proofs.LinkStates as states
 
 pub ids_right : (text : List ℕ) (p : Project) → HasNoFault text → IsProject (rows_in (items_of text)) p → HasIds p
 ids_right text p none of = has_ids (rows_in (items_of text)) p (right_rows text none) of
@@ -40,3 +42,6 @@ ends_right text p none of = links.ends_right (rows_in (items_of text)) p (right_
 pub sizes_right : (text : List ℕ) (p : Project) → HasNoFault text → IsProject (rows_in (items_of text)) p
     → All (λ l. HasSizes p.options.unit p.patterns.list p.bends.list l.kind) p.links.list
 sizes_right text p none of = links.sizes_right (rows_in (items_of text)) p (right_rows text none) of
+
+pub states_right : (text : List ℕ) (p : Project) → HasNoFault text → IsProject (rows_in (items_of text)) p → All (λ l. CanHave l.kind l.start) p.links.list
+states_right text p none of = states.states_right (rows_in (items_of text)) p (right_rows text none) of

@@ -7,6 +7,7 @@ ghost use Rattle.hyd_lex.specs.Lines.{items_of, rows_in};
 ghost use Rattle.hyd_net.specs.declared.project.Project.{Project};
 ghost use Rattle.hyd_net.specs.Commands.{node_count};
 ghost use Rattle.hyd_net.specs.Sizes.{HasOptions, HasSizes, IsJunction, IsReservoir, IsTank};
+ghost use Rattle.hyd_net.specs.States.{CanHave};
 ghost use Rattle.hyd_net.specs.Sound.{HasIds, HasEnds, AreTimes};
 ghost use Rattle.hyd_spec_input.specs.Faults.{HasNoFault};
 ghost use Rattle.hyd_spec_input.specs.Project.{IsProject};
@@ -43,4 +44,10 @@ pub fn links()
         → All (HasEnds (node_count p)) p.links.list }
     ensures sizes { (text : List ℕ) (p : Project) → HasNoFault text → IsProject (rows_in (items_of text)) p
         → All (λ l. HasSizes p.options.unit p.patterns.list p.bends.list l.kind) p.links.list }
+{}
+
+/// Each link starts in a state that it can have.
+pub fn states()
+    ensures { (text : List ℕ) (p : Project) → HasNoFault text → IsProject (rows_in (items_of text)) p
+        → All (λ l. CanHave l.kind l.start) p.links.list }
 {}
