@@ -10,4 +10,5 @@ pub mod Points
 pub mod NodeRanges
 pub mod LinkKinds
 pub mod LinkStates
+pub mod ControlLines
 pub mod Parts

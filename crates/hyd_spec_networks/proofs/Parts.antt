@@ -5,7 +5,7 @@ use Rattle.hyd_lex.specs.Lines.{items_of, rows_in}
 use Rattle.hyd_net.specs.Sizes.{HasOptions, IsJunction, IsReservoir, IsTank, HasSizes}
 use Rattle.hyd_net.specs.States.{CanHave}
 use Rattle.hyd_net.specs.Sound.{HasIds, AreTimes, HasEnds}
-use Rattle.hyd_net.specs.Commands.{node_count}
+use Rattle.hyd_net.specs.Commands.{node_count, IsControl}
 use Rattle.hyd_net.specs.declared.project.Project.{Project}
 use Rattle.hyd_spec_input.specs.Faults.{HasNoFault}
 use Rattle.hyd_spec_input.specs.Project.{IsProject}
@@ -16,6 +16,7 @@ use Rattle.hyd_spec_networks.proofs.OptionRanges.{has_options}
 use Rattle.hyd_spec_networks.proofs.NodeRanges as nodes
 use Rattle.hyd_spec_networks.proofs.LinkKinds as links
 use Rattle.hyd_spec_networks.proofs.LinkStates as states
+use Rattle.hyd_spec_networks.proofs.ControlLines as controls
 
 pub ids_right : (text : List ℕ) (p : Project) → HasNoFault text → IsProject (rows_in (items_of text)) p → HasIds p
 ids_right text p none of = has_ids (rows_in (items_of text)) p (right_rows text none) of
@@ -45,3 +46,6 @@ sizes_right text p none of = links.sizes_right (rows_in (items_of text)) p (righ
 
 pub states_right : (text : List ℕ) (p : Project) → HasNoFault text → IsProject (rows_in (items_of text)) p → All (λ l. CanHave l.kind l.start) p.links.list
 states_right text p none of = states.states_right (rows_in (items_of text)) p (right_rows text none) of
+
+pub controls_right : (text : List ℕ) (p : Project) → HasNoFault text → IsProject (rows_in (items_of text)) p → All (IsControl p) p.controls.list
+controls_right text p none of = controls.controls_right (rows_in (items_of text)) p (right_rows text none) of

@@ -5,7 +5,7 @@
 ghost use Rattle.std.specs.Prelude.{ℕ, List, All};
 ghost use Rattle.hyd_lex.specs.Lines.{items_of, rows_in};
 ghost use Rattle.hyd_net.specs.declared.project.Project.{Project};
-ghost use Rattle.hyd_net.specs.Commands.{node_count};
+ghost use Rattle.hyd_net.specs.Commands.{node_count, IsControl};
 ghost use Rattle.hyd_net.specs.Sizes.{HasOptions, HasSizes, IsJunction, IsReservoir, IsTank};
 ghost use Rattle.hyd_net.specs.States.{CanHave};
 ghost use Rattle.hyd_net.specs.Sound.{HasIds, HasEnds, AreTimes};
@@ -50,4 +50,10 @@ pub fn links()
 pub fn states()
     ensures { (text : List ℕ) (p : Project) → HasNoFault text → IsProject (rows_in (items_of text)) p
         → All (λ l. CanHave l.kind l.start) p.links.list }
+{}
+
+/// Each control sets a link that is there to a state that it can have, at a moment in range.
+pub fn controls()
+    ensures { (text : List ℕ) (p : Project) → HasNoFault text → IsProject (rows_in (items_of text)) p
+        → All (IsControl p) p.controls.list }
 {}
