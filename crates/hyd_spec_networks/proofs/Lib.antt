@@ -11,4 +11,6 @@ pub mod NodeRanges
 pub mod LinkKinds
 pub mod LinkStates
 pub mod ControlLines
+pub mod RuleLines
+pub mod RuleParts
 pub mod Parts

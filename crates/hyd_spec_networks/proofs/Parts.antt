@@ -5,7 +5,7 @@ use Rattle.hyd_lex.specs.Lines.{items_of, rows_in}
 use Rattle.hyd_net.specs.Sizes.{HasOptions, IsJunction, IsReservoir, IsTank, HasSizes}
 use Rattle.hyd_net.specs.States.{CanHave}
 use Rattle.hyd_net.specs.Sound.{HasIds, AreTimes, HasEnds}
-use Rattle.hyd_net.specs.Commands.{node_count, IsControl}
+use Rattle.hyd_net.specs.Commands.{node_count, IsControl, IsRule}
 use Rattle.hyd_net.specs.declared.project.Project.{Project}
 use Rattle.hyd_spec_input.specs.Faults.{HasNoFault}
 use Rattle.hyd_spec_input.specs.Project.{IsProject}
@@ -17,6 +17,7 @@ use Rattle.hyd_spec_networks.proofs.NodeRanges as nodes
 use Rattle.hyd_spec_networks.proofs.LinkKinds as links
 use Rattle.hyd_spec_networks.proofs.LinkStates as states
 use Rattle.hyd_spec_networks.proofs.ControlLines as controls
+use Rattle.hyd_spec_networks.proofs.RuleParts as rules
 
 pub ids_right : (text : List ℕ) (p : Project) → HasNoFault text → IsProject (rows_in (items_of text)) p → HasIds p
 ids_right text p none of = has_ids (rows_in (items_of text)) p (right_rows text none) of
@@ -49,3 +50,6 @@ states_right text p none of = states.states_right (rows_in (items_of text)) p (r
 
 pub controls_right : (text : List ℕ) (p : Project) → HasNoFault text → IsProject (rows_in (items_of text)) p → All (IsControl p) p.controls.list
 controls_right text p none of = controls.controls_right (rows_in (items_of text)) p (right_rows text none) of
+
+pub rules_right : (text : List ℕ) (p : Project) → HasNoFault text → IsProject (rows_in (items_of text)) p → All (IsRule p) p.rules.list
+rules_right text p none of = rules.rules_right (rows_in (items_of text)) p (right_rows text none) of

@@ -5,7 +5,7 @@
 ghost use Rattle.std.specs.Prelude.{ℕ, List, All};
 ghost use Rattle.hyd_lex.specs.Lines.{items_of, rows_in};
 ghost use Rattle.hyd_net.specs.declared.project.Project.{Project};
-ghost use Rattle.hyd_net.specs.Commands.{node_count, IsControl};
+ghost use Rattle.hyd_net.specs.Commands.{node_count, IsControl, IsRule};
 ghost use Rattle.hyd_net.specs.Sizes.{HasOptions, HasSizes, IsJunction, IsReservoir, IsTank};
 ghost use Rattle.hyd_net.specs.States.{CanHave};
 ghost use Rattle.hyd_net.specs.Sound.{HasIds, HasEnds, AreTimes};
@@ -56,4 +56,11 @@ pub fn states()
 pub fn controls()
     ensures { (text : List ℕ) (p : Project) → HasNoFault text → IsProject (rows_in (items_of text)) p
         → All (IsControl p) p.controls.list }
+{}
+
+/// What the clauses of rules speak of is there and compared as it can be; actions set links to states that they can
+/// have; IDs and priorities are in range.
+pub fn rules()
+    ensures { (text : List ℕ) (p : Project) → HasNoFault text → IsProject (rows_in (items_of text)) p
+        → All (IsRule p) p.rules.list }
 {}
