@@ -13,4 +13,5 @@ pub mod LinkStates
 pub mod ControlLines
 pub mod RuleLines
 pub mod RuleParts
+pub mod Tallies
 pub mod Parts

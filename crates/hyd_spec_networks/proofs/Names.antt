@@ -124,7 +124,7 @@ node_part Reservoirs n = omega arith
 node_part Tanks n = omega arith
 node_part _ n = refl
 
-link_part : (s : Section) (n : ℕ) → when ((place s == 3) || ((place s == 4) || (place s == 5))) n ≡ when (place s == 3) n + (when (place s == 4) n + when (place s == 5) n)
+pub link_part : (s : Section) (n : ℕ) → when ((place s == 3) || ((place s == 4) || (place s == 5))) n ≡ when (place s == 3) n + (when (place s == 4) n + when (place s == 5) n)
 link_part Pipes n = omega arith
 link_part Pumps n = omega arith
 link_part Valves n = omega arith

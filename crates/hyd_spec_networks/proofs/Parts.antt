@@ -4,7 +4,7 @@ use Rattle.std.specs.Prelude.{All}
 use Rattle.hyd_lex.specs.Lines.{items_of, rows_in}
 use Rattle.hyd_net.specs.Sizes.{HasOptions, IsJunction, IsReservoir, IsTank, HasSizes}
 use Rattle.hyd_net.specs.States.{CanHave}
-use Rattle.hyd_net.specs.Sound.{HasIds, AreTimes, HasEnds}
+use Rattle.hyd_net.specs.Sound.{HasIds, IsWithinLimits, AreTimes, HasEnds}
 use Rattle.hyd_net.specs.Commands.{node_count, IsControl, IsRule}
 use Rattle.hyd_net.specs.declared.project.Project.{Project}
 use Rattle.hyd_spec_input.specs.Faults.{HasNoFault}
@@ -18,6 +18,7 @@ use Rattle.hyd_spec_networks.proofs.LinkKinds as links
 use Rattle.hyd_spec_networks.proofs.LinkStates as states
 use Rattle.hyd_spec_networks.proofs.ControlLines as controls
 use Rattle.hyd_spec_networks.proofs.RuleParts as rules
+use Rattle.hyd_spec_networks.proofs.Tallies.{within_limits}
 
 pub ids_right : (text : List ℕ) (p : Project) → HasNoFault text → IsProject (rows_in (items_of text)) p → HasIds p
 ids_right text p none of = has_ids (rows_in (items_of text)) p (right_rows text none) of
@@ -53,3 +54,6 @@ controls_right text p none of = controls.controls_right (rows_in (items_of text)
 
 pub rules_right : (text : List ℕ) (p : Project) → HasNoFault text → IsProject (rows_in (items_of text)) p → All (IsRule p) p.rules.list
 rules_right text p none of = rules.rules_right (rows_in (items_of text)) p (right_rows text none) of
+
+pub counts_right : (text : List ℕ) (p : Project) → HasNoFault text → IsProject (rows_in (items_of text)) p → IsWithinLimits p
+counts_right text p none of = within_limits (rows_in (items_of text)) p (right_rows text none) of

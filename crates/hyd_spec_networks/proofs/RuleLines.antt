@@ -65,7 +65,7 @@ kept_at p (y ∷ ys) n x e = elim (cases_Bool (p y)) [
 ]
 
 -- the line behind others is right at the stage after them
-not_rule : (o : Option RuleWord) → is_part_word o ≡ true → is_rule o ≡ false
+pub not_rule : (o : Option RuleWord) → is_part_word o ≡ true → is_rule o ≡ false
 not_rule (Some Rule) e = absurd (true≢false (sym e))
 not_rule (Some If) e = refl
 not_rule (Some And) e = refl

@@ -8,7 +8,7 @@ ghost use Rattle.hyd_net.specs.declared.project.Project.{Project};
 ghost use Rattle.hyd_net.specs.Commands.{node_count, IsControl, IsRule};
 ghost use Rattle.hyd_net.specs.Sizes.{HasOptions, HasSizes, IsJunction, IsReservoir, IsTank};
 ghost use Rattle.hyd_net.specs.States.{CanHave};
-ghost use Rattle.hyd_net.specs.Sound.{HasIds, HasEnds, AreTimes};
+ghost use Rattle.hyd_net.specs.Sound.{HasIds, IsWithinLimits, HasEnds, AreTimes};
 ghost use Rattle.hyd_spec_input.specs.Faults.{HasNoFault};
 ghost use Rattle.hyd_spec_input.specs.Project.{IsProject};
 
@@ -63,4 +63,9 @@ pub fn controls()
 pub fn rules()
     ensures { (text : List ℕ) (p : Project) → HasNoFault text → IsProject (rows_in (items_of text)) p
         → All (IsRule p) p.rules.list }
+{}
+
+/// No table of the project is longer than its limit.
+pub fn counts()
+    ensures { (text : List ℕ) (p : Project) → HasNoFault text → IsProject (rows_in (items_of text)) p → IsWithinLimits p }
 {}
