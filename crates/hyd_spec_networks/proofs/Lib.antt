@@ -14,4 +14,6 @@ pub mod ControlLines
 pub mod RuleLines
 pub mod RuleParts
 pub mod Tallies
+pub mod PatternRows
+pub mod Rounding
 pub mod Parts

@@ -352,7 +352,7 @@ own_state rows k row state right at link is = elim (one_of_three (is_of Pipes ro
 
 -- ---- the state of the start
 
-start_by : (rows : List Row) (k : ℕ) (row : Row) (state : LinkState) (status : Option Row) → AreRight rows → slice_get rows k ≡ Some row → is_link row ≡ true
+pub start_by : (rows : List Row) (k : ℕ) (row : Row) (state : LinkState) (status : Option Row) → AreRight rows → slice_get rows k ≡ Some row → is_link row ≡ true
     → status_of rows row ≡ status → IsStart rows row status state → Asked rows row state
 start_by rows k row state None right at link e is = own_state rows k row state right at link is
 start_by rows k row state (Some status) right at link e is =

@@ -2,9 +2,10 @@
 use Rattle.std.proofs.Common.{ℕ, List}
 use Rattle.std.specs.Prelude.{All}
 use Rattle.hyd_lex.specs.Lines.{items_of, rows_in}
-use Rattle.hyd_net.specs.Sizes.{HasOptions, IsJunction, IsReservoir, IsTank, HasSizes}
+use Rattle.hyd_net.specs.Sizes.{HasOptions, IsJunction, IsReservoir, IsTank, HasSizes, HasQuantities}
 use Rattle.hyd_net.specs.States.{CanHave}
-use Rattle.hyd_net.specs.Sound.{HasIds, IsWithinLimits, AreTimes, HasEnds}
+use Rattle.hyd_net.specs.Sound.{HasIds, IsWithinLimits, AreTimes, HasEnds, IsPattern, Sound}
+use Rattle.hyd_net.specs.Made.{IsAllMade}
 use Rattle.hyd_net.specs.Commands.{node_count, IsControl, IsRule}
 use Rattle.hyd_net.specs.declared.project.Project.{Project}
 use Rattle.hyd_spec_input.specs.Faults.{HasNoFault}
@@ -19,6 +20,8 @@ use Rattle.hyd_spec_networks.proofs.LinkStates as states
 use Rattle.hyd_spec_networks.proofs.ControlLines as controls
 use Rattle.hyd_spec_networks.proofs.RuleParts as rules
 use Rattle.hyd_spec_networks.proofs.Tallies.{within_limits}
+use Rattle.hyd_spec_networks.proofs.PatternRows as patterns
+use Rattle.hyd_spec_networks.proofs.Rounding.{all_made}
 
 pub ids_right : (text : List ℕ) (p : Project) → HasNoFault text → IsProject (rows_in (items_of text)) p → HasIds p
 ids_right text p none of = has_ids (rows_in (items_of text)) p (right_rows text none) of
@@ -57,3 +60,29 @@ rules_right text p none of = rules.rules_right (rows_in (items_of text)) p (righ
 
 pub counts_right : (text : List ℕ) (p : Project) → HasNoFault text → IsProject (rows_in (items_of text)) p → IsWithinLimits p
 counts_right text p none of = within_limits (rows_in (items_of text)) p (right_rows text none) of
+
+pub patterns_right : (text : List ℕ) (p : Project) → HasNoFault text → IsProject (rows_in (items_of text)) p → All IsPattern p.patterns.list
+patterns_right text p none of = patterns.patterns_right (rows_in (items_of text)) p (right_rows text none) of
+
+pub made_right : (text : List ℕ) (p : Project) → HasNoFault text → IsProject (rows_in (items_of text)) p → IsAllMade p
+made_right text p none of = all_made (rows_in (items_of text)) p (right_rows text none) of
+
+pub all_right : (text : List ℕ) (p : Project) → HasNoFault text → IsProject (rows_in (items_of text)) p → Sound p
+all_right text p none of = record {
+  ids = ids_right text p none of;
+  counts = counts_right text p none of;
+  links = ends_right text p none of;
+  states = states_right text p none of;
+  quantities = record {
+    options = options_right text p none of;
+    junctions = junctions_right text p none of;
+    reservoirs = reservoirs_right text p none of;
+    tanks = tanks_right text p none of;
+    links = sizes_right text p none of;
+  };
+  patterns = patterns_right text p none of;
+  controls = controls_right text p none of;
+  rules = rules_right text p none of;
+  times = times_right text p none of;
+  made = made_right text p none of;
+}

@@ -264,7 +264,7 @@ shape_count : (rows : List Row) → AreRight rows → length (shape_names rows) 
 shape_count rows right =
     omega (arith, fewer_names [] (flat_map (λ (r : Row). as_list (tank_curve r.words)) (rows_of Tanks rows)), flat_names (λ r. tank_curve r.words) (rows_of Tanks rows), tank_count rows right)
 
-all_flat : {X Y : Type 0} (P : Y → Type 0) (f : X → List Y) (xs : List X) → All (λ x. All P (f x)) xs → All P (flat_map f xs)
+pub all_flat : {X Y : Type 0} (P : Y → Type 0) (f : X → List Y) (xs : List X) → All (λ x. All P (f x)) xs → All P (flat_map f xs)
 all_flat P f [] all = All-nil P
 all_flat P f (x ∷ xs) all = All-append P (f x) (flat_map f xs) (All-head (λ y. All P (f y)) x xs all) (all_flat P f xs (All-tail (λ y. All P (f y)) x xs all))
 

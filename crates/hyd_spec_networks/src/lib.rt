@@ -8,7 +8,8 @@ ghost use Rattle.hyd_net.specs.declared.project.Project.{Project};
 ghost use Rattle.hyd_net.specs.Commands.{node_count, IsControl, IsRule};
 ghost use Rattle.hyd_net.specs.Sizes.{HasOptions, HasSizes, IsJunction, IsReservoir, IsTank};
 ghost use Rattle.hyd_net.specs.States.{CanHave};
-ghost use Rattle.hyd_net.specs.Sound.{HasIds, IsWithinLimits, HasEnds, AreTimes};
+ghost use Rattle.hyd_net.specs.Sound.{HasIds, IsWithinLimits, HasEnds, AreTimes, IsPattern, Sound};
+ghost use Rattle.hyd_net.specs.Made.{IsAllMade};
 ghost use Rattle.hyd_spec_input.specs.Faults.{HasNoFault};
 ghost use Rattle.hyd_spec_input.specs.Project.{IsProject};
 
@@ -68,4 +69,21 @@ pub fn rules()
 /// No table of the project is longer than its limit.
 pub fn counts()
     ensures { (text : List ℕ) (p : Project) → HasNoFault text → IsProject (rows_in (items_of text)) p → IsWithinLimits p }
+{}
+
+/// Each pattern has a multiplier, and each is in range.
+pub fn patterns()
+    ensures { (text : List ℕ) (p : Project) → HasNoFault text → IsProject (rows_in (items_of text)) p
+        → All IsPattern p.patterns.list }
+{}
+
+/// Each rounded form is the one that the numbers beside it make, and each valve has one diameter, fully open and in
+/// each of its settings.
+pub fn made()
+    ensures { (text : List ℕ) (p : Project) → HasNoFault text → IsProject (rows_in (items_of text)) p → IsAllMade p }
+{}
+
+/// The project of a text without a fault is sound.
+pub fn sound()
+    ensures { (text : List ℕ) (p : Project) → HasNoFault text → IsProject (rows_in (items_of text)) p → Sound p }
 {}
