@@ -33,8 +33,8 @@ items_words : (region : Region) (number : ℕ) (lines : List (List ℕ))
 items_words region number [] = tt
 items_words region number (line ∷ lines) =
     given_words (kind_of region line) number line
-        (items (region_after region (kind_of region line)) (number + 1) lines)
-        (items_words (region_after region (kind_of region line)) (number + 1) lines)
+    (items (region_after region (kind_of region line)) (number + 1) lines)
+    (items_words (region_after region (kind_of region line)) (number + 1) lines)
 
 pub not_empty : (text : List ℕ) → AllByRecursion HasWords (rows_in (items_of text))
 unfolding items_of

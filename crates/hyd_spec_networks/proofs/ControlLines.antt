@@ -1,17 +1,15 @@
 -- Controls of a file without a fault: each sets a link that is there to a state that it can have, at a moment in range.
-use Rattle.std.proofs.Common.{◌≡◌, ℕ, ◌+◌, ◌*◌, ◌^◌, ◌<◌, ◌≤◌, Bool, true, false, List, [], ◌∷◌, map, length, take, Option, Some, None, refl, sym, ap, ◌∙◌, subst, arith, inl, inr, true≢false}
-use Rattle.std.specs.Prelude.{slice_get, ◌&&◌, not, All, ℤ, pos, codes, if◌then◌else◌}
+use Rattle.std.proofs.Common.{◌≡◌, ℕ, ◌<◌, true, false, List, [], ◌∷◌, length, Option, Some, None, refl, sym, ap, ◌∙◌, subst, arith, inl, inr, true≢false}
+use Rattle.std.specs.Prelude.{slice_get, not, All, codes, if◌then◌else◌}
 use Rattle.std.proofs.lemmas.Bool.{cases_Bool, and_parts, and_from, not-true}
 use Rattle.std.proofs.lemmas.List.{length-map}
-use Rattle.hyd_num.specs.Quantity.{head_ticks}
 use Rattle.hyd_lex.specs.Lines.{Row}
 use Rattle.hyd_lex.specs.Bytes.{is_keyword}
 use Rattle.hyd_lex.specs.declared.section.Section.TheVariants.{Pipes, Pumps, Tanks, Controls as ControlsSection}
-use Rattle.hyd_net.specs.Ranges.{IsHead, Numbers}
+use Rattle.hyd_net.specs.Ranges.{IsHead}
 use Rattle.hyd_net.specs.States.{CanHave, CanBeSet}
 use Rattle.hyd_net.specs.Commands as commands
 use Rattle.hyd_net.specs.Commands.{CanCommand, IsMoment}
-use Rattle.hyd_net.specs.declared.cause.Cause.{Cause}
 use Rattle.hyd_net.specs.declared.controls.When.{When}
 use Rattle.hyd_net.specs.declared.controls.When.TheVariants.{Level as LevelAt, Time as TimeAt, Clock as ClockAt}
 use Rattle.hyd_net.specs.declared.controls.Control.{Control}
@@ -20,12 +18,11 @@ use Rattle.hyd_net.specs.declared.links.LinkKind.{LinkKind}
 use Rattle.hyd_net.specs.declared.links.LinkKind.TheVariants.{Pipe, CheckPipe, Pump, CurvePump, Tcv, Fcv, Gpv}
 use Rattle.hyd_net.specs.declared.links.LinkState.{LinkState}
 use Rattle.hyd_net.specs.declared.project.Project.{Project}
-use Rattle.hyd_spec_input.specs.Columns.{first, or_else, needed, ends, id, one_of, meant, asked, word, amount, word_is, is_option_keyword}
+use Rattle.hyd_spec_input.specs.Columns.{needed, id, one_of, meant, asked, word, amount, word_is, is_option_keyword}
 use Rattle.hyd_spec_input.specs.Keywords.{link_word}
 use Rattle.hyd_spec_input.specs.Moments.{time, clock}
 use Rattle.hyd_spec_input.specs.ControlRows as alone
-use Rattle.hyd_spec_input.specs.NetworkRows.{has_check_valve}
-use Rattle.hyd_spec_input.specs.Tables.{is_of, rows_of, own_id, words_of, words_of_row, link_named}
+use Rattle.hyd_spec_input.specs.Tables.{is_of, rows_of, own_id, words_of, words_of_row}
 use Rattle.hyd_spec_input.specs.Network.{tank_ids, number_in}
 use Rattle.hyd_spec_input.specs.WithOthers as others
 use Rattle.hyd_spec_input.specs.WithOthers.{us, head, is_check_valve, control_tank}
@@ -85,8 +82,8 @@ tank_inside rows p name n of e =
 timed : (words : List (List ℕ)) → alone.control words ≡ None → word_is 3 (codes "AT") words ≡ true → alone.time_control words ≡ None
 timed words e at =
     let each = all_none (needed (meant link_word) 0 words ∷ needed id 1 words ∷ needed asked 2 words
-      ∷ needed (one_of (codes "IF" ∷ codes "AT" ∷ [])) 3 words
-      ∷ (if word_is 3 (codes "IF") words then alone.level_control words else alone.time_control words) ∷ []) e in
+    ∷ needed (one_of (codes "IF" ∷ codes "AT" ∷ [])) 3 words
+    ∷ (if word_is 3 (codes "IF") words then alone.level_control words else alone.time_control words) ∷ []) e in
     let other : word_is 3 (codes "IF") words ≡ false = word_apart (codes "AT") (codes "IF") (slice_get words 3) at at_not_if in
     rw other at each.1.1.1.1.0
 

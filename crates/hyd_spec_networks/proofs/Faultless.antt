@@ -1,10 +1,10 @@
 -- A row of a text without a fault: it is right by itself and with the others, and each thing that is asked of it holds.
-use Rattle.std.proofs.Common.{◌≡◌, ℕ, ◌+◌, ◌<◌, ◌≤◌, zero, suc, Bool, true, false, List, [], ◌∷◌, ◌++◌, length, take, drop, Option, Some, None, refl, sym, ap, ◌∙◌, subst, arith, inl, inr, true≢false}
-use Rattle.std.specs.Prelude.{Result, slice_get, filter, ◌&&◌, ◌||◌, not, nat_le, ◌==◌, ℤ, pos, ◌≤ℤ◌, ◌<ℤ◌, if◌then◌else◌}
-use Rattle.std.specs.List.{All, AllByRecursion, slice_split}
-use Rattle.std.proofs.lemmas.Bool.{cases_Bool, and_parts, eqb-true, leb-true}
+use Rattle.std.proofs.Common.{◌≡◌, ℕ, ◌+◌, ◌≤◌, Bool, true, false, List, [], ◌∷◌, length, take, drop, Option, Some, None, refl, sym, ap, ◌∙◌, subst, arith, inl}
+use Rattle.std.specs.Prelude.{slice_get, ◌&&◌, ◌==◌, ℤ, ◌≤ℤ◌, ◌<ℤ◌, if◌then◌else◌}
+use Rattle.std.specs.List.{All, AllByRecursion}
+use Rattle.std.proofs.lemmas.Bool.{and_parts, eqb-true}
 use Rattle.std.proofs.lemmas.Int.{ints}
-use Rattle.std.proofs.lemmas.List.Elements.{All-filter, filter_passes, All-from_recursion}
+use Rattle.std.proofs.lemmas.List.Elements.{All-from_recursion}
 use lib.Signed.{le_z, lt_z}
 use Rattle.hyd_num.specs.Numeral.{nano_of}
 use Rattle.hyd_lex.specs.Lines.{Row, items_of, rows_in}
@@ -13,12 +13,12 @@ use Rattle.hyd_lex.specs.declared.section.Section.{Section}
 use Rattle.hyd_lex.specs.declared.section.Section.TheVariants.{Junctions, Reservoirs, Tanks, Pipes, Pumps, Valves, Demands, Emitters, Curves, Patterns, Status, Controls, Rules, Options, Times}
 use Rattle.hyd_net.specs.Ranges.{Lies}
 use Rattle.hyd_net.specs.declared.cause.Cause.{Cause}
-use Rattle.hyd_spec_input.specs.Columns.{Column, or_else, first, unless, of_needed, needed, of_word, optional, or_empty, word, number, number_where, number_within, amount, nano_or, amount_or}
-use Rattle.hyd_spec_input.specs.Tables.{place, is_of, rows_of, words_of}
+use Rattle.hyd_spec_input.specs.Columns.{Column, or_else, first, unless, of_needed, needed, of_word, optional, or_empty, word, number, number_where, number_within, nano_or, amount_or}
+use Rattle.hyd_spec_input.specs.Tables.{place, is_of, words_of}
 use Rattle.hyd_spec_input.specs.ByItself as itself
 use Rattle.hyd_spec_input.specs.WithOthers as others
-use Rattle.hyd_spec_input.specs.Faults.{HasNoFault, IsWrongWithOthers}
-use Rattle.hyd_spec_networks.proofs.Places.{Stands, all_at, kept_stands, kept_passes, source}
+use Rattle.hyd_spec_input.specs.Faults.{HasNoFault}
+use Rattle.hyd_spec_networks.proofs.Places.{all_at}
 
 -- ---- several faults, of which none is there
 

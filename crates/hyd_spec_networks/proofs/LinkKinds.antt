@@ -1,6 +1,6 @@
 -- Links of a file without a fault: their ends, and what they are made of.
-use Rattle.std.proofs.Common.{◌≡◌, ℕ, ◌+◌, ◌-◌, ◌*◌, ◌^◌, ◌<◌, ◌≤◌, zero, suc, Bool, true, false, List, [], ◌∷◌, map, length, take, drop, Option, Some, None, refl, sym, ap, ◌∙◌, subst, arith, inl, inr, true≢false}
-use Rattle.std.specs.Prelude.{slice_get, ◌&&◌, ◌||◌, ◌==◌, ◌≢◌, not, nat_le, All, IfSome, ℤ, pos, ◌-ℤ◌, ◌*ℤ◌, ◌≤ℤ◌, ◌<ℤ◌, ⊤, codes, if◌then◌else◌}
+use Rattle.std.proofs.Common.{◌≡◌, ℕ, ◌^◌, Bool, true, false, List, [], ◌∷◌, length, drop, Option, Some, None, refl, sym, ap, ◌∙◌, subst, arith, inl, inr, true≢false}
+use Rattle.std.specs.Prelude.{slice_get, ◌&&◌, ◌==◌, All, ℤ, pos, ◌-ℤ◌, ◌*ℤ◌, ◌≤ℤ◌}
 use Rattle.std.specs.List.{list_all}
 use Rattle.std.specs.Ordering.{int_eq}
 use Rattle.std.specs.Str.{bytes_eq}
@@ -17,14 +17,12 @@ use Rattle.hyd_num.specs.declared.capacities.Origin.TheVariants.{Pump as PumpOri
 use Rattle.hyd_lex.specs.Lines.{Row}
 use Rattle.hyd_lex.specs.declared.section.Section.{Section}
 use Rattle.hyd_lex.specs.declared.section.Section.TheVariants.{Pipes, Pumps, Valves}
-use Rattle.hyd_net.specs.Ranges.{Lies, LiesWithin, IsFlow, IsUpTo}
-use Rattle.hyd_net.specs.Sizes as size
-use Rattle.hyd_net.specs.Sizes.{HasSizes, HasPattern, HasBend, IsPipe, IsValve, IsValveOrigin, IsPumpOrigin}
+use Rattle.hyd_net.specs.Ranges.{Lies, IsUpTo}
+use Rattle.hyd_net.specs.Sizes.{HasSizes, IsPipe, IsValve, IsValveOrigin, IsPumpOrigin}
 use Rattle.hyd_net.specs.Sound as sound
 use Rattle.hyd_net.specs.Curves.{IsPumpCurve, IsLossCurve}
 use Rattle.hyd_net.specs.Made.{IsKindMade, IsValveMade}
 use Rattle.hyd_net.specs.Commands.{node_count}
-use Rattle.hyd_net.specs.declared.cause.Cause.{Cause}
 use Rattle.hyd_net.specs.declared.cause.Cause.TheVariants.{Syntax, Range, Unsupported}
 use Rattle.hyd_net.specs.declared.links.Link.{Link}
 use Rattle.hyd_net.specs.declared.links.LinkKind.{LinkKind}
@@ -34,21 +32,21 @@ use Rattle.hyd_net.specs.declared.links.OpenValve.TheVariants.{Quadratic, Linear
 use Rattle.hyd_net.specs.declared.links.ShutoffHead.{ShutoffHead}
 use Rattle.hyd_net.specs.declared.links.ShutoffHead.TheVariants.{FourThirds, Given}
 use Rattle.hyd_net.specs.declared.project.Project.{Project}
-use Rattle.hyd_spec_input.specs.Columns.{Column, first, or_else, unless, needed, optional, ends, id, one_of, is_there, up_to, above_0_to, supported, word, or_empty, amount, amount_or, units}
+use Rattle.hyd_spec_input.specs.Columns.{unless, needed, optional, ends, id, one_of, is_there, up_to, above_0_to, supported, word, or_empty, amount, units}
 use Rattle.hyd_spec_input.specs.NetworkRows as alone
-use Rattle.hyd_spec_input.specs.Tables.{Point, place, is_of, is_link, rows_of, curve_named}
+use Rattle.hyd_spec_input.specs.Tables.{Point, place, is_of, is_link, curve_named}
 use Rattle.hyd_spec_input.specs.InForce.{unit}
-use Rattle.hyd_spec_input.specs.Curves.{Drop, drop_of, is_bent, is_within, is_flow, is_pump_curve, is_parabola, square, are_flows, has_shutoff, is_pump_bend, head_point, head_points, begins_at_0, is_valve_bend}
-use Rattle.hyd_spec_input.specs.Network.{node_ids, number_in, pattern_number, bend_names}
+use Rattle.hyd_spec_input.specs.Curves.{drop_of, is_bent, is_within, is_flow, is_pump_curve, square, are_flows, has_shutoff, is_pump_bend, head_point, head_points, begins_at_0, is_valve_bend}
+use Rattle.hyd_spec_input.specs.Network.{node_ids}
 use Rattle.hyd_spec_input.specs.WithOthers as others
 use Rattle.hyd_spec_input.specs.WithOthers.{us, is_speed, multipliers_of}
 use Rattle.hyd_spec_input.specs.Project as project
 use Rattle.hyd_spec_input.specs.Project.{Where, IsProject, IsLink, IsKind, IsPipeKind, IsPumpKind, IsValveKind, IsOpenValve, IsLaw, IsShutoffOf, pump_points, bend_points, numbered_links}
 use Rattle.hyd_lemmas.proofs.Each.{all_by}
-use Rattle.hyd_spec_networks.proofs.Places.{match_all, Stands}
+use Rattle.hyd_spec_networks.proofs.Places.{match_all}
 use Rattle.hyd_spec_networks.proofs.Faultless.{AreRight, right_alone, right_among, or_none, all_none, unless_none, needed_none, optional_none, at_most, below, lies, within, amount_or_is, section_is}
 use Rattle.hyd_spec_networks.proofs.Occurs.{number_inside, number_names, itself}
-use Rattle.hyd_spec_networks.proofs.Names.{OneOf, First, Second, Third, one_of_three, link_stands, link_alone, node_length}
+use Rattle.hyd_spec_networks.proofs.Names.{First, Second, Third, one_of_three, link_stands, link_alone, node_length}
 use Rattle.hyd_spec_networks.proofs.Numbered.{may_have_pattern, has_bend}
 use Rattle.hyd_spec_networks.proofs.Points.{pump_curve_right, loss_curve_right}
 
@@ -118,8 +116,8 @@ minor_right words e = elim (cases_Bool (alone.has_status_alone words)) [
 pipe_numbers : (words : List (List ℕ)) → alone.pipe words ≡ None → PipeNumbers words
 pipe_numbers words e =
     let each = all_none (alone.link_ends words ∷ needed (above_0_to (10 ^ 6)) 3 words ∷ needed (above_0_to (10 ^ 4)) 4 words
-      ∷ needed (above_0_to 10) 5 words ∷ optional (alone.minor_or_status words) 6 words
-      ∷ optional (one_of alone.pipe_statuses) 7 words ∷ ends 8 words ∷ []) e in
+    ∷ needed (above_0_to 10) 5 words ∷ optional (alone.minor_or_status words) 6 words
+    ∷ optional (one_of alone.pipe_statuses) 7 words ∷ ends 8 words ∷ []) e in
     record {
       long = within _ _ (word 3 words) (needed_none (above_0_to (10 ^ 6)) 3 words each.1.0).right;
       across = within _ _ (word 4 words) (needed_none (above_0_to (10 ^ 4)) 4 words each.1.1.0).right;
@@ -174,24 +172,26 @@ pump_origin : (unit : FlowUnit) (points : List Point) (head : ShutoffHead) (q h 
 pump_origin unit [] head q h bent curve flows shutoff is qn hn = absurd (true≢false (sym curve))
 pump_origin unit (a ∷ []) (FourThirds d) q h bent curve flows shutoff is qn hn =
     let both = and_parts (lt_z (pos 0) a.x) (lt_z (pos 0) a.y) curve in
-    let flow = and_parts (is_flow unit a.x) true flows in
-    (record {
-      flows = rw qn (one_above a.x both.0);
-      flow_range = rw qn (lies _ _ (flow_ticks unit a.x) flow.0);
-      drops = rw hn (one_above a.y both.1);
-      same_unit = refl;
-    }, record {
-      above = rw is (one_above a.y both.1);
-      lost = hn ∙ sym is;
-      in_thirds = refl;
-      range = rw is (at_most _ _ shutoff);
-    })
+    let flow = and_parts (is_flow unit a.x) true flows in (
+      record {
+        flows = rw qn (one_above a.x both.0);
+        flow_range = rw qn (lies _ _ (flow_ticks unit a.x) flow.0);
+        drops = rw hn (one_above a.y both.1);
+        same_unit = refl;
+      },
+      record {
+        above = rw is (one_above a.y both.1);
+        lost = hn ∙ sym is;
+        in_thirds = refl;
+        range = rw is (at_most _ _ shutoff);
+      },
+    )
 pump_origin unit (a ∷ []) (Given d) q h bent curve flows shutoff is qn hn = absurd is
 pump_origin unit (a ∷ b ∷ []) head q h bent curve flows shutoff is qn hn = absurd (true≢false (sym curve))
 pump_origin unit (a ∷ b ∷ c ∷ []) (FourThirds d) q h bent curve flows shutoff is qn hn = absurd is
 pump_origin unit (a ∷ b ∷ c ∷ []) (Given d) q h bent curve flows shutoff is qn hn =
     let halves = and_parts (int_eq a.x (pos 0) && (lt_z (pos 0) b.x && lt_z b.x c.x))
-      ((lt_z b.y a.y && lt_z c.y b.y) && int_eq ((a.y -ℤ c.y) *ℤ square b.x) ((a.y -ℤ b.y) *ℤ square c.x)) curve in
+    ((lt_z b.y a.y && lt_z c.y b.y) && int_eq ((a.y -ℤ c.y) *ℤ square b.x) ((a.y -ℤ b.y) *ℤ square c.x)) curve in
     let xs = and_parts (int_eq a.x (pos 0)) (lt_z (pos 0) b.x && lt_z b.x c.x) halves.0 in
     let rise = and_parts (lt_z (pos 0) b.x) (lt_z b.x c.x) xs.1 in
     let ys = and_parts (lt_z b.y a.y && lt_z c.y b.y) (int_eq ((a.y -ℤ c.y) *ℤ square b.x) ((a.y -ℤ b.y) *ℤ square c.x)) halves.1 in
@@ -199,16 +199,18 @@ pump_origin unit (a ∷ b ∷ c ∷ []) (Given d) q h bent curve flows shutoff i
     let flow = and_parts (is_flow unit a.x) (is_flow unit b.x && (is_flow unit c.x && true)) flows in
     let second = and_parts (is_flow unit b.x) (is_flow unit c.x && true) flow.1 in
     let top = and_parts (is_within (10 ^ 16) (head_ticks (is_us_unit unit) a.y)) (le_z (a.y -ℤ b.y) (pos (10 ^ 21))) shutoff in
-    let lower = below b.y a.y fall.0 in
-    (record {
-      flows = rw qn (one_above b.x rise.0);
-      flow_range = rw qn (lies _ _ (flow_ticks unit b.x) second.0);
-      drops = rw hn (omega (arith, ints, lower));
-      same_unit = refl;
-    }, record {
-      whole = refl;
-      range = rw is (lies _ _ (head_ticks (is_us_unit unit) a.y) top.0);
-    })
+    let lower = below b.y a.y fall.0 in (
+      record {
+        flows = rw qn (one_above b.x rise.0);
+        flow_range = rw qn (lies _ _ (flow_ticks unit b.x) second.0);
+        drops = rw hn (omega (arith, ints, lower));
+        same_unit = refl;
+      },
+      record {
+        whole = refl;
+        range = rw is (lies _ _ (head_ticks (is_us_unit unit) a.y) top.0);
+      },
+    )
 pump_origin unit (a ∷ b ∷ c ∷ d ∷ points) head q h bent curve flows shutoff is qn hn =
     let few = leb-false 4 (length (a ∷ b ∷ c ∷ d ∷ points)) bent in absurd (omega (arith, few))
 
@@ -235,7 +237,7 @@ record PumpRight (rows : List Row) (row : Row) : Type 0 where
 pump_right : (rows : List Row) (k : ℕ) (row : Row) → AreRight rows → slice_get rows k ≡ Some row → is_of Pumps row ≡ true → PumpRight rows row
 pump_right rows k row right is of =
     let own = all_none (alone.link_ends row.words ∷ alone.pump_pairs alone.none_earlier (drop 3 row.words)
-      ∷ unless (is_there (alone.pump_curve row.words)) Syntax ∷ []) (right_alone rows Pumps k row right is of) in
+    ∷ unless (is_there (alone.pump_curve row.words)) Syntax ∷ []) (right_alone rows Pumps k row right is of) in
     let each = all_none (others.pump_faults rows k row) (right_among rows Pumps k row right is of) in
     record {
       curve = curve_right rows (alone.pump_curve row.words) (unless_none _ _ own.1.1.0) each.1.1.1.0;
@@ -247,15 +249,19 @@ pump_kind rows p row (Pump cap shutoff head pattern) of right is =
     let range = straight_range rows (or_empty (alone.pump_curve row.words)) is.0 right.curve.range in
     let made = is.1 in
     record {
-      sizes = (subst (λ (o : Origin). IsPumpOrigin (unit rows) head o) (sym made.origin)
-          (pump_origin (unit rows) (pump_points rows row) head made.q made.h is.0 right.curve.shape range.0 range.1 is.2 made.q_is made.h_is),
-          may_have_pattern rows p (IsUpTo 10) (alone.pump_pattern row.words) pattern of is.4 right.speeds);
+      sizes = (
+        subst (λ (o : Origin). IsPumpOrigin (unit rows) head o) (sym made.origin)
+            (pump_origin (unit rows) (pump_points rows row) head made.q made.h is.0 right.curve.shape range.0 range.1 is.2 made.q_is made.h_is),
+        may_have_pattern rows p (IsUpTo 10) (alone.pump_pattern row.words) pattern of is.4 right.speeds,
+      );
       made = (made.made, is.3);
     }
 pump_kind rows p row (CurvePump bend pattern) of right is = record {
-  sizes = (has_bend rows p IsPumpCurve (or_empty (alone.pump_curve row.words)) bend of is.1
-      (bent_range rows (or_empty (alone.pump_curve row.words)) is.0 right.curve.range),
-      may_have_pattern rows p (IsUpTo 10) (alone.pump_pattern row.words) pattern of is.2 right.speeds);
+  sizes = (
+    has_bend rows p IsPumpCurve (or_empty (alone.pump_curve row.words)) bend of is.1
+        (bent_range rows (or_empty (alone.pump_curve row.words)) is.0 right.curve.range),
+    may_have_pattern rows p (IsUpTo 10) (alone.pump_pattern row.words) pattern of is.2 right.speeds,
+  );
   made = tt;
 }
 pump_kind rows p row (Pipe cap) of right is = absurd is
@@ -292,8 +298,8 @@ pub record ValveNumbers (words : List (List ℕ)) : Type 0 where
 pub valve_numbers : (words : List (List ℕ)) → alone.valve words ≡ None → ValveNumbers words
 valve_numbers words e =
     let each = all_none (alone.link_ends words ∷ needed (above_0_to (10 ^ 4)) 3 words
-      ∷ needed (supported alone.valve_types alone.unsupported_types 2) 4 words
-      ∷ needed (alone.valve_setting words) 5 words ∷ optional (up_to (10 ^ 6)) 6 words ∷ ends 7 words ∷ []) e in
+    ∷ needed (supported alone.valve_types alone.unsupported_types 2) 4 words
+    ∷ needed (alone.valve_setting words) 5 words ∷ optional (up_to (10 ^ 6)) 6 words ∷ ends 7 words ∷ []) e in
     record {
       across = within _ _ (word 3 words) (needed_none (above_0_to (10 ^ 4)) 3 words each.1.0).right;
       minor = amount_or_is (IsUpTo (10 ^ 6)) (pos 0) 6 words no_minor (λ w is. within (pos 0) (units (10 ^ 6)) w (optional_none (up_to (10 ^ 6)) 6 words w each.1.1.1.1.0 is));

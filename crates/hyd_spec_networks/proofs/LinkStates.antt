@@ -1,25 +1,24 @@
 -- States of links in a file without a fault: each is one that its link can have, made of its numbers.
-use Rattle.std.proofs.Common.{◌≡◌, ℕ, ◌+◌, ◌*◌, ◌^◌, ◌<◌, ◌≤◌, zero, suc, Bool, true, false, List, [], ◌∷◌, length, take, drop, Option, Some, None, refl, sym, ap, ◌∙◌, subst, arith, inl, inr, true≢false, cond}
-use Rattle.std.specs.Prelude.{slice_get, ◌&&◌, ◌||◌, ◌⊎◌, not, All, ℤ, pos, negsuc, ◌≤ℤ◌, ⊤, codes, if◌then◌else◌}
+use Rattle.std.proofs.Common.{◌≡◌, ℕ, ◌^◌, ◌<◌, zero, suc, Bool, true, false, List, [], ◌∷◌, length, drop, Option, Some, None, refl, sym, ap, ◌∙◌, subst, arith, inl, inr, true≢false}
+use Rattle.std.specs.Prelude.{slice_get, ◌&&◌, ◌||◌, not, All, ℤ, pos, negsuc, ◌≤ℤ◌, ⊤, codes, if◌then◌else◌}
 use Rattle.std.specs.Ordering.{int_eq}
 use Rattle.std.specs.Str.{bytes_eq}
-use Rattle.std.proofs.lemmas.Bool.{cases_Bool, and_parts, or_cases, or_parts, or_left, or_right, not-true, cond_both, and_from, not_from_false}
+use Rattle.std.proofs.lemmas.Bool.{cases_Bool, or_left, or_right, not-true, cond_both, and_from, not_from_false}
 use Rattle.std.proofs.lemmas.Bool.Decides.{Decides-int_eq, not_from_Decides}
 use Rattle.std.proofs.lemmas.Int.{ints}
 use Rattle.std.specs.Option.{option_map}
 use Rattle.std.proofs.lemmas.Option.{slice_get-map}
 use lib.Signed.{le_z}
-use Rattle.hyd_num.specs.Quantity.{is_us_unit, flow_ticks}
+use Rattle.hyd_num.specs.Quantity.{flow_ticks}
 use Rattle.hyd_num.specs.Numeral.{nano_of}
 use Rattle.hyd_num.specs.declared.units.FlowUnit.{FlowUnit}
-use Rattle.hyd_num.specs.declared.capacities.Capacity.{Capacity}
 use Rattle.hyd_num.specs.declared.capacities.Origin.{Origin}
 use Rattle.hyd_lex.specs.Lines.{Row}
 use Rattle.hyd_lex.specs.Bytes.{is_keyword}
 use Rattle.hyd_lex.specs.declared.section.Section.TheVariants.{Pipes, Pumps, Valves, Status as StatusSection}
-use Rattle.hyd_net.specs.Ranges.{Lies, IsFlow, IsUpTo, Numbers}
-use Rattle.hyd_net.specs.States.{IsSpeed, IsFlowSetting, CanHave, CanBeSet}
-use Rattle.hyd_net.specs.Made.{IsStateMade, HasLaw, HasCoefficient, IsLawAcross, IsOriginAcross, IsKindAcross, IsStateAcross}
+use Rattle.hyd_net.specs.Ranges.{Lies, IsUpTo}
+use Rattle.hyd_net.specs.States.{IsSpeed, IsFlowSetting, CanHave}
+use Rattle.hyd_net.specs.Made.{IsStateMade, HasLaw, HasCoefficient, IsLawAcross, IsOriginAcross, IsStateAcross}
 use Rattle.hyd_net.specs.declared.cause.Cause.{Cause}
 use Rattle.hyd_net.specs.declared.cause.Cause.TheVariants.{Syntax, Range, Unsupported}
 use Rattle.hyd_net.specs.declared.links.Link.{Link}
@@ -30,23 +29,21 @@ use Rattle.hyd_net.specs.declared.links.LinkState.TheVariants.{Open, Closed, Spe
 use Rattle.hyd_net.specs.declared.links.OpenValve.{OpenValve}
 use Rattle.hyd_net.specs.declared.links.OpenValve.TheVariants.{Quadratic, Linear}
 use Rattle.hyd_net.specs.declared.project.Project.{Project}
-use Rattle.hyd_spec_input.specs.Columns.{Column, first, or_else, unless, needed, optional, ends, id, is_there, up_to, not_negative, word, amount, units}
+use Rattle.hyd_spec_input.specs.Columns.{or_else, unless, is_there, up_to, not_negative, word, amount, units}
 use Rattle.hyd_spec_input.specs.NetworkRows as alone
 use Rattle.hyd_spec_input.specs.NetworkRows.{is_throttle, is_general, has_check_valve, is_closed_pipe, pump_speed, pump_speed_word, speed_of, pair_value, pump_pairs, pump_key, pump_value, and_key}
 use Rattle.hyd_spec_input.specs.declared.EarlierKeys.{EarlierKeys}
-use Rattle.hyd_spec_input.specs.Tables.{is_of, is_link, rows_of, own_id, link_rows, row_with, link_named}
+use Rattle.hyd_spec_input.specs.Tables.{is_of, is_link, own_id, link_rows, row_with, link_named}
 use Rattle.hyd_spec_input.specs.InForce.{unit}
-use Rattle.hyd_spec_input.specs.Network.{link_ids, number_in, last_naming, status_of}
+use Rattle.hyd_spec_input.specs.Network.{link_ids, number_in, status_of}
 use Rattle.hyd_spec_input.specs.WithOthers as others
 use Rattle.hyd_spec_input.specs.WithOthers.{us, flow, is_speed, state_range, is_status, takes_number, is_check_valve, set_link, flow_setting}
-use Rattle.hyd_spec_input.specs.Project as project
 use Rattle.hyd_spec_input.specs.Project.{Where, IsProject, IsLink, IsKind, IsPipeKind, IsPumpKind, IsValveKind, IsOpenValve, IsLaw, IsThrottle, IsNumberState, IsState, IsStateOf, IsOwnState, IsStart, speed_state, open_state, numbered_links}
-use Rattle.hyd_spec_networks.proofs.Places.{match_all, Stands, item_at, partner}
-use Rattle.hyd_spec_networks.proofs.Faultless.{AreRight, right_alone, right_among, or_none, all_none, unless_none, needed_none, at_most, lies, within, in_range}
+use Rattle.hyd_spec_networks.proofs.Places.{match_all, item_at, partner}
+use Rattle.hyd_spec_networks.proofs.Faultless.{AreRight, right_alone, right_among, or_none, all_none, unless_none, needed_none, at_most, lies, in_range}
 use Rattle.hyd_spec_networks.proofs.Occurs.{number_names, number_inside, same_name}
-use Rattle.hyd_spec_networks.proofs.InForce.{in_force, keyword_same}
-use Rattle.hyd_spec_networks.proofs.Names.{OneOf, First, Second, Third, one_of_three, own_ids, link_stands, link_new, row_named, link_ids_are, link_length}
-use Rattle.hyd_spec_networks.proofs.Numbered.{numbers_from}
+use Rattle.hyd_spec_networks.proofs.InForce.{in_force}
+use Rattle.hyd_spec_networks.proofs.Names.{First, Second, Third, one_of_three, own_ids, link_stands, link_new, row_named, link_ids_are, link_length}
 use Rattle.hyd_spec_networks.proofs.NodeRanges.{flow_right}
 use Rattle.hyd_spec_networks.proofs.LinkKinds.{where_true, where_false, to_where, not_of, as_pipe, as_pump, as_valve, law_right, law_made, valve_numbers}
 
@@ -66,7 +63,7 @@ asked_by : (rows : List Row) (row : Row) (word : List ℕ) (between : Option Cau
     → Asked rows row state
 asked_by rows row word between state e is =
     let each = all_none (unless (is_status word || takes_number row) Syntax ∷ between ∷ unless (not (is_check_valve row)) (Unsupported 11)
-      ∷ (if is_status word then None else state_range rows row (nano_of word)) ∷ []) e in
+    ∷ (if is_status word then None else state_range rows row (nano_of word)) ∷ []) e in
     elim (cases_Bool (is_keyword (codes "OPEN") word)) [
       | inl t ↦ AsksOpen (where_true (is_keyword (codes "OPEN") word) _ _ t is)
       | inr f ↦ (let rest = where_false (is_keyword (codes "OPEN") word) _ _ f is in
@@ -82,7 +79,7 @@ asked_by rows row word between state e is =
 no_check_valve : (rows : List Row) (row : Row) (word : List ℕ) (between : Option Cause) → set_link rows (Some row) word between ≡ None → is_check_valve row ≡ false
 no_check_valve rows row word between e =
     let each = all_none (unless (is_status word || takes_number row) Syntax ∷ between ∷ unless (not (is_check_valve row)) (Unsupported 11)
-      ∷ (if is_status word then None else state_range rows row (nano_of word)) ∷ []) e in
+    ∷ (if is_status word then None else state_range rows row (nano_of word)) ∷ []) e in
     not-true _ (unless_none _ _ each.1.1.0)
 
 -- ---- states of each kind of link
@@ -168,7 +165,7 @@ limit_asked rows row state of throttle (AsksNumber nano takes range is) =
     let test : or_else (unless (le_z (pos 0) nano) Range) (flow rows nano) ≡ None = rw (not_of Valves Pumps row of refl, throttle) at range in
     let both = or_none (unless (le_z (pos 0) nano) Range) (flow rows nano) test in
     let limit : state ≡ Limit nano (flow_ticks (unit rows) nano) =
-      where_false (is_throttle row.words) _ _ throttle (where_false (is_of Pumps row) _ _ (not_of Valves Pumps row of refl) is) in
+    where_false (is_throttle row.words) _ _ throttle (where_false (is_of Pumps row) _ _ (not_of Valves Pumps row of refl) is) in
     subst (IsLimitState rows) (sym limit)
     (record { not_negative = at_most (pos 0) nano (unless_none _ _ both.0); flow = flow_right rows nano both.1 }, refl)
 
@@ -237,8 +234,11 @@ throttle_state rows row valve Open own s = record { can = tt; made = tt; across 
 throttle_state rows row valve Closed own s = record { can = tt; made = tt; across = tt }
 throttle_state rows row valve (Throttle nano law) own s = record {
   can = s.0;
-  made = (law_of (us rows) (amount 3 row.words) nano law s.1, law_right (unit rows) (amount 3 row.words) nano law own s.0 s.1,
-      law_made (us rows) (amount 3 row.words) nano law s.1);
+  made = (
+    law_of (us rows) (amount 3 row.words) nano law s.1,
+    law_right (unit rows) (amount 3 row.words) nano law own s.0 s.1,
+    law_made (us rows) (amount 3 row.words) nano law s.1,
+  );
   across = law_across (us rows) (amount 3 row.words) nano law s.1;
 }
 throttle_state rows row valve (Speed nano) own s = absurd s
@@ -299,7 +299,7 @@ speed_in_range (Some w) each = in_range is_speed w (each w refl)
 pump_speed_right : (rows : List Row) (k : ℕ) (row : Row) → AreRight rows → slice_get rows k ≡ Some row → is_of Pumps row ≡ true → is_speed (pump_speed row.words) ≡ true
 pump_speed_right rows k row right at of =
     let own = all_none (alone.link_ends row.words ∷ pump_pairs alone.none_earlier (drop 3 row.words)
-      ∷ unless (is_there (alone.pump_curve row.words)) Syntax ∷ []) (right_alone rows Pumps k row right at of) in
+    ∷ unless (is_there (alone.pump_curve row.words)) Syntax ∷ []) (right_alone rows Pumps k row right at of) in
     speed_in_range (pump_speed_word row.words) (λ w is. speed_word alone.none_earlier (drop 3 row.words) w own.1.0 is)
 
 -- a valve's setting as the state that is asked for
@@ -400,12 +400,12 @@ command rows p name asked number to between right of numbered set is =
     let pair = partner (IsLink rows) (numbered_links rows) p.links.list number found.item of.links found.is in
     let stands = link_stands rows number pair.item pair.is in
     let there : slice_get (own_ids (numbered_links rows)) number ≡ Some name =
-      subst (λ ids. slice_get ids number ≡ Some name) (link_ids_are rows) (number_names (link_ids rows) name number numbered) in
+    subst (λ ids. slice_get ids number ≡ Some name) (link_ids_are rows) (number_names (link_ids rows) name number numbered) in
     let own : slice_get (own_ids (numbered_links rows)) number ≡ Some (own_id pair.item) =
-      slice_get-map own_id (numbered_links rows) number ∙ ap (option_map own_id) pair.is in
+    slice_get-map own_id (numbered_links rows) number ∙ ap (option_map own_id) pair.is in
     let same : own_id pair.item ≡ name = cc in
     let named : link_named rows name ≡ Some pair.item =
-      subst (λ id. row_with id (link_rows rows) ≡ Some pair.item) same (row_named is_link rows stands.0.place pair.item (link_new rows right) stands.0.is stands.1) in
+    subst (λ id. row_with id (link_rows rows) ≡ Some pair.item) same (row_named is_link rows stands.0.place pair.item (link_new rows right) stands.0.is stands.1) in
     let set_row : set_link rows (Some pair.item) asked between ≡ None = rw named at set in
     let is_row : IsState rows pair.item asked to = subst (λ (o : Option Row). IsStateOf rows o asked to) named is in
     record {

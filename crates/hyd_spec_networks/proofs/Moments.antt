@@ -1,26 +1,24 @@
 -- Times and times of day of a file without a fault are in range.
-use Rattle.std.proofs.Common.{◌≡◌, ℕ, ◌+◌, ◌*◌, ◌/◌, ◌%◌, ◌^◌, ◌<◌, ◌≤◌, zero, suc, Bool, true, false, List, [], ◌∷◌, length, Option, Some, None, refl, sym, ap, ◌∙◌, subst, arith, inl, inr, true≢false, cond}
-use Rattle.std.specs.Prelude.{slice_get, ◌&&◌, nat_le, codes, min, max, ℤ, pos, negsuc, ◌<ℤ◌, if◌then◌else◌}
-use Rattle.std.proofs.lemmas.Bool.{cases_Bool, and_parts, leb-true, cond_both}
+use Rattle.std.proofs.Common.{◌≡◌, ℕ, ◌+◌, ◌*◌, ◌/◌, ◌%◌, ◌^◌, ◌<◌, ◌≤◌, true, List, [], ◌∷◌, Option, Some, None, refl, ◌∙◌, subst, arith}
+use Rattle.std.specs.Prelude.{slice_get, nat_le, codes, min, max, ℤ, pos, negsuc, ◌<ℤ◌, if◌then◌else◌}
+use Rattle.std.proofs.lemmas.Bool.{and_parts, leb-true, cond_both}
 use Rattle.std.proofs.lemmas.Int.{ints}
-use borrow.Author.Differences.{up}
 use lib.Signed.{le_z, lt_z}
 use Rattle.hyd_lex.specs.Lines.{Row}
 use Rattle.hyd_lex.specs.Bytes.{is_keyword}
 use Rattle.hyd_lex.specs.declared.section.Section.TheVariants.{Times as TimesSection}
 use Rattle.hyd_net.specs.Sound.{AreTimes}
-use Rattle.hyd_net.specs.declared.cause.Cause.{Cause}
 use Rattle.hyd_net.specs.declared.options.Times.{Times}
-use Rattle.hyd_spec_input.specs.Columns.{first, or_else, unless, needed, optional, ends, one_of, word, word_is}
+use Rattle.hyd_spec_input.specs.Columns.{first, needed, optional, ends, one_of, word, word_is}
 use Rattle.hyd_spec_input.specs.Keywords.{time_word, time_words, more_time_words}
 use Rattle.hyd_spec_input.specs.declared.TimeWord.{TimeWord}
 use Rattle.hyd_spec_input.specs.declared.TimeWord.TheVariants as at
 use Rattle.hyd_spec_input.specs.Moments.{moment_word, unit_word, time_nano, whole_seconds, time_range, time, time_seconds, half_day, clock_nano, clock_range, clock, of_half, clock_seconds}
 use Rattle.hyd_spec_input.specs.OptionRows.{step_line, step_or_start_line, start_line, time_about, time_line}
-use Rattle.hyd_spec_input.specs.InForce.{begins, begins_both, time_row, time_row_of, duration, seconds_of, written_step, pattern_step, report_step, pattern_start, report_start, hydraulic_step, rule_step, start_clock}
+use Rattle.hyd_spec_input.specs.InForce.{begins, begins_both, time_row, time_row_of, duration, seconds_of, written_step, pattern_step, report_step, pattern_start, report_start, start_clock}
 use Rattle.hyd_spec_input.specs.Project.{IsTimes}
-use Rattle.hyd_spec_networks.proofs.Faultless.{AreRight, right_alone, or_none, all_none, unless_none, at_most, below}
-use Rattle.hyd_spec_networks.proofs.InForce.{IsInForce, in_force, say_is, word_is_keyword, first_named_same}
+use Rattle.hyd_spec_networks.proofs.Faultless.{AreRight, right_alone, or_none, all_none, unless_none, below}
+use Rattle.hyd_spec_networks.proofs.InForce.{in_force, say_is, word_is_keyword, first_named_same}
 
 -- ---- one moment
 
@@ -31,7 +29,7 @@ pub record Bounded (least n : ℕ) : Type 0 where
 pub time_right : (least k : ℕ) (words : List (List ℕ)) → time least k words ≡ None → Bounded least (time_seconds k words)
 time_right least k words e =
     let each = all_none (needed moment_word k words ∷ optional (unit_word (word k words)) (k + 1) words
-      ∷ time_range least (time_nano k words) ∷ ends (k + 2) words ∷ []) e in
+    ∷ time_range least (time_nano k words) ∷ ends (k + 2) words ∷ []) e in
     let both = and_parts (le_z (pos 0) (time_nano k words)) _ (unless_none _ _ each.1.1.0) in
     let bounds = and_parts (nat_le least (time_seconds k words)) (nat_le (time_seconds k words) (10 ^ 8)) both.1 in
     record { at_least = leb-true _ _ bounds.0; at_most = leb-true _ _ bounds.1 }
@@ -50,7 +48,7 @@ half_right (Some half) nano e =
 pub clock_right : (k : ℕ) (words : List (List ℕ)) → clock k words ≡ None → clock_seconds k words < 86400
 clock_right k words e =
     let each = all_none (needed moment_word k words ∷ optional half_day (k + 1) words
-      ∷ clock_range (slice_get words (k + 1)) (clock_nano k words) ∷ ends (k + 2) words ∷ []) e in
+    ∷ clock_range (slice_get words (k + 1)) (clock_nano k words) ∷ ends (k + 2) words ∷ []) e in
     half_right (slice_get words (k + 1)) (clock_nano k words) each.1.1.0
 
 -- ---- the lines of times
@@ -164,7 +162,7 @@ in_order written pattern report rule a b c d =
 pub are_times : (rows : List Row) (t : Times) → AreRight rows → IsTimes rows t → AreTimes t
 are_times rows t right is =
     let steps = in_order (written_step rows) (pattern_step rows) (report_step rows) (seconds_of (max 1 (written_step rows / 10)) (codes "RULE") (codes "TIMESTEP") rows)
-      (written_right rows right) (pattern_step_right rows right) (report_step_right rows right) (rule_right rows right) in
+    (written_right rows right) (pattern_step_right rows right) (report_step_right rows right) (rule_right rows right) in
     record {
       duration = rw is.duration (duration_right rows right).at_most;
       hydraulic = rw is.hydraulic steps.0;

@@ -1,29 +1,27 @@
 -- The IDs of nodes and links: the row of a name, names that occur once.
-use Rattle.std.proofs.Common.{◌≡◌, ℕ, ◌+◌, ◌<◌, ◌≤◌, zero, suc, Bool, true, false, List, [], ◌∷◌, ◌++◌, map, length, take, drop, Option, Some, None, refl, sym, ap, ◌∙◌, subst, arith, inl, inr, true≢false, cond, append_assoc}
-use Rattle.std.specs.Prelude.{slice_get, filter, ◌&&◌, ◌||◌, ◌==◌, not, ◌⊎◌, if◌then◌else◌, All}
+use Rattle.std.proofs.Common.{◌≡◌, ℕ, ◌+◌, ◌≤◌, zero, suc, Bool, true, false, List, [], ◌∷◌, ◌++◌, map, length, take, drop, Some, None, refl, sym, ap, ◌∙◌, subst, arith, inl, inr, true≢false}
+use Rattle.std.specs.Prelude.{slice_get, filter, ◌||◌, ◌==◌, All}
 use Rattle.std.specs.Str.{bytes_eq}
-use Rattle.std.proofs.lemmas.Bool.{cases_Bool, or_parts, or_from, or_cases, or_left, or_right, not-true, not-false, leb-true}
-use Rattle.std.proofs.lemmas.List.{map-append, length-append, length-map, take_all, append-nil}
+use Rattle.std.proofs.lemmas.Bool.{cases_Bool, or_parts, or_left, or_right, not-true, leb-true}
+use Rattle.std.proofs.lemmas.List.{map-append, length-append, length-map, take_all}
 use Rattle.std.proofs.lemmas.List.Elements.{filter-append}
-use Rattle.std.proofs.lemmas.Option.{slice_get_within}
-use Rattle.hyd_lex.specs.Lines.{Row, items_of, rows_in}
+use Rattle.hyd_lex.specs.Lines.{Row}
 use Rattle.hyd_lex.specs.declared.section.Section.{Section}
-use Rattle.hyd_lex.specs.declared.section.Section.TheVariants.{Junctions, Reservoirs, Tanks, Pipes, Pumps, Valves, Demands, Emitters, Curves, Patterns, Status, Controls, Rules, Options, Times}
+use Rattle.hyd_lex.specs.declared.section.Section.TheVariants.{Junctions, Reservoirs, Tanks, Pipes, Pumps, Valves}
 use Rattle.hyd_net.specs.Ids.{IsId, AreDistinct}
 use Rattle.hyd_net.specs.Sound.{HasIds}
 use Rattle.hyd_net.specs.Commands.{node_count}
 use Rattle.hyd_net.specs.declared.project.Project.{Project}
-use Rattle.hyd_spec_input.specs.Columns.{first, needed, optional, id, number, ends, word, or_empty, unless}
+use Rattle.hyd_spec_input.specs.Columns.{needed, id}
 use Rattle.hyd_spec_input.specs.NetworkRows as alone
-use Rattle.hyd_spec_input.specs.Tables.{is_of, rows_of, words_of, words_of_row, own_id, is_node, is_link, node_rows, link_rows, row_with, has_id, place}
+use Rattle.hyd_spec_input.specs.Tables.{is_of, rows_of, words_of_row, own_id, is_node, is_link, node_rows, link_rows, row_with, has_id, place}
 use Rattle.hyd_spec_input.specs.Network.{first_word, node_ids, tank_ids, link_ids}
 use Rattle.hyd_spec_input.specs.WithOthers as others
 use Rattle.hyd_spec_input.specs.WithOthers.{passes, new_in}
-use Rattle.hyd_spec_input.specs.Faults.{HasNoFault}
 use Rattle.hyd_spec_input.specs.Project.{IsProject, IsJunction, IsReservoir, IsTank, IsLink, numbered_links}
-use Rattle.hyd_spec_networks.proofs.Places.{all_from, all_at, Stands, item_at, kept_stands, kept_passes, of_either, Behind, next_taken, kept_more, kept_same, split_at, match_length, source}
-use Rattle.hyd_spec_networks.proofs.Faultless.{AreRight, right_rows, right_alone, right_among, or_none, all_none, unless_none, needed_none, section_is}
-use Rattle.hyd_spec_networks.proofs.Occurs.{same_name, itself, exchanged_names, when, occurs, Once, occurs_append, distinct}
+use Rattle.hyd_spec_networks.proofs.Places.{all_from, all_at, Stands, item_at, kept_stands, kept_passes, of_either, kept_more, kept_same, split_at, match_length, source}
+use Rattle.hyd_spec_networks.proofs.Faultless.{AreRight, right_alone, right_among, or_none, all_none, unless_none, needed_none}
+use Rattle.hyd_spec_networks.proofs.Occurs.{same_name, itself, when, occurs, Once, occurs_append, distinct}
 
 -- ---- one row of a name
 
@@ -104,7 +102,7 @@ parted name p f g h (row ∷ rows) one =
     omega (arith, rest, e, kept_count p, kept_count f, kept_count g, kept_count h)
   where
     kept_count : (q : Row → Bool) → occurs name (own_ids (filter q (row ∷ rows))) ≡ when (q row) (when (bytes_eq name (own_id row)) 1) + occurs name (own_ids (filter q rows))
-    kept_count q = elim (cases_Bool (q row)) [ | inl t ↦ rw t refl | inr f ↦ rw f (omega arith) ]
+    kept_count q = elim (cases_Bool (q row)) [ inl t ↦ rw t refl | inr f ↦ rw f (omega arith) ]
 
 of_three : (name : List ℕ) (p f g h : Row → Bool) (rows : List Row) → AreNew p rows
     → ((row : Row) (n : ℕ) → when (p row) n ≡ when (f row) n + (when (g row) n + when (h row) n))
@@ -185,11 +183,13 @@ one_of_three false false true e = Third refl
 one_of_three false false false e = absurd (true≢false (sym e))
 
 pub node_new : (rows : List Row) → AreRight rows → AreNew is_node rows
-node_new rows right = record { new = λ k row is node. elim (one_of_three (is_of Junctions row) (is_of Reservoirs row) (is_of Tanks row) node) [
-  | First of ↦ new_of (node_rows (take k rows)) row (all_none (others.junction_faults rows k row) (right_among rows Junctions k row right is of)).1.0
-  | Second of ↦ new_of (node_rows (take k rows)) row (all_none (others.reservoir_faults rows k row) (right_among rows Reservoirs k row right is of)).1.0
-  | Third of ↦ new_of (node_rows (take k rows)) row (all_none (others.tank_faults rows k row) (right_among rows Tanks k row right is of)).1.0
-] }
+node_new rows right = record {
+  new = λ k row is node. elim (one_of_three (is_of Junctions row) (is_of Reservoirs row) (is_of Tanks row) node) [
+    | First of ↦ new_of (node_rows (take k rows)) row (all_none (others.junction_faults rows k row) (right_among rows Junctions k row right is of)).1.0
+    | Second of ↦ new_of (node_rows (take k rows)) row (all_none (others.reservoir_faults rows k row) (right_among rows Reservoirs k row right is of)).1.0
+    | Third of ↦ new_of (node_rows (take k rows)) row (all_none (others.tank_faults rows k row) (right_among rows Tanks k row right is of)).1.0
+  ];
+}
 
 -- what is asked of both ends of a link
 pub ends_right : (rows : List Row) (k : ℕ) (row : Row) → AreRight rows → slice_get rows k ≡ Some row → is_link row ≡ true → others.ends rows k row ≡ None
@@ -200,8 +200,10 @@ ends_right rows k row right is link = elim (one_of_three (is_of Pipes row) (is_o
 ]
 
 pub link_new : (rows : List Row) → AreRight rows → AreNew is_link rows
-link_new rows right = record { new = λ k row is link.
-    new_of (link_rows (take k rows)) row (all_none (others.ends_faults rows k row) (ends_right rows k row right is link)).1.0 }
+link_new rows right = record {
+  new = λ k row is link.
+      new_of (link_rows (take k rows)) row (all_none (others.ends_faults rows k row) (ends_right rows k row right is link)).1.0;
+}
 
 pub node_id : (rows : List Row) (k : ℕ) (row : Row) → AreRight rows → slice_get rows k ≡ Some row → is_node row ≡ true → HasId row
 node_id rows k row right is node = elim (one_of_three (is_of Junctions row) (is_of Reservoirs row) (is_of Tanks row) node) [
@@ -226,23 +228,31 @@ link_id rows k row right is link = id_of rows k row right is (or_none (needed id
 pub node_stands : (rows : List Row) (n : ℕ) (row : Row) → slice_get (numbered_nodes rows) n ≡ Some row → Stands rows row × (is_node row ≡ true)
 node_stands rows n row e = elim (of_either (rows_of Junctions rows ++ rows_of Reservoirs rows) (rows_of Tanks rows) n row e) [
   | inl l ↦ elim (of_either (rows_of Junctions rows) (rows_of Reservoirs rows) n row l) [
-      | inl j ↦ (kept_stands (is_of Junctions) rows n row j, or_left (is_of Junctions row) _ (kept_passes (is_of Junctions) rows n row j))
-      | inr r ↦ (kept_stands (is_of Reservoirs) rows r.place row r.is,
-          or_right (is_of Junctions row) _ (or_left (is_of Reservoirs row) _ (kept_passes (is_of Reservoirs) rows r.place row r.is)))
-    ]
-  | inr t ↦ (kept_stands (is_of Tanks) rows t.place row t.is,
-      or_right (is_of Junctions row) _ (or_right (is_of Reservoirs row) _ (kept_passes (is_of Tanks) rows t.place row t.is)))
+    | inl j ↦ (kept_stands (is_of Junctions) rows n row j, or_left (is_of Junctions row) _ (kept_passes (is_of Junctions) rows n row j))
+    | inr r ↦ (
+      kept_stands (is_of Reservoirs) rows r.place row r.is,
+      or_right (is_of Junctions row) _ (or_left (is_of Reservoirs row) _ (kept_passes (is_of Reservoirs) rows r.place row r.is)),
+    )
+  ]
+  | inr t ↦ (
+    kept_stands (is_of Tanks) rows t.place row t.is,
+    or_right (is_of Junctions row) _ (or_right (is_of Reservoirs row) _ (kept_passes (is_of Tanks) rows t.place row t.is)),
+  )
 ]
 
 pub link_stands : (rows : List Row) (n : ℕ) (row : Row) → slice_get (numbered_links rows) n ≡ Some row → Stands rows row × (is_link row ≡ true)
 link_stands rows n row e = elim (of_either (rows_of Pipes rows ++ rows_of Pumps rows) (rows_of Valves rows) n row e) [
   | inl l ↦ elim (of_either (rows_of Pipes rows) (rows_of Pumps rows) n row l) [
-      | inl j ↦ (kept_stands (is_of Pipes) rows n row j, or_left (is_of Pipes row) _ (kept_passes (is_of Pipes) rows n row j))
-      | inr r ↦ (kept_stands (is_of Pumps) rows r.place row r.is,
-          or_right (is_of Pipes row) _ (or_left (is_of Pumps row) _ (kept_passes (is_of Pumps) rows r.place row r.is)))
-    ]
-  | inr t ↦ (kept_stands (is_of Valves) rows t.place row t.is,
-      or_right (is_of Pipes row) _ (or_right (is_of Pumps row) _ (kept_passes (is_of Valves) rows t.place row t.is)))
+    | inl j ↦ (kept_stands (is_of Pipes) rows n row j, or_left (is_of Pipes row) _ (kept_passes (is_of Pipes) rows n row j))
+    | inr r ↦ (
+      kept_stands (is_of Pumps) rows r.place row r.is,
+      or_right (is_of Pipes row) _ (or_left (is_of Pumps row) _ (kept_passes (is_of Pumps) rows r.place row r.is)),
+    )
+  ]
+  | inr t ↦ (
+    kept_stands (is_of Valves) rows t.place row t.is,
+    or_right (is_of Pipes row) _ (or_right (is_of Pumps row) _ (kept_passes (is_of Valves) rows t.place row t.is)),
+  )
 ]
 
 -- ---- the IDs of the project

@@ -1,48 +1,41 @@
 -- Junctions, reservoirs and tanks of a file without a fault are in range.
-use Rattle.std.proofs.Common.{◌≡◌, ℕ, ◌+◌, ◌-◌, ◌*◌, ◌^◌, ◌<◌, ◌≤◌, zero, suc, Bool, true, false, List, [], ◌∷◌, ◌++◌, map, length, take, Option, Some, None, refl, sym, ap, ◌∙◌, subst, arith, inl, inr, true≢false}
-use Rattle.std.specs.Prelude.{slice_get, ◌&&◌, All, HoldsAt, is_some, IfSome, ℤ, pos, ◌+ℤ◌, ◌-ℤ◌, ◌*ℤ◌, ◌≤ℤ◌, ◌<ℤ◌, ⊤, codes, filter, if◌then◌else◌}
+use Rattle.std.proofs.Common.{◌≡◌, ℕ, ◌*◌, ◌^◌, zero, suc, Bool, true, false, List, [], ◌∷◌, ◌++◌, Option, Some, None, refl, sym, ap, ◌∙◌, subst, arith}
+use Rattle.std.specs.Prelude.{slice_get, ◌&&◌, All, is_some, IfSome, ℤ, pos, ◌+ℤ◌, ◌-ℤ◌, ◌*ℤ◌, ◌≤ℤ◌, ⊤, codes, if◌then◌else◌}
 use Rattle.std.specs.List.{list_all, flat_map}
 use Rattle.std.specs.Str.{bytes_eq}
 use Rattle.std.proofs.lemmas.Bool.{and_parts, or_left, or_right}
 use Rattle.std.proofs.lemmas.Int.{ints}
 use Rattle.std.proofs.lemmas.List.Elements.{All-nil, All-cons, All-filter, All-map}
 use lib.Signed.{le_z}
-use Rattle.hyd_num.specs.Quantity.{is_us_unit, head_ticks, flow_ticks}
+use Rattle.hyd_num.specs.Quantity.{head_ticks, flow_ticks}
 use Rattle.hyd_num.specs.declared.units.FlowUnit.{FlowUnit}
-use Rattle.hyd_num.specs.declared.decimals.Decimal.{Decimal}
 use Rattle.hyd_num.specs.declared.capacities.Capacity.{Capacity}
 use Rattle.hyd_num.specs.declared.capacities.Origin.{Origin}
-use Rattle.hyd_num.specs.declared.capacities.Origin.TheVariants.{Emitter as EmitterOrigin}
-use Rattle.hyd_num.specs.Numeral.{nano_of}
 use Rattle.hyd_lex.specs.Lines.{Row}
 use Rattle.hyd_lex.specs.declared.section.Section.{Section}
-use Rattle.hyd_lex.specs.declared.section.Section.TheVariants.{Junctions, Reservoirs, Tanks, Demands, Emitters, Patterns}
+use Rattle.hyd_lex.specs.declared.section.Section.TheVariants.{Junctions, Reservoirs, Tanks, Demands, Emitters}
 use Rattle.hyd_net.specs.Ranges.{Lies, LiesWithin, IsHead, IsFlow, IsUpTo, Numbers}
 use Rattle.hyd_net.specs.Sizes as size
 use Rattle.hyd_net.specs.Sizes.{HasPattern, IsDemand, IsShapeOf}
 use Rattle.hyd_net.specs.ListView.{ListView}
-use Rattle.hyd_net.specs.Curves.{volume_at}
 use Rattle.hyd_net.specs.declared.curves.VolumePoint.{VolumePoint}
-use Rattle.hyd_net.specs.declared.cause.Cause.{Cause}
 use Rattle.hyd_net.specs.declared.nodes.Demand.{Demand}
 use Rattle.hyd_net.specs.declared.nodes.Junction.{Junction}
 use Rattle.hyd_net.specs.declared.nodes.Reservoir.{Reservoir}
 use Rattle.hyd_net.specs.declared.nodes.Tank.{Tank}
 use Rattle.hyd_net.specs.declared.project.Project.{Project}
-use Rattle.hyd_spec_input.specs.Columns.{first, needed, optional, ends, id, number, any, not_negative, up_to, one_of, word, amount, amount_or, units, number_within, unless}
+use Rattle.hyd_spec_input.specs.Columns.{needed, optional, ends, id, number, not_negative, up_to, one_of, word, amount, amount_or, units}
 use Rattle.hyd_spec_input.specs.NetworkRows as alone
-use Rattle.hyd_spec_input.specs.DataRows as data_rows
-use Rattle.hyd_spec_input.specs.Tables.{is_of, rows_of, rows_with, own_id, curve_named}
-use Rattle.hyd_spec_input.specs.InForce.{unit, last_where}
-use Rattle.hyd_spec_input.specs.Curves.{is_within, is_head, is_flow, volume_points}
-use Rattle.hyd_spec_input.specs.Network.{number_in, pattern_number, shape_names, as_list, new_names, is_among, demand_of_row, own_demand, or_own, demands_of, coefficient, last_naming, emitter_of}
+use Rattle.hyd_spec_input.specs.Tables.{is_of, rows_of, rows_with, own_id}
+use Rattle.hyd_spec_input.specs.InForce.{unit}
+use Rattle.hyd_spec_input.specs.Network.{number_in, pattern_number, shape_names, as_list, is_among, demand_of_row, own_demand, or_own, demands_of, coefficient, last_naming, emitter_of}
 use Rattle.hyd_spec_input.specs.WithOthers as others
 use Rattle.hyd_spec_input.specs.WithOthers.{us, head, flow, multipliers_of, is_head_times}
 use Rattle.hyd_spec_input.specs.Project as project
 use Rattle.hyd_spec_input.specs.Project.{IsProject, shape_number, shape_points}
 use Rattle.hyd_lemmas.proofs.Each.{all_by}
-use Rattle.hyd_spec_networks.proofs.Places.{all_from, kept_stands, kept_passes, match_all, Stands}
-use Rattle.hyd_spec_networks.proofs.Faultless.{AreRight, right_alone, right_among, all_none, unless_none, needed_none, at_most, below, lies, within, in_range, amount_or_is}
+use Rattle.hyd_spec_networks.proofs.Places.{all_from, kept_stands, kept_passes, match_all}
+use Rattle.hyd_spec_networks.proofs.Faultless.{AreRight, right_alone, right_among, all_none, unless_none, needed_none, at_most, lies, within, in_range}
 use Rattle.hyd_spec_networks.proofs.Occurs.{kept_once, has_number, itself}
 use Rattle.hyd_spec_networks.proofs.InForce.{in_force}
 use Rattle.hyd_spec_networks.proofs.Numbered.{may_have_pattern, numbers_from, found_by}
@@ -179,16 +172,16 @@ record TankNumbers (words : List (List ℕ)) : Type 0 where
 tank_numbers : (words : List (List ℕ)) → alone.tank words ≡ None → TankNumbers words
 tank_numbers words e =
     let each = all_none (needed id 0 words ∷ needed number 1 words ∷ needed not_negative 2 words
-      ∷ needed (alone.level (λ nano. le_z nano (amount 2 words))) 3 words
-      ∷ needed (alone.level (λ nano. le_z (amount 2 words) nano)) 4 words ∷ needed (alone.diameter words) 5 words
-      ∷ optional not_negative 6 words ∷ optional alone.curve_or_none 7 words
-      ∷ optional (one_of (codes "NO" ∷ codes "YES" ∷ [])) 8 words ∷ ends 9 words ∷ []) e in
+    ∷ needed (alone.level (λ nano. le_z nano (amount 2 words))) 3 words
+    ∷ needed (alone.level (λ nano. le_z (amount 2 words) nano)) 4 words ∷ needed (alone.diameter words) 5 words
+    ∷ optional not_negative 6 words ∷ optional alone.curve_or_none 7 words
+    ∷ optional (one_of (codes "NO" ∷ codes "YES" ∷ [])) 8 words ∷ ends 9 words ∷ []) e in
     let low = and_parts (le_z (pos 0) (amount 3 words)) (le_z (amount 3 words) (amount 2 words))
-      (in_range (λ nano. le_z (pos 0) nano && le_z nano (amount 2 words)) (word 3 words)
-      (needed_none (alone.level (λ nano. le_z nano (amount 2 words))) 3 words each.1.1.1.0).right) in
+    (in_range (λ nano. le_z (pos 0) nano && le_z nano (amount 2 words)) (word 3 words)
+    (needed_none (alone.level (λ nano. le_z nano (amount 2 words))) 3 words each.1.1.1.0).right) in
     let high = and_parts (le_z (pos 0) (amount 4 words)) (le_z (amount 2 words) (amount 4 words))
-      (in_range (λ nano. le_z (pos 0) nano && le_z (amount 2 words) nano) (word 4 words)
-      (needed_none (alone.level (λ nano. le_z (amount 2 words) nano)) 4 words each.1.1.1.1.0).right) in
+    (in_range (λ nano. le_z (pos 0) nano && le_z (amount 2 words) nano) (word 4 words)
+    (needed_none (alone.level (λ nano. le_z (amount 2 words) nano)) 4 words each.1.1.1.1.0).right) in
     record {
       lowest = at_most _ _ low.0;
       above_lowest = at_most _ _ low.1;
@@ -253,9 +246,9 @@ tank_right rows p n k row t right of at is section made =
     let own = tank_numbers row.words (right_alone rows Tanks k row right is section) in
     let gap : pos 30480000000 ≤ℤ head_ticks (us rows) (amount 4 row.words -ℤ amount 3 row.words) = at_most _ _ (unless_none _ _ each.1.1.1.1.0) in
     let apart : pos 30480000000 ≤ℤ (head_ticks (us rows) (amount 4 row.words) -ℤ head_ticks (us rows) (amount 3 row.words)) =
-      rw (head_difference (us rows) (amount 4 row.words) (amount 3 row.words)) at gap in
+    rw (head_difference (us rows) (amount 4 row.words) (amount 3 row.words)) at gap in
     let over : IsHead (head_ticks (us rows) (amount 1 row.words) +ℤ head_ticks (us rows) (amount 4 row.words)) =
-      subst IsHead (head_sum (us rows) (amount 1 row.words) (amount 4 row.words)) (head_right rows (amount 1 row.words +ℤ amount 4 row.words) each.1.1.1.1.1.0) in
+    subst IsHead (head_sum (us rows) (amount 1 row.words) (amount 4 row.words)) (head_right rows (amount 1 row.words +ℤ amount 4 row.words) each.1.1.1.1.1.0) in
     record {
       bottom = rw made.bottom (head_right rows (amount 1 row.words) each.1.1.1.0);
       lowest = rw made.minimum (head_positive (us rows) (amount 3 row.words) own.lowest);

@@ -1,6 +1,6 @@
 -- What the number of a name numbers: patterns and curves.
-use Rattle.std.proofs.Common.{◌≡◌, ℕ, ◌+◌, ◌<◌, ◌≤◌, List, [], ◌∷◌, ◌++◌, map, length, get_or, Option, Some, None, refl, sym, ap, ◌∙◌, subst, arith}
-use Rattle.std.specs.Prelude.{slice_get, All, ℤ, IfSome}
+use Rattle.std.proofs.Common.{◌≡◌, ℕ, ◌<◌, List, length, Option, Some, None, sym, ◌∙◌, subst, arith}
+use Rattle.std.specs.Prelude.{slice_get, All, ℤ}
 use Rattle.std.proofs.lemmas.Option.{slice_get_within, get_or_from_slice_get}
 use Rattle.hyd_lex.specs.Lines.{Row}
 use Rattle.hyd_net.specs.Ranges.{Numbers}
@@ -13,7 +13,7 @@ use Rattle.hyd_spec_input.specs.Tables.{pattern_named}
 use Rattle.hyd_spec_input.specs.Network.{number_in, pattern_ids, pattern_number, bend_names}
 use Rattle.hyd_spec_input.specs.WithOthers.{multipliers_of}
 use Rattle.hyd_spec_input.specs.Project.{Match, IsPattern, IsProject, bend_points}
-use Rattle.hyd_spec_networks.proofs.Places.{Partner, partner, match_length, item_at}
+use Rattle.hyd_spec_networks.proofs.Places.{partner, match_length, item_at}
 use Rattle.hyd_spec_networks.proofs.Occurs.{number_inside, number_names}
 
 -- the item at a place of a table

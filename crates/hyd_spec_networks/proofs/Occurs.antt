@@ -1,13 +1,13 @@
 -- How often names occur: names that occur once at most, and sums over them.
-use Rattle.std.proofs.Common.{◌≡◌, ℕ, ◌+◌, ◌*◌, ◌<◌, ◌≤◌, zero, suc, Bool, true, false, List, [], ◌∷◌, ◌++◌, map, length, get_or, Option, Some, None, refl, sym, ap, ◌∙◌, subst, arith, inl, inr, true≢false, cond}
-use Rattle.std.specs.Prelude.{slice_get, filter, sum_by, ◌≢◌, ◌&&◌, ◌||◌, not, AllPairs, position, if◌then◌else◌, IfSome}
-use Rattle.std.specs.List.{All, flat_map, position_or_len}
+use Rattle.std.proofs.Common.{◌≡◌, ℕ, ◌+◌, ◌*◌, ◌<◌, ◌≤◌, zero, suc, Bool, true, false, List, [], ◌∷◌, ◌++◌, length, get_or, Some, None, refl, sym, ap, ◌∙◌, arith, inl, inr, true≢false}
+use Rattle.std.specs.Prelude.{slice_get, sum_by, ◌||◌, not}
+use Rattle.std.specs.List.{position_or_len}
 use Rattle.std.proofs.Math.Nat.{mul-le-mul_left}
 use Rattle.std.proofs.lemmas.List.Sums.{sum_by-cons}
 use Rattle.std.specs.Str.{bytes_eq}
-use Rattle.std.proofs.lemmas.Bool.{cases_Bool, or_parts, or_from, or_cases, or_left, or_right, false_from_ne_true, lt-ltb, cond-true, cases_order}
+use Rattle.std.proofs.lemmas.Bool.{cases_Bool, or_parts, or_from, or_left, or_right, false_from_ne_true, lt-ltb, cond-true, cases_order}
 use Rattle.std.proofs.lemmas.List.Quantifiers.{position-Some}
-use Rattle.std.proofs.lemmas.Option.{slice_get_within, get_or_from_slice_get, slice_get-get_or}
+use Rattle.std.proofs.lemmas.Option.{slice_get-get_or}
 use Rattle.std.proofs.lemmas.Slice.Eq.{bytes_eq-Decides}
 use Rattle.hyd_net.specs.Ids.{AreDistinct}
 use Rattle.hyd_spec_input.specs.Network.{is_among, new_names, number_in}
@@ -73,9 +73,9 @@ pub one_place : (ids : List (List ℕ)) (name : List ℕ) (i j : ℕ) → Once i
 one_place ids name i j once a b = elim (cases_order i j) [
   | inl same ↦ same
   | inr other ↦ elim other [
-      | inl less ↦ absurd (omega (arith, occurs_twice name ids i j less a b, once name))
-      | inr more ↦ absurd (omega (arith, occurs_twice name ids j i more b a, once name))
-    ]
+    | inl less ↦ absurd (omega (arith, occurs_twice name ids i j less a b, once name))
+    | inr more ↦ absurd (omega (arith, occurs_twice name ids j i more b a, once name))
+  ]
 ]
 
 -- ---- the number of a name

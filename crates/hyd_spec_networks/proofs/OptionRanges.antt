@@ -1,27 +1,26 @@
 -- Options of a file without a fault are in range.
-use Rattle.std.proofs.Common.{◌≡◌, ℕ, ◌+◌, ◌*◌, ◌^◌, ◌<◌, ◌≤◌, zero, suc, Bool, true, false, List, [], ◌∷◌, length, Option, Some, None, refl, sym, ap, ◌∙◌, subst, arith, inl, inr, true≢false, cond}
-use Rattle.std.specs.Prelude.{slice_get, ◌&&◌, ◌==◌, codes, max, All, ℤ, pos, ◌+ℤ◌, ◌≤ℤ◌, ⊤, if◌then◌else◌}
-use Rattle.std.proofs.lemmas.Bool.{cases_Bool, and_parts, eq-eqb, cases_lt}
+use Rattle.std.proofs.Common.{◌≡◌, ℕ, ◌*◌, ◌^◌, Bool, true, false, List, [], ◌∷◌, Option, Some, None, refl, sym, ◌∙◌, subst, arith, inl, inr}
+use Rattle.std.specs.Prelude.{slice_get, ◌==◌, codes, ℤ, pos, ◌+ℤ◌, ◌≤ℤ◌, ⊤}
+use Rattle.std.proofs.lemmas.Bool.{and_parts, eq-eqb, cases_lt}
 use Rattle.std.proofs.lemmas.Int.{ints}
 use lib.Signed.{le_z}
-use Rattle.hyd_num.specs.Quantity.{is_us_unit, pressure_numerator, pressure_denominator}
+use Rattle.hyd_num.specs.Quantity.{pressure_numerator, pressure_denominator}
 use Rattle.hyd_num.specs.declared.decimals.Decimal.{Decimal}
 use Rattle.hyd_lex.specs.Lines.{Row}
 use Rattle.hyd_lex.specs.Bytes.{is_keyword}
 use Rattle.hyd_lex.specs.Headings.{is_one_of}
 use Rattle.hyd_lex.specs.declared.section.Section.TheVariants.{Options as OptionsSection}
-use Rattle.hyd_net.specs.Ranges.{Lies, IsUpTo}
+use Rattle.hyd_net.specs.Ranges.{IsUpTo}
 use Rattle.hyd_net.specs.declared.cause.Cause.TheVariants.{Range}
 use Rattle.hyd_net.specs.Sizes.{IsPressure, HasOptions}
 use Rattle.hyd_net.specs.declared.options.Options.{Options}
 use Rattle.hyd_net.specs.declared.project.Project.{Project}
-use Rattle.hyd_spec_input.specs.Columns.{Column, first, or_else, unless, needed, ends, one_of, not_negative, up_to, word, amount, units, word_is, word_is_of, is_option_of, is_option_keyword}
+use Rattle.hyd_spec_input.specs.Columns.{first, or_else, unless, needed, ends, one_of, not_negative, up_to, word, amount, units, word_is, word_is_of, is_option_of, is_option_keyword}
 use Rattle.hyd_spec_input.specs.Keywords.{option_word, option_words, more_option_words, unused_option, unused_words, more_unused_words, last_unused_words}
 use Rattle.hyd_spec_input.specs.declared.OptionWord.{OptionWord}
 use Rattle.hyd_spec_input.specs.declared.OptionWord.TheVariants as at
 use Rattle.hyd_spec_input.specs.OptionRows.{demand_words, demand_value, demand_line, bound_line, option_about, option}
-use Rattle.hyd_spec_input.specs.InForce.{begins, begins_both, option_row, option_row_of, unit, depends_on_pressure, demand_multiplier, minimum_pressure, required_pressure, default_pattern, pressure_line, say}
-use Rattle.hyd_spec_input.specs.WithOthers as others
+use Rattle.hyd_spec_input.specs.InForce.{begins, begins_both, option_row, option_row_of, depends_on_pressure, demand_multiplier, minimum_pressure, required_pressure, default_pattern, pressure_line}
 use Rattle.hyd_spec_input.specs.WithOthers.{us, pressure, pressures_apart}
 use Rattle.hyd_spec_input.specs.Tables.{pattern_named}
 use Rattle.hyd_spec_input.specs.Project.{IsOptions, IsProject}
@@ -101,7 +100,7 @@ judged : (rows : List Row) (a : List ℕ) (row : Row) → AreRight rows → is_o
 judged rows a row right one found =
     let is : word_is_of 0 pressure_words row.words ≡ true = is_one a (slice_get row.words 0) one found.passes in
     let faults : or_else (pressure rows (amount 2 row.words)) (pressures_apart rows row) ≡ None =
-      rw is at (right_among rows OptionsSection found.place row right found.is found.of) in
+    rw is at (right_among rows OptionsSection found.place row right found.is found.of) in
     or_none (pressure rows (amount 2 row.words)) (pressures_apart rows row) faults
 
 bound_in : (words : List (List ℕ)) → bound_line words ≡ None → pos 0 ≤ℤ amount 2 words
@@ -142,7 +141,7 @@ apart_at : (rows : List Row) (a : List ℕ) (row : Row) → AreRight rows → is
 apart_at rows a row right one found depends line =
     let here : (row.number == pressure_line rows) ≡ true = eq-eqb row.number (pressure_line rows) line in
     let test : unless (le_z (minimum_pressure rows +ℤ pos (10 ^ 8)) (required_pressure rows)) Range ≡ None =
-      rw (depends, here) at (judged rows a row right one found).1 in
+    rw (depends, here) at (judged rows a row right one found).1 in
     at_most _ _ (unless_none _ _ test)
 
 -- whichever of the two lines is the later one

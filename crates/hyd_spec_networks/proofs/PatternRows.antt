@@ -1,9 +1,9 @@
 -- Patterns of a file without a fault have multipliers, each in range.
-use Rattle.std.proofs.Common.{◌≡◌, ℕ, ◌+◌, ◌*◌, ◌^◌, ◌<◌, ◌≤◌, zero, suc, Bool, true, false, List, [], ◌∷◌, ◌++◌, map, length, drop, Option, Some, None, refl, sym, ap, ◌∙◌, subst, arith, inl, inr, true≢false}
-use Rattle.std.specs.Prelude.{slice_get, filter, ◌||◌, All, ℤ, pos, neg_ℤ}
+use Rattle.std.proofs.Common.{◌≡◌, ℕ, ◌*◌, ◌^◌, ◌≤◌, true, List, [], ◌∷◌, length, drop, Some, None, sym, subst, arith, inl, inr, true≢false}
+use Rattle.std.specs.Prelude.{slice_get, All, neg_ℤ}
 use Rattle.std.specs.List.{flat_map}
 use Rattle.std.specs.Str.{bytes_eq}
-use Rattle.std.proofs.lemmas.Bool.{cases_Bool, or_cases}
+use Rattle.std.proofs.lemmas.Bool.{cases_Bool}
 use Rattle.std.proofs.lemmas.List.{length-append, length-map, length-drop}
 use Rattle.std.proofs.lemmas.List.Elements.{All-nil, All-cons, All-head, All-tail, All-filter, All-map, All-weaker}
 use Rattle.std.proofs.lemmas.Option.{slice_get_within}
@@ -44,11 +44,12 @@ row_right : (words : List (List ℕ)) → first (needed id 0 words ∷ needed an
     → (1 ≤ length (multipliers words)) × All (LiesWithin (10 ^ 6 * 10 ^ 9)) (multipliers words)
 row_right words e =
     let faults = all_none (needed id 0 words ∷ needed any 1 words ∷ each (column.within (10 ^ 6)) (drop 1 words) ∷ []) e in
-    let second = slice_get_within words 1 (word 1 words) (needed_none any 1 words faults.1.0).is in
-    (omega (arith, second, length-map (drop 1 words) nano_of, length-drop 1 words),
-    All-map (LiesWithin (10 ^ 6 * 10 ^ 9)) nano_of (drop 1 words)
-    (All-weaker (λ w. column.within (10 ^ 6) w ≡ None) (λ w. LiesWithin (10 ^ 6 * 10 ^ 9) (nano_of w)) (λ w f. within (neg_ℤ (units (10 ^ 6))) (units (10 ^ 6)) w f)
-    (drop 1 words) (each_none (column.within (10 ^ 6)) (drop 1 words) faults.1.1.0)))
+    let second = slice_get_within words 1 (word 1 words) (needed_none any 1 words faults.1.0).is in (
+      omega (arith, second, length-map (drop 1 words) nano_of, length-drop 1 words),
+      All-map (LiesWithin (10 ^ 6 * 10 ^ 9)) nano_of (drop 1 words)
+          (All-weaker (λ w. column.within (10 ^ 6) w ≡ None) (λ w. LiesWithin (10 ^ 6 * 10 ^ 9) (nano_of w)) (λ w f. within (neg_ℤ (units (10 ^ 6))) (units (10 ^ 6)) w f)
+          (drop 1 words) (each_none (column.within (10 ^ 6)) (drop 1 words) faults.1.1.0)),
+    )
 
 rows_right : (rows : List Row) → AreRight rows → All RowRight (rows_of Patterns rows)
 rows_right rows right = each_row rows Patterns RowRight (λ k row is of.
@@ -70,9 +71,9 @@ pattern_right rows k name q right is made =
     let all = rows_right rows right in
     let some : 1 ≤ length (pattern_named rows name) = named_some name (rows_of Patterns rows) all (new_among name [] (own_ids (rows_of Patterns rows)) k is) in
     let range : All (LiesWithin (10 ^ 6 * 10 ^ 9)) (pattern_named rows name) =
-      all_flat (LiesWithin (10 ^ 6 * 10 ^ 9)) row_multipliers (rows_with name (rows_of Patterns rows))
-      (All-weaker RowRight (λ r. All (LiesWithin (10 ^ 6 * 10 ^ 9)) (row_multipliers r)) (λ r h. h.range) (rows_with name (rows_of Patterns rows))
-      (All-filter (λ r. bytes_eq name (own_id r)) RowRight (rows_of Patterns rows) all)) in
+    all_flat (LiesWithin (10 ^ 6 * 10 ^ 9)) row_multipliers (rows_with name (rows_of Patterns rows))
+    (All-weaker RowRight (λ r. All (LiesWithin (10 ^ 6 * 10 ^ 9)) (row_multipliers r)) (λ r h. h.range) (rows_with name (rows_of Patterns rows))
+    (All-filter (λ r. bytes_eq name (own_id r)) RowRight (rows_of Patterns rows) all)) in
     record {
       not_empty = subst (λ list. 1 ≤ length list) (sym made) some;
       range = subst (λ list. All (LiesWithin (10 ^ 6 * 10 ^ 9)) list) (sym made) range;

@@ -1,24 +1,23 @@
 -- Curves of a file without a fault: what is asked of neighbours holds of all points.
-use Rattle.std.proofs.Common.{◌≡◌, ℕ, ◌+◌, ◌-◌, ◌*◌, ◌^◌, ◌<◌, ◌≤◌, zero, suc, Bool, true, false, List, [], ◌∷◌, length, get_or, refl, sym, ap, ◌∙◌, subst, arith, true≢false, map}
-use Rattle.std.specs.Prelude.{◌&&◌, nat_le, All, AllPairs, HoldsAt, ℤ, pos, negsuc, ◌≤ℤ◌, ◌<ℤ◌, ◌-ℤ◌, IsTrue}
+use Rattle.std.proofs.Common.{◌≡◌, ◌-◌, ◌^◌, ◌≤◌, zero, suc, Bool, true, false, List, [], ◌∷◌, length, get_or, refl, sym, ap, ◌∙◌, subst, arith, true≢false, map}
+use Rattle.std.specs.Prelude.{◌&&◌, nat_le, All, AllPairs, HoldsAt, ℤ, pos, ◌≤ℤ◌, ◌<ℤ◌, ◌-ℤ◌}
 use Rattle.std.specs.List.{list_all}
 use Rattle.std.specs.Ordering.{int_eq}
 use Rattle.std.proofs.lemmas.Bool.{and_parts, leb-true}
 use Rattle.std.proofs.lemmas.Bool.Decides.{Decides-int_eq}
 use Rattle.std.proofs.lemmas.Int.{ints}
-use Rattle.std.proofs.lemmas.List.{length-map}
 use Rattle.std.proofs.lemmas.List.Elements.{All-nil, All-cons, All-weaker}
 use lib.Signed.{le_z, lt_z}
 use Rattle.hyd_num.specs.Quantity.{head_ticks, flow_ticks}
 use Rattle.hyd_num.specs.Rational.{whole, is_at_most}
 use Rattle.hyd_num.specs.declared.units.FlowUnit.{FlowUnit}
 use Rattle.hyd_num.specs.declared.units.FlowUnit.TheVariants.{Cfs, Gpm, Mgd, Imgd, Afd, Lps, Lpm, Mld, Cmh, Cmd}
-use Rattle.hyd_net.specs.Ranges.{Lies, IsHead, IsFlow}
+use Rattle.hyd_net.specs.Ranges.{IsHead, IsFlow}
 use Rattle.hyd_net.specs.Curves.{AreRising, AreFalling, IsVolumeCurve, IsPumpCurve, IsLossCurve, value_at, head_knots, volume_at}
 use Rattle.hyd_net.specs.declared.curves.VolumePoint.{VolumePoint}
 use Rattle.hyd_net.specs.declared.curves.HeadPoint.{HeadPoint}
 use Rattle.hyd_spec_input.specs.Tables.{Point}
-use Rattle.hyd_spec_input.specs.Curves.{is_within, is_head, in_turn, at_start, at_end, is_bent, head_point, head_points, is_slower, is_faster, has_flow, is_pump_bend, begins_at_0, is_valve_bend, is_fuller, covers, is_volume_curve}
+use Rattle.hyd_spec_input.specs.Curves.{is_head, in_turn, at_start, at_end, head_points, is_slower, is_faster, has_flow, is_pump_bend, begins_at_0, is_valve_bend, is_fuller, covers, is_volume_curve}
 use Rattle.hyd_lemmas.proofs.Each.{all_by}
 use Rattle.hyd_spec_networks.proofs.Faultless.{at_most, below, lies}
 
@@ -115,7 +114,7 @@ pump_curve_right points four e =
     let halves = and_parts (list_all has_flow points && in_turn is_slower points) _ e in
     let first = and_parts (list_all has_flow points) (in_turn is_slower points) halves.0 in
     let second = and_parts (at_start (λ (point : HeadPoint). le_z (pos 0) point.flow) points && at_end (λ (point : HeadPoint). le_z (pos 0) point.head) points)
-      (is_at_most (value_at 1 (head_knots points) (pos 0)) (whole (pos (10 ^ 16)))) halves.1 in
+    (is_at_most (value_at 1 (head_knots points) (pos 0)) (whole (pos (10 ^ 16)))) halves.1 in
     let ends = and_parts (at_start (λ (point : HeadPoint). le_z (pos 0) point.flow) points) (at_end (λ (point : HeadPoint). le_z (pos 0) point.head) points) second.0 in
     record {
       four = four;
@@ -197,19 +196,19 @@ pub record Covers (minimum maximum : ℤ) (points : List VolumePoint) : Type 0 w
 pub volume_curve_right : (minimum maximum : ℤ) (points : List VolumePoint) → is_volume_curve minimum maximum points ≡ true → Covers minimum maximum points
 volume_curve_right minimum maximum points e =
     let halves = and_parts ((nat_le 2 (length points) && (list_all (λ (p : VolumePoint). is_head p.level) points && in_turn is_fuller points))
-      && (at_start (λ (p : VolumePoint). le_z (pos 0) p.volume) points && at_end (λ (p : VolumePoint). le_z p.volume (pos (10 ^ 18))) points))
-      (covers minimum maximum points && le_z (pos (10 ^ 6)) (volume_at points maximum -ℤ volume_at points minimum)) e in
+    && (at_start (λ (p : VolumePoint). le_z (pos 0) p.volume) points && at_end (λ (p : VolumePoint). le_z p.volume (pos (10 ^ 18))) points))
+    (covers minimum maximum points && le_z (pos (10 ^ 6)) (volume_at points maximum -ℤ volume_at points minimum)) e in
     let first = and_parts (nat_le 2 (length points) && (list_all (λ (p : VolumePoint). is_head p.level) points && in_turn is_fuller points))
-      (at_start (λ (p : VolumePoint). le_z (pos 0) p.volume) points && at_end (λ (p : VolumePoint). le_z p.volume (pos (10 ^ 18))) points) halves.0 in
+    (at_start (λ (p : VolumePoint). le_z (pos 0) p.volume) points && at_end (λ (p : VolumePoint). le_z p.volume (pos (10 ^ 18))) points) halves.0 in
     let two = and_parts (nat_le 2 (length points)) (list_all (λ (p : VolumePoint). is_head p.level) points && in_turn is_fuller points) first.0 in
     let inner = and_parts (list_all (λ (p : VolumePoint). is_head p.level) points) (in_turn is_fuller points) two.1 in
     let ends = and_parts (at_start (λ (p : VolumePoint). le_z (pos 0) p.volume) points) (at_end (λ (p : VolumePoint). le_z p.volume (pos (10 ^ 18))) points) first.1 in
     let second = and_parts (covers minimum maximum points) (le_z (pos (10 ^ 6)) (volume_at points maximum -ℤ volume_at points minimum)) halves.1 in
     let covered = and_parts (at_start (λ (p : VolumePoint). le_z p.level minimum) points) (at_end (λ (p : VolumePoint). le_z maximum p.level) points) second.0 in
     let least = from_start (λ p. pos 0 ≤ℤ p.volume) (λ p. le_z (pos 0) p.volume) is_fuller (λ a s. at_most (pos 0) a.volume s)
-      (λ a b s p. let l = fuller_volume a b s in omega (arith, ints, l, p)) points inner.1 ends.0 in
+    (λ a b s p. let l = fuller_volume a b s in omega (arith, ints, l, p)) points inner.1 ends.0 in
     let most = from_end (λ p. p.volume ≤ℤ pos (10 ^ 18)) (λ p. le_z p.volume (pos (10 ^ 18))) is_fuller (λ a s. at_most a.volume (pos (10 ^ 18)) s)
-      (λ a b s p. let l = fuller_volume a b s in omega (arith, ints, l, p)) points inner.1 ends.1 in
+    (λ a b s p. let l = fuller_volume a b s in omega (arith, ints, l, p)) points inner.1 ends.1 in
     record {
       curve = record {
         two = leb-true 2 (length points) two.0;

@@ -1,20 +1,18 @@
 -- In a file without a fault each rounded form is made of its numbers, and each valve has one diameter.
-use Rattle.std.proofs.Common.{◌≡◌, ℕ, ◌<◌, ◌≤◌, Bool, true, false, List, [], ◌∷◌, length, Option, Some, None, refl, sym, ap, ◌∙◌, subst, arith}
-use Rattle.std.specs.Prelude.{slice_get, All, HoldsAt, IfSome, ℤ, pos}
+use Rattle.std.proofs.Common.{◌≡◌, ℕ, ◌<◌, Bool, true, false, List, length, Option, Some, None, refl, sym, ap, ◌∙◌, subst}
+use Rattle.std.specs.Prelude.{slice_get, All, IfSome, ℤ}
 use Rattle.std.proofs.lemmas.Option.{get_or_from_slice_get}
 use Rattle.hyd_num.specs.Chain.{IsMade}
 use Rattle.hyd_num.specs.declared.units.FlowUnit.{FlowUnit}
 use Rattle.hyd_num.specs.declared.capacities.Capacity.{Capacity}
 use Rattle.hyd_lex.specs.Lines.{Row}
 use Rattle.hyd_lex.specs.declared.section.Section.TheVariants.{Junctions, Tanks, Pipes, Pumps}
-use Rattle.hyd_net.specs.Made.{IsAreaMade, IsKindMade, IsStateMade, IsRuleMade, IsValueMade, IsKindAcross, IsStateAcross, IsAcross, IsAllMade}
+use Rattle.hyd_net.specs.Made.{IsAreaMade, IsStateMade, IsRuleMade, IsKindAcross, IsStateAcross, IsAcross, IsAllMade}
 use Rattle.hyd_net.specs.declared.controls.Control.{Control}
 use Rattle.hyd_net.specs.declared.links.Link.{Link}
 use Rattle.hyd_net.specs.declared.links.LinkKind.{LinkKind}
 use Rattle.hyd_net.specs.declared.links.LinkKind.TheVariants.{Pipe, CheckPipe, Pump, CurvePump, Tcv, Fcv, Gpv}
 use Rattle.hyd_net.specs.declared.links.LinkState.{LinkState}
-use Rattle.hyd_net.specs.declared.rules.Rule.{Rule}
-use Rattle.hyd_net.specs.declared.nodes.Tank.{Tank}
 use Rattle.hyd_net.specs.declared.project.Project.{Project}
 use Rattle.hyd_spec_input.specs.Columns.{amount}
 use Rattle.hyd_spec_input.specs.NetworkRows.{valve_minor}
@@ -27,10 +25,10 @@ use Rattle.hyd_spec_input.specs.Project.{Where, IsProject, IsLink, IsKind, IsVal
 use Rattle.hyd_spec_networks.proofs.Places.{match_all, item_at, partner}
 use Rattle.hyd_spec_networks.proofs.Faultless.{AreRight}
 use Rattle.hyd_spec_networks.proofs.Names.{link_stands}
-use Rattle.hyd_spec_networks.proofs.LinkKinds.{where_true, where_false, kinds_made}
-use Rattle.hyd_spec_networks.proofs.LinkStates.{StateRight, state_right, start_by, states_made, law_across, Command}
-use Rattle.hyd_spec_networks.proofs.ControlLines.{ControlRight, each_control}
-use Rattle.hyd_spec_networks.proofs.RuleParts.{ClauseRight, RuleRight, each_rule}
+use Rattle.hyd_spec_networks.proofs.LinkKinds.{kinds_made}
+use Rattle.hyd_spec_networks.proofs.LinkStates.{state_right, start_by, states_made, law_across, Command}
+use Rattle.hyd_spec_networks.proofs.ControlLines.{each_control}
+use Rattle.hyd_spec_networks.proofs.RuleParts.{each_rule}
 
 -- ---- emitters and areas
 
@@ -109,14 +107,16 @@ across_right rows p right of number inside =
     let stands = link_stands rows number pair.item pair.is in
     let asks = start_by rows stands.0.place pair.item found.item.start (status_of rows pair.item) right stands.0.is stands.1 refl pair.holds.start in
     let start = state_right rows stands.0.place pair.item found.item.kind found.item.start right stands.0.is stands.1 pair.holds.kind asks in
-    let across = amount 3 pair.item.words in
-    (across, record {
-      link = λ d. subst (λ (l : Link). IsKindAcross across l.kind × IsStateAcross across l.start) (sym (get_or_from_slice_get p.links.list number found.item d found.is))
-          (kind_across rows pair.item found.item.kind pair.holds.kind, start.across);
-      controls = λ k d l same. same_row rows p number pair.item _ _ pair.is (each_control rows p right of k d l).command same;
-      yes = λ k d l i e m same. same_row rows p number pair.item _ _ pair.is ((each_rule rows p right of k d l).yes i e m) same;
-      no = λ k d l i e m same. same_row rows p number pair.item _ _ pair.is ((each_rule rows p right of k d l).no i e m) same;
-    })
+    let across = amount 3 pair.item.words in (
+      across,
+      record {
+        link = λ d. subst (λ (l : Link). IsKindAcross across l.kind × IsStateAcross across l.start) (sym (get_or_from_slice_get p.links.list number found.item d found.is))
+            (kind_across rows pair.item found.item.kind pair.holds.kind, start.across);
+        controls = λ k d l same. same_row rows p number pair.item _ _ pair.is (each_control rows p right of k d l).command same;
+        yes = λ k d l i e m same. same_row rows p number pair.item _ _ pair.is ((each_rule rows p right of k d l).yes i e m) same;
+        no = λ k d l i e m same. same_row rows p number pair.item _ _ pair.is ((each_rule rows p right of k d l).no i e m) same;
+      },
+    )
 
 -- ---- all of it
 

@@ -1,17 +1,14 @@
 -- The lines of rules in a file without a fault, each at the stage at which it stands.
-use Rattle.std.proofs.Common.{◌≡◌, ℕ, ◌+◌, ◌*◌, ◌^◌, ◌<◌, ◌≤◌, zero, suc, Bool, true, false, List, [], ◌∷◌, ◌++◌, map, length, take, drop, Option, Some, None, refl, sym, ap, ◌∙◌, subst, arith, inl, inr, true≢false, append-nil, append_assoc}
-use Rattle.std.specs.Prelude.{slice_get, filter, fold, ◌&&◌, not, All, ⊤, if◌then◌else◌}
+use Rattle.std.proofs.Common.{◌≡◌, ℕ, ◌+◌, ◌≤◌, zero, suc, Bool, true, false, List, [], ◌∷◌, ◌++◌, map, length, take, drop, Option, Some, None, refl, sym, ap, ◌∙◌, subst, inl, inr, true≢false, append_assoc}
+use Rattle.std.specs.Prelude.{slice_get, filter, All, ⊤, if◌then◌else◌}
 use Rattle.std.specs.List.{AllByRecursion}
-use Rattle.std.specs.Option.{option_map}
 use Rattle.std.proofs.lemmas.Bool.{cases_Bool}
 use Rattle.std.proofs.lemmas.List.{take_at, take-map}
 use Rattle.std.proofs.lemmas.List.Sums.{fold-append}
-use Rattle.std.proofs.lemmas.Option.{slice_get-map}
 use Rattle.hyd_lex.specs.Lines.{Row}
 use Rattle.hyd_lex.specs.declared.section.Section.TheVariants.{Rules as RulesSection}
-use Rattle.hyd_net.specs.declared.cause.Cause.{Cause}
 use Rattle.hyd_net.specs.declared.cause.Cause.TheVariants.{Syntax}
-use Rattle.hyd_spec_input.specs.Columns.{first, or_else, unless, needed, ends, id, number, word}
+use Rattle.hyd_spec_input.specs.Columns.{first, unless, needed, ends, id}
 use Rattle.hyd_spec_input.specs.declared.RuleWord.{RuleWord}
 use Rattle.hyd_spec_input.specs.declared.RuleWord.TheVariants.{Rule, If, And, Or, Then, Else, Priority}
 use Rattle.hyd_spec_input.specs.declared.Stage.{Stage}
@@ -23,7 +20,7 @@ use Rattle.hyd_spec_input.specs.Network.{rule_groups, lines_at, is_asking, is_do
 use Rattle.hyd_spec_input.specs.WithOthers as others
 use Rattle.hyd_spec_input.specs.WithOthers.{passes, names_rule, is_part_word, is_part, parts_in, is_action_word, holds_action}
 use Rattle.hyd_spec_networks.proofs.Places.{source}
-use Rattle.hyd_spec_networks.proofs.Faultless.{AreRight, right_alone, right_among, or_none, all_none, unless_none}
+use Rattle.hyd_spec_networks.proofs.Faultless.{AreRight, right_alone, right_among, all_none}
 
 -- ---- one line
 
@@ -81,7 +78,7 @@ row_line rows k row right is of =
     let earlier = words_of RulesSection (take k rows) in
     let later = words_of RulesSection (drop (k + 1) rows) in
     let each = all_none (in_order (stage_after earlier) (begins_with row.words) ∷ line_words (is_acting (stage_after earlier)) row.words
-      ∷ unless (gets_then row.words later) Syntax ∷ []) (right_alone rows RulesSection k row right is of) in
+    ∷ unless (gets_then row.words later) Syntax ∷ []) (right_alone rows RulesSection k row right is of) in
     record {
       order = each.0;
       by_itself = each.1.0;
@@ -99,7 +96,7 @@ placed_line rows before words after right e =
     let line = source words_of_row (rows_of RulesSection rows) n words there in
     let found = kept_at (is_of RulesSection) rows n line.item line.is in
     let front : words_of RulesSection (take found.place rows) ≡ before =
-      ap (map words_of_row) found.before ∙ sym (take-map words_of_row n (rows_of RulesSection rows)) ∙ ap (take n) e ∙ take_at before (words ∷ after) n refl in
+    ap (map words_of_row) found.before ∙ sym (take-map words_of_row n (rows_of RulesSection rows)) ∙ ap (take n) e ∙ take_at before (words ∷ after) n refl in
     let P : List (List (List ℕ)) → List (List ℕ) → Type 0 = λ b w. LineRight rows (stage_after b) w in
     subst (λ w. P before w) line.gives (subst (λ b. P b line.item.words) front (row_line rows found.place line.item right found.is found.passes))
   where
@@ -112,10 +109,11 @@ next_stage before words = fold-append (λ stage line. stage_by stage (begins_wit
 
 lines_right : (rows : List Row) (before lines : List (List (List ℕ))) → AreRight rows → words_of RulesSection rows ≡ before ++ lines → RightFrom rows (stage_after before) lines
 lines_right rows before [] right e = tt
-lines_right rows before (words ∷ lines) right e =
-    (placed_line rows before words lines right e,
-    subst (λ (s : Stage). RightFrom rows s lines) (next_stage before words)
-    (lines_right rows (before ++ words ∷ []) lines right (e ∙ sym (append_assoc before (words ∷ []) lines))))
+lines_right rows before (words ∷ lines) right e = (
+  placed_line rows before words lines right e,
+  subst (λ (s : Stage). RightFrom rows s lines) (next_stage before words)
+      (lines_right rows (before ++ words ∷ []) lines right (e ∙ sym (append_assoc before (words ∷ []) lines))),
+)
 
 pub all_lines : (rows : List Row) → AreRight rows → RightFrom rows Outside (words_of RulesSection rows)
 all_lines rows right = lines_right rows [] (words_of RulesSection rows) right refl
@@ -169,9 +167,9 @@ group_first : (rows : List Row) (stage : Stage) (words : List (List ℕ)) (lines
 group_first rows stage words lines zero group is line rest e later =
     let same : words ∷ until_rule lines ≡ group = cc in
     let begun : RightFrom rows (stage_by Outside (begins_with words)) lines =
-      subst (λ (s : Stage). RightFrom rows s lines) (same_stage stage (begins_with words) is) rest in
+    subst (λ (s : Stage). RightFrom rows s lines) (same_stage stage (begins_with words) is) rest in
     let whole : RightFrom rows Outside (words ∷ until_rule lines) =
-      (anywhere rows stage words is line, until_right rows (stage_by Outside (begins_with words)) lines begun) in
+    (anywhere rows stage words is line, until_right rows (stage_by Outside (begins_with words)) lines begun) in
     record { head = words; rest = until_rule lines; group_is = sym same; names = is; lines = subst (RightFrom rows Outside) same whole }
 group_first rows stage words lines (suc m) group is line rest e later = later m e
 

@@ -1,28 +1,24 @@
 -- Rules of a file without a fault: what their clauses speak of, and what their actions set.
-use Rattle.std.proofs.Common.{◌≡◌, ℕ, ◌+◌, ◌*◌, ◌^◌, ◌<◌, ◌≤◌, zero, suc, Bool, true, false, List, [], ◌∷◌, ◌++◌, map, length, take, drop, Option, Some, None, refl, sym, ap, ◌∙◌, subst, arith, inl, inr, true≢false, cond}
-use Rattle.std.specs.Prelude.{slice_get, filter, ◌&&◌, ◌||◌, ◌⊎◌, not, nat_le, All, IfSome, ℤ, pos, negsuc, neg_ℤ, ◌≤ℤ◌, ◌*ℤ◌, ⊤, codes, if◌then◌else◌}
+use Rattle.std.proofs.Common.{◌≡◌, ℕ, ◌+◌, ◌^◌, ◌<◌, ◌≤◌, zero, suc, Bool, true, false, List, [], ◌∷◌, ◌++◌, length, Option, Some, None, refl, sym, ap, ◌∙◌, subst, arith, inl, inr, true≢false}
+use Rattle.std.specs.Prelude.{slice_get, filter, ◌&&◌, ◌||◌, not, nat_le, All, IfSome, ℤ, pos, ◌*ℤ◌, ⊤, codes, if◌then◌else◌}
 use Rattle.std.specs.List.{AllByRecursion}
 use Rattle.std.specs.Option.{option_map}
 use Rattle.std.proofs.lemmas.Bool.{cases_Bool, and_parts, or_left, or_right, not-true, leb-true, cond_both}
 use Rattle.std.proofs.lemmas.Int.{ints}
 use Rattle.std.proofs.lemmas.List.{length-append, length-map}
-use Rattle.std.proofs.lemmas.List.Elements.{All-from_recursion}
 use Rattle.std.proofs.lemmas.Option.{slice_get-map, slice_get_within}
 use Rattle.hyd_num.specs.Numeral.{is_numeral, is_negative, magnitude_of, nano_of, signed}
 use Rattle.hyd_num.specs.declared.units.FlowUnit.{FlowUnit}
-use Rattle.hyd_num.specs.declared.decimals.Span.{Span}
-use Rattle.hyd_num.specs.declared.decimals.Decimal.{Decimal}
 use Rattle.hyd_lex.specs.Lines.{Row}
 use Rattle.hyd_lex.specs.Bytes.{is_keyword}
 use Rattle.hyd_lex.specs.Headings.{is_one_of}
-use Rattle.hyd_lex.specs.declared.section.Section.TheVariants.{Junctions, Reservoirs, Tanks, Pipes, Pumps, Valves, Rules as RulesSection}
+use Rattle.hyd_lex.specs.declared.section.Section.TheVariants.{Junctions, Reservoirs, Tanks, Pumps, Valves, Rules as RulesSection}
 use Rattle.hyd_net.specs.Ids.{IsId}
-use Rattle.hyd_net.specs.Ranges.{Lies, LiesWithin, Numbers}
-use Rattle.hyd_net.specs.Made.{IsValueMade, IsSeconds}
+use Rattle.hyd_net.specs.Ranges.{LiesWithin, Numbers}
+use Rattle.hyd_net.specs.Made.{IsValueMade}
 use Rattle.hyd_net.specs.Commands as commands
 use Rattle.hyd_net.specs.Commands.{node_count, HasPressure, HasSetting, SpeaksOf, Compares, IsComparedWith, CanCommand}
-use Rattle.hyd_net.specs.declared.cause.Cause.{Cause}
-use Rattle.hyd_net.specs.declared.cause.Cause.TheVariants.{Syntax, Number, UnknownName, Unsupported}
+use Rattle.hyd_net.specs.declared.cause.Cause.TheVariants.{Syntax, Unsupported}
 use Rattle.hyd_net.specs.declared.links.Link.{Link}
 use Rattle.hyd_net.specs.declared.links.LinkKind.{LinkKind}
 use Rattle.hyd_net.specs.declared.links.LinkKind.TheVariants.{Pipe, CheckPipe, Pump, CurvePump, Tcv, Fcv, Gpv}
@@ -36,40 +32,36 @@ use Rattle.hyd_net.specs.declared.rules.RuleClause.{RuleClause}
 use Rattle.hyd_net.specs.declared.rules.Action.{Action}
 use Rattle.hyd_net.specs.declared.rules.Rule.{Rule as RuleItem}
 use Rattle.hyd_net.specs.declared.project.Project.{Project}
-use Rattle.hyd_spec_input.specs.Columns.{first, or_else, unless, needed, ends, id, number, word, amount, units}
+use Rattle.hyd_spec_input.specs.Columns.{first, unless, needed, ends, id, number, word, amount}
 use Rattle.hyd_spec_input.specs.Keywords.{object_word, attribute_word, relation_word, link_word}
 use Rattle.hyd_spec_input.specs.declared.ObjectWord.{ObjectWord}
 use Rattle.hyd_spec_input.specs.declared.ObjectWord.TheVariants.{System, Node as NodeObject, Link as LinkObject}
 use Rattle.hyd_spec_input.specs.declared.LinkWord.{LinkWord}
 use Rattle.hyd_spec_input.specs.declared.LinkWord.TheVariants as linked
-use Rattle.hyd_spec_input.specs.declared.NodeWord.{NodeWord}
-use Rattle.hyd_spec_input.specs.declared.NodeWord.TheVariants as noded
 use Rattle.hyd_spec_input.specs.declared.Attribute.{Attribute}
 use Rattle.hyd_spec_input.specs.declared.Attribute.TheVariants as attribute
 use Rattle.hyd_spec_input.specs.declared.RuleWord.{RuleWord}
 use Rattle.hyd_spec_input.specs.declared.RuleWord.TheVariants as rule
-use Rattle.hyd_spec_input.specs.declared.Stage.{Stage}
 use Rattle.hyd_spec_input.specs.declared.Stage.TheVariants.{Outside}
-use Rattle.hyd_spec_input.specs.Moments.{time, time_seconds, clock, clock_seconds}
+use Rattle.hyd_spec_input.specs.Moments.{time_seconds, clock_seconds}
 use Rattle.hyd_spec_input.specs.RuleRows as alone
 use Rattle.hyd_spec_input.specs.RuleRows.{begins_with, stage_by, is_acting, words_about, line_words, can_have, attribute_of, is_equality, relates, relation_of, comparison, clause_about, attribute_place, is_rule}
 use Rattle.hyd_spec_input.specs.Tables.{is_of, is_node, is_link, rows_of, words_of, own_id, node_rows, link_rows, row_with, node_named, link_named, allows_node, allows_link}
 use Rattle.hyd_spec_input.specs.InForce.{unit}
-use Rattle.hyd_spec_input.specs.Network.{node_ids, tank_ids, link_ids, number_in, rule_groups, clause_lines, then_lines, else_lines, rule_id, is_priority, first_amount, priority_of, is_asking, is_doing, is_otherwise}
-use Rattle.hyd_spec_input.specs.WithOthers as others
-use Rattle.hyd_spec_input.specs.WithOthers.{known_as, node_by_word, link_by_word, can_show, object_known, set_link}
+use Rattle.hyd_spec_input.specs.Network.{node_ids, link_ids, number_in, rule_groups, clause_lines, then_lines, else_lines, rule_id, is_priority, first_amount, priority_of, is_asking, is_doing, is_otherwise}
+use Rattle.hyd_spec_input.specs.WithOthers.{known_as, link_by_word, can_show, object_known, set_link}
 use Rattle.hyd_spec_input.specs.Project as project
 use Rattle.hyd_spec_input.specs.Project.{IsProject, IsLink, IsKind, IsPumpKind, IsValveKind, IsWhat, IsNumber, compared, status_value, IsValue, place_of, IsClauseAt, numbered_links}
-use Rattle.hyd_spec_networks.proofs.Places.{all_at, match_all, match_length, of_either, Behind, item_at, partner, kept_passes}
+use Rattle.hyd_spec_networks.proofs.Places.{all_at, match_all, match_length, of_either, item_at, partner, kept_passes}
 use Rattle.hyd_spec_networks.proofs.Faultless.{AreRight, or_none, all_none, unless_none, needed_none}
 use Rattle.hyd_spec_networks.proofs.Occurs.{number_inside, number_names}
 use Rattle.hyd_spec_networks.proofs.Moments.{time_right, clock_right}
 use Rattle.hyd_spec_networks.proofs.Names.{own_ids, numbered_nodes, node_stands, link_stands, node_new, link_new, row_named, node_ids_are, link_ids_are, node_length, link_length}
 use Rattle.hyd_spec_networks.proofs.Numbered.{numbers_from}
-use Rattle.hyd_spec_networks.proofs.LinkKinds.{not_of, as_pump, as_valve}
+use Rattle.hyd_spec_networks.proofs.LinkKinds.{as_pump, as_valve}
 use Rattle.hyd_spec_networks.proofs.LinkStates.{Command, command}
 use Rattle.hyd_spec_networks.proofs.ControlLines.{can_command, tank_inside}
-use Rattle.hyd_spec_networks.proofs.RuleLines.{LineRight, RightFrom, rule_is, all_lines, GroupRight, group_right, LineAt, line_at, each_line, ClauseLine, ActionLine, clause_line, then_line, else_line}
+use Rattle.hyd_spec_networks.proofs.RuleLines.{LineRight, RightFrom, rule_is, all_lines, GroupRight, group_right, line_at, each_line, ClauseLine, ActionLine, clause_line, then_line, else_line}
 
 -- ---- the row that a number and a name have
 
@@ -137,7 +129,7 @@ pressure_right rows p name n right of numbered known =
     let stands = node_stands rows n found.item found.is in
     let same = named_row (node_ids rows) (numbered_nodes rows) name n found.item (node_ids_are rows) numbered found.is in
     let named : node_named rows name ≡ Some found.item =
-      subst (λ id. row_with id (node_rows rows) ≡ Some found.item) same (row_named is_node rows stands.0.place found.item (node_new rows right) stands.0.is stands.1) in
+    subst (λ id. row_with id (node_rows rows) ≡ Some found.item) same (row_named is_node rows stands.0.place found.item (node_new rows right) stands.0.is stands.1) in
     let one : found.item ≡ known.row = (let e : Some found.item ≡ Some known.row = sym named ∙ known.is in let x : found.item ≡ known.row = cc in x) in
     let other : is_of Reservoirs found.item ≡ false = ap (is_of Reservoirs) one ∙ not-true (is_of Reservoirs known.row) known.allows in
     let j = match_length (project.IsJunction rows) _ _ of.junctions in
@@ -147,9 +139,9 @@ pressure_right rows p name n right of numbered known =
       in_range = inside;
       no_reservoir = elim (of_either (rows_of Junctions rows ++ rows_of Reservoirs rows) (rows_of Tanks rows) n found.item found.is) [
         | inl l ↦ elim (of_either (rows_of Junctions rows) (rows_of Reservoirs rows) n found.item l) [
-            | inl a ↦ inl (omega (arith, slice_get_within (rows_of Junctions rows) n found.item a, j))
-            | inr b ↦ absurd (true≢false (sym (kept_passes (is_of Reservoirs) rows b.place found.item b.is) ∙ other))
-          ]
+          | inl a ↦ inl (omega (arith, slice_get_within (rows_of Junctions rows) n found.item a, j))
+          | inr b ↦ absurd (true≢false (sym (kept_passes (is_of Reservoirs) rows b.place found.item b.is) ∙ other))
+        ]
         | inr t ↦ inr (omega (arith, t.behind, both, j, r))
       ];
     }
@@ -181,7 +173,7 @@ setting_right rows p name n right of numbered known =
     let stands = link_stands rows n pair.item pair.is in
     let same = named_row (link_ids rows) (numbered_links rows) name n pair.item (link_ids_are rows) numbered pair.is in
     let named : link_named rows name ≡ Some pair.item =
-      subst (λ id. row_with id (link_rows rows) ≡ Some pair.item) same (row_named is_link rows stands.0.place pair.item (link_new rows right) stands.0.is stands.1) in
+    subst (λ id. row_with id (link_rows rows) ≡ Some pair.item) same (row_named is_link rows stands.0.place pair.item (link_new rows right) stands.0.is stands.1) in
     let one : known.row ≡ pair.item = (let e : Some known.row ≡ Some pair.item = sym known.is ∙ named in let x : known.row ≡ pair.item = cc in x) in
     let allows : (is_of Pumps pair.item || is_of Valves pair.item) ≡ true = subst (λ r. (is_of Pumps r || is_of Valves r) ≡ true) one known.allows in
     let sets : HasSetting found.item.kind = elim (cases_Bool (is_of Pumps pair.item)) [
@@ -304,14 +296,14 @@ clause_at : (rows : List Row) (p : Project) (words : List (List ℕ)) (object : 
 clause_at rows p words object c right of e known is =
     let k = attribute_place object in
     let each = all_none (needed (alone.attribute object) k words ∷ needed (alone.relation (attribute_word (word k words))) (k + 1) words
-      ∷ alone.value (attribute_word (word k words)) (k + 2) words ∷ []) e in
+    ∷ alone.value (attribute_word (word k words)) (k + 2) words ∷ []) e in
     let has = can_is object (attribute_word (word k words)) (word k words) (needed_none (alone.attribute object) k words each.0).right in
     let what : IsWhat rows words (Some has.0) c.clause.what = subst (λ (a : Option Attribute). IsWhat rows words a c.clause.what) has.1.0 is.what in
     let related : relation_of (attribute_word (word k words)) (relation_word (word (k + 1) words)) ≡ None =
-      (needed_none (alone.relation (attribute_word (word k words))) (k + 1) words each.1.0).right in
+    (needed_none (alone.relation (attribute_word (word k words))) (k + 1) words each.1.0).right in
     let relation : relates (Some has.0) c.clause.relation ≡ None =
-      subst (λ (r : Option Relation). relation_of (Some has.0) r ≡ None) is.relation
-      (subst (λ (a : Option Attribute). relation_of a (relation_word (word (k + 1) words)) ≡ None) has.1.0 related) in
+    subst (λ (r : Option Relation). relation_of (Some has.0) r ≡ None) is.relation
+    (subst (λ (a : Option Attribute). relation_of a (relation_word (word (k + 1) words)) ≡ None) has.1.0 related) in
     let value : alone.value (Some has.0) (k + 2) words ≡ None = subst (λ (a : Option Attribute). alone.value a (k + 2) words ≡ None) has.1.0 each.1.1.0 in
     let found = value_right rows (unit rows) words (k + 2) has.0 c.clause.what c.clause.value what value is.value_is in
     record {

@@ -1,9 +1,9 @@
 -- Counts of a file without a fault: no table is longer than its limit.
-use Rattle.std.proofs.Common.{◌≡◌, ℕ, ◌+◌, ◌*◌, ◌^◌, ◌<◌, ◌≤◌, zero, suc, Bool, true, false, List, [], ◌∷◌, ◌++◌, map, length, take, drop, Option, Some, None, refl, sym, ap, ◌∙◌, subst, arith, inl, inr, true≢false, cond, append-nil}
-use Rattle.std.specs.Prelude.{slice_get, filter, sum_by, ◌&&◌, ◌||◌, ◌==◌, ◌⊎◌, not, nat_le, nat_lt, All, if◌then◌else◌}
+use Rattle.std.proofs.Common.{◌≡◌, ℕ, ◌+◌, ◌≤◌, zero, suc, Bool, true, false, List, [], ◌∷◌, ◌++◌, map, length, take, Option, Some, None, refl, sym, ap, ◌∙◌, subst, arith, inl, inr, true≢false, append-nil}
+use Rattle.std.specs.Prelude.{slice_get, filter, sum_by, ◌||◌, ◌⊎◌, nat_lt, All, if◌then◌else◌}
 use Rattle.std.specs.List.{flat_map}
 use Rattle.std.specs.Str.{bytes_eq}
-use Rattle.std.proofs.lemmas.Bool.{cases_Bool, leb-true, ltb-true, or_cases, or_from, or_left, or_right, cond_both}
+use Rattle.std.proofs.lemmas.Bool.{cases_Bool, leb-true, or_cases, or_left, or_right, cond_both}
 use Rattle.std.proofs.lemmas.List.{length-append, length-map, map-append, take_all}
 use Rattle.std.proofs.lemmas.List.Elements.{All-nil, All-cons, All-head, All-tail, All-append, filter-append}
 use Rattle.hyd_lex.specs.Lines.{Row}
@@ -11,7 +11,6 @@ use Rattle.hyd_lex.specs.declared.section.Section.{Section}
 use Rattle.hyd_lex.specs.declared.section.Section.TheVariants.{Junctions, Reservoirs, Tanks, Pipes, Pumps, Valves, Demands, Curves, Patterns, Controls as ControlsSection, Rules as RulesSection}
 use Rattle.hyd_net.specs.Sound.{IsWithinLimits, demand_rows, part_count}
 use Rattle.hyd_net.specs.ListView.{ListView}
-use Rattle.hyd_net.specs.declared.cause.Cause.{Cause}
 use Rattle.hyd_net.specs.declared.curves.VolumePoint.{VolumePoint}
 use Rattle.hyd_net.specs.declared.curves.HeadPoint.{HeadPoint}
 use Rattle.hyd_net.specs.declared.nodes.Demand.{Demand}
@@ -19,7 +18,7 @@ use Rattle.hyd_net.specs.declared.nodes.Junction.{Junction}
 use Rattle.hyd_net.specs.declared.patterns.Pattern.{Pattern}
 use Rattle.hyd_net.specs.declared.rules.Rule.{Rule as RuleItem}
 use Rattle.hyd_net.specs.declared.project.Project.{Project}
-use Rattle.hyd_spec_input.specs.Columns.{first, unless, or_empty}
+use Rattle.hyd_spec_input.specs.Columns.{first, or_empty}
 use Rattle.hyd_spec_input.specs.DataRows.{multipliers}
 use Rattle.hyd_spec_input.specs.NetworkRows.{tank_curve, pump_curve, valve_curve}
 use Rattle.hyd_spec_input.specs.declared.RuleWord.{RuleWord}
@@ -27,18 +26,18 @@ use Rattle.hyd_spec_input.specs.declared.RuleWord.TheVariants.{Rule, If, And, Or
 use Rattle.hyd_spec_input.specs.declared.Stage.{Stage}
 use Rattle.hyd_spec_input.specs.declared.Stage.TheVariants.{Outside, Named, Asking, Acting, Otherwise, Closed}
 use Rattle.hyd_spec_input.specs.RuleRows.{stage_by, begins_with, is_rule, until_rule}
-use Rattle.hyd_spec_input.specs.Tables.{Point, point_of, place, is_of, is_link, rows_of, words_of, words_of_row, own_id, link_rows, has_id, rows_with, one_if_new, distinct_after, distinct, row_multipliers, pattern_named, curve_named}
+use Rattle.hyd_spec_input.specs.Tables.{point_of, is_of, is_link, rows_of, words_of, words_of_row, own_id, link_rows, has_id, rows_with, distinct_after, distinct, row_multipliers, curve_named}
 use Rattle.hyd_spec_input.specs.InForce.{unit}
 use Rattle.hyd_spec_input.specs.Curves.{is_bent, head_point, volume_point}
-use Rattle.hyd_spec_input.specs.Network.{is_among, new_names, pattern_ids, as_list, shape_names, bent_name, bend_names, demand_of_row, own_demand, or_own, demands_of, rule_groups, lines_at, is_asking, is_doing, is_otherwise, clause_lines, then_lines, else_lines}
+use Rattle.hyd_spec_input.specs.Network.{is_among, new_names, pattern_ids, as_list, shape_names, bent_name, bend_names, demand_of_row, own_demand, or_own, rule_groups, lines_at, is_asking, is_doing, is_otherwise}
 use Rattle.hyd_spec_input.specs.WithOthers as others
 use Rattle.hyd_spec_input.specs.WithOthers.{us, passes, known_curve, multiplier_count, names_rule, is_part_word, is_part, rules_in, parts_in}
 use Rattle.hyd_spec_input.specs.Project as project
 use Rattle.hyd_spec_input.specs.Project.{Match, IsProject, IsLink, IsPattern, shape_points, bend_points, numbered_links}
-use Rattle.hyd_spec_networks.proofs.Places.{all_from, all_at, item_at, match_length, kept_stands, kept_passes, next_taken, kept_more, kept_same}
+use Rattle.hyd_spec_networks.proofs.Places.{item_at, match_length, kept_more, kept_same}
 use Rattle.hyd_spec_networks.proofs.Faultless.{AreRight, right_among, all_none, unless_none}
-use Rattle.hyd_spec_networks.proofs.Occurs.{same_name, itself, when, occurs, Once, occurs_append, new_among, kept_once, names_once, fewer_names, total, total_is, total_at, grouped}
-use Rattle.hyd_spec_networks.proofs.Names.{OneOf, First, Second, Third, one_of_three, own_ids, link_part, numbered_nodes, nodes_once, node_ids_are, ends_right}
+use Rattle.hyd_spec_networks.proofs.Occurs.{same_name, when, occurs, Once, occurs_append, kept_once, names_once, fewer_names, total, total_is, total_at, grouped}
+use Rattle.hyd_spec_networks.proofs.Names.{own_ids, link_part, nodes_once, node_ids_are, ends_right}
 use Rattle.hyd_spec_networks.proofs.NodeRanges.{each_row}
 use Rattle.hyd_spec_networks.proofs.RuleLines.{not_rule}
 
@@ -77,12 +76,12 @@ of_some : (section : Section) (q : Row → Bool) (most : ℕ) (rows : List Row)
     → length (filter q (rows_of section rows)) ≤ most
 of_some section q most rows each = bounded (λ rs. length (filter q (rows_of section rs))) most rows (omega arith) (λ k row is. elim (cases_Bool (is_of section row)) [
   | inl t ↦ elim (cases_Bool (q row)) [
-      | inl u ↦ inr (each k row is t u)
-      | inr v ↦ (let same : filter q (rows_of section (take (k + 1) rows)) ≡ filter q (rows_of section (take k rows)) =
-          ap (filter q) (kept_more (is_of section) rows k row is t) ∙ filter-append q (rows_of section (take k rows)) (row ∷ [])
-          ∙ rw v (append-nil (filter q (rows_of section (take k rows)))) in
-          let count = ap length same in inl (omega (arith, count)))
-    ]
+    | inl u ↦ inr (each k row is t u)
+    | inr v ↦ (let same : filter q (rows_of section (take (k + 1) rows)) ≡ filter q (rows_of section (take k rows)) =
+        ap (filter q) (kept_more (is_of section) rows k row is t) ∙ filter-append q (rows_of section (take k rows)) (row ∷ [])
+        ∙ rw v (append-nil (filter q (rows_of section (take k rows)))) in
+        let count = ap length same in inl (omega (arith, count)))
+  ]
   | inr f ↦ (let same = ap (λ rs. length (filter q rs)) (kept_same (is_of section) rows k row is f) in inl (omega (arith, same)))
 ])
 
@@ -150,7 +149,7 @@ parted_length p f g h (row ∷ rows) one =
     omega (arith, parted_length p f g h rows one, one row 1, kept_count p, kept_count f, kept_count g, kept_count h)
   where
     kept_count : (q : Row → Bool) → length (filter q (row ∷ rows)) ≡ when (q row) 1 + length (filter q rows)
-    kept_count q = elim (cases_Bool (q row)) [ | inl t ↦ rw t (omega arith) | inr f ↦ rw f (omega arith) ]
+    kept_count q = elim (cases_Bool (q row)) [ inl t ↦ rw t (omega arith) | inr f ↦ rw f (omega arith) ]
 
 numbered_count : (rows : List Row) → length (numbered_links rows) ≡ length (link_rows rows)
 numbered_count rows =
@@ -229,14 +228,18 @@ or_known false true h = absurd (true≢false (sym (h refl)))
 or_known false false h = refl
 
 seen_again : (earlier : List Row) (seen : List (List ℕ)) (row : Row) → has_id (own_id row) earlier ≡ true → SameSeen earlier seen → SameSeen (earlier ++ row ∷ []) seen
-seen_again earlier seen row old s = record { same = λ name.
-    has_id_push name earlier row
-    ∙ or_known (has_id name earlier) (bytes_eq name (own_id row)) (λ t. subst (λ n. has_id n earlier ≡ true) (sym (same_name name (own_id row) t)) old)
-    ∙ s.same name }
+seen_again earlier seen row old s = record {
+  same = λ name.
+      has_id_push name earlier row
+      ∙ or_known (has_id name earlier) (bytes_eq name (own_id row)) (λ t. subst (λ n. has_id n earlier ≡ true) (sym (same_name name (own_id row) t)) old)
+      ∙ s.same name;
+}
 
 seen_new : (earlier : List Row) (seen : List (List ℕ)) (row : Row) → SameSeen earlier seen → SameSeen (earlier ++ row ∷ []) (own_id row ∷ seen)
-seen_new earlier seen row s = record { same = λ name.
-    has_id_push name earlier row ∙ or_exchanged (has_id name earlier) (bytes_eq name (own_id row)) ∙ ap (λ b. bytes_eq name (own_id row) || b) (s.same name) }
+seen_new earlier seen row s = record {
+  same = λ name.
+      has_id_push name earlier row ∙ or_exchanged (has_id name earlier) (bytes_eq name (own_id row)) ∙ ap (λ b. bytes_eq name (own_id row) || b) (s.same name);
+}
 
 distinct_is : (earlier : List Row) (seen : List (List ℕ)) (xs : List Row) → SameSeen earlier seen → distinct_after earlier xs ≡ length (new_names seen (own_ids xs))
 distinct_is earlier seen [] s = refl
@@ -319,7 +322,7 @@ bend_count : (rows : List Row) → AreRight rows → length (bend_names rows) �
 bend_count rows right =
     let all = new_names [] (own_ids (rows_of Curves rows)) in
     let few = fewer_than (bend_names rows) all (names_once _)
-      (λ k d l. kept_once _ [] (own_ids (rows_of Curves rows)) (id_among _ (rows_of Curves rows) (bends_known rows right k d l)) refl) in
+    (λ k d l. kept_once _ [] (own_ids (rows_of Curves rows)) (id_among _ (rows_of Curves rows) (bends_known rows right k d l)) refl) in
     omega (arith, few, distinct_names (rows_of Curves rows), curve_count rows right)
 
 -- ---- demands
@@ -332,7 +335,7 @@ junction_demands : (rows : List Row) (row : Row) (j : Junction) → project.IsJu
 junction_demands rows row j is =
     let own = own_length (own_demand rows row) (map (demand_of_row rows) (rows_with (own_id row) (rows_of Demands rows))) in
     let few : demand_rows j ≤ length (map (demand_of_row rows) (rows_with (own_id row) (rows_of Demands rows))) =
-      subst (λ list. (if nat_lt 1 (length list) then length list else 0) ≤ length (map (demand_of_row rows) (rows_with (own_id row) (rows_of Demands rows)))) (sym is.demands) own in
+    subst (λ list. (if nat_lt 1 (length list) then length list else 0) ≤ length (map (demand_of_row rows) (rows_with (own_id row) (rows_of Demands rows)))) (sym is.demands) own in
     omega (arith, few, length-map (rows_with (own_id row) (rows_of Demands rows)) (demand_of_row rows), rows_length (own_id row) (rows_of Demands rows))
 
 total_ids : (g : List ℕ → ℕ) (xs : List Row) → total (λ r. g (own_id r)) xs ≡ total g (own_ids xs)
@@ -352,7 +355,7 @@ demands_few : (rows : List Row) (p : Project) → AreRight rows → IsProject ro
 demands_few rows p right of =
     let D = rows_of Demands rows in
     let a = sum_match (project.IsJunction rows) demand_rows (λ row. total_at own_id (λ r. 1) (own_id row) D) (rows_of Junctions rows) p.junctions.list of.junctions
-      (λ row j is. junction_demands rows row j is) in
+    (λ row j is. junction_demands rows row j is) in
     let b = total_ids (λ id. total_at own_id (λ r. 1) id D) (rows_of Junctions rows) in
     let c = grouped own_id (λ r. 1) (own_ids (rows_of Junctions rows)) D (junctions_once rows right) in
     omega (arith, a, b, c, ones D, demand_count rows right)
@@ -397,8 +400,14 @@ three_parts : (stage : Stage) (lines : List (List (List ℕ)))
     → length (lines_at is_asking stage lines) + length (lines_at is_doing stage lines) + length (lines_at is_otherwise stage lines) ≤ parts_of lines
 three_parts stage [] = omega arith
 three_parts stage (words ∷ lines) =
-    omega (arith, lines_length is_asking stage words lines, lines_length is_doing stage words lines, lines_length is_otherwise stage words lines,
-    line_part stage (begins_with words), three_parts (stage_by stage (begins_with words)) lines)
+    omega (
+      arith,
+      lines_length is_asking stage words lines,
+      lines_length is_doing stage words lines,
+      lines_length is_otherwise stage words lines,
+      line_part stage (begins_with words),
+      three_parts (stage_by stage (begins_with words)) lines,
+    )
 
 group_parts : (lines : List (List (List ℕ))) → total parts_of (rule_groups lines) + parts_of (until_rule lines) ≤ parts_of lines
 group_parts [] = omega arith
@@ -448,7 +457,7 @@ multipliers_few : (rows : List Row) (p : Project) → AreRight rows → IsProjec
 multipliers_few rows p right of =
     let P = rows_of Patterns rows in
     let a = sum_match (IsPattern rows) (λ (q : Pattern). length q.multipliers.list) (λ id. total_at own_id (λ r. length (row_multipliers r)) id P) (pattern_ids rows) p.patterns.list of.patterns
-      (λ id q is. let e = ap length is ∙ flat_length row_multipliers id P in omega (arith, e)) in
+    (λ id q is. let e = ap length is ∙ flat_length row_multipliers id P in omega (arith, e)) in
     let b = grouped own_id (λ r. length (row_multipliers r)) (pattern_ids rows) P (names_once (own_ids P)) in
     omega (arith, a, b, total_is (λ (r : Row). length (multipliers r.words)) P, all_multipliers rows right)
 
@@ -469,12 +478,12 @@ within_limits rows p right of =
       shapes = omega (arith, match_length S _ _ of.shapes, shape_count rows right);
       shape_points = (
           let a = sum_match S (λ (s : ListView VolumePoint). length s.list) (λ id. total_at own_id (λ r. 1) id (rows_of Curves rows)) (shape_names rows) p.shapes.list of.shapes
-            (λ id s is. let e = ap length is ∙ length-map (curve_named rows id) (volume_point (us rows)) ∙ curve_length rows id in omega (arith, e)) in
+          (λ id s is. let e = ap length is ∙ length-map (curve_named rows id) (volume_point (us rows)) ∙ curve_length rows id in omega (arith, e)) in
           omega (arith, a, points_few rows (shape_names rows) right (names_once _)));
       bends = omega (arith, match_length B _ _ of.bends, bend_count rows right);
       bend_points = (
           let a = sum_match B (λ (b : ListView HeadPoint). length b.list) (λ id. total_at own_id (λ r. 1) id (rows_of Curves rows)) (bend_names rows) p.bends.list of.bends
-            (λ id b is. let e = ap length is ∙ length-map (curve_named rows id) (head_point (unit rows) (us rows)) ∙ curve_length rows id in omega (arith, e)) in
+          (λ id b is. let e = ap length is ∙ length-map (curve_named rows id) (head_point (unit rows) (us rows)) ∙ curve_length rows id in omega (arith, e)) in
           omega (arith, a, points_few rows (bend_names rows) right (names_once _)));
       demands = demands_few rows p right of;
       controls = omega (arith, match_length (project.IsControl rows) _ _ of.controls, length-map (rows_of ControlsSection rows) words_of_row, control_count rows right);
