@@ -42,10 +42,12 @@ use Rattle.hyd_spec_networks.proofs.LinkStates.{Command, command}
 -- ---- what a command may set
 
 -- a link whose kind is a pipe with a check valve has a row that says so
-check_valve_is : (rows : List Row) (row : Row) (kind : LinkKind) → IsKind rows row kind → is_check_valve row ≡ false → (state : LinkState) → CanHave kind state → CanBeSet kind state
+check_valve_is : (rows : List Row) (row : Row) (kind : LinkKind) → IsKind rows row kind → is_check_valve row ≡ false
+    → (state : LinkState) → CanHave kind state → CanBeSet kind state
 check_valve_is rows row (Pipe cap) is none state can = can
 check_valve_is rows row (CheckPipe cap) is none state can = elim (cases_Bool (is_of Pipes row)) [
-  | inl t ↦ (let pipe = where_true (is_of Pipes row) _ _ t is in absurd (true≢false (sym (and_from (is_of Pipes row) _ t pipe.0) ∙ none)))
+  | inl t ↦ (let pipe = where_true (is_of Pipes row) _ _ t is in
+      absurd (true≢false (sym (and_from (is_of Pipes row) _ t pipe.0) ∙ none)))
   | inr f ↦ (let rest = where_false (is_of Pipes row) _ _ f is in
       elim (cases_Bool (is_of Pumps row)) [
         | inl t ↦ absurd (where_true (is_of Pumps row) _ _ t rest)
@@ -58,14 +60,17 @@ check_valve_is rows row (Tcv valve) is none state can = can
 check_valve_is rows row (Fcv valve) is none state can = can
 check_valve_is rows row (Gpv bend) is none state can = can
 
-pub can_command : (rows : List Row) (p : Project) (number : ℕ) (to : LinkState) → Command rows p number to → CanCommand p number to
+pub can_command : (rows : List Row) (p : Project) (number : ℕ) (to : LinkState) → Command rows p number to
+    → CanCommand p number to
 can_command rows p number to c =
-    numbers_from (λ (l : Link). CanBeSet l.kind to) p.links.list number c.link c.link_is (check_valve_is rows c.row c.link.kind c.made.kind c.no_check_valve to c.state.can)
+    numbers_from (λ (l : Link). CanBeSet l.kind to) p.links.list number c.link c.link_is
+    (check_valve_is rows c.row c.link.kind c.made.kind c.no_check_valve to c.state.can)
 
 -- ---- moments
 
 -- a word that is one keyword isn't another
-word_apart : (a b : List ℕ) (o : Option (List ℕ)) → is_option_keyword a o ≡ true → is_keyword b a ≡ false → is_option_keyword b o ≡ false
+word_apart : (a b : List ℕ) (o : Option (List ℕ)) → is_option_keyword a o ≡ true → is_keyword b a ≡ false
+    → is_option_keyword b o ≡ false
 word_apart a b None is apart = refl
 word_apart a b (Some w) is apart = keyword_same a b w is ∙ apart
 
@@ -73,34 +78,48 @@ at_not_if : is_keyword (codes "IF") (codes "AT") ≡ false
 unfolding is_keyword
 at_not_if = refl
 
-pub tank_inside : (rows : List Row) (p : Project) (name : List ℕ) (n : ℕ) → IsProject rows p → number_in (tank_ids rows) name ≡ Some n → n < length p.tanks.list
+pub tank_inside : (rows : List Row) (p : Project) (name : List ℕ) (n : ℕ) → IsProject rows p
+    → number_in (tank_ids rows) name ≡ Some n → n < length p.tanks.list
 tank_inside rows p name n of e =
-    let same = ap length (tank_ids_are rows) ∙ length-map (rows_of Tanks rows) own_id ∙ match_length (IsTank rows) _ _ of.tanks in
+    let same = ap length (tank_ids_are rows) ∙ length-map (rows_of Tanks rows) own_id ∙ match_length (IsTank rows) _ _
+    of.tanks in
     omega (arith, same, number_inside (tank_ids rows) name n e)
 
 -- the line of a control, by its words
-timed : (words : List (List ℕ)) → alone.control words ≡ None → word_is 3 (codes "AT") words ≡ true → alone.time_control words ≡ None
+timed : (words : List (List ℕ)) → alone.control words ≡ None → word_is 3 (codes "AT") words ≡ true
+    → alone.time_control words ≡ None
 timed words e at =
     let each = all_none (needed (meant link_word) 0 words ∷ needed id 1 words ∷ needed asked 2 words
     ∷ needed (one_of (codes "IF" ∷ codes "AT" ∷ [])) 3 words
     ∷ (if word_is 3 (codes "IF") words then alone.level_control words else alone.time_control words) ∷ []) e in
-    let other : word_is 3 (codes "IF") words ≡ false = word_apart (codes "AT") (codes "IF") (slice_get words 3) at at_not_if in
+    let other : word_is 3 (codes "IF") words ≡ false =
+    word_apart (codes "AT") (codes "IF") (slice_get words 3) at at_not_if in
     rw other at each.1.1.1.1.0
 
-moment_right : (rows : List Row) (p : Project) (k : ℕ) (row : Row) (w : When) → AreRight rows → IsProject rows p → slice_get rows k ≡ Some row → is_of ControlsSection row ≡ true
+moment_right : (rows : List Row) (p : Project) (k : ℕ) (row : Row) (w : When) → AreRight rows → IsProject rows p
+    → slice_get rows k ≡ Some row → is_of ControlsSection row ≡ true
     → IsWhen rows row.words w → IsMoment p w
 moment_right rows p k row (LevelAt tank above ticks) right of at section is =
-    let each = all_none (others.control_faults rows k row) (right_among rows ControlsSection k row right at section) in
-    let level : head rows (amount 7 row.words) ≡ None = rw is.0 at each.1.1.1.1.0 in
-    (tank_inside rows p (word 5 row.words) tank of is.1, subst IsHead (sym is.3) (head_right rows (amount 7 row.words) level))
+    let each = all_none (others.control_faults rows k row)
+    (right_among rows ControlsSection k row right at section) in
+    let level : head rows (amount 7 row.words) ≡ None = rw is.0 at each.1.1.1.1.0 in (
+      tank_inside rows p (word 5 row.words) tank of is.1,
+      subst IsHead (sym is.3)
+          (head_right rows (amount 7 row.words) level),
+    )
 moment_right rows p k row (TimeAt seconds) right of at section is =
     let both = and_parts (word_is 3 (codes "AT") row.words) (not (word_is 4 (codes "CLOCKTIME") row.words)) is.0 in
-    let line = (or_none (needed (one_of (codes "TIME" ∷ codes "CLOCKTIME" ∷ [])) 4 row.words) _ (timed row.words (right_alone rows ControlsSection k row right at section) both.0)).1 in
-    let time_line : time 0 5 row.words ≡ None = rw (not-true (word_is 4 (codes "CLOCKTIME") row.words) both.1) at line in
+    let line =
+    (or_none (needed (one_of (codes "TIME" ∷ codes "CLOCKTIME" ∷ [])) 4 row.words) _
+    (timed row.words (right_alone rows ControlsSection k row right at section) both.0)).1 in
+    let time_line : time 0 5 row.words ≡ None =
+    rw (not-true (word_is 4 (codes "CLOCKTIME") row.words) both.1) at line in
     rw is.1 (time_right 0 5 row.words time_line).at_most
 moment_right rows p k row (ClockAt seconds) right of at section is =
     let both = and_parts (word_is 3 (codes "AT") row.words) (word_is 4 (codes "CLOCKTIME") row.words) is.0 in
-    let line = (or_none (needed (one_of (codes "TIME" ∷ codes "CLOCKTIME" ∷ [])) 4 row.words) _ (timed row.words (right_alone rows ControlsSection k row right at section) both.0)).1 in
+    let line =
+    (or_none (needed (one_of (codes "TIME" ∷ codes "CLOCKTIME" ∷ [])) 4 row.words) _
+    (timed row.words (right_alone rows ControlsSection k row right at section) both.0)).1 in
     let clock_line : clock 5 row.words ≡ None = rw both.1 at line in
     rw is.1 (clock_right 5 row.words clock_line)
 
@@ -110,23 +129,34 @@ pub record ControlRight (rows : List Row) (p : Project) (c : Control) : Type 0 w
   pub command : Command rows p c.link c.to
   pub moment : IsMoment p c.when
 
-control_right : (rows : List Row) (p : Project) (k : ℕ) (row : Row) (c : Control) → AreRight rows → IsProject rows p → slice_get rows k ≡ Some row → is_of ControlsSection row ≡ true
+control_right : (rows : List Row) (p : Project) (k : ℕ) (row : Row) (c : Control) → AreRight rows → IsProject rows p
+    → slice_get rows k ≡ Some row → is_of ControlsSection row ≡ true
     → project.IsControl rows row.words c → ControlRight rows p c
 control_right rows p k row c right of at section is =
-    let each = all_none (others.control_faults rows k row) (right_among rows ControlsSection k row right at section) in
+    let each = all_none (others.control_faults rows k row)
+    (right_among rows ControlsSection k row right at section) in
     record {
-      command = command rows p (word 1 row.words) (word 2 row.words) c.link c.to (control_tank rows row) right of is.link each.1.1.1.0 is.to;
+      command = command rows p (word 1 row.words) (word 2 row.words) c.link c.to (control_tank rows row) right of
+          is.link each.1.1.1.0 is.to;
       moment = moment_right rows p k row c.when right of at section is.when;
     }
 
-pub each_control : (rows : List Row) (p : Project) → AreRight rows → IsProject rows p → All (ControlRight rows p) p.controls.list
+pub each_control : (rows : List Row) (p : Project) → AreRight rows → IsProject rows p
+    → All (ControlRight rows p) p.controls.list
 each_control rows p right of =
-    match_all (project.IsControl rows) (ControlRight rows p) (words_of ControlsSection rows) p.controls.list of.controls (λ n words c at _ made.
+    match_all (project.IsControl rows) (ControlRight rows p) (words_of ControlsSection rows) p.controls.list
+    of.controls (λ n words c at _ made.
     let found = source words_of_row (rows_of ControlsSection rows) n words at in
     let stands = kept_stands (is_of ControlsSection) rows n found.item found.is in
-    control_right rows p stands.place found.item c right of stands.is (kept_passes (is_of ControlsSection) rows n found.item found.is)
+    control_right rows p stands.place found.item c right of stands.is
+    (kept_passes (is_of ControlsSection) rows n found.item found.is)
     (subst (λ ws. project.IsControl rows ws c) (sym found.gives) made))
 
-pub controls_right : (rows : List Row) (p : Project) → AreRight rows → IsProject rows p → All (commands.IsControl p) p.controls.list
+pub controls_right : (rows : List Row) (p : Project) → AreRight rows → IsProject rows p
+    → All (commands.IsControl p) p.controls.list
 controls_right rows p right of = λ k d l.
-    let c = each_control rows p right of k d l in record { command = can_command rows p _ _ c.command; moment = c.moment }
+    let c = each_control rows p right of k d l in record {
+      command = can_command rows p _ _ c.command;
+      moment =
+          c.moment;
+    }

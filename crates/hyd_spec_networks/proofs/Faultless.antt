@@ -41,19 +41,24 @@ pub record Word (column : Column) (words : List (List ℕ)) (k : ℕ) : Type 0 w
   pub is : slice_get words k ≡ Some (word k words)
   pub right : column (word k words) ≡ None
 
-of_needed_none : (column : Column) (o : Option (List ℕ)) → of_needed column o ≡ None → (o ≡ Some (or_empty o)) × (column (or_empty o) ≡ None)
+of_needed_none : (column : Column) (o : Option (List ℕ)) → of_needed column o ≡ None → (o ≡ Some (or_empty o))
+    × (column (or_empty o) ≡ None)
 of_needed_none column None e = absurd (let x : ⊥ = cc in x)
 of_needed_none column (Some w) e = (refl, e)
 
-pub needed_none : (column : Column) (k : ℕ) (words : List (List ℕ)) → needed column k words ≡ None → Word column words k
-needed_none column k words e = let both = of_needed_none column (slice_get words k) e in record { is = both.0; right = both.1 }
+pub needed_none : (column : Column) (k : ℕ) (words : List (List ℕ)) → needed column k words ≡ None
+    → Word column words k
+needed_none column k words e = let both = of_needed_none column (slice_get words k) e in
+    record { is = both.0; right = both.1 }
 
 -- a word that may be missing is right where it is there
-pub optional_none : (column : Column) (k : ℕ) (words : List (List ℕ)) (w : List ℕ) → optional column k words ≡ None → slice_get words k ≡ Some w → column w ≡ None
+pub optional_none : (column : Column) (k : ℕ) (words : List (List ℕ)) (w : List ℕ) → optional column k words ≡ None
+    → slice_get words k ≡ Some w → column w ≡ None
 optional_none column k words w e is = let P : Option (List ℕ) → Type 0 = λ o. of_word column o ≡ None in subst P is e
 
 -- what a number that may be missing has, its default has it too
-pub amount_or_is : (P : ℤ → Type 0) (default : ℤ) (k : ℕ) (words : List (List ℕ)) → P default → ((w : List ℕ) → slice_get words k ≡ Some w → P (nano_of w))
+pub amount_or_is : (P : ℤ → Type 0) (default : ℤ) (k : ℕ) (words : List (List ℕ)) → P default
+    → ((w : List ℕ) → slice_get words k ≡ Some w → P (nano_of w))
     → P (amount_or default k words)
 amount_or_is P default k words d each = by (slice_get words k) each
   where
@@ -73,7 +78,8 @@ pub below : (a b : ℤ) → lt_z a b ≡ true → a <ℤ b
 below a b e = grind (arith, ints)
 
 pub lies : (low high z : ℤ) → (le_z low z && le_z z high) ≡ true → Lies low high z
-lies low high z e = let both = and_parts (le_z low z) (le_z z high) e in record { at_least = at_most low z both.0; at_most = at_most z high both.1 }
+lies low high z e = let both = and_parts (le_z low z) (le_z z high) e in
+    record { at_least = at_most low z both.0; at_most = at_most z high both.1 }
 
 pub within : (low high : ℤ) (w : List ℕ) → number_within low high w ≡ None → Lies low high (nano_of w)
 within low high w e = lies low high (nano_of w) (in_range (λ nano. le_z low nano && le_z nano high) w e)
@@ -95,8 +101,10 @@ pub right_rows : (text : List ℕ) → HasNoFault text → AreRight (rows_in (it
 right_rows text none =
     let rows = rows_in (items_of text) in
     record {
-      by_itself = λ k row is. none_from (itself.row_fault rows k row) (λ cause e. none.by_itself k cause (record { row = row; row_is = is; fault = e }));
-      with_others = λ k row is. none_from (others.row_fault rows k row) (λ cause e. none.with_others k cause (record { row = row; row_is = is; fault = inl e }));
+      by_itself = λ k row is. none_from (itself.row_fault rows k row)
+          (λ cause e. none.by_itself k cause (record { row = row; row_is = is; fault = e }));
+      with_others = λ k row is. none_from (others.row_fault rows k row)
+          (λ cause e. none.with_others k cause (record { row = row; row_is = is; fault = inl e }));
       not_empty = λ k row is. all_at HasWords rows (All-from_recursion HasWords rows (not_empty text)) k row is;
     }
 
@@ -106,7 +114,8 @@ at_place : ℕ → Section
 at_place n =
     if n == 0 then Junctions else (if n == 1 then Reservoirs else (if n == 2 then Tanks else (if n == 3 then Pipes
     else (if n == 4 then Pumps else (if n == 5 then Valves else (if n == 6 then Demands else (if n == 7 then Emitters
-    else (if n == 8 then Curves else (if n == 9 then Patterns else (if n == 10 then Status else (if n == 11 then Controls
+    else (if n == 8 then Curves else (if n == 9 then Patterns else
+    (if n == 10 then Status else (if n == 11 then Controls
     else (if n == 12 then Rules else (if n == 13 then Options else Times)))))))))))))
 
 has_place : (section : Section) → at_place (place section) ≡ section
@@ -131,13 +140,17 @@ pub section_is : (section : Section) (row : Row) → is_of section row ≡ true 
 section_is section row e = sym (has_place row.section) ∙ ap at_place (eqb-true _ _ e) ∙ has_place section
 
 -- what is asked of a row of a section, by itself and with the others
-pub right_alone : (rows : List Row) (section : Section) (k : ℕ) (row : Row) → AreRight rows → slice_get rows k ≡ Some row → is_of section row ≡ true
-    → itself.section_fault section (words_of Rules (take k rows)) row.words (words_of Rules (drop (k + 1) rows)) ≡ None
+pub right_alone : (rows : List Row) (section : Section) (k : ℕ) (row : Row) → AreRight rows
+    → slice_get rows k ≡ Some row → is_of section row ≡ true
+    → itself.section_fault section (words_of Rules (take k rows)) row.words (words_of Rules (drop (k + 1) rows))
+    ≡ None
 right_alone rows section k row right is of =
-    let P : Section → Type 0 = λ s. itself.section_fault s (words_of Rules (take k rows)) row.words (words_of Rules (drop (k + 1) rows)) ≡ None in
+    let P : Section → Type 0 = λ s. itself.section_fault s (words_of Rules (take k rows)) row.words
+    (words_of Rules (drop (k + 1) rows)) ≡ None in
     subst P (section_is section row of) (right.by_itself k row is)
 
-pub right_among : (rows : List Row) (section : Section) (k : ℕ) (row : Row) → AreRight rows → slice_get rows k ≡ Some row → is_of section row ≡ true
+pub right_among : (rows : List Row) (section : Section) (k : ℕ) (row : Row) → AreRight rows
+    → slice_get rows k ≡ Some row → is_of section row ≡ true
     → others.section_fault section rows k row ≡ None
 right_among rows section k row right is of =
     let P : Section → Type 0 = λ s. others.section_fault s rows k row ≡ None in

@@ -53,16 +53,21 @@ use Rattle.hyd_spec_networks.proofs.LinkKinds.{where_true, where_false, to_where
 pub data Asked (rows : List Row) (row : Row) (state : LinkState) : Type 0 where
   AsksOpen : state ≡ open_state row → Asked rows row state
   AsksClosed : state ≡ Closed → Asked rows row state
-  AsksNumber : (nano : ℤ) → takes_number row ≡ true → state_range rows row nano ≡ None → IsNumberState rows row nano state → Asked rows row state
+  AsksNumber : (nano : ℤ) → takes_number row ≡ true → state_range rows row nano ≡ None
+      → IsNumberState rows row nano state → Asked rows row state
 
 -- a word that is neither OPEN nor CLOSED is no status
-no_status : (word : List ℕ) → is_keyword (codes "OPEN") word ≡ false → is_keyword (codes "CLOSED") word ≡ false → is_status word ≡ false
+no_status : (word : List ℕ) → is_keyword (codes "OPEN") word ≡ false → is_keyword (codes "CLOSED") word ≡ false
+    → is_status word ≡ false
 no_status word a b = rw (a, b) refl
 
-asked_by : (rows : List Row) (row : Row) (word : List ℕ) (between : Option Cause) (state : LinkState) → set_link rows (Some row) word between ≡ None → IsState rows row word state
+asked_by : (rows : List Row) (row : Row) (word : List ℕ) (between : Option Cause) (state : LinkState)
+    → set_link rows (Some row) word between ≡ None → IsState rows row word state
     → Asked rows row state
 asked_by rows row word between state e is =
-    let each = all_none (unless (is_status word || takes_number row) Syntax ∷ between ∷ unless (not (is_check_valve row)) (Unsupported 11)
+    let each =
+    all_none (unless (is_status word || takes_number row) Syntax ∷ between ∷ unless (not (is_check_valve row))
+    (Unsupported 11)
     ∷ (if is_status word then None else state_range rows row (nano_of word)) ∷ []) e in
     elim (cases_Bool (is_keyword (codes "OPEN") word)) [
       | inl t ↦ AsksOpen (where_true (is_keyword (codes "OPEN") word) _ _ t is)
@@ -76,9 +81,12 @@ asked_by rows row word between state e is =
           ])
     ]
 
-no_check_valve : (rows : List Row) (row : Row) (word : List ℕ) (between : Option Cause) → set_link rows (Some row) word between ≡ None → is_check_valve row ≡ false
+no_check_valve : (rows : List Row) (row : Row) (word : List ℕ) (between : Option Cause)
+    → set_link rows (Some row) word between ≡ None → is_check_valve row ≡ false
 no_check_valve rows row word between e =
-    let each = all_none (unless (is_status word || takes_number row) Syntax ∷ between ∷ unless (not (is_check_valve row)) (Unsupported 11)
+    let each =
+    all_none (unless (is_status word || takes_number row) Syntax ∷ between ∷ unless (not (is_check_valve row))
+    (Unsupported 11)
     ∷ (if is_status word then None else state_range rows row (nano_of word)) ∷ []) e in
     not-true _ (unless_none _ _ each.1.1.0)
 
@@ -112,8 +120,10 @@ IsLimitState rows _ = ⊥
 open_is : (row : Row) → is_of Pumps row ≡ false → open_state row ≡ Open
 open_is row other = rw other refl
 
-pipe_asked : (rows : List Row) (row : Row) (state : LinkState) → is_of Pipes row ≡ true → Asked rows row state → IsPipeState state
-pipe_asked rows row state of (AsksOpen e) = subst IsPipeState (sym (e ∙ open_is row (not_of Pipes Pumps row of refl))) tt
+pipe_asked : (rows : List Row) (row : Row) (state : LinkState) → is_of Pipes row ≡ true → Asked rows row state
+    → IsPipeState state
+pipe_asked rows row state of (AsksOpen e) = subst IsPipeState (sym (e ∙ open_is row (not_of Pipes Pumps row of refl)))
+    tt
 pipe_asked rows row state of (AsksClosed e) = subst IsPipeState (sym e) tt
 pipe_asked rows row state of (AsksNumber nano takes range is) =
     let none : takes_number row ≡ false = rw (not_of Pipes Pumps row of refl, not_of Pipes Valves row of refl) refl in
@@ -135,7 +145,8 @@ speed_is nano e =
     not_zero (pos (suc n)) l apart = omega (arith, ints)
     not_zero (negsuc n) l apart = absurd (omega (arith, ints, l))
 
-pump_asked : (rows : List Row) (row : Row) (state : LinkState) → is_of Pumps row ≡ true → Asked rows row state → IsPumpState state
+pump_asked : (rows : List Row) (row : Row) (state : LinkState) → is_of Pumps row ≡ true → Asked rows row state
+    → IsPumpState state
 pump_asked rows row state of (AsksOpen e) =
     let speed : open_state row ≡ Speed (units 1) = rw of refl in subst IsPumpState (sym (e ∙ speed)) one_speed
 pump_asked rows row state of (AsksClosed e) = subst IsPumpState (sym e) tt
@@ -143,34 +154,48 @@ pump_asked rows row state of (AsksNumber nano takes range is) =
     let test : unless (is_speed nano) Range ≡ None = rw of at range in
     subst IsPumpState (sym (where_true (is_of Pumps row) _ _ of is)) (speed_is nano (unless_none _ _ test))
 
-throttle_of : (rows : List Row) (row : Row) (nano : ℤ) (state : LinkState) → IsUpTo (10 ^ 6) nano → IsThrottle rows row nano state → IsThrottleState rows row state
-throttle_of rows row nano (Throttle coefficient law) bounds is = (subst (IsUpTo (10 ^ 6)) (sym is.0) bounds, subst (λ (z : ℤ). IsLaw rows row z law) (sym is.0) is.1)
+throttle_of : (rows : List Row) (row : Row) (nano : ℤ) (state : LinkState) → IsUpTo (10 ^ 6) nano
+    → IsThrottle rows row nano state → IsThrottleState rows row state
+throttle_of rows row nano (Throttle coefficient law) bounds is =
+    (subst (IsUpTo (10 ^ 6)) (sym is.0) bounds, subst (λ (z : ℤ). IsLaw rows row z law) (sym is.0) is.1)
 throttle_of rows row nano Open bounds is = absurd is
 throttle_of rows row nano Closed bounds is = absurd is
 throttle_of rows row nano (Speed speed) bounds is = absurd is
 throttle_of rows row nano (Limit flow ticks) bounds is = absurd is
 
-throttle_asked : (rows : List Row) (row : Row) (state : LinkState) → is_of Valves row ≡ true → is_throttle row.words ≡ true → Asked rows row state → IsThrottleState rows row state
-throttle_asked rows row state of throttle (AsksOpen e) = subst (IsThrottleState rows row) (sym (e ∙ open_is row (not_of Valves Pumps row of refl))) tt
+throttle_asked : (rows : List Row) (row : Row) (state : LinkState) → is_of Valves row ≡ true
+    → is_throttle row.words ≡ true → Asked rows row state → IsThrottleState rows row state
+throttle_asked rows row state of throttle (AsksOpen e) =
+    subst (IsThrottleState rows row) (sym (e ∙ open_is row (not_of Valves Pumps row of refl))) tt
 throttle_asked rows row state of throttle (AsksClosed e) = subst (IsThrottleState rows row) (sym e) tt
 throttle_asked rows row state of throttle (AsksNumber nano takes range is) =
-    let test : unless (le_z (pos 0) nano && le_z nano (units (10 ^ 6))) Range ≡ None = rw (not_of Valves Pumps row of refl, throttle) at range in
+    let test : unless (le_z (pos 0) nano && le_z nano (units (10 ^ 6))) Range ≡ None =
+    rw (not_of Valves Pumps row of refl, throttle) at range in
     throttle_of rows row nano state (lies (pos 0) (units (10 ^ 6)) nano (unless_none _ _ test))
-    (where_true (is_throttle row.words) _ _ throttle (where_false (is_of Pumps row) _ _ (not_of Valves Pumps row of refl) is))
+    (where_true (is_throttle row.words) _ _ throttle
+    (where_false (is_of Pumps row) _ _ (not_of Valves Pumps row of refl) is))
 
-limit_asked : (rows : List Row) (row : Row) (state : LinkState) → is_of Valves row ≡ true → is_throttle row.words ≡ false → Asked rows row state → IsLimitState rows state
-limit_asked rows row state of throttle (AsksOpen e) = subst (IsLimitState rows) (sym (e ∙ open_is row (not_of Valves Pumps row of refl))) tt
+limit_asked : (rows : List Row) (row : Row) (state : LinkState) → is_of Valves row ≡ true
+    → is_throttle row.words ≡ false → Asked rows row state → IsLimitState rows state
+limit_asked rows row state of throttle (AsksOpen e) =
+    subst (IsLimitState rows) (sym (e ∙ open_is row (not_of Valves Pumps row of refl))) tt
 limit_asked rows row state of throttle (AsksClosed e) = subst (IsLimitState rows) (sym e) tt
 limit_asked rows row state of throttle (AsksNumber nano takes range is) =
-    let test : or_else (unless (le_z (pos 0) nano) Range) (flow rows nano) ≡ None = rw (not_of Valves Pumps row of refl, throttle) at range in
+    let test : or_else (unless (le_z (pos 0) nano) Range) (flow rows nano) ≡ None =
+    rw (not_of Valves Pumps row of refl, throttle) at range in
     let both = or_none (unless (le_z (pos 0) nano) Range) (flow rows nano) test in
     let limit : state ≡ Limit nano (flow_ticks (unit rows) nano) =
-    where_false (is_throttle row.words) _ _ throttle (where_false (is_of Pumps row) _ _ (not_of Valves Pumps row of refl) is) in
-    subst (IsLimitState rows) (sym limit)
-    (record { not_negative = at_most (pos 0) nano (unless_none _ _ both.0); flow = flow_right rows nano both.1 }, refl)
+    where_false (is_throttle row.words) _ _ throttle
+    (where_false (is_of Pumps row) _ _ (not_of Valves Pumps row of refl) is) in
+    subst (IsLimitState rows) (sym limit) (
+      record { not_negative = at_most (pos 0) nano (unless_none _ _ both.0); flow = flow_right rows nano both.1 },
+      refl,
+    )
 
-general_asked : (rows : List Row) (row : Row) (state : LinkState) → is_of Valves row ≡ true → is_general row.words ≡ true → Asked rows row state → IsPipeState state
-general_asked rows row state of general (AsksOpen e) = subst IsPipeState (sym (e ∙ open_is row (not_of Valves Pumps row of refl))) tt
+general_asked : (rows : List Row) (row : Row) (state : LinkState) → is_of Valves row ≡ true
+    → is_general row.words ≡ true → Asked rows row state → IsPipeState state
+general_asked rows row state of general (AsksOpen e) =
+    subst IsPipeState (sym (e ∙ open_is row (not_of Valves Pumps row of refl))) tt
 general_asked rows row state of general (AsksClosed e) = subst IsPipeState (sym e) tt
 general_asked rows row state of general (AsksNumber nano takes range is) =
     let none : takes_number row ≡ false = rw (not_of Valves Pumps row of refl, of, general) refl in
@@ -183,7 +208,8 @@ pub record StateRight (rows : List Row) (row : Row) (kind : LinkKind) (state : L
   pub made : IsStateMade (unit rows) state
   pub across : IsStateAcross (amount 3 row.words) state
 
-pipe_state : (rows : List Row) (row : Row) (kind : LinkKind) (state : LinkState) → IsPipeKind rows row kind → IsPipeState state → StateRight rows row kind state
+pipe_state : (rows : List Row) (row : Row) (kind : LinkKind) (state : LinkState) → IsPipeKind rows row kind
+    → IsPipeState state → StateRight rows row kind state
 pipe_state rows row (Pipe cap) Open is s = record { can = tt; made = tt; across = tt }
 pipe_state rows row (Pipe cap) Closed is s = record { can = tt; made = tt; across = tt }
 pipe_state rows row (Pipe cap) (Speed nano) is s = absurd s
@@ -200,7 +226,8 @@ pipe_state rows row (Tcv valve) state is s = absurd is
 pipe_state rows row (Fcv valve) state is s = absurd is
 pipe_state rows row (Gpv bend) state is s = absurd is
 
-pump_state : (rows : List Row) (row : Row) (kind : LinkKind) (state : LinkState) → IsPumpKind rows row kind → IsPumpState state → StateRight rows row kind state
+pump_state : (rows : List Row) (row : Row) (kind : LinkKind) (state : LinkState) → IsPumpKind rows row kind
+    → IsPumpState state → StateRight rows row kind state
 pump_state rows row (Pump cap shutoff head pattern) Closed is s = record { can = tt; made = tt; across = tt }
 pump_state rows row (Pump cap shutoff head pattern) (Speed nano) is s = record { can = s; made = tt; across = tt }
 pump_state rows row (Pump cap shutoff head pattern) Open is s = absurd s
@@ -218,17 +245,20 @@ pump_state rows row (Fcv valve) state is s = absurd is
 pump_state rows row (Gpv bend) state is s = absurd is
 
 -- the law of a valve of a diameter and a coefficient has both
-pub law_across : (us : Bool) (diameter coefficient : ℤ) (law : OpenValve) → IsOpenValve us diameter coefficient law → IsLawAcross diameter law
+pub law_across : (us : Bool) (diameter coefficient : ℤ) (law : OpenValve) → IsOpenValve us diameter coefficient law
+    → IsLawAcross diameter law
 law_across us diameter coefficient (Quadratic cap) is =
     let made = is.1 in subst (λ (o : Origin). IsOriginAcross diameter o) (sym made.origin) made.d_is
 law_across us diameter coefficient Linear is = tt
 
-law_of : (us : Bool) (diameter coefficient : ℤ) (law : OpenValve) → IsOpenValve us diameter coefficient law → HasLaw coefficient law
+law_of : (us : Bool) (diameter coefficient : ℤ) (law : OpenValve) → IsOpenValve us diameter coefficient law
+    → HasLaw coefficient law
 law_of us diameter coefficient (Quadratic cap) is =
     let made = is.1 in subst (λ (o : Origin). HasCoefficient coefficient o) (sym made.origin) made.k_is
 law_of us diameter coefficient Linear is = is
 
-throttle_state : (rows : List Row) (row : Row) (valve : OpenValve) (state : LinkState) → Lies (pos 1) (units (10 ^ 4)) (amount 3 row.words) → IsThrottleState rows row state
+throttle_state : (rows : List Row) (row : Row) (valve : OpenValve) (state : LinkState)
+    → Lies (pos 1) (units (10 ^ 4)) (amount 3 row.words) → IsThrottleState rows row state
     → StateRight rows row (Tcv valve) state
 throttle_state rows row valve Open own s = record { can = tt; made = tt; across = tt }
 throttle_state rows row valve Closed own s = record { can = tt; made = tt; across = tt }
@@ -244,46 +274,58 @@ throttle_state rows row valve (Throttle nano law) own s = record {
 throttle_state rows row valve (Speed nano) own s = absurd s
 throttle_state rows row valve (Limit nano ticks) own s = absurd s
 
-limit_state : (rows : List Row) (row : Row) (valve : OpenValve) (state : LinkState) → IsLimitState rows state → StateRight rows row (Fcv valve) state
+limit_state : (rows : List Row) (row : Row) (valve : OpenValve) (state : LinkState) → IsLimitState rows state
+    → StateRight rows row (Fcv valve) state
 limit_state rows row valve Open s = record { can = tt; made = tt; across = tt }
 limit_state rows row valve Closed s = record { can = tt; made = tt; across = tt }
 limit_state rows row valve (Limit nano ticks) s = record { can = s.0; made = s.1; across = tt }
 limit_state rows row valve (Speed nano) s = absurd s
 limit_state rows row valve (Throttle nano law) s = absurd s
 
-general_state : (rows : List Row) (row : Row) (bend : ℕ) (state : LinkState) → IsPipeState state → StateRight rows row (Gpv bend) state
+general_state : (rows : List Row) (row : Row) (bend : ℕ) (state : LinkState) → IsPipeState state
+    → StateRight rows row (Gpv bend) state
 general_state rows row bend Open s = record { can = tt; made = tt; across = tt }
 general_state rows row bend Closed s = record { can = tt; made = tt; across = tt }
 general_state rows row bend (Speed nano) s = absurd s
 general_state rows row bend (Throttle nano law) s = absurd s
 general_state rows row bend (Limit nano ticks) s = absurd s
 
-valve_state : (rows : List Row) (row : Row) (kind : LinkKind) (state : LinkState) → is_of Valves row ≡ true → Lies (pos 1) (units (10 ^ 4)) (amount 3 row.words)
+valve_state : (rows : List Row) (row : Row) (kind : LinkKind) (state : LinkState) → is_of Valves row ≡ true
+    → Lies (pos 1) (units (10 ^ 4)) (amount 3 row.words)
     → IsValveKind rows row kind → Asked rows row state → StateRight rows row kind state
-valve_state rows row (Tcv valve) state of own is asks = throttle_state rows row valve state own (throttle_asked rows row state of is.0 asks)
-valve_state rows row (Fcv valve) state of own is asks = limit_state rows row valve state (limit_asked rows row state of is.0 asks)
-valve_state rows row (Gpv bend) state of own is asks = general_state rows row bend state (general_asked rows row state of is.0 asks)
+valve_state rows row (Tcv valve) state of own is asks =
+    throttle_state rows row valve state own (throttle_asked rows row state of is.0 asks)
+valve_state rows row (Fcv valve) state of own is asks =
+    limit_state rows row valve state (limit_asked rows row state of is.0 asks)
+valve_state rows row (Gpv bend) state of own is asks =
+    general_state rows row bend state (general_asked rows row state of is.0 asks)
 valve_state rows row (Pipe cap) state of own is asks = absurd is
 valve_state rows row (CheckPipe cap) state of own is asks = absurd is
 valve_state rows row (Pump cap shutoff head pattern) state of own is asks = absurd is
 valve_state rows row (CurvePump bend pattern) state of own is asks = absurd is
 
-pub state_right : (rows : List Row) (k : ℕ) (row : Row) (kind : LinkKind) (state : LinkState) → AreRight rows → slice_get rows k ≡ Some row → is_link row ≡ true
+pub state_right : (rows : List Row) (k : ℕ) (row : Row) (kind : LinkKind) (state : LinkState) → AreRight rows
+    → slice_get rows k ≡ Some row → is_link row ≡ true
     → IsKind rows row kind → Asked rows row state → StateRight rows row kind state
-state_right rows k row kind state right at link is asks = elim (one_of_three (is_of Pipes row) (is_of Pumps row) (is_of Valves row) link) [
-  | First of ↦ pipe_state rows row kind state (as_pipe rows row kind of is) (pipe_asked rows row state of asks)
-  | Second of ↦ pump_state rows row kind state (as_pump rows row kind of is) (pump_asked rows row state of asks)
-  | Third of ↦ valve_state rows row kind state of (valve_numbers row.words (right_alone rows Valves k row right at of)).across (as_valve rows row kind of is) asks
-]
+state_right rows k row kind state right at link is asks =
+    elim (one_of_three (is_of Pipes row) (is_of Pumps row) (is_of Valves row) link) [
+      | First of ↦ pipe_state rows row kind state (as_pipe rows row kind of is) (pipe_asked rows row state of asks)
+      | Second of ↦ pump_state rows row kind state (as_pump rows row kind of is) (pump_asked rows row state of asks)
+      | Third of ↦ valve_state rows row kind state of
+          (valve_numbers row.words (right_alone rows Valves k row right at of)).across (as_valve rows row kind of is)
+          asks
+    ]
 
 -- ---- the state of a link's own row
 
 -- the speed among a pump's pairs
-speed_word : (earlier : EarlierKeys) (words : List (List ℕ)) (w : List ℕ) → pump_pairs earlier words ≡ None → pair_value (codes "SPEED") words ≡ Some w → up_to 10 w ≡ None
+speed_word : (earlier : EarlierKeys) (words : List (List ℕ)) (w : List ℕ) → pump_pairs earlier words ≡ None
+    → pair_value (codes "SPEED") words ≡ Some w → up_to 10 w ≡ None
 speed_word earlier [] w e is = absurd (let x : ⊥ = cc in x)
 speed_word earlier (key ∷ []) w e is = absurd (let x : ⊥ = cc in x)
 speed_word earlier (key ∷ value ∷ words) w e is =
-    let each = all_none (pump_key earlier key ∷ pump_value key value ∷ pump_pairs (and_key earlier key) words ∷ []) e in
+    let each = all_none (pump_key earlier key ∷ pump_value key value ∷ pump_pairs (and_key earlier key) words ∷ [])
+    e in
     elim (cases_Bool (is_keyword (codes "SPEED") key)) [
       | inl t ↦ (let f : Some value ≡ Some w = rw t at is in
           let same : value ≡ w = cc in
@@ -292,18 +334,21 @@ speed_word earlier (key ∷ value ∷ words) w e is =
       | inr f ↦ speed_word (and_key earlier key) words w each.1.1.0 (rw f at is)
     ]
 
-speed_in_range : (o : Option (List ℕ)) → ((w : List ℕ) → o ≡ Some w → up_to 10 w ≡ None) → is_speed (speed_of o) ≡ true
+speed_in_range : (o : Option (List ℕ)) → ((w : List ℕ) → o ≡ Some w → up_to 10 w ≡ None)
+    → is_speed (speed_of o) ≡ true
 speed_in_range None each = refl
 speed_in_range (Some w) each = in_range is_speed w (each w refl)
 
-pump_speed_right : (rows : List Row) (k : ℕ) (row : Row) → AreRight rows → slice_get rows k ≡ Some row → is_of Pumps row ≡ true → is_speed (pump_speed row.words) ≡ true
+pump_speed_right : (rows : List Row) (k : ℕ) (row : Row) → AreRight rows → slice_get rows k ≡ Some row
+    → is_of Pumps row ≡ true → is_speed (pump_speed row.words) ≡ true
 pump_speed_right rows k row right at of =
     let own = all_none (alone.link_ends row.words ∷ pump_pairs alone.none_earlier (drop 3 row.words)
     ∷ unless (is_there (alone.pump_curve row.words)) Syntax ∷ []) (right_alone rows Pumps k row right at of) in
     speed_in_range (pump_speed_word row.words) (λ w is. speed_word alone.none_earlier (drop 3 row.words) w own.1.0 is)
 
 -- a valve's setting as the state that is asked for
-valve_range : (rows : List Row) (k : ℕ) (row : Row) → AreRight rows → slice_get rows k ≡ Some row → is_of Valves row ≡ true → is_general row.words ≡ false
+valve_range : (rows : List Row) (k : ℕ) (row : Row) → AreRight rows → slice_get rows k ≡ Some row
+    → is_of Valves row ≡ true → is_general row.words ≡ false
     → state_range rows row (amount 5 row.words) ≡ None
 valve_range rows k row right at of general =
     let own = valve_numbers row.words (right_alone rows Valves k row right at of) in
@@ -319,13 +364,15 @@ valve_range rows k row right at of general =
           rw (not_of Valves Pumps row of refl, f, above) fits)
     ]
 
-pipe_own : (rows : List Row) (row : Row) (state : LinkState) → is_of Pipes row ≡ true → state ≡ (if is_closed_pipe row.words then Closed else Open) → Asked rows row state
+pipe_own : (rows : List Row) (row : Row) (state : LinkState) → is_of Pipes row ≡ true
+    → state ≡ (if is_closed_pipe row.words then Closed else Open) → Asked rows row state
 pipe_own rows row state of is = elim (cases_Bool (is_closed_pipe row.words)) [
   | inl t ↦ AsksClosed (is ∙ rw t refl)
   | inr f ↦ AsksOpen (is ∙ rw f (sym (open_is row (not_of Pipes Pumps row of refl))))
 ]
 
-pump_own : (rows : List Row) (k : ℕ) (row : Row) (state : LinkState) → AreRight rows → slice_get rows k ≡ Some row → is_of Pumps row ≡ true
+pump_own : (rows : List Row) (k : ℕ) (row : Row) (state : LinkState) → AreRight rows → slice_get rows k ≡ Some row
+    → is_of Pumps row ≡ true
     → state ≡ speed_state (pump_speed row.words) → Asked rows row state
 pump_own rows k row state right at of is =
     let speed = pump_speed_right rows k row right at of in
@@ -333,51 +380,68 @@ pump_own rows k row state right at of is =
     let range : state_range rows row (pump_speed row.words) ≡ None = rw (of, speed) refl in
     AsksNumber (pump_speed row.words) takes range (to_where (is_of Pumps row) _ _ of is)
 
-valve_own : (rows : List Row) (k : ℕ) (row : Row) (state : LinkState) → AreRight rows → slice_get rows k ≡ Some row → is_of Valves row ≡ true
-    → Where (is_general row.words) (state ≡ Open) (IsNumberState rows row (amount 5 row.words) state) → Asked rows row state
+valve_own : (rows : List Row) (k : ℕ) (row : Row) (state : LinkState) → AreRight rows → slice_get rows k ≡ Some row
+    → is_of Valves row ≡ true
+    → Where (is_general row.words) (state ≡ Open) (IsNumberState rows row (amount 5 row.words) state)
+    → Asked rows row state
 valve_own rows k row state right at of is = elim (cases_Bool (is_general row.words)) [
-  | inl t ↦ AsksOpen (where_true (is_general row.words) _ _ t is ∙ sym (open_is row (not_of Valves Pumps row of refl)))
-  | inr f ↦ AsksNumber (amount 5 row.words) (or_right (is_of Pumps row) _ (and_from (is_of Valves row) _ of (not_from_false (is_general row.words) f)))
+  | inl t ↦ AsksOpen (where_true (is_general row.words) _ _ t is
+      ∙ sym (open_is row (not_of Valves Pumps row of refl)))
+  | inr f ↦ AsksNumber (amount 5 row.words)
+      (or_right (is_of Pumps row) _ (and_from (is_of Valves row) _ of (not_from_false (is_general row.words) f)))
       (valve_range rows k row right at of f) (where_false (is_general row.words) _ _ f is)
 ]
 
-own_state : (rows : List Row) (k : ℕ) (row : Row) (state : LinkState) → AreRight rows → slice_get rows k ≡ Some row → is_link row ≡ true → IsOwnState rows row state
+own_state : (rows : List Row) (k : ℕ) (row : Row) (state : LinkState) → AreRight rows → slice_get rows k ≡ Some row
+    → is_link row ≡ true → IsOwnState rows row state
     → Asked rows row state
-own_state rows k row state right at link is = elim (one_of_three (is_of Pipes row) (is_of Pumps row) (is_of Valves row) link) [
-  | First of ↦ pipe_own rows row state of (where_true (is_of Pipes row) _ _ of is)
-  | Second of ↦ pump_own rows k row state right at of (where_true (is_of Pumps row) _ _ of (where_false (is_of Pipes row) _ _ (not_of Pumps Pipes row of refl) is))
-  | Third of ↦ valve_own rows k row state right at of
-      (where_false (is_of Pumps row) _ _ (not_of Valves Pumps row of refl) (where_false (is_of Pipes row) _ _ (not_of Valves Pipes row of refl) is))
-]
+own_state rows k row state right at link is =
+    elim (one_of_three (is_of Pipes row) (is_of Pumps row) (is_of Valves row) link) [
+      | First of ↦ pipe_own rows row state of (where_true (is_of Pipes row) _ _ of is)
+      | Second of ↦ pump_own rows k row state right at of
+          (where_true (is_of Pumps row) _ _ of (where_false (is_of Pipes row) _ _ (not_of Pumps Pipes row of refl)
+          is))
+      | Third of ↦ valve_own rows k row state right at of
+          (where_false (is_of Pumps row) _ _ (not_of Valves Pumps row of refl)
+          (where_false (is_of Pipes row) _ _ (not_of Valves Pipes row of refl) is))
+    ]
 
 -- ---- the state of the start
 
-pub start_by : (rows : List Row) (k : ℕ) (row : Row) (state : LinkState) (status : Option Row) → AreRight rows → slice_get rows k ≡ Some row → is_link row ≡ true
+pub start_by : (rows : List Row) (k : ℕ) (row : Row) (state : LinkState) (status : Option Row) → AreRight rows
+    → slice_get rows k ≡ Some row → is_link row ≡ true
     → status_of rows row ≡ status → IsStart rows row status state → Asked rows row state
 start_by rows k row state None right at link e is = own_state rows k row state right at link is
 start_by rows k row state (Some status) right at link e is =
     let found = in_force rows StatusSection (λ r. bytes_eq (own_id row) (own_id r)) status e in
-    let each = all_none (others.status_faults rows found.place status) (right_among rows StatusSection found.place status right found.is found.of) in
+    let each = all_none (others.status_faults rows found.place status)
+    (right_among rows StatusSection found.place status right found.is found.of) in
     let same : own_id row ≡ own_id status = same_name _ _ found.passes in
-    let named : link_named rows (own_id status) ≡ Some row = rw (← same) (row_named is_link rows k row (link_new rows right) at link) in
+    let named : link_named rows (own_id status) ≡ Some row =
+    rw (← same) (row_named is_link rows k row (link_new rows right) at link) in
     let set : set_link rows (Some row) (word 1 status.words) None ≡ None = rw named at each.1.0 in
     asked_by rows row (word 1 status.words) None state set is
 
 pub starts_right : (rows : List Row) (p : Project) → AreRight rows → IsProject rows p
     → All (λ l. CanHave l.kind l.start × IsStateMade (unit rows) l.start) p.links.list
 starts_right rows p right of =
-    match_all (IsLink rows) (λ l. CanHave l.kind l.start × IsStateMade (unit rows) l.start) (numbered_links rows) p.links.list of.links (λ n row l at _ made.
+    match_all (IsLink rows) (λ l. CanHave l.kind l.start × IsStateMade (unit rows) l.start) (numbered_links rows)
+    p.links.list of.links (λ n row l at _ made.
     let stands = link_stands rows n row at in
-    let asks = start_by rows stands.0.place row l.start (status_of rows row) right stands.0.is stands.1 refl made.start in
+    let asks = start_by rows stands.0.place row l.start (status_of rows row) right stands.0.is stands.1 refl
+    made.start in
     let state = state_right rows stands.0.place row l.kind l.start right stands.0.is stands.1 made.kind asks in
     (state.can, state.made))
 
-pub states_right : (rows : List Row) (p : Project) → AreRight rows → IsProject rows p → All (λ l. CanHave l.kind l.start) p.links.list
+pub states_right : (rows : List Row) (p : Project) → AreRight rows → IsProject rows p
+    → All (λ l. CanHave l.kind l.start) p.links.list
 states_right rows p right of = λ k d l. (starts_right rows p right of k d l).0
 
-pub states_made : (rows : List Row) (p : Project) → AreRight rows → IsProject rows p → All (λ l. IsStateMade p.options.unit l.start) p.links.list
+pub states_made : (rows : List Row) (p : Project) → AreRight rows → IsProject rows p
+    → All (λ l. IsStateMade p.options.unit l.start) p.links.list
 states_made rows p right of =
-    subst (λ (u : FlowUnit). All (λ (l : Link). IsStateMade u l.start) p.links.list) (sym of.options.unit_is) (λ k d l. (starts_right rows p right of k d l).1)
+    subst (λ (u : FlowUnit). All (λ (l : Link). IsStateMade u l.start) p.links.list) (sym of.options.unit_is)
+    (λ k d l. (starts_right rows p right of k d l).1)
 
 -- ---- commands: a control or an action sets the state of a link
 
@@ -391,21 +455,25 @@ pub record Command (rows : List Row) (p : Project) (number : ℕ) (to : LinkStat
   pub state : StateRight rows row link.kind to
   pub no_check_valve : is_check_valve row ≡ false
 
-pub command : (rows : List Row) (p : Project) (name : List ℕ) (asked : List ℕ) (number : ℕ) (to : LinkState) (between : Option Cause) → AreRight rows → IsProject rows p
+pub command : (rows : List Row) (p : Project) (name : List ℕ) (asked : List ℕ) (number : ℕ) (to : LinkState)
+    (between : Option Cause) → AreRight rows → IsProject rows p
     → number_in (link_ids rows) name ≡ Some number → set_link rows (link_named rows name) asked between ≡ None
     → IsStateOf rows (link_named rows name) asked to → Command rows p number to
 command rows p name asked number to between right of numbered set is =
-    let inside : number < length p.links.list = omega (arith, number_inside (link_ids rows) name number numbered, link_length rows p of) in
+    let inside : number < length p.links.list =
+    omega (arith, number_inside (link_ids rows) name number numbered, link_length rows p of) in
     let found = item_at p.links.list number inside in
     let pair = partner (IsLink rows) (numbered_links rows) p.links.list number found.item of.links found.is in
     let stands = link_stands rows number pair.item pair.is in
     let there : slice_get (own_ids (numbered_links rows)) number ≡ Some name =
-    subst (λ ids. slice_get ids number ≡ Some name) (link_ids_are rows) (number_names (link_ids rows) name number numbered) in
+    subst (λ ids. slice_get ids number ≡ Some name) (link_ids_are rows)
+    (number_names (link_ids rows) name number numbered) in
     let own : slice_get (own_ids (numbered_links rows)) number ≡ Some (own_id pair.item) =
     slice_get-map own_id (numbered_links rows) number ∙ ap (option_map own_id) pair.is in
     let same : own_id pair.item ≡ name = cc in
     let named : link_named rows name ≡ Some pair.item =
-    subst (λ id. row_with id (link_rows rows) ≡ Some pair.item) same (row_named is_link rows stands.0.place pair.item (link_new rows right) stands.0.is stands.1) in
+    subst (λ id. row_with id (link_rows rows) ≡ Some pair.item) same
+    (row_named is_link rows stands.0.place pair.item (link_new rows right) stands.0.is stands.1) in
     let set_row : set_link rows (Some pair.item) asked between ≡ None = rw named at set in
     let is_row : IsState rows pair.item asked to = subst (λ (o : Option Row). IsStateOf rows o asked to) named is in
     record {

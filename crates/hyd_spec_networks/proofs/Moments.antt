@@ -26,7 +26,8 @@ pub record Bounded (least n : ℕ) : Type 0 where
   pub at_least : least ≤ n
   pub at_most : n ≤ 10 ^ 8
 
-pub time_right : (least k : ℕ) (words : List (List ℕ)) → time least k words ≡ None → Bounded least (time_seconds k words)
+pub time_right : (least k : ℕ) (words : List (List ℕ)) → time least k words ≡ None
+    → Bounded least (time_seconds k words)
 time_right least k words e =
     let each = all_none (needed moment_word k words ∷ optional (unit_word (word k words)) (k + 1) words
     ∷ time_range least (time_nano k words) ∷ ends (k + 2) words ∷ []) e in
@@ -43,7 +44,8 @@ half_right None nano e =
     let both = and_parts (le_z (pos 0) nano) (lt_z nano (pos (86400 * 10 ^ 9))) (unless_none _ _ e) in
     seconds_below nano 86400 (below nano (pos (86400 * 10 ^ 9)) both.1) (omega arith)
 half_right (Some half) nano e =
-    cond_both (is_keyword (codes "PM") half) 43200 0 (λ n. whole_seconds nano % 43200 + n < 86400) (λ t. omega arith) (λ f. omega arith)
+    cond_both (is_keyword (codes "PM") half) 43200 0 (λ n. whole_seconds nano % 43200 + n < 86400) (λ t. omega arith)
+    (λ f. omega arith)
 
 pub clock_right : (k : ℕ) (words : List (List ℕ)) → clock k words ≡ None → clock_seconds k words < 86400
 clock_right k words e =
@@ -57,18 +59,23 @@ time_word_same : (a word : List ℕ) → is_keyword a word ≡ true → time_wor
 unfolding time_word
 time_word_same a word e = rw (first_named_same time_words a word e, first_named_same more_time_words a word e) refl
 
-about : (words : List (List ℕ)) (a : List ℕ) (meaning : TimeWord) → time_line words ≡ None → word_is 0 a words ≡ true → time_word a ≡ Some meaning
+about : (words : List (List ℕ)) (a : List ℕ) (meaning : TimeWord) → time_line words ≡ None → word_is 0 a words ≡ true
+    → time_word a ≡ Some meaning
     → time_about (Some meaning) words ≡ None
 about words a meaning line first is =
-    let e : time_word (word 0 words) ≡ Some meaning = time_word_same a (word 0 words) (word_is_keyword 0 a words first) ∙ is in
+    let e : time_word (word 0 words) ≡ Some meaning =
+    time_word_same a (word 0 words) (word_is_keyword 0 a words first) ∙ is in
     subst (λ (o : Option TimeWord). time_about o words ≡ None) e line
 
 step_right : (words : List (List ℕ)) → step_line words ≡ None → Bounded 1 (time_seconds 2 words)
-step_right words e = time_right 1 2 words (or_none (needed (one_of (codes "TIMESTEP" ∷ [])) 1 words) (time 1 2 words) e).1
+step_right words e = time_right 1 2 words
+    (or_none (needed (one_of (codes "TIMESTEP" ∷ [])) 1 words) (time 1 2 words) e).1
 
-either_right : (words : List (List ℕ)) → step_or_start_line words ≡ None → Bounded (if word_is 1 (codes "TIMESTEP") words then 1 else 0) (time_seconds 2 words)
+either_right : (words : List (List ℕ)) → step_or_start_line words ≡ None
+    → Bounded (if word_is 1 (codes "TIMESTEP") words then 1 else 0) (time_seconds 2 words)
 either_right words e = time_right (if word_is 1 (codes "TIMESTEP") words then 1 else 0) 2 words
-    (or_none (needed (one_of (codes "TIMESTEP" ∷ codes "START" ∷ [])) 1 words) (time (if word_is 1 (codes "TIMESTEP") words then 1 else 0) 2 words) e).1
+    (or_none (needed (one_of (codes "TIMESTEP" ∷ codes "START" ∷ [])) 1 words)
+    (time (if word_is 1 (codes "TIMESTEP") words then 1 else 0) 2 words) e).1
 
 -- the first words, by what they stand for
 hydraulic_is : time_word (codes "HYDRAULIC") ≡ Some at.Hydraulic
@@ -97,7 +104,8 @@ start_is = refl
 
 -- a time in force is in range where the default and each line's are
 seconds_right : (rows : List Row) (key second : List ℕ) (least default : ℕ) → AreRight rows → Bounded least default
-    → ((words : List (List ℕ)) → word_is 0 key words ≡ true → word_is 1 second words ≡ true → time_line words ≡ None → Bounded least (time_seconds 2 words))
+    → ((words : List (List ℕ)) → word_is 0 key words ≡ true → word_is 1 second words ≡ true → time_line words ≡ None
+    → Bounded least (time_seconds 2 words))
     → Bounded least (seconds_of default key second rows)
 seconds_right rows key second least default right d each =
     say_is (Bounded least) default (λ row. time_seconds 2 row.words) (time_row_of key second rows) d (λ row e.
@@ -106,63 +114,93 @@ seconds_right rows key second least default right d each =
     each row.words both.0 both.1 (right_alone rows TimesSection found.place row right found.is found.of))
 
 written_right : (rows : List Row) → AreRight rows → Bounded 1 (written_step rows)
-written_right rows right = seconds_right rows (codes "HYDRAULIC") (codes "TIMESTEP") 1 3600 right (record { at_least = omega arith; at_most = omega arith })
+written_right rows right = seconds_right rows (codes "HYDRAULIC") (codes "TIMESTEP") 1 3600 right
+    (record { at_least = omega arith; at_most = omega arith })
     (λ words a b line. step_right words (about words (codes "HYDRAULIC") at.Hydraulic line a hydraulic_is))
 
-one_step : (words : List (List ℕ)) → word_is 1 (codes "TIMESTEP") words ≡ true → Bounded (if word_is 1 (codes "TIMESTEP") words then 1 else 0) (time_seconds 2 words)
+one_step : (words : List (List ℕ)) → word_is 1 (codes "TIMESTEP") words ≡ true
+    → Bounded (if word_is 1 (codes "TIMESTEP") words then 1 else 0) (time_seconds 2 words)
     → Bounded 1 (time_seconds 2 words)
 one_step words is bounds = rw is at bounds
 
-some_start : (words : List (List ℕ)) (least : ℕ) → Bounded least (time_seconds 2 words) → Bounded 0 (time_seconds 2 words)
+some_start : (words : List (List ℕ)) (least : ℕ) → Bounded least (time_seconds 2 words)
+    → Bounded 0 (time_seconds 2 words)
 some_start words least bounds = record { at_least = omega arith; at_most = bounds.at_most }
 
 pattern_step_right : (rows : List Row) → AreRight rows → Bounded 1 (pattern_step rows)
-pattern_step_right rows right = seconds_right rows (codes "PATTERN") (codes "TIMESTEP") 1 3600 right (record { at_least = omega arith; at_most = omega arith })
-    (λ words a b line. one_step words b (either_right words (about words (codes "PATTERN") at.Pattern line a pattern_is)))
+pattern_step_right rows right = seconds_right rows (codes "PATTERN") (codes "TIMESTEP") 1 3600 right
+    (record { at_least = omega arith; at_most = omega arith })
+    (λ words a b line.
+    one_step words b (either_right words (about words (codes "PATTERN") at.Pattern line a pattern_is)))
 
 report_step_right : (rows : List Row) → AreRight rows → Bounded 1 (report_step rows)
-report_step_right rows right = seconds_right rows (codes "REPORT") (codes "TIMESTEP") 1 3600 right (record { at_least = omega arith; at_most = omega arith })
-    (λ words a b line. one_step words b (either_right words (about words (codes "REPORT") at.Report line a report_is)))
+report_step_right rows right = seconds_right rows (codes "REPORT") (codes "TIMESTEP") 1 3600 right
+    (record { at_least = omega arith; at_most = omega arith })
+    (λ words a b line.
+    one_step words b (either_right words (about words (codes "REPORT") at.Report line a report_is)))
 
 pattern_start_right : (rows : List Row) → AreRight rows → Bounded 0 (pattern_start rows)
-pattern_start_right rows right = seconds_right rows (codes "PATTERN") (codes "START") 0 0 right (record { at_least = omega arith; at_most = omega arith })
-    (λ words a b line. some_start words _ (either_right words (about words (codes "PATTERN") at.Pattern line a pattern_is)))
+pattern_start_right rows right = seconds_right rows (codes "PATTERN") (codes "START") 0 0 right
+    (record { at_least = omega arith; at_most = omega arith })
+    (λ words a b line.
+    some_start words _ (either_right words (about words (codes "PATTERN") at.Pattern line a pattern_is)))
 
 report_start_right : (rows : List Row) → AreRight rows → Bounded 0 (report_start rows)
-report_start_right rows right = seconds_right rows (codes "REPORT") (codes "START") 0 0 right (record { at_least = omega arith; at_most = omega arith })
-    (λ words a b line. some_start words _ (either_right words (about words (codes "REPORT") at.Report line a report_is)))
+report_start_right rows right = seconds_right rows (codes "REPORT") (codes "START") 0 0 right
+    (record { at_least = omega arith; at_most = omega arith })
+    (λ words a b line.
+    some_start words _ (either_right words (about words (codes "REPORT") at.Report line a report_is)))
 
 tenth_right : (n : ℕ) → Bounded 1 n → Bounded 1 (max 1 (n / 10))
 tenth_right n bounds = record { at_least = omega arith; at_most = omega (arith, bounds.at_most) }
 
-rule_right : (rows : List Row) → AreRight rows → Bounded 1 (seconds_of (max 1 (written_step rows / 10)) (codes "RULE") (codes "TIMESTEP") rows)
-rule_right rows right = seconds_right rows (codes "RULE") (codes "TIMESTEP") 1 (max 1 (written_step rows / 10)) right (tenth_right (written_step rows) (written_right rows right))
+rule_right : (rows : List Row) → AreRight rows
+    → Bounded 1 (seconds_of (max 1 (written_step rows / 10)) (codes "RULE") (codes "TIMESTEP") rows)
+rule_right rows right = seconds_right rows (codes "RULE") (codes "TIMESTEP") 1 (max 1 (written_step rows / 10)) right
+    (tenth_right (written_step rows) (written_right rows right))
     (λ words a b line. step_right words (about words (codes "RULE") at.Rule line a rule_is))
 
 duration_right : (rows : List Row) → AreRight rows → Bounded 0 (duration rows)
-duration_right rows right = say_is (Bounded 0) 0 (λ row. time_seconds 1 row.words) (time_row (codes "DURATION") rows) (record { at_least = omega arith; at_most = omega arith }) (λ row e.
+duration_right rows right = say_is (Bounded 0) 0 (λ row. time_seconds 1 row.words) (time_row (codes "DURATION") rows)
+    (record { at_least = omega arith; at_most = omega arith }) (λ row e.
     let found = in_force rows TimesSection (begins (codes "DURATION")) row e in
-    time_right 0 1 row.words (about row.words (codes "DURATION") at.Duration (right_alone rows TimesSection found.place row right found.is found.of) found.passes duration_is))
+    time_right 0 1 row.words (about row.words (codes "DURATION") at.Duration
+    (right_alone rows TimesSection found.place row right found.is found.of) found.passes duration_is))
 
 start_clock_right : (rows : List Row) → AreRight rows → start_clock rows < 86400
-start_clock_right rows right = say_is (λ n. n < 86400) 0 (λ row. clock_seconds 2 row.words) (time_row_of (codes "START") (codes "CLOCKTIME") rows) (omega arith) (λ row e.
+start_clock_right rows right = say_is (λ n. n < 86400) 0 (λ row. clock_seconds 2 row.words)
+    (time_row_of (codes "START") (codes "CLOCKTIME") rows) (omega arith) (λ row e.
     let found = in_force rows TimesSection (begins_both (codes "START") (codes "CLOCKTIME")) row e in
-    let both = and_parts (word_is 0 (codes "START") row.words) (word_is 1 (codes "CLOCKTIME") row.words) found.passes in
-    let line : start_line row.words ≡ None = about row.words (codes "START") at.Start (right_alone rows TimesSection found.place row right found.is found.of) both.0 start_is in
-    clock_right 2 row.words (or_none (needed (one_of (codes "CLOCKTIME" ∷ [])) 1 row.words) (clock 2 row.words) line).1)
+    let both = and_parts (word_is 0 (codes "START") row.words) (word_is 1 (codes "CLOCKTIME") row.words)
+    found.passes in
+    let line : start_line row.words ≡ None =
+    about row.words (codes "START") at.Start
+    (right_alone rows TimesSection found.place row right found.is found.of) both.0 start_is in
+    clock_right 2 row.words (or_none (needed (one_of (codes "CLOCKTIME" ∷ [])) 1 row.words) (clock 2 row.words)
+    line).1)
 
 -- ---- all times
 
-in_order : (written pattern report rule : ℕ) → Bounded 1 written → Bounded 1 pattern → Bounded 1 report → Bounded 1 rule
-    → (1 ≤ min written (min pattern report)) × (min written (min pattern report) ≤ pattern) × (min written (min pattern report) ≤ report)
-    × (1 ≤ min rule (min written (min pattern report))) × (min rule (min written (min pattern report)) ≤ min written (min pattern report))
-in_order written pattern report rule a b c d =
-    (omega (arith, a.at_least, b.at_least, c.at_least), omega arith, omega arith, omega (arith, a.at_least, b.at_least, c.at_least, d.at_least), omega arith)
+in_order : (written pattern report rule : ℕ) → Bounded 1 written → Bounded 1 pattern → Bounded 1 report
+    → Bounded 1 rule
+    → (1 ≤ min written (min pattern report)) × (min written (min pattern report) ≤ pattern)
+    × (min written (min pattern report) ≤ report)
+    × (1 ≤ min rule (min written (min pattern report)))
+    × (min rule (min written (min pattern report)) ≤ min written (min pattern report))
+in_order written pattern report rule a b c d = (
+  omega (arith, a.at_least, b.at_least, c.at_least),
+  omega arith,
+  omega arith,
+  omega (arith, a.at_least, b.at_least, c.at_least, d.at_least),
+  omega arith,
+)
 
 pub are_times : (rows : List Row) (t : Times) → AreRight rows → IsTimes rows t → AreTimes t
 are_times rows t right is =
-    let steps = in_order (written_step rows) (pattern_step rows) (report_step rows) (seconds_of (max 1 (written_step rows / 10)) (codes "RULE") (codes "TIMESTEP") rows)
-    (written_right rows right) (pattern_step_right rows right) (report_step_right rows right) (rule_right rows right) in
+    let steps = in_order (written_step rows) (pattern_step rows) (report_step rows)
+    (seconds_of (max 1 (written_step rows / 10)) (codes "RULE") (codes "TIMESTEP") rows)
+    (written_right rows right) (pattern_step_right rows right) (report_step_right rows right)
+    (rule_right rows right) in
     record {
       duration = rw is.duration (duration_right rows right).at_most;
       hydraulic = rw is.hydraulic steps.0;

@@ -66,17 +66,22 @@ head_positive true a l = omega (arith, ints, l)
 head_positive false a l = omega (arith, ints, l)
 
 -- what holds of each row of a section
-pub each_row : (rows : List Row) (section : Section) (P : Row → Type 0) → ((k : ℕ) (row : Row) → slice_get rows k ≡ Some row → is_of section row ≡ true → P row)
+pub each_row : (rows : List Row) (section : Section) (P : Row → Type 0)
+    → ((k : ℕ) (row : Row) → slice_get rows k ≡ Some row → is_of section row ≡ true → P row)
     → All P (rows_of section rows)
 each_row rows section P each = all_from P (rows_of section rows) (λ n row e.
-    let stands = kept_stands (is_of section) rows n row e in each stands.place row stands.is (kept_passes (is_of section) rows n row e))
+    let stands = kept_stands (is_of section) rows n row e in each stands.place row stands.is
+    (kept_passes (is_of section) rows n row e))
 
 -- ---- demands
 
-any_pattern : (rows : List Row) (p : Project) (name : Option (List ℕ)) → IsProject rows p → HasPattern (λ _. ⊤) p.patterns.list (pattern_number rows name)
-any_pattern rows p name of = may_have_pattern rows p (λ _. ⊤) name (pattern_number rows name) of refl (all_from (λ _. ⊤) (multipliers_of rows name) (λ k x is. tt))
+any_pattern : (rows : List Row) (p : Project) (name : Option (List ℕ)) → IsProject rows p
+    → HasPattern (λ _. ⊤) p.patterns.list (pattern_number rows name)
+any_pattern rows p name of = may_have_pattern rows p (λ _. ⊤) name (pattern_number rows name) of refl
+    (all_from (λ _. ⊤) (multipliers_of rows name) (λ k x is. tt))
 
-demand_right : (rows : List Row) (p : Project) (k : ℕ) (row : Row) → AreRight rows → IsProject rows p → slice_get rows k ≡ Some row → is_of Demands row ≡ true
+demand_right : (rows : List Row) (p : Project) (k : ℕ) (row : Row) → AreRight rows → IsProject rows p
+    → slice_get rows k ≡ Some row → is_of Demands row ≡ true
     → IsDemand p.patterns.list (demand_of_row rows row)
 demand_right rows p k row right of is section =
     let each = all_none (others.demand_faults rows k row) (right_among rows Demands k row right is section) in
@@ -89,74 +94,104 @@ or_own_all : (P : Demand → Type 0) (own : Demand) (list : List Demand) → P o
 or_own_all P own [] here all = All-cons P own [] here (All-nil P)
 or_own_all P own (x ∷ xs) here all = all
 
-demands_right : (rows : List Row) (p : Project) (k : ℕ) (row : Row) → AreRight rows → IsProject rows p → slice_get rows k ≡ Some row
+demands_right : (rows : List Row) (p : Project) (k : ℕ) (row : Row) → AreRight rows → IsProject rows p
+    → slice_get rows k ≡ Some row
     → flow rows (amount_or (pos 0) 2 row.words) ≡ None → All (IsDemand p.patterns.list) (demands_of rows row)
 demands_right rows p k row right of is own =
     let P : Demand → Type 0 = IsDemand p.patterns.list in
-    or_own_all P (own_demand rows row) _ (record { base = flow_right rows (amount_or (pos 0) 2 row.words) own; pattern = any_pattern rows p (slice_get row.words 3) of })
+    or_own_all P (own_demand rows row) _
+    (record {
+      base = flow_right rows (amount_or (pos 0) 2 row.words) own;
+      pattern =
+          any_pattern rows p (slice_get row.words 3) of;
+    })
     (All-map P (demand_of_row rows) (rows_with (own_id row) (rows_of Demands rows))
     (All-filter (λ r. bytes_eq (own_id row) (own_id r)) (λ r. P (demand_of_row rows r)) (rows_of Demands rows)
-    (each_row rows Demands (λ r. P (demand_of_row rows r)) (λ j r e section. demand_right rows p j r right of e section))))
+    (each_row rows Demands (λ r. P (demand_of_row rows r))
+    (λ j r e section. demand_right rows p j r right of e section))))
 
 -- ---- emitters
 
-coefficient_right : (rows : List Row) (name : List ℕ) → AreRight rows → IsUpTo (10 ^ 6) (coefficient (last_naming name (rows_of Emitters rows)))
+coefficient_right : (rows : List Row) (name : List ℕ) → AreRight rows
+    → IsUpTo (10 ^ 6) (coefficient (last_naming name (rows_of Emitters rows)))
 coefficient_right rows name right = by (last_naming name (rows_of Emitters rows)) (λ row e.
     let found = in_force rows Emitters (λ r. bytes_eq name (own_id r)) row e in
-    let each = all_none (needed id 0 row.words ∷ needed (up_to (10 ^ 6)) 1 row.words ∷ ends 2 row.words ∷ []) (right_alone rows Emitters found.place row right found.is found.of) in
+    let each = all_none (needed id 0 row.words ∷ needed (up_to (10 ^ 6)) 1 row.words ∷ ends 2 row.words ∷ [])
+    (right_alone rows Emitters found.place row right found.is found.of) in
     within (pos 0) (units (10 ^ 6)) (word 1 row.words) (needed_none (up_to (10 ^ 6)) 1 row.words each.1.0).right)
   where
-    by : (o : Option Row) → ((row : Row) → o ≡ Some row → IsUpTo (10 ^ 6) (amount 1 row.words)) → IsUpTo (10 ^ 6) (coefficient o)
+    by : (o : Option Row) → ((row : Row) → o ≡ Some row → IsUpTo (10 ^ 6) (amount 1 row.words))
+        → IsUpTo (10 ^ 6) (coefficient o)
     by None each = record { at_least = omega (arith, ints); at_most = omega (arith, ints) }
     by (Some row) each = each row refl
 
-emitter_right : (unit : FlowUnit) (nano : ℤ) (o : Option Capacity) → IsUpTo (10 ^ 6) nano → project.IsEmitter unit nano o → IfSome o (λ cap. size.IsEmitter unit cap.origin)
+emitter_right : (unit : FlowUnit) (nano : ℤ) (o : Option Capacity) → IsUpTo (10 ^ 6) nano
+    → project.IsEmitter unit nano o → IfSome o (λ cap. size.IsEmitter unit cap.origin)
 emitter_right unit nano None bounds is = tt
 emitter_right unit nano (Some cap) bounds is =
     let above = is.0 in
     let made = is.1 in
     subst (λ (origin : Origin). size.IsEmitter unit origin) (sym made.origin)
-    (record { range = rw made.c_is (record { at_least = omega (arith, ints, above); at_most = bounds.at_most }); same_unit = refl })
+    (record {
+      range = rw made.c_is (record { at_least = omega (arith, ints, above); at_most = bounds.at_most });
+      same_unit = refl;
+    })
 
 -- ---- junctions
 
-junction_right : (rows : List Row) (p : Project) (k : ℕ) (row : Row) (j : Junction) → AreRight rows → IsProject rows p → slice_get rows k ≡ Some row → is_of Junctions row ≡ true
+junction_right : (rows : List Row) (p : Project) (k : ℕ) (row : Row) (j : Junction) → AreRight rows → IsProject rows p
+    → slice_get rows k ≡ Some row → is_of Junctions row ≡ true
     → project.IsJunction rows row j → size.IsJunction (unit rows) p.patterns.list j
 junction_right rows p k row j right of is section made =
     let each = all_none (others.junction_faults rows k row) (right_among rows Junctions k row right is section) in
     record {
       elevation = rw made.elevation (head_right rows (amount 1 row.words) each.1.1.1.0);
-      demands = subst (λ list. All (IsDemand p.patterns.list) list) (sym made.demands) (demands_right rows p k row right of is each.1.1.1.1.0);
-      emitter = emitter_right (unit rows) (emitter_of rows row) j.emitter (coefficient_right rows (own_id row) right) made.emitter;
+      demands = subst (λ list. All (IsDemand p.patterns.list) list) (sym made.demands)
+          (demands_right rows p k row right of is each.1.1.1.1.0);
+      emitter = emitter_right (unit rows) (emitter_of rows row) j.emitter (coefficient_right rows (own_id row) right)
+          made.emitter;
     }
 
-pub junctions_right : (rows : List Row) (p : Project) → AreRight rows → IsProject rows p → All (size.IsJunction p.options.unit p.patterns.list) p.junctions.list
+pub junctions_right : (rows : List Row) (p : Project) → AreRight rows → IsProject rows p
+    → All (size.IsJunction p.options.unit p.patterns.list) p.junctions.list
 junctions_right rows p right of =
     subst (λ (u : FlowUnit). All (size.IsJunction u p.patterns.list) p.junctions.list) (sym of.options.unit_is)
-    (match_all (project.IsJunction rows) (size.IsJunction (unit rows) p.patterns.list) (rows_of Junctions rows) p.junctions.list of.junctions (λ n row j at _ made.
+    (match_all (project.IsJunction rows) (size.IsJunction (unit rows) p.patterns.list) (rows_of Junctions rows)
+    p.junctions.list of.junctions (λ n row j at _ made.
     let stands = kept_stands (is_of Junctions) rows n row at in
     junction_right rows p stands.place row j right of stands.is (kept_passes (is_of Junctions) rows n row at) made))
 
 -- ---- reservoirs
 
-heads_right : (rows : List Row) (nano : ℤ) (name : Option (List ℕ)) → list_all (is_head_times rows nano) (multipliers_of rows name) ≡ true
-    → All (λ multiplier. LiesWithin (10 ^ 17 * 10 ^ 9) (head_ticks (us rows) nano *ℤ multiplier)) (multipliers_of rows name)
-heads_right rows nano name e = all_by ℤ (λ multiplier. LiesWithin (10 ^ 17 * 10 ^ 9) (head_ticks (us rows) nano *ℤ multiplier)) (is_head_times rows nano)
+heads_right : (rows : List Row) (nano : ℤ) (name : Option (List ℕ)) → list_all (is_head_times rows nano)
+    (multipliers_of rows name) ≡ true
+    → All (λ multiplier. LiesWithin (10 ^ 17 * 10 ^ 9) (head_ticks (us rows) nano *ℤ multiplier))
+    (multipliers_of rows name)
+heads_right rows nano name e =
+    all_by ℤ (λ multiplier. LiesWithin (10 ^ 17 * 10 ^ 9) (head_ticks (us rows) nano *ℤ multiplier))
+    (is_head_times rows nano)
     (λ m t. lies _ _ (head_ticks (us rows) nano *ℤ m) t) (multipliers_of rows name) e
 
-reservoir_right : (rows : List Row) (p : Project) (k : ℕ) (row : Row) (r : Reservoir) → AreRight rows → IsProject rows p → slice_get rows k ≡ Some row → is_of Reservoirs row ≡ true
+reservoir_right : (rows : List Row) (p : Project) (k : ℕ) (row : Row) (r : Reservoir) → AreRight rows
+    → IsProject rows p → slice_get rows k ≡ Some row → is_of Reservoirs row ≡ true
     → project.IsReservoir rows row r → size.IsReservoir p.patterns.list r
 reservoir_right rows p k row r right of is section made =
     let each = all_none (others.reservoir_faults rows k row) (right_among rows Reservoirs k row right is section) in
     record {
       head = rw made.head (head_right rows (amount 1 row.words) each.1.1.1.0);
-      pattern = rw made.head (may_have_pattern rows p (λ multiplier. LiesWithin (10 ^ 17 * 10 ^ 9) (head_ticks (us rows) (amount 1 row.words) *ℤ multiplier))
-          (slice_get row.words 2) r.pattern of made.pattern (heads_right rows (amount 1 row.words) (slice_get row.words 2) (unless_none _ _ each.1.1.1.1.0)));
+      pattern =
+          rw made.head
+          (may_have_pattern rows p (λ multiplier. LiesWithin (10 ^ 17 * 10 ^ 9)
+          (head_ticks (us rows) (amount 1 row.words) *ℤ multiplier))
+          (slice_get row.words 2) r.pattern of made.pattern
+          (heads_right rows (amount 1 row.words) (slice_get row.words 2) (unless_none _ _ each.1.1.1.1.0)));
     }
 
-pub reservoirs_right : (rows : List Row) (p : Project) → AreRight rows → IsProject rows p → All (size.IsReservoir p.patterns.list) p.reservoirs.list
+pub reservoirs_right : (rows : List Row) (p : Project) → AreRight rows → IsProject rows p
+    → All (size.IsReservoir p.patterns.list) p.reservoirs.list
 reservoirs_right rows p right of =
-    match_all (project.IsReservoir rows) (size.IsReservoir p.patterns.list) (rows_of Reservoirs rows) p.reservoirs.list of.reservoirs (λ n row r at _ made.
+    match_all (project.IsReservoir rows) (size.IsReservoir p.patterns.list) (rows_of Reservoirs rows)
+    p.reservoirs.list of.reservoirs (λ n row r at _ made.
     let stands = kept_stands (is_of Reservoirs) rows n row at in
     reservoir_right rows p stands.place row r right of stands.is (kept_passes (is_of Reservoirs) rows n row at) made)
 
@@ -190,7 +225,8 @@ tank_numbers words e =
     }
 
 -- a volume curve that a tank names has a number
-among_flat : (f : Row → Option (List ℕ)) (xs : List Row) (n : ℕ) (row : Row) (name : List ℕ) → slice_get xs n ≡ Some row → f row ≡ Some name
+among_flat : (f : Row → Option (List ℕ)) (xs : List Row) (n : ℕ) (row : Row) (name : List ℕ)
+    → slice_get xs n ≡ Some row → f row ≡ Some name
     → is_among name (flat_map (λ (r : Row). as_list (f r)) xs) ≡ true
 among_flat f [] n row name at is = absurd (let x : ⊥ = cc in x)
 among_flat f (x ∷ xs) zero row name at is =
@@ -204,7 +240,8 @@ among_flat f (x ∷ xs) (suc n) row name at is = behind (f x) (among_flat f xs n
     behind None e = e
     behind (Some other) e = or_right (bytes_eq name other) _ e
 
-shape_there : (rows : List Row) (n : ℕ) (row : Row) (name : List ℕ) → slice_get (rows_of Tanks rows) n ≡ Some row → alone.tank_curve row.words ≡ Some name
+shape_there : (rows : List Row) (n : ℕ) (row : Row) (name : List ℕ) → slice_get (rows_of Tanks rows) n ≡ Some row
+    → alone.tank_curve row.words ≡ Some name
     → number_in (shape_names rows) name ≡ None → ⊥
 shape_there rows n row name at is none =
     has_number name (shape_names rows)
@@ -212,15 +249,18 @@ shape_there rows n row name at is none =
     (among_flat (λ r. alone.tank_curve r.words) (rows_of Tanks rows) n row name at is) refl) none
 
 -- the diameter, with a volume curve or without one
-across_right : (rows : List Row) (curve : Option (List ℕ)) (shape : Option ℕ) (nano : ℤ) → shape ≡ shape_number rows curve
+across_right : (rows : List Row) (curve : Option (List ℕ)) (shape : Option ℕ) (nano : ℤ)
+    → shape ≡ shape_number rows curve
     → ((name : List ℕ) → curve ≡ Some name → number_in (shape_names rows) name ≡ None → ⊥)
-    → Lies (alone.least_diameter curve) (units 1000) nano → Lies (pos (if is_some shape then 0 else 10 ^ 8)) (pos (1000 * 10 ^ 9)) nano
+    → Lies (alone.least_diameter curve) (units 1000) nano → Lies (pos (if is_some shape then 0 else 10 ^ 8))
+    (pos (1000 * 10 ^ 9)) nano
 across_right rows None shape nano is there bounds = rw is bounds
 across_right rows (Some name) None nano is there bounds = absurd (there name refl (sym is))
 across_right rows (Some name) (Some n) nano is there bounds = bounds
 
 -- the volume curve, where there is one
-shape_right : (rows : List Row) (p : Project) (t : Tank) (row : Row) (curve : Option (List ℕ)) (shape : Option ℕ) → IsProject rows p
+shape_right : (rows : List Row) (p : Project) (t : Tank) (row : Row) (curve : Option (List ℕ)) (shape : Option ℕ)
+    → IsProject rows p
     → t.minimum ≡ head_ticks (us rows) (amount 3 row.words) → t.maximum ≡ head_ticks (us rows) (amount 4 row.words)
     → shape ≡ shape_number rows curve → others.volume_curve rows row curve ≡ None
     → IfSome shape (Numbers (λ (s : ListView VolumePoint). IsShapeOf t s.list) p.shapes.list)
@@ -229,7 +269,8 @@ shape_right rows p t row (Some name) None of low high is right = tt
 shape_right rows p t row (Some name) (Some n) of low high is right =
     let R : List ℕ → ListView VolumePoint → Type 0 = λ id list. list.list ≡ shape_points rows id in
     let found = found_by R (shape_names rows) p.shapes.list name n of.shapes (sym is) in
-    let covers = volume_curve_right (head_ticks (us rows) (amount 3 row.words)) (head_ticks (us rows) (amount 4 row.words)) (shape_points rows name) (unless_none _ _ right) in
+    let covers = volume_curve_right (head_ticks (us rows) (amount 3 row.words))
+    (head_ticks (us rows) (amount 4 row.words)) (shape_points rows name) (unless_none _ _ right) in
     let whole : IsShapeOf t (shape_points rows name) = record {
       curve = covers.curve;
       from_minimum = rw low covers.from_minimum;
@@ -239,16 +280,20 @@ shape_right rows p t row (Some name) (Some n) of low high is right =
     numbers_from (λ (s : ListView VolumePoint). IsShapeOf t s.list) p.shapes.list n found.item found.is
     (subst (λ list. IsShapeOf t list) (sym found.holds) whole)
 
-tank_right : (rows : List Row) (p : Project) (n k : ℕ) (row : Row) (t : Tank) → AreRight rows → IsProject rows p → slice_get (rows_of Tanks rows) n ≡ Some row
+tank_right : (rows : List Row) (p : Project) (n k : ℕ) (row : Row) (t : Tank) → AreRight rows → IsProject rows p
+    → slice_get (rows_of Tanks rows) n ≡ Some row
     → slice_get rows k ≡ Some row → is_of Tanks row ≡ true → project.IsTank rows row t → size.IsTank p.shapes.list t
 tank_right rows p n k row t right of at is section made =
     let each = all_none (others.tank_faults rows k row) (right_among rows Tanks k row right is section) in
     let own = tank_numbers row.words (right_alone rows Tanks k row right is section) in
-    let gap : pos 30480000000 ≤ℤ head_ticks (us rows) (amount 4 row.words -ℤ amount 3 row.words) = at_most _ _ (unless_none _ _ each.1.1.1.1.0) in
-    let apart : pos 30480000000 ≤ℤ (head_ticks (us rows) (amount 4 row.words) -ℤ head_ticks (us rows) (amount 3 row.words)) =
+    let gap : pos 30480000000 ≤ℤ head_ticks (us rows) (amount 4 row.words -ℤ amount 3 row.words) =
+    at_most _ _ (unless_none _ _ each.1.1.1.1.0) in
+    let apart : pos 30480000000 ≤ℤ (head_ticks (us rows) (amount 4 row.words) -ℤ head_ticks (us rows)
+    (amount 3 row.words)) =
     rw (head_difference (us rows) (amount 4 row.words) (amount 3 row.words)) at gap in
     let over : IsHead (head_ticks (us rows) (amount 1 row.words) +ℤ head_ticks (us rows) (amount 4 row.words)) =
-    subst IsHead (head_sum (us rows) (amount 1 row.words) (amount 4 row.words)) (head_right rows (amount 1 row.words +ℤ amount 4 row.words) each.1.1.1.1.1.0) in
+    subst IsHead (head_sum (us rows) (amount 1 row.words) (amount 4 row.words))
+    (head_right rows (amount 1 row.words +ℤ amount 4 row.words) each.1.1.1.1.1.0) in
     record {
       bottom = rw made.bottom (head_right rows (amount 1 row.words) each.1.1.1.0);
       lowest = rw made.minimum (head_positive (us rows) (amount 3 row.words) own.lowest);
@@ -258,12 +303,17 @@ tank_right rows p n k row t right of at is section made =
       });
       apart = rw (made.minimum, made.maximum) apart;
       top = rw (made.bottom, made.maximum) over;
-      diameter = rw made.diameter (across_right rows (alone.tank_curve row.words) t.shape (amount 5 row.words) made.shape (λ name e. shape_there rows n row name at e) own.across);
-      shape = shape_right rows p t row (alone.tank_curve row.words) t.shape of made.minimum made.maximum made.shape each.1.1.1.1.1.1.0;
+      diameter =
+          rw made.diameter (across_right rows (alone.tank_curve row.words) t.shape (amount 5 row.words) made.shape
+          (λ name e. shape_there rows n row name at e) own.across);
+      shape = shape_right rows p t row (alone.tank_curve row.words) t.shape of made.minimum made.maximum made.shape
+          each.1.1.1.1.1.1.0;
     }
 
-pub tanks_right : (rows : List Row) (p : Project) → AreRight rows → IsProject rows p → All (size.IsTank p.shapes.list) p.tanks.list
+pub tanks_right : (rows : List Row) (p : Project) → AreRight rows → IsProject rows p
+    → All (size.IsTank p.shapes.list) p.tanks.list
 tanks_right rows p right of =
-    match_all (project.IsTank rows) (size.IsTank p.shapes.list) (rows_of Tanks rows) p.tanks.list of.tanks (λ n row t at _ made.
+    match_all (project.IsTank rows) (size.IsTank p.shapes.list) (rows_of Tanks rows) p.tanks.list of.tanks
+    (λ n row t at _ made.
     let stands = kept_stands (is_of Tanks) rows n row at in
     tank_right rows p n stands.place row t right of at stands.is (kept_passes (is_of Tanks) rows n row at) made)

@@ -17,7 +17,8 @@ use Rattle.hyd_spec_networks.proofs.Places.{partner, match_length, item_at}
 use Rattle.hyd_spec_networks.proofs.Occurs.{number_inside, number_names}
 
 -- the item at a place of a table
-pub numbers_from : {X : Type 0} (P : X → Type 0) (table : List X) (n : ℕ) (x : X) → slice_get table n ≡ Some x → P x → Numbers P table n
+pub numbers_from : {X : Type 0} (P : X → Type 0) (table : List X) (n : ℕ) (x : X) → slice_get table n ≡ Some x → P x
+    → Numbers P table n
 numbers_from P table n x is holds = record {
   in_range = slice_get_within table n x is;
   holds = λ d. subst P (sym (get_or_from_slice_get table n x d is)) holds;
@@ -41,7 +42,8 @@ found_by R ids table name n match e =
 
 -- ---- patterns
 
-pub has_pattern : (rows : List Row) (p : Project) (P : ℤ → Type 0) (name : List ℕ) (named : Option ℕ) → IsProject rows p → named ≡ number_in (pattern_ids rows) name
+pub has_pattern : (rows : List Row) (p : Project) (P : ℤ → Type 0) (name : List ℕ) (named : Option ℕ)
+    → IsProject rows p → named ≡ number_in (pattern_ids rows) name
     → All P (pattern_named rows name) → HasPattern P p.patterns.list named
 has_pattern rows p P name None of is all = tt
 has_pattern rows p P name (Some n) of is all =
@@ -50,16 +52,19 @@ has_pattern rows p P name (Some n) of is all =
     (subst (λ list. All P list) (sym found.holds) all)
 
 -- where a pattern may be named
-pub may_have_pattern : (rows : List Row) (p : Project) (P : ℤ → Type 0) (name : Option (List ℕ)) (named : Option ℕ) → IsProject rows p → named ≡ pattern_number rows name
+pub may_have_pattern : (rows : List Row) (p : Project) (P : ℤ → Type 0) (name : Option (List ℕ)) (named : Option ℕ)
+    → IsProject rows p → named ≡ pattern_number rows name
     → All P (multipliers_of rows name) → HasPattern P p.patterns.list named
 may_have_pattern rows p P None named of is all = subst (λ o. HasPattern P p.patterns.list o) (sym is) tt
 may_have_pattern rows p P (Some name) named of is all = has_pattern rows p P name named of is all
 
 -- ---- curves by straight lines
 
-pub has_bend : (rows : List Row) (p : Project) (P : List HeadPoint → Type 0) (name : List ℕ) (bend : ℕ) → IsProject rows p → number_in (bend_names rows) name ≡ Some bend
+pub has_bend : (rows : List Row) (p : Project) (P : List HeadPoint → Type 0) (name : List ℕ) (bend : ℕ)
+    → IsProject rows p → number_in (bend_names rows) name ≡ Some bend
     → P (bend_points rows name) → HasBend P p.bends.list bend
 has_bend rows p P name bend of is holds =
     let R : List ℕ → ListView HeadPoint → Type 0 = λ id list. list.list ≡ bend_points rows id in
     let found = found_by R (bend_names rows) p.bends.list name bend of.bends is in
-    numbers_from (λ (b : ListView HeadPoint). P b.list) p.bends.list bend found.item found.is (subst P (sym found.holds) holds)
+    numbers_from (λ (b : ListView HeadPoint). P b.list) p.bends.list bend found.item found.is
+    (subst P (sym found.holds) holds)

@@ -5,7 +5,7 @@ use Rattle.std.specs.List.{position_or_len}
 use Rattle.std.proofs.Math.Nat.{mul-le-mul_left}
 use Rattle.std.proofs.lemmas.List.Sums.{sum_by-cons}
 use Rattle.std.specs.Str.{bytes_eq}
-use Rattle.std.proofs.lemmas.Bool.{cases_Bool, or_parts, or_from, or_left, or_right, false_from_ne_true, lt-ltb, cond-true, cases_order}
+use Rattle.std.proofs.lemmas.Bool.{cases_Bool, or_from, or_left, or_right, false_from_ne_true, lt-ltb, cond-true}
 use Rattle.std.proofs.lemmas.List.Quantifiers.{position-Some}
 use Rattle.std.proofs.lemmas.Option.{slice_get-get_or}
 use Rattle.std.proofs.lemmas.Slice.Eq.{bytes_eq-Decides}
@@ -53,7 +53,8 @@ occurs_at name [] k e = absurd (let x : ⊥ = cc in x)
 occurs_at name (id ∷ ids) zero e = let same : id ≡ name = cc in rw same (rw (itself name) (omega arith))
 occurs_at name (id ∷ ids) (suc k) e = omega (arith, occurs_at name ids k e)
 
-occurs_twice : (name : List ℕ) (ids : List (List ℕ)) (i j : ℕ) → i < j → slice_get ids i ≡ Some name → slice_get ids j ≡ Some name → 2 ≤ occurs name ids
+occurs_twice : (name : List ℕ) (ids : List (List ℕ)) (i j : ℕ) → i < j → slice_get ids i ≡ Some name
+    → slice_get ids j ≡ Some name → 2 ≤ occurs name ids
 occurs_twice name [] i j l e f = absurd (let x : ⊥ = cc in x)
 occurs_twice name (id ∷ ids) i zero l e f = absurd (omega arith)
 occurs_twice name (id ∷ ids) zero (suc j) l e f =
@@ -68,33 +69,22 @@ distinct ids once i j d before inside same =
     let c : slice_get ids j ≡ Some (get_or ids i d) = b ∙ ap Some (sym same) in
     absurd (omega (arith, occurs_twice (get_or ids i d) ids i j before a c, once (get_or ids i d)))
 
--- two places of one name are one
-pub one_place : (ids : List (List ℕ)) (name : List ℕ) (i j : ℕ) → Once ids → slice_get ids i ≡ Some name → slice_get ids j ≡ Some name → i ≡ j
-one_place ids name i j once a b = elim (cases_order i j) [
-  | inl same ↦ same
-  | inr other ↦ elim other [
-    | inl less ↦ absurd (omega (arith, occurs_twice name ids i j less a b, once name))
-    | inr more ↦ absurd (omega (arith, occurs_twice name ids j i more b a, once name))
-  ]
-]
-
 -- ---- the number of a name
 
 pub number_inside : (ids : List (List ℕ)) (name : List ℕ) (n : ℕ) → number_in ids name ≡ Some n → n < length ids
 number_inside ids name n e = (position-Some (bytes_eq name) ids n name e).0
 
-pub number_names : (ids : List (List ℕ)) (name : List ℕ) (n : ℕ) → number_in ids name ≡ Some n → slice_get ids n ≡ Some name
+pub number_names : (ids : List (List ℕ)) (name : List ℕ) (n : ℕ) → number_in ids name ≡ Some n
+    → slice_get ids n ≡ Some name
 number_names ids name n e =
     let found = position-Some (bytes_eq name) ids n name e in
     slice_get-get_or ids n name found.0 ∙ ap Some (sym (same_name name _ found.1))
 
 -- ---- new names
 
-among_append : (name : List ℕ) (id : List ℕ) (ids : List (List ℕ)) → is_among name (id ∷ ids) ≡ false → (bytes_eq name id ≡ false) × (is_among name ids ≡ false)
-among_append name id ids e = or_parts (bytes_eq name id) (is_among name ids) e
-
 -- a name that was there before doesn't occur, any other once at most
-new_once_more : (name id : List ℕ) (seen ids : List (List ℕ)) (b : Bool) → bytes_eq name id ≡ b → is_among id seen ≡ false
+new_once_more : (name id : List ℕ) (seen ids : List (List ℕ)) (b : Bool) → bytes_eq name id ≡ b
+    → is_among id seen ≡ false
     → occurs name (new_names (id ∷ seen) ids) ≤ when (not (bytes_eq name id || is_among name seen)) 1
     → when (bytes_eq name id) 1 + occurs name (new_names (id ∷ seen) ids) ≤ when (not (is_among name seen)) 1
 new_once_more name id seen ids true e f rest =
@@ -106,7 +96,8 @@ new_once_more name id seen ids false e f rest =
     let few : occurs name (new_names (id ∷ seen) ids) ≤ when (not (is_among name seen)) 1 = rw e at rest in
     rw e (omega (arith, few))
 
-pub new_once : (name : List ℕ) (seen names : List (List ℕ)) → occurs name (new_names seen names) ≤ when (not (is_among name seen)) 1
+pub new_once : (name : List ℕ) (seen names : List (List ℕ)) → occurs name (new_names seen names) ≤ when
+    (not (is_among name seen)) 1
 new_once name seen [] = omega arith
 new_once name seen (id ∷ ids) = elim (cases_Bool (is_among id seen)) [
   | inl t ↦ rw t (new_once name seen ids)
@@ -117,13 +108,16 @@ pub names_once : (names : List (List ℕ)) → Once (new_names [] names)
 names_once names name = new_once name [] names
 
 -- a new name is one of the names
-new_among_more : (name id : List ℕ) (seen ids : List (List ℕ)) (k : ℕ) → slice_get (id ∷ new_names (id ∷ seen) ids) k ≡ Some name
-    → ((j : ℕ) → slice_get (new_names (id ∷ seen) ids) j ≡ Some name → is_among name ids ≡ true) → is_among name (id ∷ ids) ≡ true
+new_among_more : (name id : List ℕ) (seen ids : List (List ℕ)) (k : ℕ) → slice_get (id ∷ new_names (id ∷ seen) ids) k
+    ≡ Some name
+    → ((j : ℕ) → slice_get (new_names (id ∷ seen) ids) j ≡ Some name → is_among name ids ≡ true)
+    → is_among name (id ∷ ids) ≡ true
 new_among_more name id seen ids zero e rest =
     let same : id ≡ name = cc in or_left (bytes_eq name id) (is_among name ids) (rw same (itself name))
 new_among_more name id seen ids (suc k) e rest = or_right (bytes_eq name id) (is_among name ids) (rest k e)
 
-pub new_among : (name : List ℕ) (seen names : List (List ℕ)) (k : ℕ) → slice_get (new_names seen names) k ≡ Some name → is_among name names ≡ true
+pub new_among : (name : List ℕ) (seen names : List (List ℕ)) (k : ℕ) → slice_get (new_names seen names) k ≡ Some name
+    → is_among name names ≡ true
 new_among name seen [] k e = absurd (let x : ⊥ = cc in x)
 new_among name seen (id ∷ ids) k e = elim (cases_Bool (is_among id seen)) [
   | inl t ↦ or_right (bytes_eq name id) (is_among name ids) (new_among name seen ids k (rw t at e))
@@ -137,10 +131,12 @@ kept_once_more : (name id : List ℕ) (seen ids : List (List ℕ)) (b : Bool) �
 kept_once_more name id seen ids true e rest = rw e (omega arith)
 kept_once_more name id seen ids false e rest = rw e (omega (arith, rest e))
 
-pub kept_once : (name : List ℕ) (seen names : List (List ℕ)) → is_among name names ≡ true → is_among name seen ≡ false → 1 ≤ occurs name (new_names seen names)
+pub kept_once : (name : List ℕ) (seen names : List (List ℕ)) → is_among name names ≡ true → is_among name seen ≡ false
+    → 1 ≤ occurs name (new_names seen names)
 kept_once name seen [] among new = absurd (true≢false (sym among))
 kept_once name seen (id ∷ ids) among new = elim (cases_Bool (is_among id seen)) [
-  | inl t ↦ (let apart : bytes_eq name id ≡ false = other_name name id (λ same. true≢false (sym t ∙ rw (← same) new)) in
+  | inl t ↦ (let apart : bytes_eq name id ≡ false =
+      other_name name id (λ same. true≢false (sym t ∙ rw (← same) new)) in
       rw t (kept_once name seen ids (rw apart at among) new))
   | inr f ↦ rw f (kept_once_more name id seen ids (bytes_eq name id) refl
       (λ e. kept_once name (id ∷ seen) ids (rw e at among) (or_from (bytes_eq name id) (is_among name seen) e new)))
@@ -155,7 +151,8 @@ fewer_names seen (id ∷ ids) = elim (cases_Bool (is_among id seen)) [
 ]
 
 -- a name that occurs has a number
-place_inside : (name : List ℕ) (ids : List (List ℕ)) → 1 ≤ occurs name ids → position_or_len (bytes_eq name) ids < length ids
+place_inside : (name : List ℕ) (ids : List (List ℕ)) → 1 ≤ occurs name ids
+    → position_or_len (bytes_eq name) ids < length ids
 place_inside name [] some = absurd (omega arith)
 place_inside name (id ∷ ids) some = elim (cases_Bool (bytes_eq name id)) [
   | inl t ↦ rw t (omega arith)
@@ -192,7 +189,8 @@ abbrev pub total_at : {X : Type 0} → (X → List ℕ) → (X → ℕ) → List
 total_at key f name [] = 0
 total_at key f name (x ∷ xs) = when (bytes_eq name (key x)) (f x) + total_at key f name xs
 
-at_one : (name : List ℕ) (n : ℕ) (ids : List (List ℕ)) → total (λ id. when (bytes_eq id name) n) ids ≡ n * occurs name ids
+at_one : (name : List ℕ) (n : ℕ) (ids : List (List ℕ)) → total (λ id. when (bytes_eq id name) n) ids ≡ n * occurs name
+    ids
 at_one name n [] = omega arith
 at_one name n (id ∷ ids) = rw (exchanged_names id name) (by (bytes_eq name id) (at_one name n ids))
   where
@@ -202,7 +200,8 @@ at_one name n (id ∷ ids) = rw (exchanged_names id name) (by (bytes_eq name id)
     by false rest = omega (arith, rest)
 
 -- the sums at names that occur once aren't more than the whole sum
-pub grouped : {X : Type 0} (key : X → List ℕ) (f : X → ℕ) (ids : List (List ℕ)) (xs : List X) → Once ids → total (λ id. total_at key f id xs) ids ≤ total f xs
+pub grouped : {X : Type 0} (key : X → List ℕ) (f : X → ℕ) (ids : List (List ℕ)) (xs : List X) → Once ids
+    → total (λ id. total_at key f id xs) ids ≤ total f xs
 grouped key f ids [] once = omega (arith, total_none ids)
 grouped key f ids (x ∷ xs) once =
     let rest = grouped key f ids xs once in

@@ -32,16 +32,26 @@ use Rattle.hyd_spec_networks.proofs.Numbered.{has_pattern}
 -- ---- lines
 
 unused_same : (a word : List ℕ) → is_keyword a word ≡ true → unused_option word ≡ unused_option a
-unused_same a word e = rw (is_one_of_same unused_words a word e, is_one_of_same more_unused_words a word e, is_one_of_same last_unused_words a word e) refl
+unused_same a word e = rw (
+  is_one_of_same unused_words a word e,
+  is_one_of_same more_unused_words a word e,
+  is_one_of_same last_unused_words a word e,
+) refl
 
 option_word_same : (a word : List ℕ) → is_keyword a word ≡ true → option_word word ≡ option_word a
 unfolding option_word
-option_word_same a word e = rw (first_named_same option_words a word e, first_named_same more_option_words a word e, unused_same a word e) refl
+option_word_same a word e = rw (
+  first_named_same option_words a word e,
+  first_named_same more_option_words a word e,
+  unused_same a word e,
+) refl
 
-about : (words : List (List ℕ)) (a : List ℕ) (meaning : OptionWord) → option words ≡ None → word_is 0 a words ≡ true → option_word a ≡ Some meaning
+about : (words : List (List ℕ)) (a : List ℕ) (meaning : OptionWord) → option words ≡ None → word_is 0 a words ≡ true
+    → option_word a ≡ Some meaning
     → option_about (Some meaning) words ≡ None
 about words a meaning line first is =
-    let e : option_word (word 0 words) ≡ Some meaning = option_word_same a (word 0 words) (word_is_keyword 0 a words first) ∙ is in
+    let e : option_word (word 0 words) ≡ Some meaning =
+    option_word_same a (word 0 words) (word_is_keyword 0 a words first) ∙ is in
     subst (λ (o : Option OptionWord). option_about o words ≡ None) e line
 
 demand_is : option_word (codes "DEMAND") ≡ Some at.Demand
@@ -58,18 +68,24 @@ required_is = refl
 
 -- ---- the multiplier of demands
 
-multiplier_in : (words : List (List ℕ)) → word_is 1 (codes "MULTIPLIER") words ≡ true → demand_line words ≡ None → IsUpTo (10 ^ 6) (amount 2 words)
+multiplier_in : (words : List (List ℕ)) → word_is 1 (codes "MULTIPLIER") words ≡ true → demand_line words ≡ None
+    → IsUpTo (10 ^ 6) (amount 2 words)
 multiplier_in words is line =
-    let each = all_none (needed (one_of demand_words) 1 words ∷ needed (demand_value words) 2 words ∷ ends 3 words ∷ []) line in
-    let value : up_to (10 ^ 6) (word 2 words) ≡ None = rw is at (needed_none (demand_value words) 2 words each.1.0).right in
+    let each = all_none (needed (one_of demand_words) 1 words ∷ needed (demand_value words) 2 words ∷ ends 3 words
+    ∷ []) line in
+    let value : up_to (10 ^ 6) (word 2 words) ≡ None =
+    rw is at (needed_none (demand_value words) 2 words each.1.0).right in
     within (pos 0) (units (10 ^ 6)) (word 2 words) value
 
 multiplier_right : (rows : List Row) → AreRight rows → IsUpTo (10 ^ 6) (demand_multiplier rows)
-multiplier_right rows right = say_is (IsUpTo (10 ^ 6)) (pos (10 ^ 9)) (λ row. amount 2 row.words) (option_row_of (codes "DEMAND") (codes "MULTIPLIER") rows)
+multiplier_right rows right = say_is (IsUpTo (10 ^ 6)) (pos (10 ^ 9)) (λ row. amount 2 row.words)
+    (option_row_of (codes "DEMAND") (codes "MULTIPLIER") rows)
     (record { at_least = omega (arith, ints); at_most = omega (arith, ints) }) (λ row e.
     let found = in_force rows OptionsSection (begins_both (codes "DEMAND") (codes "MULTIPLIER")) row e in
-    let both = and_parts (word_is 0 (codes "DEMAND") row.words) (word_is 1 (codes "MULTIPLIER") row.words) found.passes in
-    multiplier_in row.words both.1 (about row.words (codes "DEMAND") at.Demand (right_alone rows OptionsSection found.place row right found.is found.of) both.0 demand_is))
+    let both = and_parts (word_is 0 (codes "DEMAND") row.words) (word_is 1 (codes "MULTIPLIER") row.words)
+    found.passes in
+    multiplier_in row.words both.1 (about row.words (codes "DEMAND") at.Demand
+    (right_alone rows OptionsSection found.place row right found.is found.of) both.0 demand_is))
 
 -- ---- pressures
 
@@ -82,7 +98,8 @@ record IsPressureOf (us : Bool) (nano : ℤ) : Type 0 where
 abbrev pressure_words : List (List ℕ)
 pressure_words = codes "MINIMUM" ∷ codes "REQUIRED" ∷ []
 
-is_one : (a : List ℕ) (o : Option (List ℕ)) → is_one_of pressure_words a ≡ true → is_option_keyword a o ≡ true → is_option_of pressure_words o ≡ true
+is_one : (a : List ℕ) (o : Option (List ℕ)) → is_one_of pressure_words a ≡ true → is_option_keyword a o ≡ true
+    → is_option_of pressure_words o ≡ true
 is_one a None one is = is
 is_one a (Some w) one is = is_one_of_same pressure_words a w is ∙ one
 
@@ -95,7 +112,8 @@ unfolding is_keyword
 required_one = refl
 
 -- what is asked of such a line with the others
-judged : (rows : List Row) (a : List ℕ) (row : Row) → AreRight rows → is_one_of pressure_words a ≡ true → IsInForce rows OptionsSection (begins a) row
+judged : (rows : List Row) (a : List ℕ) (row : Row) → AreRight rows → is_one_of pressure_words a ≡ true
+    → IsInForce rows OptionsSection (begins a) row
     → (pressure rows (amount 2 row.words) ≡ None) × (pressures_apart rows row ≡ None)
 judged rows a row right one found =
     let is : word_is_of 0 pressure_words row.words ≡ true = is_one a (slice_get row.words 0) one found.passes in
@@ -105,10 +123,13 @@ judged rows a row right one found =
 
 bound_in : (words : List (List ℕ)) → bound_line words ≡ None → pos 0 ≤ℤ amount 2 words
 bound_in words line =
-    let each = all_none (needed (one_of (codes "PRESSURE" ∷ [])) 1 words ∷ needed not_negative 2 words ∷ ends 3 words ∷ []) line in
-    at_most (pos 0) (amount 2 words) (in_range (λ nano. le_z (pos 0) nano) (word 2 words) (needed_none not_negative 2 words each.1.0).right)
+    let each = all_none (needed (one_of (codes "PRESSURE" ∷ [])) 1 words ∷ needed not_negative 2 words ∷ ends 3 words
+    ∷ []) line in
+    at_most (pos 0) (amount 2 words) (in_range (λ nano. le_z (pos 0) nano) (word 2 words)
+    (needed_none not_negative 2 words each.1.0).right)
 
-pressure_right : (rows : List Row) (a : List ℕ) (row : Row) → AreRight rows → is_one_of pressure_words a ≡ true → IsInForce rows OptionsSection (begins a) row
+pressure_right : (rows : List Row) (a : List ℕ) (row : Row) → AreRight rows → is_one_of pressure_words a ≡ true
+    → IsInForce rows OptionsSection (begins a) row
     → bound_line row.words ≡ None → IsPressureOf (us rows) (amount 2 row.words)
 pressure_right rows a row right one found line = record {
   not_negative = bound_in row.words line;
@@ -124,20 +145,26 @@ usual_pressure true = record { not_negative = omega (arith, ints); at_most = ome
 usual_pressure false = record { not_negative = omega (arith, ints); at_most = omega (arith, ints) }
 
 minimum_right : (rows : List Row) → AreRight rows → IsPressureOf (us rows) (minimum_pressure rows)
-minimum_right rows right = say_is (IsPressureOf (us rows)) (pos 0) (λ row. amount 2 row.words) (option_row (codes "MINIMUM") rows) (least_pressure (us rows)) (λ row e.
+minimum_right rows right = say_is (IsPressureOf (us rows)) (pos 0) (λ row. amount 2 row.words)
+    (option_row (codes "MINIMUM") rows) (least_pressure (us rows)) (λ row e.
     let found = in_force rows OptionsSection (begins (codes "MINIMUM")) row e in
     pressure_right rows (codes "MINIMUM") row right minimum_one found
-    (about row.words (codes "MINIMUM") at.Minimum (right_alone rows OptionsSection found.place row right found.is found.of) found.passes minimum_is))
+    (about row.words (codes "MINIMUM") at.Minimum
+    (right_alone rows OptionsSection found.place row right found.is found.of) found.passes minimum_is))
 
 required_right : (rows : List Row) → AreRight rows → IsPressureOf (us rows) (required_pressure rows)
-required_right rows right = say_is (IsPressureOf (us rows)) (pos (10 ^ 8)) (λ row. amount 2 row.words) (option_row (codes "REQUIRED") rows) (usual_pressure (us rows)) (λ row e.
+required_right rows right = say_is (IsPressureOf (us rows)) (pos (10 ^ 8)) (λ row. amount 2 row.words)
+    (option_row (codes "REQUIRED") rows) (usual_pressure (us rows)) (λ row e.
     let found = in_force rows OptionsSection (begins (codes "REQUIRED")) row e in
     pressure_right rows (codes "REQUIRED") row right required_one found
-    (about row.words (codes "REQUIRED") at.Required (right_alone rows OptionsSection found.place row right found.is found.of) found.passes required_is))
+    (about row.words (codes "REQUIRED") at.Required
+    (right_alone rows OptionsSection found.place row right found.is found.of) found.passes required_is))
 
 -- at the line where they are compared
-apart_at : (rows : List Row) (a : List ℕ) (row : Row) → AreRight rows → is_one_of pressure_words a ≡ true → IsInForce rows OptionsSection (begins a) row
-    → depends_on_pressure rows ≡ true → row.number ≡ pressure_line rows → (minimum_pressure rows +ℤ pos (10 ^ 8)) ≤ℤ required_pressure rows
+apart_at : (rows : List Row) (a : List ℕ) (row : Row) → AreRight rows → is_one_of pressure_words a ≡ true
+    → IsInForce rows OptionsSection (begins a) row
+    → depends_on_pressure rows ≡ true → row.number ≡ pressure_line rows → (minimum_pressure rows +ℤ pos (10 ^ 8))
+    ≤ℤ required_pressure rows
 apart_at rows a row right one found depends line =
     let here : (row.number == pressure_line rows) ≡ true = eq-eqb row.number (pressure_line rows) line in
     let test : unless (le_z (minimum_pressure rows +ℤ pos (10 ^ 8)) (required_pressure rows)) Range ≡ None =
@@ -150,15 +177,20 @@ apart_by : (rows : List Row) (minimum required : Option Row) → AreRight rows �
     → (minimum_pressure rows +ℤ pos (10 ^ 8)) ≤ℤ required_pressure rows
 apart_by rows None None right depends m r = rw (m, r) (omega (arith, ints))
 apart_by rows (Some a) None right depends m r =
-    apart_at rows (codes "MINIMUM") a right minimum_one (in_force rows OptionsSection (begins (codes "MINIMUM")) a m) depends (rw (m, r) (omega arith))
+    apart_at rows (codes "MINIMUM") a right minimum_one (in_force rows OptionsSection (begins (codes "MINIMUM")) a m)
+    depends (rw (m, r) (omega arith))
 apart_by rows None (Some b) right depends m r =
-    apart_at rows (codes "REQUIRED") b right required_one (in_force rows OptionsSection (begins (codes "REQUIRED")) b r) depends (rw (m, r) (omega arith))
+    apart_at rows (codes "REQUIRED") b right required_one
+    (in_force rows OptionsSection (begins (codes "REQUIRED")) b r) depends (rw (m, r) (omega arith))
 apart_by rows (Some a) (Some b) right depends m r = elim (cases_lt a.number b.number) [
-  | inl less ↦ apart_at rows (codes "REQUIRED") b right required_one (in_force rows OptionsSection (begins (codes "REQUIRED")) b r) depends (rw (m, r) (omega (arith, less)))
-  | inr more ↦ apart_at rows (codes "MINIMUM") a right minimum_one (in_force rows OptionsSection (begins (codes "MINIMUM")) a m) depends (rw (m, r) (omega (arith, more)))
+  | inl less ↦ apart_at rows (codes "REQUIRED") b right required_one
+      (in_force rows OptionsSection (begins (codes "REQUIRED")) b r) depends (rw (m, r) (omega (arith, less)))
+  | inr more ↦ apart_at rows (codes "MINIMUM") a right minimum_one
+      (in_force rows OptionsSection (begins (codes "MINIMUM")) a m) depends (rw (m, r) (omega (arith, more)))
 ]
 
-is_pressure : (rows : List Row) (o : Options) (d : Decimal) (nano : ℤ) → IsOptions rows o → d.nano ≡ nano → IsPressureOf (us rows) nano → IsPressure o.unit d
+is_pressure : (rows : List Row) (o : Options) (d : Decimal) (nano : ℤ) → IsOptions rows o → d.nano ≡ nano
+    → IsPressureOf (us rows) nano → IsPressure o.unit d
 is_pressure rows o d nano is same bounds = record {
   not_negative = rw same bounds.not_negative;
   at_most = rw (is.unit_is, same) bounds.at_most;
@@ -166,12 +198,17 @@ is_pressure rows o d nano is same bounds = record {
 
 -- ---- all options
 
-pub has_options : (rows : List Row) (p : Project) → AreRight rows → IsProject rows p → HasOptions p.options p.patterns.list
+pub has_options : (rows : List Row) (p : Project) → AreRight rows → IsProject rows p
+    → HasOptions p.options p.patterns.list
 has_options rows p right of = record {
   multiplier = subst (IsUpTo (10 ^ 6)) (sym of.options.multiplier) (multiplier_right rows right);
-  minimum = is_pressure rows p.options p.options.p0 (minimum_pressure rows) of.options of.options.minimum (minimum_right rows right);
-  required = is_pressure rows p.options p.options.pf (required_pressure rows) of.options of.options.required (required_right rows right);
-  apart = λ pda. rw (of.options.minimum, of.options.required) (apart_by rows _ _ right (sym of.options.pda ∙ pda) refl refl);
-  default_pattern = has_pattern rows p (λ _. ⊤) (default_pattern rows) p.options.default_pattern of of.options.default_pattern
+  minimum = is_pressure rows p.options p.options.p0 (minimum_pressure rows) of.options of.options.minimum
+      (minimum_right rows right);
+  required = is_pressure rows p.options p.options.pf (required_pressure rows) of.options of.options.required
+      (required_right rows right);
+  apart = λ pda. rw (of.options.minimum, of.options.required)
+      (apart_by rows _ _ right (sym of.options.pda ∙ pda) refl refl);
+  default_pattern = has_pattern rows p (λ _. ⊤) (default_pattern rows) p.options.default_pattern of
+      of.options.default_pattern
       (all_from (λ _. ⊤) (pattern_named rows (default_pattern rows)) (λ k x is. tt));
 }

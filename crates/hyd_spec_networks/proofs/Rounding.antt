@@ -36,22 +36,29 @@ emitter_made : (u : FlowUnit) (nano : ℤ) (o : Option Capacity) → project.IsE
 emitter_made u nano None is = tt
 emitter_made u nano (Some cap) is = is.1.made
 
-emitters_made : (rows : List Row) (p : Project) → IsProject rows p → All (λ j. IfSome j.emitter IsMade) p.junctions.list
-emitters_made rows p of = match_all (project.IsJunction rows) (λ j. IfSome j.emitter IsMade) (rows_of Junctions rows) p.junctions.list of.junctions
+emitters_made : (rows : List Row) (p : Project) → IsProject rows p
+    → All (λ j. IfSome j.emitter IsMade) p.junctions.list
+emitters_made rows p of = match_all (project.IsJunction rows) (λ j. IfSome j.emitter IsMade) (rows_of Junctions rows)
+    p.junctions.list of.junctions
     (λ n row j _ _ made. emitter_made (unit rows) (emitter_of rows row) j.emitter made.emitter)
 
 areas_made : (rows : List Row) (p : Project) → IsProject rows p → All (IsAreaMade p.options.unit) p.tanks.list
 areas_made rows p of = subst (λ (u : FlowUnit). All (IsAreaMade u) p.tanks.list) (sym of.options.unit_is)
-    (match_all (project.IsTank rows) (IsAreaMade (unit rows)) (rows_of Tanks rows) p.tanks.list of.tanks (λ n row t _ _ made. made.area))
+    (match_all (project.IsTank rows) (IsAreaMade (unit rows)) (rows_of Tanks rows) p.tanks.list of.tanks
+    (λ n row t _ _ made. made.area))
 
 -- ---- states and amounts
 
-controls_made : (rows : List Row) (p : Project) → AreRight rows → IsProject rows p → All (λ c. IsStateMade p.options.unit c.to) p.controls.list
-controls_made rows p right of = subst (λ (u : FlowUnit). All (λ (c : Control). IsStateMade u c.to) p.controls.list) (sym of.options.unit_is)
+controls_made : (rows : List Row) (p : Project) → AreRight rows → IsProject rows p
+    → All (λ c. IsStateMade p.options.unit c.to) p.controls.list
+controls_made rows p right of = subst (λ (u : FlowUnit). All (λ (c : Control). IsStateMade u c.to) p.controls.list)
+    (sym of.options.unit_is)
     (λ k d l. (each_control rows p right of k d l).command.state.made)
 
-rules_made : (rows : List Row) (p : Project) → AreRight rows → IsProject rows p → All (IsRuleMade p.options.unit) p.rules.list
-rules_made rows p right of = subst (λ (u : FlowUnit). All (IsRuleMade u) p.rules.list) (sym of.options.unit_is) (λ k d l.
+rules_made : (rows : List Row) (p : Project) → AreRight rows → IsProject rows p
+    → All (IsRuleMade p.options.unit) p.rules.list
+rules_made rows p right of = subst (λ (u : FlowUnit). All (IsRuleMade u) p.rules.list) (sym of.options.unit_is)
+    (λ k d l.
     let r = each_rule rows p right of k d l in
     record {
       clauses = λ i e m. (r.clauses i e m).made;
@@ -61,7 +68,8 @@ rules_made rows p right of = subst (λ (u : FlowUnit). All (IsRuleMade u) p.rule
 
 -- ---- one diameter for each valve
 
-valve_across : (rows : List Row) (row : Row) (kind : LinkKind) → IsValveKind rows row kind → IsKindAcross (amount 3 row.words) kind
+valve_across : (rows : List Row) (row : Row) (kind : LinkKind) → IsValveKind rows row kind
+    → IsKindAcross (amount 3 row.words) kind
 valve_across rows row (Tcv valve) is = law_across (us rows) (amount 3 row.words) (valve_minor row.words) valve is.1
 valve_across rows row (Fcv valve) is = law_across (us rows) (amount 3 row.words) (valve_minor row.words) valve is.2
 valve_across rows row (Gpv bend) is = tt
@@ -70,10 +78,12 @@ valve_across rows row (CheckPipe cap) is = tt
 valve_across rows row (Pump cap shutoff head pattern) is = tt
 valve_across rows row (CurvePump bend pattern) is = tt
 
-kind_across : (rows : List Row) (row : Row) (kind : LinkKind) → IsKind rows row kind → IsKindAcross (amount 3 row.words) kind
+kind_across : (rows : List Row) (row : Row) (kind : LinkKind) → IsKind rows row kind
+    → IsKindAcross (amount 3 row.words) kind
 kind_across rows row kind is = by (is_of Pipes row) (is_of Pumps row) kind is
   where
-    by : (pipe pump : Bool) (kind : LinkKind) → Where pipe (project.IsPipeKind rows row kind) (Where pump (project.IsPumpKind rows row kind) (IsValveKind rows row kind))
+    by : (pipe pump : Bool) (kind : LinkKind) → Where pipe (project.IsPipeKind rows row kind)
+        (Where pump (project.IsPumpKind rows row kind) (IsValveKind rows row kind))
         → IsKindAcross (amount 3 row.words) kind
     by true pump (Pipe cap) is = tt
     by true pump (CheckPipe cap) is = tt
@@ -92,29 +102,38 @@ kind_across rows row kind is = by (is_of Pipes row) (is_of Pumps row) kind is
     by false false kind is = valve_across rows row kind is
 
 -- the row of a command is that of its number
-same_row : (rows : List Row) (p : Project) (number : ℕ) (row : Row) (link : ℕ) (to : LinkState) → slice_get (numbered_links rows) number ≡ Some row
+same_row : (rows : List Row) (p : Project) (number : ℕ) (row : Row) (link : ℕ) (to : LinkState)
+    → slice_get (numbered_links rows) number ≡ Some row
     → Command rows p link to → link ≡ number → IsStateAcross (amount 3 row.words) to
 same_row rows p number row link to at c same =
-    let there : slice_get (numbered_links rows) number ≡ Some c.row = ap (slice_get (numbered_links rows)) (sym same) ∙ c.row_is in
+    let there : slice_get (numbered_links rows) number ≡ Some c.row = ap (slice_get (numbered_links rows)) (sym same)
+    ∙ c.row_is in
     let e : Some c.row ≡ Some row = sym there ∙ at in
     let one : c.row ≡ row = cc in
     subst (λ (r : Row). IsStateAcross (amount 3 r.words) to) one c.state.across
 
-across_right : (rows : List Row) (p : Project) → AreRight rows → IsProject rows p → (number : ℕ) → number < length p.links.list → (across : ℤ) × IsAcross p number across
+across_right : (rows : List Row) (p : Project) → AreRight rows → IsProject rows p → (number : ℕ)
+    → number < length p.links.list → (across : ℤ) × IsAcross p number across
 across_right rows p right of number inside =
     let found = item_at p.links.list number inside in
     let pair = partner (IsLink rows) (numbered_links rows) p.links.list number found.item of.links found.is in
     let stands = link_stands rows number pair.item pair.is in
-    let asks = start_by rows stands.0.place pair.item found.item.start (status_of rows pair.item) right stands.0.is stands.1 refl pair.holds.start in
-    let start = state_right rows stands.0.place pair.item found.item.kind found.item.start right stands.0.is stands.1 pair.holds.kind asks in
+    let asks = start_by rows stands.0.place pair.item found.item.start (status_of rows pair.item) right stands.0.is
+    stands.1 refl pair.holds.start in
+    let start = state_right rows stands.0.place pair.item found.item.kind found.item.start right stands.0.is stands.1
+    pair.holds.kind asks in
     let across = amount 3 pair.item.words in (
       across,
       record {
-        link = λ d. subst (λ (l : Link). IsKindAcross across l.kind × IsStateAcross across l.start) (sym (get_or_from_slice_get p.links.list number found.item d found.is))
+        link = λ d. subst (λ (l : Link). IsKindAcross across l.kind × IsStateAcross across l.start)
+            (sym (get_or_from_slice_get p.links.list number found.item d found.is))
             (kind_across rows pair.item found.item.kind pair.holds.kind, start.across);
-        controls = λ k d l same. same_row rows p number pair.item _ _ pair.is (each_control rows p right of k d l).command same;
-        yes = λ k d l i e m same. same_row rows p number pair.item _ _ pair.is ((each_rule rows p right of k d l).yes i e m) same;
-        no = λ k d l i e m same. same_row rows p number pair.item _ _ pair.is ((each_rule rows p right of k d l).no i e m) same;
+        controls = λ k d l same. same_row rows p number pair.item _ _ pair.is
+            (each_control rows p right of k d l).command same;
+        yes = λ k d l i e m same. same_row rows p number pair.item _ _ pair.is
+            ((each_rule rows p right of k d l).yes i e m) same;
+        no = λ k d l i e m same. same_row rows p number pair.item _ _ pair.is
+            ((each_rule rows p right of k d l).no i e m) same;
       },
     )
 

@@ -44,7 +44,8 @@ use Rattle.hyd_spec_networks.proofs.RuleLines.{not_rule}
 -- ---- a count that is judged where it rises
 
 bounded_taken : (m : List Row → ℕ) (most : ℕ) (rows : List Row) → m [] ≤ most
-    → ((k : ℕ) (row : Row) → slice_get rows k ≡ Some row → (m (take (k + 1) rows) ≤ m (take k rows)) ⊎ (m (take (k + 1) rows) ≤ most))
+    → ((k : ℕ) (row : Row) → slice_get rows k ≡ Some row → (m (take (k + 1) rows) ≤ m (take k rows))
+    ⊎ (m (take (k + 1) rows) ≤ most))
     → (k : ℕ) → k ≤ length rows → m (take k rows) ≤ most
 bounded_taken m most rows none each zero l = none
 bounded_taken m most rows none each (suc k) l =
@@ -58,32 +59,43 @@ bounded_taken m most rows none each (suc k) l =
     ]
 
 bounded : (m : List Row → ℕ) (most : ℕ) (rows : List Row) → m [] ≤ most
-    → ((k : ℕ) (row : Row) → slice_get rows k ≡ Some row → (m (take (k + 1) rows) ≤ m (take k rows)) ⊎ (m (take (k + 1) rows) ≤ most)) → m rows ≤ most
+    → ((k : ℕ) (row : Row) → slice_get rows k ≡ Some row → (m (take (k + 1) rows) ≤ m (take k rows))
+    ⊎ (m (take (k + 1) rows) ≤ most)) → m rows ≤ most
 bounded m most rows none each =
-    subst (λ rs. m rs ≤ most) (take_all (length rows) rows (omega arith)) (bounded_taken m most rows none each (length rows) (omega arith))
+    subst (λ rs. m rs ≤ most) (take_all (length rows) rows (omega arith))
+    (bounded_taken m most rows none each (length rows) (omega arith))
 
 -- a count of the rows of a table, judged at each of them
 of_table : (p : Row → Bool) (g : List Row → ℕ) (most : ℕ) (rows : List Row) → g [] ≤ most
-    → ((k : ℕ) (row : Row) → slice_get rows k ≡ Some row → p row ≡ true → g (filter p (take (k + 1) rows)) ≤ most) → g (filter p rows) ≤ most
-of_table p g most rows none each = bounded (λ rs. g (filter p rs)) most rows none (λ k row is. elim (cases_Bool (p row)) [
-  | inl t ↦ inr (each k row is t)
-  | inr f ↦ (let same : g (filter p (take (k + 1) rows)) ≡ g (filter p (take k rows)) = ap g (kept_same p rows k row is f) in inl (omega (arith, same)))
-])
+    → ((k : ℕ) (row : Row) → slice_get rows k ≡ Some row → p row ≡ true → g (filter p (take (k + 1) rows)) ≤ most)
+    → g (filter p rows) ≤ most
+of_table p g most rows none each = bounded (λ rs. g (filter p rs)) most rows none
+    (λ k row is. elim (cases_Bool (p row)) [
+      | inl t ↦ inr (each k row is t)
+      | inr f ↦ (let same : g (filter p (take (k + 1) rows)) ≡ g (filter p (take k rows)) =
+          ap g (kept_same p rows k row is f) in inl (omega (arith, same)))
+    ])
 
 -- a count of some rows of a section, judged at each of them
 of_some : (section : Section) (q : Row → Bool) (most : ℕ) (rows : List Row)
-    → ((k : ℕ) (row : Row) → slice_get rows k ≡ Some row → is_of section row ≡ true → q row ≡ true → length (filter q (rows_of section (take (k + 1) rows))) ≤ most)
+    → ((k : ℕ) (row : Row) → slice_get rows k ≡ Some row → is_of section row ≡ true → q row ≡ true
+    → length (filter q (rows_of section (take (k + 1) rows))) ≤ most)
     → length (filter q (rows_of section rows)) ≤ most
-of_some section q most rows each = bounded (λ rs. length (filter q (rows_of section rs))) most rows (omega arith) (λ k row is. elim (cases_Bool (is_of section row)) [
-  | inl t ↦ elim (cases_Bool (q row)) [
-    | inl u ↦ inr (each k row is t u)
-    | inr v ↦ (let same : filter q (rows_of section (take (k + 1) rows)) ≡ filter q (rows_of section (take k rows)) =
-        ap (filter q) (kept_more (is_of section) rows k row is t) ∙ filter-append q (rows_of section (take k rows)) (row ∷ [])
-        ∙ rw v (append-nil (filter q (rows_of section (take k rows)))) in
-        let count = ap length same in inl (omega (arith, count)))
-  ]
-  | inr f ↦ (let same = ap (λ rs. length (filter q rs)) (kept_same (is_of section) rows k row is f) in inl (omega (arith, same)))
-])
+of_some section q most rows each = bounded (λ rs. length (filter q (rows_of section rs))) most rows (omega arith)
+    (λ k row is. elim (cases_Bool (is_of section row)) [
+      | inl t ↦ elim (cases_Bool (q row)) [
+        | inl u ↦ inr (each k row is t u)
+        | inr v ↦ (let same : filter q (rows_of section (take (k + 1) rows)) ≡ filter q
+            (rows_of section (take k rows)) =
+            ap (filter q) (kept_more (is_of section) rows k row is t) ∙ filter-append q
+            (rows_of section (take k rows))
+            (row ∷ [])
+            ∙ rw v (append-nil (filter q (rows_of section (take k rows)))) in
+            let count = ap length same in inl (omega (arith, count)))
+      ]
+      | inr f ↦ (let same = ap (λ rs. length (filter q rs)) (kept_same (is_of section) rows k row is f) in
+          inl (omega (arith, same)))
+    ])
 
 passed : (most detail n : ℕ) → passes most detail n ≡ None → n ≤ most
 passed most detail n e = leb-true n most (unless_none _ _ e)
@@ -112,7 +124,8 @@ pattern_count rows right = of_table (is_of Patterns) distinct 1000 rows (omega a
 
 all_multipliers : (rows : List Row) → AreRight rows → multiplier_count (rows_of Patterns rows) ≤ 1000000
 all_multipliers rows right = of_table (is_of Patterns) multiplier_count 1000000 rows (omega arith) (λ k row is of.
-    passed 1000000 8 _ (all_none (others.pattern_faults rows k row) (right_among rows Patterns k row right is of)).1.0)
+    passed 1000000 8 _ (all_none (others.pattern_faults rows k row)
+    (right_among rows Patterns k row right is of)).1.0)
 
 curve_count : (rows : List Row) → AreRight rows → distinct (rows_of Curves rows) ≤ 1000
 curve_count rows right = of_table (is_of Curves) distinct 1000 rows (omega arith) (λ k row is of.
@@ -128,21 +141,25 @@ demand_count rows right = of_table (is_of Demands) length 100000 rows (omega ari
 
 control_count : (rows : List Row) → AreRight rows → length (rows_of ControlsSection rows) ≤ 10000
 control_count rows right = of_table (is_of ControlsSection) length 10000 rows (omega arith) (λ k row is of.
-    passed 10000 11 _ (all_none (others.control_faults rows k row) (right_among rows ControlsSection k row right is of)).0)
+    passed 10000 11 _ (all_none (others.control_faults rows k row)
+    (right_among rows ControlsSection k row right is of)).0)
 
 rule_count : (rows : List Row) → AreRight rows → length (rules_in rows) ≤ 10000
 rule_count rows right = of_some RulesSection names_rule 10000 rows (λ k row is of names.
-    let line : first (others.rule_faults rows k row) ≡ None = rw names at (right_among rows RulesSection k row right is of) in
+    let line : first (others.rule_faults rows k row) ≡ None =
+    rw names at (right_among rows RulesSection k row right is of) in
     passed 10000 12 _ (all_none (others.rule_faults rows k row) line).0)
 
 all_parts : (rows : List Row) → AreRight rows → length (parts_in rows) ≤ 100000
 all_parts rows right = of_some RulesSection is_part 100000 rows (λ k row is of part.
-    let line : first (others.part_faults rows k row) ≡ None = rw (not_rule (begins_with row.words) part, part) at (right_among rows RulesSection k row right is of) in
+    let line : first (others.part_faults rows k row) ≡ None =
+    rw (not_rule (begins_with row.words) part, part) at (right_among rows RulesSection k row right is of) in
     passed 100000 12 _ (all_none (others.part_faults rows k row) line).0)
 
 -- ---- links
 
-parted_length : (p f g h : Row → Bool) (rows : List Row) → ((row : Row) (n : ℕ) → when (p row) n ≡ when (f row) n + (when (g row) n + when (h row) n))
+parted_length : (p f g h : Row → Bool) (rows : List Row)
+    → ((row : Row) (n : ℕ) → when (p row) n ≡ when (f row) n + (when (g row) n + when (h row) n))
     → length (filter p rows) ≡ length (filter f rows) + (length (filter g rows) + length (filter h rows))
 parted_length p f g h [] one = omega arith
 parted_length p f g h (row ∷ rows) one =
@@ -155,19 +172,22 @@ numbered_count : (rows : List Row) → length (numbered_links rows) ≡ length (
 numbered_count rows =
     let a = length-append (rows_of Pipes rows ++ rows_of Pumps rows) (rows_of Valves rows) in
     let b = length-append (rows_of Pipes rows) (rows_of Pumps rows) in
-    let c = parted_length is_link (is_of Pipes) (is_of Pumps) (is_of Valves) rows (λ row n. link_part row.section n) in
+    let c = parted_length is_link (is_of Pipes) (is_of Pumps) (is_of Valves) rows
+    (λ row n. link_part row.section n) in
     omega (arith, a, b, c)
 
 -- ---- sums over what matches
 
-total_match : {A B : Type 0} (R : A → B → Type 0) (f : B → ℕ) (g : A → ℕ) (xs : List A) (ys : List B) → Match R xs ys → ((x : A) (y : B) → R x y → f y ≤ g x)
+total_match : {A B : Type 0} (R : A → B → Type 0) (f : B → ℕ) (g : A → ℕ) (xs : List A) (ys : List B) → Match R xs ys
+    → ((x : A) (y : B) → R x y → f y ≤ g x)
     → total f ys ≤ total g xs
 total_match R f g [] [] m each = omega arith
 total_match R f g [] (y ∷ ys) m each = absurd m
 total_match R f g (x ∷ xs) [] m each = absurd m
 total_match R f g (x ∷ xs) (y ∷ ys) m each = omega (arith, each x y m.0, total_match R f g xs ys m.1 each)
 
-sum_match : {A B : Type 0} (R : A → B → Type 0) (f : B → ℕ) (g : A → ℕ) (xs : List A) (ys : List B) → Match R xs ys → ((x : A) (y : B) → R x y → f y ≤ g x)
+sum_match : {A B : Type 0} (R : A → B → Type 0) (f : B → ℕ) (g : A → ℕ) (xs : List A) (ys : List B) → Match R xs ys
+    → ((x : A) (y : B) → R x y → f y ≤ g x)
     → sum_by f ys ≤ total g xs
 sum_match R f g xs ys m each = omega (arith, total_is f ys, total_match R f g xs ys m each)
 
@@ -177,7 +197,8 @@ ones (x ∷ xs) = omega (arith, ones xs)
 
 -- ---- rows of a name
 
-flat_length : {Y : Type 0} (f : Row → List Y) (name : List ℕ) (xs : List Row) → length (flat_map f (rows_with name xs)) ≡ total_at own_id (λ r. length (f r)) name xs
+flat_length : {Y : Type 0} (f : Row → List Y) (name : List ℕ) (xs : List Row)
+    → length (flat_map f (rows_with name xs)) ≡ total_at own_id (λ r. length (f r)) name xs
 flat_length f name [] = refl
 flat_length f name (x ∷ xs) = elim (cases_Bool (bytes_eq name (own_id x))) [
   | inl t ↦ rw t (omega (arith, length-append (f x) (flat_map f (rows_with name xs)), flat_length f name xs))
@@ -195,7 +216,12 @@ rows_length name (x ∷ xs) = elim (cases_Bool (bytes_eq name (own_id x))) [
 points_few : (rows : List Row) (names : List (List ℕ)) → AreRight rows → Once names
     → total (λ id. total_at own_id (λ r. 1) id (rows_of Curves rows)) names ≤ 100000
 points_few rows names right once =
-    omega (arith, grouped own_id (λ r. 1) names (rows_of Curves rows) once, ones (rows_of Curves rows), point_count rows right)
+    omega (
+      arith,
+      grouped own_id (λ r. 1) names (rows_of Curves rows) once,
+      ones (rows_of Curves rows),
+      point_count rows right,
+    )
 
 -- ---- names that are counted
 
@@ -203,13 +229,15 @@ points_few rows names right once =
 record SameSeen (earlier : List Row) (seen : List (List ℕ)) : Type 0 where
   same : (name : List ℕ) → has_id name earlier ≡ is_among name seen
 
-has_id_push : (name : List ℕ) (xs : List Row) (row : Row) → has_id name (xs ++ row ∷ []) ≡ (has_id name xs || bytes_eq name (own_id row))
+has_id_push : (name : List ℕ) (xs : List Row) (row : Row)
+    → has_id name (xs ++ row ∷ []) ≡ (has_id name xs || bytes_eq name (own_id row))
 has_id_push name [] row = or_none_right (bytes_eq name (own_id row))
   where
     or_none_right : (b : Bool) → (b || false) ≡ b
     or_none_right true = refl
     or_none_right false = refl
-has_id_push name (x ∷ xs) row = ap (λ b. bytes_eq name (own_id x) || b) (has_id_push name xs row) ∙ or_assoc (bytes_eq name (own_id x)) (has_id name xs) (bytes_eq name (own_id row))
+has_id_push name (x ∷ xs) row = ap (λ b. bytes_eq name (own_id x) || b) (has_id_push name xs row)
+    ∙ or_assoc (bytes_eq name (own_id x)) (has_id name xs) (bytes_eq name (own_id row))
   where
     or_assoc : (a b c : Bool) → (a || (b || c)) ≡ ((a || b) || c)
     or_assoc true b c = refl
@@ -227,27 +255,34 @@ or_known true b h = refl
 or_known false true h = absurd (true≢false (sym (h refl)))
 or_known false false h = refl
 
-seen_again : (earlier : List Row) (seen : List (List ℕ)) (row : Row) → has_id (own_id row) earlier ≡ true → SameSeen earlier seen → SameSeen (earlier ++ row ∷ []) seen
+seen_again : (earlier : List Row) (seen : List (List ℕ)) (row : Row) → has_id (own_id row) earlier ≡ true
+    → SameSeen earlier seen → SameSeen (earlier ++ row ∷ []) seen
 seen_again earlier seen row old s = record {
   same = λ name.
       has_id_push name earlier row
-      ∙ or_known (has_id name earlier) (bytes_eq name (own_id row)) (λ t. subst (λ n. has_id n earlier ≡ true) (sym (same_name name (own_id row) t)) old)
+      ∙ or_known (has_id name earlier) (bytes_eq name (own_id row))
+      (λ t. subst (λ n. has_id n earlier ≡ true) (sym (same_name name (own_id row) t)) old)
       ∙ s.same name;
 }
 
-seen_new : (earlier : List Row) (seen : List (List ℕ)) (row : Row) → SameSeen earlier seen → SameSeen (earlier ++ row ∷ []) (own_id row ∷ seen)
+seen_new : (earlier : List Row) (seen : List (List ℕ)) (row : Row) → SameSeen earlier seen
+    → SameSeen (earlier ++ row ∷ []) (own_id row ∷ seen)
 seen_new earlier seen row s = record {
   same = λ name.
-      has_id_push name earlier row ∙ or_exchanged (has_id name earlier) (bytes_eq name (own_id row)) ∙ ap (λ b. bytes_eq name (own_id row) || b) (s.same name);
+      has_id_push name earlier row ∙ or_exchanged (has_id name earlier) (bytes_eq name (own_id row))
+      ∙ ap (λ b. bytes_eq name (own_id row) || b) (s.same name);
 }
 
-distinct_is : (earlier : List Row) (seen : List (List ℕ)) (xs : List Row) → SameSeen earlier seen → distinct_after earlier xs ≡ length (new_names seen (own_ids xs))
+distinct_is : (earlier : List Row) (seen : List (List ℕ)) (xs : List Row) → SameSeen earlier seen
+    → distinct_after earlier xs ≡ length (new_names seen (own_ids xs))
 distinct_is earlier seen [] s = refl
 distinct_is earlier seen (x ∷ xs) s = elim (cases_Bool (has_id (own_id x) earlier)) [
   | inl t ↦ (let among : is_among (own_id x) seen ≡ true = sym (s.same (own_id x)) ∙ t in
-      rw (t, among) (let rest = distinct_is (earlier ++ x ∷ []) seen xs (seen_again earlier seen x t s) in omega (arith, rest)))
+      rw (t, among) (let rest = distinct_is (earlier ++ x ∷ []) seen xs (seen_again earlier seen x t s) in
+      omega (arith, rest)))
   | inr f ↦ (let among : is_among (own_id x) seen ≡ false = sym (s.same (own_id x)) ∙ f in
-      rw (f, among) (let rest = distinct_is (earlier ++ x ∷ []) (own_id x ∷ seen) xs (seen_new earlier seen x s) in omega (arith, rest)))
+      rw (f, among) (let rest = distinct_is (earlier ++ x ∷ []) (own_id x ∷ seen) xs (seen_new earlier seen x s) in
+      omega (arith, rest)))
 ]
 
 distinct_names : (xs : List Row) → distinct xs ≡ length (new_names [] (own_ids xs))
@@ -255,9 +290,15 @@ distinct_names xs = distinct_is [] [] xs (record { same = λ name. refl })
 
 -- ---- curves
 
-flat_names : (f : Row → Option (List ℕ)) (xs : List Row) → length (flat_map (λ (r : Row). as_list (f r)) xs) ≤ length xs
+flat_names : (f : Row → Option (List ℕ)) (xs : List Row) → length (flat_map (λ (r : Row). as_list (f r)) xs)
+    ≤ length xs
 flat_names f [] = omega arith
-flat_names f (x ∷ xs) = omega (arith, length-append (as_list (f x)) (flat_map (λ (r : Row). as_list (f r)) xs), one_name (f x), flat_names f xs)
+flat_names f (x ∷ xs) = omega (
+  arith,
+  length-append (as_list (f x)) (flat_map (λ (r : Row). as_list (f r)) xs),
+  one_name (f x),
+  flat_names f xs,
+)
   where
     one_name : (o : Option (List ℕ)) → length (as_list o) ≤ 1
     one_name None = omega arith
@@ -265,17 +306,25 @@ flat_names f (x ∷ xs) = omega (arith, length-append (as_list (f x)) (flat_map 
 
 shape_count : (rows : List Row) → AreRight rows → length (shape_names rows) ≤ 1000
 shape_count rows right =
-    omega (arith, fewer_names [] (flat_map (λ (r : Row). as_list (tank_curve r.words)) (rows_of Tanks rows)), flat_names (λ r. tank_curve r.words) (rows_of Tanks rows), tank_count rows right)
+    omega (
+      arith,
+      fewer_names [] (flat_map (λ (r : Row). as_list (tank_curve r.words)) (rows_of Tanks rows)),
+      flat_names (λ r. tank_curve r.words) (rows_of Tanks rows),
+      tank_count rows right,
+    )
 
-pub all_flat : {X Y : Type 0} (P : Y → Type 0) (f : X → List Y) (xs : List X) → All (λ x. All P (f x)) xs → All P (flat_map f xs)
+pub all_flat : {X Y : Type 0} (P : Y → Type 0) (f : X → List Y) (xs : List X) → All (λ x. All P (f x)) xs
+    → All P (flat_map f xs)
 all_flat P f [] all = All-nil P
-all_flat P f (x ∷ xs) all = All-append P (f x) (flat_map f xs) (All-head (λ y. All P (f y)) x xs all) (all_flat P f xs (All-tail (λ y. All P (f y)) x xs all))
+all_flat P f (x ∷ xs) all = All-append P (f x) (flat_map f xs) (All-head (λ y. All P (f y)) x xs all)
+    (all_flat P f xs (All-tail (λ y. All P (f y)) x xs all))
 
 all_new : (P : List ℕ → Type 0) (seen names : List (List ℕ)) → All P names → All P (new_names seen names)
 all_new P seen [] all = All-nil P
 all_new P seen (name ∷ names) all = elim (cases_Bool (is_among name seen)) [
   | inl t ↦ rw t (all_new P seen names (All-tail P name names all))
-  | inr f ↦ rw f (All-cons P name (new_names (name ∷ seen) names) (All-head P name names all) (all_new P (name ∷ seen) names (All-tail P name names all)))
+  | inr f ↦ rw f (All-cons P name (new_names (name ∷ seen) names) (All-head P name names all)
+      (all_new P (name ∷ seen) names (All-tail P name names all)))
 ]
 
 -- the name of a curve that is there
@@ -286,17 +335,23 @@ known_name : (rows : List Row) (o : Option (List ℕ)) → known_curve rows o �
 known_name rows None e = All-nil (IsCurveName rows)
 known_name rows (Some name) e = All-cons (IsCurveName rows) name [] (unless_none _ _ e) (All-nil (IsCurveName rows))
 
-pump_name : (rows : List Row) (row : Row) → known_curve rows (pump_curve row.words) ≡ None → All (IsCurveName rows) (bent_name rows row)
+pump_name : (rows : List Row) (row : Row) → known_curve rows (pump_curve row.words) ≡ None
+    → All (IsCurveName rows) (bent_name rows row)
 pump_name rows row e =
-    cond_both (is_bent (curve_named rows (or_empty (pump_curve row.words)))) (as_list (pump_curve row.words)) [] (All (IsCurveName rows))
+    cond_both (is_bent (curve_named rows (or_empty (pump_curve row.words)))) (as_list (pump_curve row.words)) []
+    (All (IsCurveName rows))
     (λ t. known_name rows (pump_curve row.words) e) (λ f. All-nil (IsCurveName rows))
 
 bends_known : (rows : List Row) → AreRight rows → All (IsCurveName rows) (bend_names rows)
-bends_known rows right = all_new (IsCurveName rows) [] _ (All-append (IsCurveName rows) (flat_map (bent_name rows) (rows_of Pumps rows)) _
-    (all_flat (IsCurveName rows) (bent_name rows) (rows_of Pumps rows) (each_row rows Pumps (λ r. All (IsCurveName rows) (bent_name rows r)) (λ k row is of.
+bends_known rows right = all_new (IsCurveName rows) [] _
+    (All-append (IsCurveName rows) (flat_map (bent_name rows) (rows_of Pumps rows)) _
+    (all_flat (IsCurveName rows) (bent_name rows) (rows_of Pumps rows)
+    (each_row rows Pumps (λ r. All (IsCurveName rows) (bent_name rows r)) (λ k row is of.
     pump_name rows row (all_none (others.pump_faults rows k row) (right_among rows Pumps k row right is of)).1.0)))
-    (all_flat (IsCurveName rows) (λ (r : Row). as_list (valve_curve r.words)) (rows_of Valves rows) (each_row rows Valves (λ r. All (IsCurveName rows) (as_list (valve_curve r.words))) (λ k row is of.
-    known_name rows (valve_curve row.words) (all_none (others.valve_faults rows k row) (right_among rows Valves k row right is of)).1.0))))
+    (all_flat (IsCurveName rows) (λ (r : Row). as_list (valve_curve r.words)) (rows_of Valves rows)
+    (each_row rows Valves (λ r. All (IsCurveName rows) (as_list (valve_curve r.words))) (λ k row is of.
+    known_name rows (valve_curve row.words) (all_none (others.valve_faults rows k row)
+    (right_among rows Valves k row right is of)).1.0))))
 
 id_among : (name : List ℕ) (xs : List Row) → has_id name xs ≡ true → is_among name (own_ids xs) ≡ true
 id_among name [] e = e
@@ -306,37 +361,65 @@ id_among name (x ∷ xs) e = elim (or_cases (bytes_eq name (own_id x)) (has_id n
 ]
 
 -- names that occur once, each of them among others that occur once: there are no more of them
-fewer_than : (names all : List (List ℕ)) → Once names → All (λ name. 1 ≤ occurs name all) names → length names ≤ length all
-fewer_than names all once each = omega (arith, ones names, ones all, least names each, grouped (λ (n : List ℕ). n) (λ n. 1) names all once)
+fewer_than : (names all : List (List ℕ)) → Once names → All (λ name. 1 ≤ occurs name all) names
+    → length names ≤ length all
+fewer_than names all once each = omega (
+  arith,
+  ones names,
+  ones all,
+  least names each,
+  grouped (λ (n : List ℕ). n)
+      (λ n. 1) names all once,
+)
   where
-    occurs_is : (name : List ℕ) (ids : List (List ℕ)) → occurs name ids ≡ total_at (λ (n : List ℕ). n) (λ n. 1) name ids
+    occurs_is : (name : List ℕ) (ids : List (List ℕ)) → occurs name ids ≡ total_at (λ (n : List ℕ). n)
+        (λ n. 1) name ids
     occurs_is name [] = refl
     occurs_is name (id ∷ ids) = omega (arith, occurs_is name ids)
 
-    least : (ns : List (List ℕ)) → All (λ name. 1 ≤ occurs name all) ns → total (λ n. 1) ns ≤ total (λ id. total_at (λ (n : List ℕ). n) (λ n. 1) id all) ns
+    least : (ns : List (List ℕ)) → All (λ name. 1 ≤ occurs name all) ns
+        → total (λ n. 1) ns ≤ total (λ id. total_at (λ (n : List ℕ). n) (λ n. 1) id all) ns
     least [] e = omega arith
     least (n ∷ ns) e =
-        omega (arith, All-head (λ name. 1 ≤ occurs name all) n ns e, occurs_is n all, least ns (All-tail (λ name. 1 ≤ occurs name all) n ns e))
+        omega (
+          arith,
+          All-head (λ name. 1 ≤ occurs name all) n ns e,
+          occurs_is n all,
+          least ns
+              (All-tail (λ name. 1 ≤ occurs name all) n ns e),
+        )
 
 bend_count : (rows : List Row) → AreRight rows → length (bend_names rows) ≤ 1000
 bend_count rows right =
     let all = new_names [] (own_ids (rows_of Curves rows)) in
     let few = fewer_than (bend_names rows) all (names_once _)
-    (λ k d l. kept_once _ [] (own_ids (rows_of Curves rows)) (id_among _ (rows_of Curves rows) (bends_known rows right k d l)) refl) in
+    (λ k d l. kept_once _ [] (own_ids (rows_of Curves rows))
+    (id_among _ (rows_of Curves rows) (bends_known rows right k d l)) refl) in
     omega (arith, few, distinct_names (rows_of Curves rows), curve_count rows right)
 
 -- ---- demands
 
-own_length : (own : Demand) (list : List Demand) → (if nat_lt 1 (length (or_own own list)) then length (or_own own list) else 0) ≤ length list
+own_length : (own : Demand) (list : List Demand)
+    → (if nat_lt 1 (length (or_own own list)) then length (or_own own list) else 0) ≤ length list
 own_length own [] = omega arith
-own_length own (x ∷ xs) = cond_both (nat_lt 1 (length (x ∷ xs))) (length (x ∷ xs)) 0 (λ n. n ≤ length (x ∷ xs)) (λ t. omega arith) (λ f. omega arith)
+own_length own (x ∷ xs) = cond_both (nat_lt 1 (length (x ∷ xs))) (length (x ∷ xs)) 0 (λ n. n ≤ length (x ∷ xs))
+    (λ t. omega arith) (λ f. omega arith)
 
-junction_demands : (rows : List Row) (row : Row) (j : Junction) → project.IsJunction rows row j → demand_rows j ≤ total_at own_id (λ r. 1) (own_id row) (rows_of Demands rows)
+junction_demands : (rows : List Row) (row : Row) (j : Junction) → project.IsJunction rows row j
+    → demand_rows j ≤ total_at own_id (λ r. 1) (own_id row) (rows_of Demands rows)
 junction_demands rows row j is =
-    let own = own_length (own_demand rows row) (map (demand_of_row rows) (rows_with (own_id row) (rows_of Demands rows))) in
+    let own = own_length (own_demand rows row)
+    (map (demand_of_row rows) (rows_with (own_id row) (rows_of Demands rows))) in
     let few : demand_rows j ≤ length (map (demand_of_row rows) (rows_with (own_id row) (rows_of Demands rows))) =
-    subst (λ list. (if nat_lt 1 (length list) then length list else 0) ≤ length (map (demand_of_row rows) (rows_with (own_id row) (rows_of Demands rows)))) (sym is.demands) own in
-    omega (arith, few, length-map (rows_with (own_id row) (rows_of Demands rows)) (demand_of_row rows), rows_length (own_id row) (rows_of Demands rows))
+    subst (λ list. (if nat_lt 1 (length list) then length list else 0) ≤ length
+    (map (demand_of_row rows) (rows_with (own_id row) (rows_of Demands rows)))) (sym is.demands) own in
+    omega (
+      arith,
+      few,
+      length-map (rows_with (own_id row) (rows_of Demands rows)) (demand_of_row rows),
+      rows_length
+          (own_id row) (rows_of Demands rows),
+    )
 
 total_ids : (g : List ℕ → ℕ) (xs : List Row) → total (λ r. g (own_id r)) xs ≡ total g (own_ids xs)
 total_ids g [] = refl
@@ -345,16 +428,20 @@ total_ids g (x ∷ xs) = omega (arith, total_ids g xs)
 junctions_once : (rows : List Row) → AreRight rows → Once (own_ids (rows_of Junctions rows))
 junctions_once rows right name =
     let whole = nodes_once rows right name in
-    let e = ap (occurs name) (node_ids_are rows ∙ map-append own_id (rows_of Junctions rows ++ rows_of Reservoirs rows) (rows_of Tanks rows)) in
-    let a = occurs_append name (own_ids (rows_of Junctions rows ++ rows_of Reservoirs rows)) (own_ids (rows_of Tanks rows)) in
+    let e = ap (occurs name) (node_ids_are rows ∙ map-append own_id
+    (rows_of Junctions rows ++ rows_of Reservoirs rows) (rows_of Tanks rows)) in
+    let a = occurs_append name (own_ids (rows_of Junctions rows ++ rows_of Reservoirs rows))
+    (own_ids (rows_of Tanks rows)) in
     let b = ap (occurs name) (map-append own_id (rows_of Junctions rows) (rows_of Reservoirs rows)) in
     let c = occurs_append name (own_ids (rows_of Junctions rows)) (own_ids (rows_of Reservoirs rows)) in
     omega (arith, whole, e, a, b, c)
 
-demands_few : (rows : List Row) (p : Project) → AreRight rows → IsProject rows p → sum_by demand_rows p.junctions.list ≤ 100000
+demands_few : (rows : List Row) (p : Project) → AreRight rows → IsProject rows p
+    → sum_by demand_rows p.junctions.list ≤ 100000
 demands_few rows p right of =
     let D = rows_of Demands rows in
-    let a = sum_match (project.IsJunction rows) demand_rows (λ row. total_at own_id (λ r. 1) (own_id row) D) (rows_of Junctions rows) p.junctions.list of.junctions
+    let a = sum_match (project.IsJunction rows) demand_rows (λ row. total_at own_id (λ r. 1) (own_id row) D)
+    (rows_of Junctions rows) p.junctions.list of.junctions
     (λ row j is. junction_demands rows row j is) in
     let b = total_ids (λ id. total_at own_id (λ r. 1) id D) (rows_of Junctions rows) in
     let c = grouped own_id (λ r. 1) (own_ids (rows_of Junctions rows)) D (junctions_once rows right) in
@@ -379,7 +466,8 @@ stage_part Otherwise = omega arith
 stage_part Closed = omega arith
 
 line_part : (stage : Stage) (o : Option RuleWord)
-    → when (is_asking (stage_by stage o)) 1 + when (is_doing (stage_by stage o)) 1 + when (is_otherwise (stage_by stage o)) 1 ≤ when (is_part_word o) 1
+    → when (is_asking (stage_by stage o)) 1 + when (is_doing (stage_by stage o)) 1 + when
+    (is_otherwise (stage_by stage o)) 1 ≤ when (is_part_word o) 1
 line_part stage (Some Rule) = omega arith
 line_part stage (Some Priority) = omega arith
 line_part stage (Some If) = omega arith
@@ -390,14 +478,16 @@ line_part stage (Some Or) = stage_part stage
 line_part stage None = stage_part stage
 
 lines_length : (test : Stage → Bool) (stage : Stage) (words : List (List ℕ)) (lines : List (List (List ℕ)))
-    → length (lines_at test stage (words ∷ lines)) ≡ when (test (stage_by stage (begins_with words))) 1 + length (lines_at test (stage_by stage (begins_with words)) lines)
+    → length (lines_at test stage (words ∷ lines)) ≡ when (test (stage_by stage (begins_with words))) 1 + length
+    (lines_at test (stage_by stage (begins_with words)) lines)
 lines_length test stage words lines = elim (cases_Bool (test (stage_by stage (begins_with words)))) [
   | inl t ↦ rw t (omega arith)
   | inr f ↦ rw f (omega arith)
 ]
 
 three_parts : (stage : Stage) (lines : List (List (List ℕ)))
-    → length (lines_at is_asking stage lines) + length (lines_at is_doing stage lines) + length (lines_at is_otherwise stage lines) ≤ parts_of lines
+    → length (lines_at is_asking stage lines) + length (lines_at is_doing stage lines) + length
+    (lines_at is_otherwise stage lines) ≤ parts_of lines
 three_parts stage [] = omega arith
 three_parts stage (words ∷ lines) =
     omega (
@@ -409,7 +499,8 @@ three_parts stage (words ∷ lines) =
       three_parts (stage_by stage (begins_with words)) lines,
     )
 
-group_parts : (lines : List (List (List ℕ))) → total parts_of (rule_groups lines) + parts_of (until_rule lines) ≤ parts_of lines
+group_parts : (lines : List (List (List ℕ))) → total parts_of (rule_groups lines) + parts_of (until_rule lines)
+    ≤ parts_of lines
 group_parts [] = omega arith
 group_parts (words ∷ lines) = elim (cases_Bool (is_rule (begins_with words))) [
   | inl t ↦ rw t (omega (arith, group_parts lines))
@@ -425,24 +516,28 @@ group_names (words ∷ lines) = elim (cases_Bool (is_rule (begins_with words))) 
 
 -- the lines of rows, counted by a test
 words_total : (test : Option RuleWord → Bool) (xs : List Row)
-    → total (λ words. when (test (begins_with words)) 1) (map words_of_row xs) ≡ length (filter (λ (r : Row). test (begins_with r.words)) xs)
+    → total (λ words. when (test (begins_with words)) 1) (map words_of_row xs) ≡ length
+    (filter (λ (r : Row). test (begins_with r.words)) xs)
 words_total test [] = refl
 words_total test (x ∷ xs) = elim (cases_Bool (test (begins_with x.words))) [
   | inl t ↦ rw t (omega (arith, words_total test xs))
   | inr f ↦ rw f (omega (arith, words_total test xs))
 ]
 
-rule_parts : (rows : List Row) (group : List (List (List ℕ))) (r : RuleItem) → project.IsRule rows group r → part_count r ≤ parts_of group
+rule_parts : (rows : List Row) (group : List (List (List ℕ))) (r : RuleItem) → project.IsRule rows group r
+    → part_count r ≤ parts_of group
 rule_parts rows group r is =
     let a = match_length (project.IsClause rows) _ _ is.clauses in
     let b = match_length (project.IsAction rows) _ _ is.yes in
     let c = match_length (project.IsAction rows) _ _ is.no in
     omega (arith, a, b, c, three_parts Outside group)
 
-parts_few : (rows : List Row) (p : Project) → AreRight rows → IsProject rows p → sum_by part_count p.rules.list ≤ 100000
+parts_few : (rows : List Row) (p : Project) → AreRight rows → IsProject rows p
+    → sum_by part_count p.rules.list ≤ 100000
 parts_few rows p right of =
     let lines = words_of RulesSection rows in
-    let a = sum_match (project.IsRule rows) part_count parts_of (rule_groups lines) p.rules.list of.rules (λ group r is. rule_parts rows group r is) in
+    let a = sum_match (project.IsRule rows) part_count parts_of (rule_groups lines) p.rules.list of.rules
+    (λ group r is. rule_parts rows group r is) in
     omega (arith, a, group_parts lines, words_total is_part_word (rows_of RulesSection rows), all_parts rows right)
 
 rules_few : (rows : List Row) (p : Project) → AreRight rows → IsProject rows p → length p.rules.list ≤ 10000
@@ -453,16 +548,20 @@ rules_few rows p right of =
 
 -- ---- all counts
 
-multipliers_few : (rows : List Row) (p : Project) → AreRight rows → IsProject rows p → sum_by (λ (q : Pattern). length q.multipliers.list) p.patterns.list ≤ 1000000
+multipliers_few : (rows : List Row) (p : Project) → AreRight rows → IsProject rows p
+    → sum_by (λ (q : Pattern). length q.multipliers.list) p.patterns.list ≤ 1000000
 multipliers_few rows p right of =
     let P = rows_of Patterns rows in
-    let a = sum_match (IsPattern rows) (λ (q : Pattern). length q.multipliers.list) (λ id. total_at own_id (λ r. length (row_multipliers r)) id P) (pattern_ids rows) p.patterns.list of.patterns
+    let a = sum_match (IsPattern rows) (λ (q : Pattern). length q.multipliers.list)
+    (λ id. total_at own_id (λ r. length (row_multipliers r)) id P) (pattern_ids rows) p.patterns.list of.patterns
     (λ id q is. let e = ap length is ∙ flat_length row_multipliers id P in omega (arith, e)) in
     let b = grouped own_id (λ r. length (row_multipliers r)) (pattern_ids rows) P (names_once (own_ids P)) in
     omega (arith, a, b, total_is (λ (r : Row). length (multipliers r.words)) P, all_multipliers rows right)
 
-curve_length : (rows : List Row) (name : List ℕ) → length (curve_named rows name) ≡ total_at own_id (λ r. 1) name (rows_of Curves rows)
-curve_length rows name = length-map (rows_with name (rows_of Curves rows)) point_of ∙ rows_length name (rows_of Curves rows)
+curve_length : (rows : List Row) (name : List ℕ) → length (curve_named rows name) ≡ total_at own_id (λ r. 1) name
+    (rows_of Curves rows)
+curve_length rows name = length-map (rows_with name (rows_of Curves rows)) point_of ∙ rows_length name
+    (rows_of Curves rows)
 
 pub within_limits : (rows : List Row) (p : Project) → AreRight rows → IsProject rows p → IsWithinLimits p
 within_limits rows p right of =
@@ -470,23 +569,40 @@ within_limits rows p right of =
     let B : List ℕ → ListView HeadPoint → Type 0 = λ id list. list.list ≡ bend_points rows id in
     record {
       junctions = omega (arith, match_length (project.IsJunction rows) _ _ of.junctions, junction_count rows right);
-      reservoirs = omega (arith, match_length (project.IsReservoir rows) _ _ of.reservoirs, reservoir_count rows right);
+      reservoirs =
+          omega (arith, match_length (project.IsReservoir rows) _ _ of.reservoirs, reservoir_count rows right);
       tanks = omega (arith, match_length (project.IsTank rows) _ _ of.tanks, tank_count rows right);
       links = omega (arith, match_length (IsLink rows) _ _ of.links, numbered_count rows, link_count rows right);
-      patterns = omega (arith, match_length (IsPattern rows) _ _ of.patterns, distinct_names (rows_of Patterns rows), pattern_count rows right);
+      patterns = omega (
+        arith,
+        match_length (IsPattern rows) _ _ of.patterns,
+        distinct_names (rows_of Patterns rows),
+        pattern_count rows right,
+      );
       multipliers = multipliers_few rows p right of;
       shapes = omega (arith, match_length S _ _ of.shapes, shape_count rows right);
       shape_points = (
-          let a = sum_match S (λ (s : ListView VolumePoint). length s.list) (λ id. total_at own_id (λ r. 1) id (rows_of Curves rows)) (shape_names rows) p.shapes.list of.shapes
-          (λ id s is. let e = ap length is ∙ length-map (curve_named rows id) (volume_point (us rows)) ∙ curve_length rows id in omega (arith, e)) in
+          let a = sum_match S (λ (s : ListView VolumePoint). length s.list)
+          (λ id. total_at own_id (λ r. 1) id (rows_of Curves rows)) (shape_names rows) p.shapes.list of.shapes
+          (λ id s is. let e = ap length is ∙ length-map (curve_named rows id) (volume_point (us rows))
+          ∙ curve_length rows id in omega (arith, e)) in
           omega (arith, a, points_few rows (shape_names rows) right (names_once _)));
       bends = omega (arith, match_length B _ _ of.bends, bend_count rows right);
       bend_points = (
-          let a = sum_match B (λ (b : ListView HeadPoint). length b.list) (λ id. total_at own_id (λ r. 1) id (rows_of Curves rows)) (bend_names rows) p.bends.list of.bends
-          (λ id b is. let e = ap length is ∙ length-map (curve_named rows id) (head_point (unit rows) (us rows)) ∙ curve_length rows id in omega (arith, e)) in
+          let a = sum_match B (λ (b : ListView HeadPoint). length b.list)
+          (λ id. total_at own_id (λ r. 1) id (rows_of Curves rows)) (bend_names rows) p.bends.list of.bends
+          (λ id b is. let e = ap length is ∙ length-map (curve_named rows id) (head_point (unit rows) (us rows))
+          ∙ curve_length rows id in omega (arith, e)) in
           omega (arith, a, points_few rows (bend_names rows) right (names_once _)));
       demands = demands_few rows p right of;
-      controls = omega (arith, match_length (project.IsControl rows) _ _ of.controls, length-map (rows_of ControlsSection rows) words_of_row, control_count rows right);
+      controls =
+          omega (
+            arith,
+            match_length (project.IsControl rows) _ _ of.controls,
+            length-map
+                (rows_of ControlsSection rows) words_of_row,
+            control_count rows right,
+          );
       rules = rules_few rows p right of;
       parts = parts_few rows p right of;
     }

@@ -20,10 +20,12 @@ pub fn ids()
 
 /// Times are at most 10^8 seconds and steps at least one, in their order; the clock starts within a day.
 pub fn times()
-    ensures { (text : List ℕ) (p : Project) → HasNoFault text → IsProject (rows_in (items_of text)) p → AreTimes p.times }
+    ensures { (text : List ℕ) (p : Project) → HasNoFault text → IsProject (rows_in (items_of text)) p
+        → AreTimes p.times }
 {}
 
-/// The numbers of the options are in range; where demands depend on pressure, the required pressure exceeds the minimum.
+/// The numbers of the options are in range; where demands depend on pressure, the required pressure exceeds the
+/// minimum.
 pub fn options()
     ensures { (text : List ℕ) (p : Project) → HasNoFault text → IsProject (rows_in (items_of text)) p
         → HasOptions p.options p.patterns.list }
@@ -68,7 +70,8 @@ pub fn rules()
 
 /// No table of the project is longer than its limit.
 pub fn counts()
-    ensures { (text : List ℕ) (p : Project) → HasNoFault text → IsProject (rows_in (items_of text)) p → IsWithinLimits p }
+    ensures { (text : List ℕ) (p : Project) → HasNoFault text → IsProject (rows_in (items_of text)) p
+        → IsWithinLimits p }
 {}
 
 /// Each pattern has a multiplier, and each is in range.
