@@ -17,3 +17,4 @@ pub mod Tallies
 pub mod PatternRows
 pub mod Rounding
 pub mod Parts
+pub mod ExampleText

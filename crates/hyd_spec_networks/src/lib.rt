@@ -12,6 +12,7 @@ ghost use Rattle.hyd_net.specs.Sound.{HasIds, IsWithinLimits, HasEnds, AreTimes,
 ghost use Rattle.hyd_net.specs.Made.{IsAllMade};
 ghost use Rattle.hyd_spec_input.specs.Faults.{HasNoFault};
 ghost use Rattle.hyd_spec_input.specs.Project.{IsProject};
+ghost use Rattle.hyd_spec_networks.specs.Example.{text, network};
 
 /// Each node and each link has one ID of 1 to 31 bytes, and no two nodes and no two links have the same one.
 pub fn ids()
@@ -89,4 +90,10 @@ pub fn made()
 /// The project of a text without a fault is sound.
 pub fn sound()
     ensures { (text : List ℕ) (p : Project) → HasNoFault text → IsProject (rows_in (items_of text)) p → Sound p }
+{}
+
+/// There are such texts and projects: a text with most kinds of rows has no fault, and this is its project.
+pub fn example()
+    ensures fault { HasNoFault text }
+    ensures project { IsProject (rows_in (items_of text)) network }
 {}
