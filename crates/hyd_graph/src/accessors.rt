@@ -10,6 +10,7 @@ ghost use Rattle.hyd_spec_certificates.specs.Enclosing.{demand_low, demand_high}
 ghost use Rattle.hyd_spec_certificates.specs.Grid.{all_heads, tank_side};
 ghost use Rattle.hyd_spec_certificates.specs.NetOutflow.{net, link_ends, margin};
 ghost use Rattle.hyd_spec_laws.specs.Laws.{IsSteady, IsSoundCapacity};
+ghost use Rattle.hyd_law.specs.LinkLaws.{IsSoundLink, LinkAccepts};
 ghost use Rattle.hyd_law.specs.OutLaws.{IsSoundOut, OutAccepts, out_low, out_high};
 ghost use Rattle.hyd_graph.specs.ExactLaw.{exact_law};
 ghost use Rattle.hyd_graph.specs.Demands.{demand_of_law};
@@ -122,6 +123,8 @@ impl Net {
         requires { link < length self.now.ends }
         ensures value { slice_get self.now.laws link ≡ Some result.now }
         ensures stands { IfSome (slice_get (grid_of self.now).links link) (λ l. Stands result.now l.law) }
+        ensures sound { IsSoundLink result.now }
+        ensures accepts { (d : ℤ) → unsigned_abs d ≤ 2 * 10 ^ 18 → LinkAccepts result.now d }
     {
         &self.laws[link as usize]
     }
