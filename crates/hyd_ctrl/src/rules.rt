@@ -1,0 +1,4 @@
+//! Rules at an instant.
+#![tactic(auto)]
+
+pub fn decide() {}
