@@ -1,9 +1,9 @@
 -- What rules look at, at an instant of a period.
 -- Source: EPANET 2.2 User Manual, chapter 3 (rule-based controls).
-use Rattle.std.specs.Prelude.{◌≡◌, ⊤, ℕ, ◌^◌, ◌≤◌, ℤ, unsigned_abs, List, length, map}
+use Rattle.std.specs.Prelude.{◌≡◌, ⊤, ℕ, ◌^◌, ◌≤◌, ℤ, ◌-ℤ◌, unsigned_abs, List, length, map}
 use Rattle.std.specs.List.{All}
 use Rattle.hyd_num.specs.declared.decimals.Span.{Span}
-use Rattle.hyd_num.specs.Rational.{whole, total_of}
+use Rattle.hyd_num.specs.Rational.{whole}
 use Rattle.hyd_net.specs.Sound.{Sound}
 use Rattle.hyd_spec.specs.Types.{LinkState, Clause, What, Head, Pressure, Level, Flow, Setting, Status, Time, Clock}
 use Rattle.hyd_spec.specs.Network.{nodes_before_tanks, tank_count}
@@ -69,8 +69,8 @@ pub record IsInstant (instant : Instant) : Type 0 where
 
 -- the carried level of a tank there, above the level -base (head ticks)
 pub record AreLevelEnds (instant : Instant) (tank : ℕ) (base : ℤ) (ends : Ends) : Type 0 where
-  pub lo : total_of (level_of (below instant) tank) (whole base) ≡ whole ends.lo
-  pub hi : total_of (level_of (above instant) tank) (whole base) ≡ whole ends.hi
+  pub lo : level_of (below instant) tank ≡ whole (ends.lo -ℤ base)
+  pub hi : level_of (above instant) tank ≡ whole (ends.hi -ℤ base)
 
 -- the ends of what a clause measures there, in head or flow ticks, of a setting in billionths
 pub record AreEnds (instant : Instant) (what : What) (ends : Ends) : Type 0 where

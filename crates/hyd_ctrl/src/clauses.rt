@@ -67,8 +67,8 @@ fn head_ends(instant: &Instant<'_>, node: u32) -> Ends
     ensures { AreEnds instant.now (What.Head node) result }
 {
     if let Some(tank) = tank_number(instant.project, node) {
-        let bottom = instant.project.tanks.as_slice()[tank].bottom;
-        return level_ends(instant, tank, bottom);
+        let here = &instant.project.tanks.as_slice()[tank];
+        return level_ends(instant, tank, here.bottom);
     }
     Ends {
         lo: i128::from(instant.low[node as usize]),
@@ -92,9 +92,9 @@ fn pressure_ends(instant: &Instant<'_>, node: u32) -> Ends
 }
 
 // The least magnitude of a flow.
-fn least_magnitude(flow: Span) -> i128
-    requires { IsBounded flow }
-    ensures { result ≡ pos (least_magnitude (flow_interval flow)) }
+fn least_magnitude(flow: &Span) -> i128
+    requires { IsBounded flow.now }
+    ensures { result ≡ pos (least_magnitude (flow_interval flow.now)) }
 {
     if flow.lo >= 0 {
         return flow.lo;
@@ -103,9 +103,9 @@ fn least_magnitude(flow: Span) -> i128
 }
 
 // The greatest magnitude of a flow.
-fn greatest_magnitude(flow: Span) -> i128
-    requires { IsBounded flow }
-    ensures { result ≡ pos (greatest_magnitude (flow_interval flow)) }
+fn greatest_magnitude(flow: &Span) -> i128
+    requires { IsBounded flow.now }
+    ensures { result ≡ pos (greatest_magnitude (flow_interval flow.now)) }
 {
     flow.hi.max(-flow.lo)
 }
@@ -115,7 +115,7 @@ fn flow_ends(instant: &Instant<'_>, link: u32) -> Ends
     requires bounded { All IsBounded instant.now.flows.now }
     ensures { AreEnds instant.now (What.Flow link) result }
 {
-    let flow = instant.flows[link as usize];
+    let flow = &instant.flows[link as usize];
     Ends {
         lo: least_magnitude(flow),
         hi: greatest_magnitude(flow),
@@ -165,6 +165,14 @@ pub(crate) fn ends_of(instant: &Instant<'_>, what: What) -> Ends
 
 // ---- whether they hold
 
+// A whole number is the value of which the span has the floor and the ceiling.
+fn equals(value: i128, amount: &Span) -> bool
+    ensures { (exact : Rational) → 0 < exact.den → IsRounded exact.num exact.den amount.now
+        → result ≡ compares Relation.Equal (whole value) exact }
+{
+    value <= amount.lo && value >= amount.hi
+}
+
 // A whole number stands in a relation to the value of which the span has the floor and the ceiling.
 fn compares(relation: Relation, value: i128, amount: &Span) -> bool
     ensures { (exact : Rational) → 0 < exact.den → IsRounded exact.num exact.den amount.now
@@ -175,8 +183,8 @@ fn compares(relation: Relation, value: i128, amount: &Span) -> bool
         Relation::AtMost => value <= amount.lo,
         Relation::More => value > amount.lo,
         Relation::AtLeast => value >= amount.hi,
-        Relation::Equal => value <= amount.lo && value >= amount.hi,
-        Relation::Unequal => !(value <= amount.lo && value >= amount.hi),
+        Relation::Equal => equals(value, amount),
+        Relation::Unequal => !equals(value, amount),
     }
 }
 
