@@ -1,1 +1,3 @@
 pub mod Measuring
+pub mod Opening
+pub mod Positions

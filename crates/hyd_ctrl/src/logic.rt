@@ -2,11 +2,11 @@
 #![tactic(auto)]
 
 ghost use Rattle.std.specs.Prelude.{◌≡◌};
-ghost use Rattle.hyd_spec_certificates.specs.Verdict.{at_both_ends, either, both};
+ghost use Rattle.hyd_spec_certificates.specs.Verdict.{is_yes, is_unknown, at_both_ends, either, both};
 ghost use Rattle.hyd_ctrl.specs.Verdicts.{verdict_of};
 
 /// What holds of all points of the intervals, of none, or is open.
-#[derive(Debug, Clone, Copy, PartialEq, Eq, Drop)]
+#[derive(Clone, Copy, Drop)]
 pub(crate) enum Verdict {
     Yes,
     No,
@@ -22,6 +22,20 @@ pub(crate) fn at_both_ends(below: bool, above: bool) -> Verdict
         (false, false) => Verdict::No,
         _ => Verdict::Unknown,
     }
+}
+
+/// It holds.
+pub(crate) fn is_yes(verdict: Verdict) -> bool
+    ensures { result ≡ is_yes (verdict_of verdict) }
+{
+    matches!(verdict, Verdict::Yes)
+}
+
+/// It is open.
+pub(crate) fn is_unknown(verdict: Verdict) -> bool
+    ensures { result ≡ is_unknown (verdict_of verdict) }
+{
+    matches!(verdict, Verdict::Unknown)
 }
 
 /// One of two holds.

@@ -1,7 +1,7 @@
 //! Rules at an instant.
 #![tactic(auto)]
 
-ghost use Rattle.std.specs.Prelude.{◌≡◌, ◌<◌, ℕ, length, map, position, slice_get, IsSome};
+ghost use Rattle.std.specs.Prelude.{◌≡◌, ◌<◌, List, [], ◌∷◌, length, map, position, slice_get, IsSome};
 ghost use Rattle.std.specs.List.{All};
 ghost use Rattle.hyd_net.specs.Sound.{Sound};
 ghost use Rattle.hyd_spec.specs.Types as types;
@@ -10,38 +10,69 @@ ghost use Rattle.hyd_spec_certificates.specs.Verdict as logic;
 ghost use Rattle.hyd_spec_certificates.specs.Decided.{IsTruthBetween};
 ghost use Rattle.hyd_ctrl.specs.Verdicts.{verdict_of};
 ghost use Rattle.hyd_ctrl.specs.Instants.{IsInstant, IsBounded, flow_interval, level_interval, lower_readings, upper_readings};
-ghost use Rattle.hyd_ctrl.specs.Premises.{IsSoundRule, is_open, rule_there, IsTruthThere};
+ghost use Rattle.hyd_ctrl.specs.Premises.{IsSoundRule, is_open, rule_there, IsTruthThere, premise_of};
 
 use crate::clauses::{Instant, clause_verdict, ends_of};
 use crate::levels::LevelSpan;
-use crate::logic::{Verdict, both, either};
+use crate::logic::{Verdict, both, either, is_unknown};
 use hyd_net::{Joined, LinkState, Project, Rule};
 use hyd_num::Span;
 use hyd_spec_certificates::Truth;
 
-// What is known of a rule: OR binds tighter than AND, and the first clause begins a group, however it is joined.
+// What is known of a premise up to some clause: of its groups before the last one, and of the last one.
+#[derive(Clone, Copy, Drop)]
+struct Premise {
+    groups: Verdict,
+    group: Option<Verdict>,
+}
+
+// One clause more. OR goes on with the last group, and AND begins one; so does the first clause, however it is joined.
+fn with_clause(premise: Premise, joined: Joined, clause: Verdict) -> Premise
+    ensures { (truth : types.Clause → logic.Verdict) (row : types.RuleClause) (rows : List types.RuleClause)
+        → row.joined ≡ joined → truth row.clause ≡ verdict_of clause
+        → premise_of truth result rows ≡ premise_of truth premise (row ∷ rows) }
+{
+    match (joined, premise.group) {
+        (Joined::Or, Some(group)) => Premise {
+            groups: premise.groups,
+            group: Some(either(group, clause)),
+        },
+        (Joined::And, Some(group)) => Premise {
+            groups: both(premise.groups, group),
+            group: Some(clause),
+        },
+        (_, None) => Premise {
+            groups: premise.groups,
+            group: Some(clause),
+        },
+    }
+}
+
+// What is known of a whole premise.
+fn whole(premise: Premise) -> Verdict
+    ensures { (truth : types.Clause → logic.Verdict) → verdict_of result ≡ premise_of truth premise [] }
+{
+    match premise.group {
+        Some(group) => both(premise.groups, group),
+        None => premise.groups,
+    }
+}
+
 fn rule_verdict(instant: &Instant<'_>, rule: &Rule) -> Verdict
     requires instant { IsInstant instant.now }
     requires rule { IsSoundRule instant.now.project.now rule.now }
     ensures { verdict_of result ≡ rule_there instant.now rule.now }
 {
-    let mut groups = Verdict::Yes;
-    let mut group = None;
-    for row in rule.clauses.as_slice() {
+    let clauses = rule.clauses.as_slice();
+    let mut premise = Premise {
+        groups: Verdict::Yes,
+        group: None,
+    };
+    for row in clauses {
         let clause = clause_verdict(instant, &row.clause);
-        group = match (row.joined, group) {
-            (Joined::Or, Some(before)) => Some(either(before, clause)),
-            (Joined::And, Some(before)) => {
-                groups = both(groups, before);
-                Some(clause)
-            }
-            (_, None) => Some(clause),
-        };
+        premise = with_clause(premise, row.joined, clause);
     }
-    match group {
-        Some(last) => both(groups, last),
-        None => groups,
-    }
+    whole(premise)
 }
 
 // The first clause that is open by itself.
@@ -52,7 +83,7 @@ fn first_open(instant: &Instant<'_>, rule: &Rule) -> Option<usize>
 {
     let clauses = rule.clauses.as_slice();
     for (number, row) in clauses.iter().enumerate() {
-        if clause_verdict(instant, &row.clause) == Verdict::Unknown {
+        if is_unknown(clause_verdict(instant, &row.clause)) {
             return Some(number);
         }
     }
