@@ -1,3 +1,4 @@
 pub mod Measuring
 pub mod Opening
 pub mod Positions
+pub mod Ranking

@@ -1,3 +1,5 @@
 pub mod Instants
+pub mod Offers
 pub mod Premises
+pub mod Room
 pub mod Verdicts

@@ -2,11 +2,17 @@
 //! what the rules change.
 #![tactic(auto)]
 
+mod actions;
+mod changes;
 mod clauses;
 mod clock;
 mod levels;
 mod logic;
+mod offers;
 mod rules;
+mod states;
 
+pub use actions::act;
+pub use changes::Changes;
 pub use levels::LevelSpan;
 pub use rules::decide;
