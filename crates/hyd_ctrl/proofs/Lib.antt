@@ -1,3 +1,4 @@
+pub mod Acting
 pub mod Measuring
 pub mod Opening
 pub mod Positions

@@ -2,4 +2,5 @@ pub mod Instants
 pub mod Offers
 pub mod Premises
 pub mod Room
+pub mod Starts
 pub mod Verdicts

@@ -60,8 +60,8 @@ pub fn act(project: &Project, values: &[bool], links: &mut [LinkState], changes:
     requires room { length project.now.links.list ≤ changes.old.spare }
     ensures links { links.new ≡ acted project.now values.now links.old }
     ensures rows { changes.new.list ≡ changes.old.list ++ rule_changes project.now values.now links.old }
-    ensures spare { changes.old.spare ≡ changes.new.spare + length (rule_changes project.now values.now links.old) }
-    ensures most { length (rule_changes project.now values.now links.old) ≤ length links.old }
+    ensures spare { changes.old.spare + length changes.old.list ≡ changes.new.spare + length changes.new.list }
+    ensures most { length changes.new.list ≤ length changes.old.list + length links.old }
 {
     rank_offers(project, values, &mut changes.best);
     carry_out(&changes.best, links, &mut changes.rows);

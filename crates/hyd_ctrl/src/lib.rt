@@ -6,6 +6,7 @@ mod actions;
 mod changes;
 mod clauses;
 mod clock;
+mod controls;
 mod levels;
 mod logic;
 mod offers;
@@ -14,5 +15,6 @@ mod states;
 
 pub use actions::act;
 pub use changes::Changes;
+pub use controls::{LevelOpen, settle};
 pub use levels::LevelSpan;
 pub use rules::decide;
