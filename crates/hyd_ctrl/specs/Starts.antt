@@ -1,7 +1,8 @@
 -- The start of a period.
 -- Source: EPANET 2.2 User Manual, chapter 3 (controls) and appendix C ([CONTROLS], [PUMPS]).
-use Rattle.std.specs.Prelude.{◌≡◌, ⊤, ℕ, ◌<◌, ℤ, Bool, List, length, map, Option, Some, None, IfSome, slice_get, position}
-use Rattle.hyd_spec.specs.Types.{Project, LinkKind, PipeLink, CheckPipe, PumpLink, CurvePump, Tcv, Fcv, Gpv, Control, When, AtLevel, AtTime, AtClock}
+use Rattle.std.specs.Prelude.{◌≡◌, ⊤, ℕ, ◌<◌, ℤ, Bool, List, length, map, Option, Some, None, IfSome, slice_get, slice_set, position, fold, if◌then◌else◌}
+use Rattle.hyd_spec.specs.Types.{Project, LinkKind, PipeLink, CheckPipe, PumpLink, CurvePump, Tcv, Fcv, Gpv, LinkState, Control, When, AtLevel, AtTime, AtClock}
+use Rattle.hyd_spec.specs.Start.{control_acts}
 use Rattle.hyd_spec_reports.specs.Stops.{is_open_control}
 use Rattle.hyd_ctrl.specs.declared.levels.LevelSpan.{LevelSpan}
 use Rattle.hyd_ctrl.specs.declared.controls.LevelOpen.{LevelOpen}
@@ -45,3 +46,11 @@ pub record IsFirstOpen (network : Project) (levels : List LevelSpan) (found : Le
   pub control : Control
   pub is_control : slice_get network.controls.list found.control ≡ Some control
   pub level : IsLevelOf levels control (record { lo = found.lo; hi = found.hi })
+
+-- ---- controls in order
+
+-- the link states after these controls
+abbrev pub controlled_by : Project → ℕ → (ℕ → Bool → ℤ → Bool) → List Control → List LinkState → List LinkState
+controlled_by network time acts controls states =
+    fold (λ links control. if control_acts network time acts control.when then slice_set links control.link control.to else links)
+    states controls
