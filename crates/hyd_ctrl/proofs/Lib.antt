@@ -3,3 +3,4 @@ pub mod Measuring
 pub mod Opening
 pub mod Positions
 pub mod Ranking
+pub mod Starting

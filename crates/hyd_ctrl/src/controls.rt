@@ -106,7 +106,7 @@ fn level_verdict(level: &LevelSpan, above: bool, ticks: i64) -> Verdict
 // The level interval of a level control's tank, where the control is open.
 fn open_level(levels: &[LevelSpan], control: &Control) -> Option<LevelSpan>
     requires { IsTankThere (length levels.now) control.now.when }
-    ensures open { is_some result ≡ is_open_control (map level_interval levels.now) control.now }
+    ensures is_open { is_some result ≡ is_open_control (map level_interval levels.now) control.now }
     ensures level { IfSome result (IsLevelOf levels.now control.now) }
 {
     let When::Level { tank, above, ticks } = control.when else {
