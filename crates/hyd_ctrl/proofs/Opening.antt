@@ -1,13 +1,11 @@
 -- A rule that is open has a clause that is open by itself; and rules of a sound network by their numbers.
-use Rattle.std.proofs.Common.{◌≡◌, ℤ, ℕ, zero, suc, ◌+◌, ◌^◌, ◌<◌, ◌≤◌, Bool, true, false, List, [], ◌∷◌, length, map, Option, Some, None, IsSome, slice_get, slice_index_or, position, refl, ap, sym, subst, ◌∙◌, arith}
+use Rattle.std.proofs.Common.{◌≡◌, ℤ, ℕ, suc, ◌<◌, false, List, [], ◌∷◌, length, map, Option, Some, None, IsSome, slice_get, slice_index_or, position, refl, ap, sym, subst, ◌∙◌, arith}
 use Rattle.std.proofs.lemmas.Int.{ints}
 use Rattle.std.proofs.lemmas.List.Quantifiers.{position-Some}
 use Rattle.std.proofs.lemmas.List.Sums.{get_or-le-sum_by}
 use Rattle.std.proofs.lemmas.Option.{slice_get-get_or}
 use Rattle.hyd_num.specs.Rational.{whole, floor, ceiling}
 use Rattle.hyd_lemmas.proofs.Integers.{floor_low, floor_greatest, ceiling_high, ceiling_least}
-use Rattle.hyd_net.specs.Commands.{IsRule}
-use Rattle.hyd_net.specs.Made.{IsRuleMade}
 use Rattle.hyd_net.specs.Sound.{Sound, part_count}
 use Rattle.hyd_spec.specs.Types.{Project, Rule, RuleClause, Joined, And, Or, Clause}
 use Rattle.hyd_spec.specs.Rules.{Parts, parts_of, put_before, groups_in}

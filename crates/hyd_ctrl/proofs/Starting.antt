@@ -1,11 +1,10 @@
 -- The first level control that is open.
-use Rattle.std.proofs.Common.{◌≡◌, ℕ, ◌<◌, ℤ, true, false, List, length, map, Option, Some, slice_get, slice_index_or, sym, ap, ◌∙◌}
+use Rattle.std.proofs.Common.{◌≡◌, ℕ, ◌<◌, ℤ, true, false, List, length, map, Some, slice_index_or, sym, ap, ◌∙◌}
 use Rattle.std.proofs.lemmas.Option.{slice_get-get_or}
 use Rattle.std.proofs.lemmas.List.Quantifiers.{position-Some}
 use Rattle.hyd_spec.specs.Types.{Project, Control}
 use Rattle.hyd_spec_reports.specs.Stops.{is_open_control}
 use Rattle.hyd_ctrl.specs.declared.levels.LevelSpan.{LevelSpan}
-use Rattle.hyd_ctrl.specs.declared.controls.LevelOpen.{LevelOpen}
 use Rattle.hyd_ctrl.specs.Instants.{level_interval}
 use Rattle.hyd_ctrl.specs.Starts.{IsLevelOf, IsFirstOpen}
 use Rattle.hyd_ctrl.proofs.Positions.{found_at}

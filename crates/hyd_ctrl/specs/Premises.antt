@@ -1,6 +1,6 @@
 -- Rules of a sound network, and what is known of them at an instant.
 -- Source: EPANET 2.2 User Manual, chapter 3 (rule-based controls).
-use Rattle.std.specs.Prelude.{ℕ, ◌^◌, ◌≤◌, Bool, List, length, map, Option, Some, None}
+use Rattle.std.specs.Prelude.{◌^◌, ◌≤◌, Bool, List, length, map, Option, Some, None}
 use Rattle.std.specs.Option.{option_map}
 use Rattle.hyd_net.specs.Commands.{IsRule}
 use Rattle.hyd_net.specs.Made.{IsRuleMade}

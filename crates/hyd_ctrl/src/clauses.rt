@@ -156,10 +156,7 @@ pub(crate) fn ends_of(instant: &Instant<'_>, what: What) -> Ends
         What::Level(tank) => level_ends(instant, tank as usize, 0),
         What::Flow(link) => flow_ends(instant, link),
         What::Setting(link) => setting_ends(instant, link),
-        What::Status(_) | What::Time | What::Clock => Ends {
-            lo: 0,
-            hi: 0,
-        },
+        What::Status(_) | What::Time | What::Clock => Ends { lo: 0, hi: 0 },
     }
 }
 

@@ -14,7 +14,8 @@ pub(crate) fn is_same_state(one: &LinkState, other: &LinkState) -> bool
         (LinkState::Open, LinkState::Open) => true,
         (LinkState::Closed, LinkState::Closed) => true,
         (LinkState::Speed(one), LinkState::Speed(other)) => one == other,
-        (LinkState::Throttle { nano: one, .. }, LinkState::Throttle { nano: other, .. }) => one == other,
+        (LinkState::Throttle { nano: one, .. }, LinkState::Throttle { nano: other, .. }) => one
+            == other,
         (LinkState::Limit { nano: one, .. }, LinkState::Limit { nano: other, .. }) => one == other,
         _ => false,
     }

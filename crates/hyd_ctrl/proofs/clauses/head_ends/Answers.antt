@@ -1,4 +1,4 @@
-use Rattle.std.proofs.Common.{◌≡◌, arith}
+use Rattle.std.proofs.Common.{arith}
 use Rattle.std.proofs.lemmas.Int.{ints}
 use Rattle.hyd_ctrl.specs.Instants.{below, above}
 use Rattle.hyd_ctrl.proofs.Measuring.{head_of_tank}
