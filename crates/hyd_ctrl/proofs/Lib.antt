@@ -4,3 +4,4 @@ pub mod Opening
 pub mod Positions
 pub mod Ranking
 pub mod Starting
+pub mod Unseen

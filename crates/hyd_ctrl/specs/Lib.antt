@@ -1,3 +1,4 @@
+pub mod Alike
 pub mod Instants
 pub mod Offers
 pub mod Premises

@@ -7,6 +7,7 @@ mod changes;
 mod clauses;
 mod clock;
 mod controls;
+pub mod laws;
 mod levels;
 mod logic;
 mod offers;
