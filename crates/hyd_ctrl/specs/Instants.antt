@@ -49,15 +49,17 @@ pub record IsBounded (flow : Span) : Type 0 where
 -- the readings of an instant from below
 abbrev pub below : Instant → Readings
 below instant =
-    lower_readings instant.low.now (map flow_interval instant.flows.now) (map level_interval instant.levels.now) instant.links.now
+    lower_readings instant.low.now (map flow_interval instant.flows.now)
+    (map level_interval instant.levels.now) instant.links.now
 
 -- the readings of an instant from above
 abbrev pub above : Instant → Readings
 above instant =
-    upper_readings instant.high.now (map flow_interval instant.flows.now) (map level_interval instant.levels.now) instant.links.now
+    upper_readings instant.high.now (map flow_interval instant.flows.now)
+    (map level_interval instant.levels.now) instant.links.now
 
--- an instant of a sound network: one head for each junction and each reservoir, one flow and one state for each link, one level
--- for each tank
+-- an instant of a sound network: one head for each junction and each reservoir, one flow and one state for each
+-- link, one level for each tank
 pub record IsInstant (instant : Instant) : Type 0 where
   pub sound : Sound instant.project.now
   pub each_low : length instant.low.now ≡ nodes_before_tanks instant.project.now

@@ -51,8 +51,8 @@ fn carry_out(best: &[Option<Offer>], links: &mut [LinkState], rows: &mut List<Ch
 /// Carries out the actions that the rules offer at an instant, where `values` says of each rule whether it is true: a
 /// true rule offers what stands after THEN, a false one what stands after ELSE (EPANET 2.2 User Manual, [RULES]). Each
 /// link takes the offer of highest rank: a greater priority goes first, none goes last, of equal ones the earlier rule,
-/// and in one rule the earlier action. A row is appended for each link whose state changes, in order of the links. It takes
-/// no memory.
+/// and in one rule the earlier action. A row is appended for each link whose state changes, in order of the links. It
+/// takes no memory.
 pub fn act(project: &Project, values: &[bool], links: &mut [LinkState], changes: &mut Changes)
     requires sound { Sound project.now }
     requires each_value { length values.now ≡ length project.now.rules.list }

@@ -8,8 +8,8 @@ use hyd_spec::Change;
 use std::alloc::Global;
 use std::marker::Model;
 
-/// The changes of the states of links, in order. Contracts see its rows as `list`, and as `spare` the number of rows that
-/// still fit.
+/// The changes of the states of links, in order. Contracts see its rows as `list`, and as `spare` the number of rows
+/// that still fit.
 #[derive(Drop)]
 pub struct Changes {
     pub(crate) rows: List<Change>,
@@ -36,7 +36,8 @@ impl Changes {
     pub fn open(alloc: Global, project: &Project) -> Result<Changes, OutOfMemory>
         requires { Sound project.now }
         ensures empty { IfOk result (λ changes. changes.list ≡ []) }
-        ensures spare { IfOk result (λ changes. changes.spare ≡ length project.now.controls.list + length project.now.links.list) }
+        ensures spare { IfOk result (λ changes. changes.spare
+            ≡ length project.now.controls.list + length project.now.links.list) }
     {
         let room = project.controls.len() + project.links.len();
         let mut rows = List::new(alloc);

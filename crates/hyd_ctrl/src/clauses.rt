@@ -18,8 +18,8 @@ use crate::logic::{Verdict, at_both_ends};
 use hyd_net::{Clause, LinkState, Project, Relation, Value, What};
 use hyd_num::Span;
 
-/// What rules look at, at an instant of a period: the heads of junctions and then of reservoirs from below and from above,
-/// the flows of links, the carried levels of tanks, and the commanded states.
+/// What rules look at, at an instant of a period: the heads of junctions and then of reservoirs from below and from
+/// above, the flows of links, the carried levels of tanks, and the commanded states.
 #[derive(Clone, Copy, Drop)]
 pub(crate) struct Instant<'a> {
     pub(crate) project: &'a Project,

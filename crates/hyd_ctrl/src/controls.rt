@@ -165,8 +165,9 @@ fn carry_out(
     requires each_link { length links.old ≡ length project.now.links.list }
     requires room { length project.now.controls.list ≤ changes.old.spare }
     ensures links { links.new ≡ controlled project.now time (acts_on (map level_interval levels.now)) links.old }
-    ensures rows { changes.new.list ≡ changes.old.list
-        ++ control_changes project.now time (acts_on (map level_interval levels.now)) 0 project.now.controls.list links.old }
+    ensures rows { let acts = acts_on (map level_interval levels.now) in
+        changes.new.list ≡ changes.old.list
+        ++ control_changes project.now time acts 0 project.now.controls.list links.old }
     ensures spare { changes.old.spare + length changes.old.list ≡ changes.new.spare + length changes.new.list }
     ensures most { length changes.new.list ≤ length changes.old.list + length project.now.controls.list }
 {
@@ -189,8 +190,8 @@ fn carry_out(
 
 /// The start of a period at a time in seconds, from the states that links were commanded to be in (EPANET 2.2 User
 /// Manual, chapter 3, controls): each pump with a pattern takes its multiplier as speed at time 0 and where a step of
-/// the patterns begins, and then the simple controls are carried out in order, a later one overriding. ABOVE means at least,
-/// and BELOW at most. A row is appended for each control that changes the state of its link. It takes no memory.
+/// the patterns begins, and then the simple controls are carried out in order, a later one overriding. ABOVE means at
+/// least, and BELOW at most. A row is appended for each control that changes the state of its link. It takes no memory.
 ///
 /// Fails with [`LevelOpen`] exactly where both ends of a tank's level interval disagree on a level control; links and
 /// changes are then as before.
@@ -208,11 +209,14 @@ pub fn settle(
 
     // At each start of which all controls are decided.
     ensures decided { OnOk result (ControlsAreDecided project.now (map level_interval levels.now)) }
-    ensures links { OnOk result (links.new ≡ started project.now time (acts_on (map level_interval levels.now)) links.old) }
+    ensures links { OnOk result (links.new
+        ≡ started project.now time (acts_on (map level_interval levels.now)) links.old) }
     ensures rows { OnOk result (changes.new.list ≡ changes.old.list
         ++ start_changes project.now time (acts_on (map level_interval levels.now)) links.old) }
-    ensures spare { OnOk result (changes.old.spare + length changes.old.list ≡ changes.new.spare + length changes.new.list) }
-    ensures most { OnOk result (length changes.new.list ≤ length changes.old.list + length project.now.controls.list) }
+    ensures spare { OnOk result (changes.old.spare + length changes.old.list
+        ≡ changes.new.spare + length changes.new.list) }
+    ensures most { OnOk result (length changes.new.list
+        ≤ length changes.old.list + length project.now.controls.list) }
 
     // At any other.
     ensures open { IfErr result (IsFirstOpen project.now levels.now) }

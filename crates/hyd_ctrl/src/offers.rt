@@ -53,7 +53,8 @@ fn actions_of(rule: &Rule, value: bool) -> &[Action]
 
 // Takes in what a rule with a value offers.
 fn take_offers(rule: &Rule, number: u32, value: bool, best: &mut [Option<Offer>])
-    requires links { All (λ action. action.link < length best.old) (if value then rule.now.yes.list else rule.now.no.list) }
+    requires links { All (λ action. action.link < length best.old)
+        (if value then rule.now.yes.list else rule.now.no.list) }
     ensures best { (count : ℕ) (before : List rules.Offer) → AreBest count before best.old
         → AreBest count (before ++ rules.offers_of number rule.now value) best.new }
 {

@@ -107,8 +107,8 @@ fn open_truth(instant: &Instant<'_>, rule: &Rule) -> Truth
 }
 
 /// What is known of a rule at an instant of a period (EPANET 2.2 User Manual, [RULES]): that it is true, that it is
-/// false, whatever the exact values are, or that it is open, with the first of its clauses that is open by itself. Rules
-/// are counted from 0.
+/// false, whatever the exact values are, or that it is open, with the first of its clauses that is open by itself.
+/// Rules are counted from 0.
 ///
 /// `low` and `high` are the heads of junctions and then of reservoirs from below and from above, `flows` the flows of
 /// links, `levels` the levels of tanks carried to the instant, `links` the states that links were commanded to be in,

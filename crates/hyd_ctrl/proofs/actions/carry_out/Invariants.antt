@@ -6,7 +6,8 @@ use Rattle.hyd_ctrl.proofs.actions.carry_out.Given as goal
 abbrev pub invariant-loop-link : goal.invariant-loop-link
 invariant-loop-link l = record {
   count : length l.links ≡ length l.initial.links;
-  states : take l.link l.links ++ map_from (state_at l.best) l.link (drop l.link l.links) ≡ map_from (state_at l.best) 0 l.initial.links;
+  states : take l.link l.links ++ map_from (state_at l.best) l.link (drop l.link l.links) ≡ map_from
+      (state_at l.best) 0 l.initial.links;
   changes : l.rows.list ++ present (map_from (change_at l.best) l.link (drop l.link l.links))
       ≡ l.initial.rows.list ++ present (map_from (change_at l.best) 0 l.initial.links);
   most : length l.rows.list ≤ length l.initial.rows.list + l.link;

@@ -9,8 +9,12 @@ returns-in-Some c =
     let network = c.args.instant.now.project.now in
     let here = c.index-as_slice-tank.result in
     record {
-      lo = head_of_tank network (below c.args.instant.now) c.args.node c.in-Some.tank c.as_slice.result.now here _ c.level_ends.result.lo
-          c.in-Some.ensures.tank (omega (arith, c.in-Some.ensures.tank)) c.as_slice.ensures c.index-as_slice-tank.is (omega (arith, ints)) c.level_ends.ensures.lo;
-      hi = head_of_tank network (above c.args.instant.now) c.args.node c.in-Some.tank c.as_slice.result.now here _ c.level_ends.result.hi
-          c.in-Some.ensures.tank (omega (arith, c.in-Some.ensures.tank)) c.as_slice.ensures c.index-as_slice-tank.is (omega (arith, ints)) c.level_ends.ensures.hi;
+      lo = head_of_tank network (below c.args.instant.now) c.args.node c.in-Some.tank
+          c.as_slice.result.now here _ c.level_ends.result.lo
+          c.in-Some.ensures.tank (omega (arith, c.in-Some.ensures.tank)) c.as_slice.ensures
+          c.index-as_slice-tank.is (omega (arith, ints)) c.level_ends.ensures.lo;
+      hi = head_of_tank network (above c.args.instant.now) c.args.node c.in-Some.tank
+          c.as_slice.result.now here _ c.level_ends.result.hi
+          c.in-Some.ensures.tank (omega (arith, c.in-Some.ensures.tank)) c.as_slice.ensures
+          c.index-as_slice-tank.is (omega (arith, ints)) c.level_ends.ensures.hi;
     }

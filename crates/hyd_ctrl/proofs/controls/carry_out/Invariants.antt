@@ -10,8 +10,10 @@ invariant-loop-number l = record {
   count : length l.links ≡ length l.initial.links;
   states : controlled_by l.project l.time (acts_on (map level_interval l.levels)) (drop l.number l.controls) l.links
       ≡ controlled_by l.project l.time (acts_on (map level_interval l.levels)) l.controls l.initial.links;
-  rows : l.changes.list ++ control_changes l.project l.time (acts_on (map level_interval l.levels)) l.number (drop l.number l.controls) l.links
-      ≡ l.initial.changes.list ++ control_changes l.project l.time (acts_on (map level_interval l.levels)) 0 l.controls l.initial.links;
+  rows : l.changes.list ++ control_changes l.project l.time (acts_on (map level_interval l.levels)) l.number
+      (drop l.number l.controls) l.links
+      ≡ l.initial.changes.list ++ control_changes l.project l.time (acts_on
+      (map level_interval l.levels)) 0 l.controls l.initial.links;
   spare : l.initial.changes.spare + length l.initial.changes.list ≡ l.changes.spare + length l.changes.list;
   most : length l.changes.list ≤ length l.initial.changes.list + l.number;
 }

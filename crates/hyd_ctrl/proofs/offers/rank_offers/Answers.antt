@@ -9,5 +9,11 @@ loop-number-preserved c =
     let rules = c.as_slice-rules.result.now in
     let i = c.loop-number.number in
     offers_more count i _ rules c.args.values.now _ c.index-rules-number.result _ false _
-    (c.take_offers.ensures.best count (offers_from 0 (take i rules) (take i c.args.values.now)) c.loop-number.invariant)
-    (omega arith) c.index-rules-number.is refl c.loop-number-test.true (omega (arith, ap length c.as_slice-rules.ensures, c.requires.each_value))
+    (c.take_offers.ensures.best count (offers_from 0 (take i rules) (take i c.args.values.now))
+    c.loop-number.invariant)
+    (omega arith) c.index-rules-number.is refl c.loop-number-test.true (omega (
+      arith,
+      ap length
+          c.as_slice-rules.ensures,
+      c.requires.each_value,
+    ))

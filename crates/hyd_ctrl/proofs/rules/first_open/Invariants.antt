@@ -4,4 +4,5 @@ use Rattle.hyd_ctrl.specs.Premises.{is_open}
 use Rattle.hyd_ctrl.proofs.rules.first_open.Given as goal
 
 abbrev pub invariant-loop-number : goal.invariant-loop-number
-invariant-loop-number l = (k : ℕ) (d : RuleClause) → k < l.number → is_open l.instant (slice_index_or l.clauses k d) ≡ false
+invariant-loop-number l = (k : ℕ) (d : RuleClause) → k < l.number
+    → is_open l.instant (slice_index_or l.clauses k d) ≡ false
