@@ -52,6 +52,7 @@ pub record IsFirstOpen (network : Project) (levels : List LevelSpan) (found : Le
 -- the link states after these controls
 abbrev pub controlled_by : Project → ℕ → (ℕ → Bool → ℤ → Bool) → List Control → List LinkState → List LinkState
 controlled_by network time acts controls states =
-    fold (λ links control. if control_acts network time acts control.when then slice_set links control.link
-    control.to else links)
+    fold
+    (λ links control. if control_acts network time acts control.when
+    then slice_set links control.link control.to else links)
     states controls
