@@ -7,4 +7,5 @@ mod multipliers;
 mod reservoirs;
 
 pub use demands::{DemandRange, demand_at};
+pub use multipliers::multiplier_at;
 pub use reservoirs::head_at;

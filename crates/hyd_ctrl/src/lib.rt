@@ -1,0 +1,21 @@
+//! Simple controls and rules: the states of links at the start of a period, what is known of a rule at an instant, and
+//! what the rules change.
+#![tactic(auto)]
+
+mod actions;
+mod changes;
+mod clauses;
+mod clock;
+mod controls;
+pub mod laws;
+mod levels;
+mod logic;
+mod offers;
+mod rules;
+mod states;
+
+pub use actions::act;
+pub use changes::Changes;
+pub use controls::{LevelOpen, settle};
+pub use levels::LevelSpan;
+pub use rules::decide;
