@@ -1,0 +1,4 @@
+pub mod HeadLemmas
+pub mod LineLemmas
+pub mod Numerals
+pub mod Pieces

@@ -1,0 +1,18 @@
+//! The text of a certificate: its records, what puts them out, and what reads them.
+#![tactic(auto)]
+
+mod answers;
+mod lines;
+mod reader;
+mod record;
+mod source;
+mod words;
+mod writing;
+
+pub use answers::{CertFault, CertNext, End, Stand};
+pub use reader::CertReader;
+pub use record::Record;
+pub use writing::{put_end, put_head, put_record};
+
+/// The error of a call that found no memory.
+pub use std::alloc::AllocError as OutOfMemory;
