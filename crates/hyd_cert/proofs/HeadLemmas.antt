@@ -30,7 +30,7 @@ place_head heads i low = ap (λ b. if b then Head i else Between) ((Decides-ltb 
 
 -- ---- the text
 
-head_text-push : (junctions i : ℕ) (us : List ℤ) (u : ℤ) (k : ℕ) → k ≡ i + length us
+pub head_text-push : (junctions i : ℕ) (us : List ℤ) (u : ℤ) (k : ℕ) → k ≡ i + length us
     → head_text junctions i (us ++ (u ∷ [])) ≡ head_text junctions i us ++ (front_at junctions k ++ (signed_decimal u ++ (10 ∷ [])))
 head_text-push junctions i [] u k e = ap (λ j. front_at junctions j ++ (signed_decimal u ++ (10 ∷ []))) (omega (arith, e))
 head_text-push junctions i (v ∷ us) u k e =
@@ -158,6 +158,23 @@ has_other header other held first more old new is apart cut same = record {
   apart = λ e. apart (is.is ∙ ap (λ (h : Header). words (codes "HYDCERT" ∷ (decimal h.version ∷ (decimal h.junctions ∷ (decimal h.tanks ∷ []))))) e);
   begins = sym same ∙ (ap (λ h. prepend_known h new) (cut ∙ sym (append_assoc first (10 ∷ []) more)) ∙ sym (prepend_known-prepend_known new (first ++ (10 ∷ [])) more));
 }
+
+-- a line that was passed over
+pub line_read : (held first more text : List ℕ) (old new : Option (List ℕ)) → prepend_known held new ≡ old → held ≡ first ++ (10 ∷ more) → first ++ (10 ∷ []) ≡ text
+    → old ≡ prepend_known text (prepend_known more new)
+line_read held first more text old new same cut is =
+    sym same ∙ (ap (λ h. prepend_known h new) (cut ∙ (sym (append_assoc first (10 ∷ []) more) ∙ ap (λ t. t ++ more) is)) ∙ sym (prepend_known-prepend_known new text more))
+
+-- the same fault, in other words for its values
+pub text_fault_moved : (header : Header) (place other : Place) (line number : ℕ) (text told : Option (List ℕ)) (before now after : Faults) (result answer : Result CertNext CertFault)
+    → place ≡ other → line ≡ number → text ≡ told → now ≡ after → result ≡ answer
+    → IfErr result (IsTextFault header place line text before now) → IfErr answer (IsTextFault header other number told before after)
+text_fault_moved header place other line number text told before now after result answer same_place same_line same_text same_now same_result h =
+    subst (λ r. IfErr r (IsTextFault header other number told before after)) same_result
+    (subst (λ (f : Faults). IfErr result (IsTextFault header other number told before f)) same_now
+    (subst (λ (t : Option (List ℕ)). IfErr result (IsTextFault header other number t before now)) same_text
+    (subst (λ (n : ℕ). IfErr result (IsTextFault header other n text before now)) same_line
+    (subst (λ (p : Place). IfErr result (IsTextFault header p line text before now)) same_place h))))
 
 -- a fault behind the header line
 stuck_later : (header : Header) (line0 line : ℕ) (l : List ℕ) (first rest : Option (List ℕ)) (before counts now : Faults) (fault : CertFault) → IsHeaderLine header l

@@ -90,6 +90,13 @@ pub two_counts : (counts junctions tanks l : List ℕ) (header : Header) → Has
 two_counts counts junctions tanks l header free parted p e =
     cut-same 32 junctions (decimal header.junctions) tanks (decimal header.tanks) free (wide_free 32 header.junctions (omega arith) p.junctions_fit) (sym parted ∙ e)
 
+pub no_first_space : (line rest l : List ℕ) (header : Header) → line ≡ codes "HYDCERT " ++ rest → HasNo 32 rest → IsHeaderLine header l → line ≡ l → ⊥
+no_first_space line rest l header cut free p e =
+    has_none 32 (decimal header.version) (decimal header.junctions ++ (32 ∷ decimal header.tanks)) (subst (HasNo 32) (header_parts line rest l header cut p e) free)
+
+pub no_second_space : (counts : List ℕ) (header : Header) → HasNo 32 counts → counts ≡ decimal header.junctions ++ (32 ∷ decimal header.tanks) → ⊥
+no_second_space counts header free e = has_none 32 (decimal header.junctions) (decimal header.tanks) (subst (HasNo 32) e free)
+
 pub one_known : decimal 1 ≡ codes "1"
 one_known = decimal_digit 1 (omega arith)
 

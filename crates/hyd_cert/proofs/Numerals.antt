@@ -200,6 +200,9 @@ pub some_length : (word : List ℕ) → (length word == 0) ≡ false → 0 < len
 some_length [] e = absurd (cc)
 some_length (c ∷ word) e = omega arith
 
+pub not_one : (n : ℕ) → (n == 1) ≡ false → n ≢ 1
+not_one n other e = let same : (1 == 1) ≡ false = ap (λ k. k == 1) (sym e) ∙ other in absurd (cc)
+
 pub zero_some : (word : List ℕ) (o : Option ℕ) → get_or word 0 0 ≡ 48 → IfSome o (λ n. (n ≡ 0) × (length word ≡ 1)) → IfSome o (λ n. word ≡ decimal n)
 zero_some [] None first h = tt
 zero_some (c ∷ word) None first h = tt

@@ -44,6 +44,7 @@ impl Lines {
             ≡ prepend_known self.old.source (D.rest desk.old)) }
         ensures some { IfOk result (λ n. self.new.source ≡ take n self.new.source ++ (10 ∷ drop (n + 1) self.new.source)) }
         ensures within { IfOk result (λ n. n < length self.new.source) }
+        ensures short { IfOk result (λ n. n < 64) }
         ensures first { IfOk result (λ n. HasNo 10 (take n self.new.source)) }
         ensures fault { IfErr result (λ f. IsLineFault (λ line. HasNo 10 line × (length line < 64)) self.old.line
             (prepend_known self.old.source (D.rest desk.old)) (D.counts desk.old) (D.counts desk.new) f) }
@@ -144,6 +145,7 @@ impl Lines {
     fn header<D: Desk>(&mut self, desk: &mut D, row: &Record) -> Result<(), CertFault>
         ensures text { OnOk result (prepend_known self.old.source (D.rest desk.old)
             ≡ prepend_known (header_text (header_of row.now)) (prepend_known self.new.source (D.rest desk.new))) }
+        ensures fits { OnOk result ((row.now.junctions < 2 ^ 32) × (row.now.tanks < 2 ^ 32)) }
         ensures line { OnOk result (self.new.line ≡ lines_on self.old.line 1) }
         ensures fault { IfErr result (IsHeaderFault (header_of row.now) self.old.line
             (prepend_known self.old.source (D.rest desk.old)) (D.counts desk.old) (D.counts desk.new)) }

@@ -62,9 +62,10 @@ impl Record {
         requires { IsProblemOf self.now.tanks problem }
         ensures { result.now ≡ vector_of (row_of self.now) problem side }
     {
+        let heads = self.vectors.as_slice();
         let junctions = self.junctions as usize;
         let from = place_of(problem, side) * junctions;
-        &self.vectors.as_slice()[from..from + junctions]
+        &heads[from..from + junctions]
     }
 }
 

@@ -96,6 +96,7 @@ impl Source {
             ≡ prepend_known self.old (D.rest desk.old)) }
         ensures some { IfOk result (λ o. IfSome o (λ n. self.new ≡ take n self.new ++ (10 ∷ drop (n + 1) self.new))) }
         ensures within { IfOk result (λ o. IfSome o (λ n. n < length self.new)) }
+        ensures short { IfOk result (λ o. IfSome o (λ n. n < LINE)) }
         ensures first { IfOk result (λ o. IfSome o (λ n. HasNo 10 (take n self.new))) }
         ensures none { IfOk result (λ o. IfNone o (HasNoLine (prepend_known self.new (D.rest desk.new)))) }
         ensures fault { OnErr result (D.counts desk.new ≡ with_read_fault (D.counts desk.old)) }

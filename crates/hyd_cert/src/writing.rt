@@ -1,6 +1,6 @@
 //! Putting out a certificate text.
 
-ghost use Rattle.std.specs.Prelude.{◌≡◌, ◌≢◌, ℕ, ◌+◌, ◌<◌, ◌≤◌, Bool, false, List, [], ◌∷◌, ◌++◌, length, take, codes, decimal, Option, Some, None, Err, IfErr, IfSome, IsSome, OnOk, OnErr, IsTrue, is_some};
+ghost use Rattle.std.specs.Prelude.{◌≡◌, ◌≢◌, ℕ, ◌+◌, ◌<◌, ◌≤◌, ◌^◌, Bool, false, List, [], ◌∷◌, ◌++◌, length, take, codes, decimal, Option, Some, None, Err, IfErr, IfSome, IsSome, OnOk, OnErr, IsTrue, is_some};
 ghost use Rattle.std.specs.Fmt.{signed_decimal};
 ghost use Rattle.hyd_spec_reports.specs.CertificateText.{words, header_line, period_line, record_text, end_line};
 ghost use Rattle.hyd_cert.specs.Lines.{header_text, end_word};
@@ -43,6 +43,7 @@ fn append_number(buffer: &mut [u8; LINE], used: usize, number: u32) -> usize
 /// Makes the header line of the record's text, without its line feed, and returns its length.
 fn make_header(buffer: &mut [u8; LINE], row: &Record) -> usize
     ensures within { result ≤ 42 }
+    ensures fits { (row.now.junctions < 2 ^ 32) × (row.now.tanks < 2 ^ 32) }
     ensures text { take result buffer.new
         ≡ words (codes "HYDCERT" ∷ (decimal row.now.version ∷ (decimal row.now.junctions ∷ (decimal row.now.tanks ∷ [])))) }
 {
@@ -65,8 +66,8 @@ fn make_header_line(buffer: &mut [u8; LINE], row: &Record) -> usize
 
 /// Whether the line, without its line feed, is the header line of the record's text.
 pub(crate) fn is_header_of(line: &[u8], row: &Record) -> bool
-    ensures yes { IsTrue result → line.now
-        ≡ words (codes "HYDCERT" ∷ (decimal row.now.version ∷ (decimal row.now.junctions ∷ (decimal row.now.tanks ∷ [])))) }
+    ensures yes { IsTrue result → line.now ++ (10 ∷ []) ≡ header_text (header_of row.now) }
+    ensures fits { (row.now.junctions < 2 ^ 32) × (row.now.tanks < 2 ^ 32) }
     ensures no { result ≡ false → line.now
         ≢ words (codes "HYDCERT" ∷ (decimal row.now.version ∷ (decimal row.now.junctions ∷ (decimal row.now.tanks ∷ [])))) }
 {
@@ -287,7 +288,7 @@ fn put_heads<D: Desk>(
     ensures openings_stay { D.openings desk.new ≡ D.openings desk.old }
 {
     for i in 0..heads.len() {
-        match put_head_line(front_of(i / junctions), heads[i], pen, desk) {
+        match put_head_line(front_of(i / junctions), &heads[i], pen, desk) {
             Ok(()) => {}
             Err(fault) => return Err(fault),
         }
@@ -298,7 +299,7 @@ fn put_heads<D: Desk>(
 /// Puts the line of a head.
 fn put_head_line<D: Desk>(
     front: &[u8],
-    head: i64,
+    head: &i64,
     pen: &mut Pen,
     desk: &mut D,
 ) -> Result<(), OutFault>
@@ -307,11 +308,11 @@ fn put_head_line<D: Desk>(
     ensures moves { OnOk result (Moves
         (by_channel pen.old.to (D.written desk.old) (D.printed desk.old))
         (by_channel pen.old.to (D.written desk.new) (D.printed desk.new))
-        (pen.old.held ++ (front.now ++ (signed_decimal head ++ (10 ∷ [])))) pen.new.held) }
+        (pen.old.held ++ (front.now ++ (signed_decimal head.now ++ (10 ∷ [])))) pen.new.held) }
     ensures prefix { OnErr result (PutOut
         (by_channel pen.old.to (D.written desk.old) (D.printed desk.old))
         (by_channel pen.old.to (D.written desk.new) (D.printed desk.new))
-        (pen.old.held ++ (front.now ++ (signed_decimal head ++ (10 ∷ []))))) }
+        (pen.old.held ++ (front.now ++ (signed_decimal head.now ++ (10 ∷ []))))) }
     ensures to_stays { pen.new.to ≡ pen.old.to }
     ensures no_fault { OnOk result (pen.new.fault ≡ None) }
     ensures keeps_fault { IfErr result (λ fault. pen.new.fault ≡ Some fault) }
@@ -333,7 +334,7 @@ fn put_head_line<D: Desk>(
     ensures openings_stay { D.openings desk.new ≡ D.openings desk.old }
 {
     let mut buffer = [0; LINE];
-    let used = make_head_line(&mut buffer, front, head);
+    let used = make_head_line(&mut buffer, front, *head);
     pen.put(desk, &buffer[..used])
 }
 
