@@ -73,7 +73,7 @@ head_rest line front word None cut other = λ l p e. other p.head p.in_box (appe
 
 -- ---- header lines
 
-known_short : (header : Header) → (header.version ≡ 1) ⊎ (header.version ≡ 2) → header.version < 10 ^ 64
+pub known_short : (header : Header) → (header.version ≡ 1) ⊎ (header.version ≡ 2) → header.version < 10 ^ 64
 known_short header (inl e) = omega (arith, e)
 known_short header (inr e) = omega (arith, e)
 

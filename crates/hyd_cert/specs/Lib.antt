@@ -5,4 +5,5 @@ pub mod NextLine
 pub mod Places
 pub mod ReaderView
 pub mod RecordView
+pub mod Sentence
 pub mod Vectors

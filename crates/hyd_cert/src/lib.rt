@@ -2,6 +2,7 @@
 #![tactic(auto)]
 
 mod answers;
+mod laws;
 mod lines;
 mod reader;
 mod record;
@@ -10,6 +11,7 @@ mod words;
 mod writing;
 
 pub use answers::{CertFault, CertNext, End, Stand};
+pub use laws::{certificates_by_lines, fault_behind_records, fault_is_first, refused_is_no_certificate};
 pub use reader::CertReader;
 pub use record::Record;
 pub use writing::{put_end, put_head, put_record};
