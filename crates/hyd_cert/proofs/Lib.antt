@@ -6,4 +6,5 @@ pub mod Pieces
 pub mod ReadingLemmas
 pub mod SentenceLemmas
 pub mod VectorLemmas
+pub mod VersionLemmas
 pub mod WritingLemmas

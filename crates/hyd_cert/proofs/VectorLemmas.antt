@@ -1,11 +1,14 @@
 -- The vectors of a record in one list of heads.
-use Rattle.std.proofs.Common.{◌≡◌, ℕ, zero, suc, ◌+◌, ◌*◌, ◌-◌, ◌/◌, ◌%◌, ◌==◌, ◌^◌, ◌<◌, ◌≤◌, ℤ, Bool, true, false, List, [], ◌∷◌, ◌++◌, length, map, take, drop, All, if◌then◌else◌, codes, Option, refl, sym, ap, ap₂, subst, ◌∙◌, append_assoc, arith}
+use Rattle.std.proofs.Common.{◌≡◌, ◌≢◌, ◌⊎◌, inl, inr, nat_lt, rules, ℕ, zero, suc, ◌+◌, ◌*◌, ◌-◌, ◌/◌, ◌%◌, ◌==◌, ◌^◌, ◌<◌, ◌≤◌, ℤ, Bool, true, false, List, [], ◌∷◌, ◌++◌, length, map, take, drop, All, if◌then◌else◌, codes, Option, refl, sym, ap, ap₂, subst, ◌∙◌, append_assoc, arith}
 use Rattle.std.specs.Prelude.{slice_index_or}
 use Rattle.std.specs.Fmt.{decimal, signed_decimal}
 use Rattle.std.proofs.lemmas.Nat.{div-mul-add, mul-le}
-use Rattle.std.proofs.lemmas.List.{take-append-drop, length-take-le, length-drop, drop-drop, append-nil}
+use Rattle.std.proofs.lemmas.List.{take-append-drop, length-take-le, length-drop, drop-drop, drop-take}
 use Rattle.std.proofs.lemmas.List.Elements.{All-take, All-drop, All-cons, All-nil}
 use Rattle.std.proofs.lemmas.Grind.{common_steps}
+use Rattle.std.proofs.lemmas.Bool.Decides.{Decides-ltb}
+use Rattle.std.proofs.lemmas.Slice.{overwrites, take-put_mid_below, between-put_mid, drop-put_mid}
+use borrow.Rule.Slice.PartMut.{put_mid}
 use Rattle.std.specs.List.{refill}
 use Rattle.hyd_io.specs.Told.{prepend_known}
 use Rattle.hyd_io.proofs.ToldLemmas.{prepend_known-prepend_known}
@@ -263,3 +266,71 @@ vector_within n tanks us problem side whole low =
     let one : (place_in problem side + 1) * n ≡ place_in problem side * n + n = omega arith in
     let turned : (2 + 2 * tanks) * n ≡ heads_in n tanks = omega arith in
     omega (arith, below, one, turned, whole)
+
+-- ---- a vector that was written
+
+-- the vector that was written
+part_set : (n from : ℕ) (us part : List ℤ) → from + n ≤ length us → length part ≡ n → take n (drop from (put_mid from n us part)) ≡ part
+part_set n from us part within size =
+    let width : n ≡ from + n - from = omega arith in
+    ap (λ k. take k (drop from (put_mid from n us part))) width ∙ between-put_mid from n us part (from + n) (omega (arith, within)) (omega (arith, size))
+
+put_mid-length : (n from : ℕ) (us part : List ℤ) → from + n ≤ length us → length part ≡ n → length (put_mid from n us part) ≡ length us
+put_mid-length n from us part within size = search (rules, overwrites, within, size)
+
+-- and any other one
+part_below : (n m from : ℕ) (us part : List ℤ) → from + n ≤ length us → m + n ≤ from → take n (drop m (put_mid from n us part)) ≡ take n (drop m us)
+part_below n m from us part within low =
+    sym (drop-take m n (put_mid from n us part))
+    ∙ (ap (drop m) (take-put_mid_below from n us part (m + n) low (omega (arith, within))) ∙ drop-take m n us)
+
+part_above : (n m from : ℕ) (us part : List ℤ) → from + n ≤ length us → from + n ≤ m → length part ≡ n → take n (drop m (put_mid from n us part)) ≡ take n (drop m us)
+part_above n m from us part within high size = ap (take n) (drop-put_mid from n us part m high (omega (arith, within)) size)
+
+part_by_order : (n a b : ℕ) (us part : List ℤ) → b * n + n ≤ length us → length part ≡ n → (a < b) ⊎ (b < a) → take n (drop (a * n) (put_mid (b * n) n us part)) ≡ take n (drop (a * n) us)
+part_by_order n a b us part within size (inl low) =
+    let below = mul-le (a + 1) n b n (omega (arith, low)) (omega arith) in
+    let one : (a + 1) * n ≡ a * n + n = omega arith in
+    part_below n (a * n) (b * n) us part within (omega (arith, below, one))
+part_by_order n a b us part within size (inr high) =
+    let below = mul-le (b + 1) n a n (omega (arith, high)) (omega arith) in
+    let one : (b + 1) * n ≡ b * n + n = omega arith in
+    part_above n (a * n) (b * n) us part within (omega (arith, below, one)) size
+
+orders : (a b : ℕ) (c : Bool) → nat_lt a b ≡ c → a ≢ b → (a < b) ⊎ (b < a)
+orders a b true e apart = inl ((Decides-ltb a b).0 e)
+orders a b false e apart = let low : b ≤ a = search (arith, e) in inr (omega (arith, low, apart))
+
+-- what a record has then
+pub record IsWritten (n from : ℕ) (us ws part : List ℤ) : Type 0 where
+  pub within : from + n ≤ length us
+  pub size : length part ≡ n
+  pub is : ws ≡ put_mid from n us part
+
+pub written : (n start from : ℕ) (us slice part : List ℤ) → from ≡ start → from + n ≤ length us → length part ≡ n → slice ≡ us
+    → IsWritten n start us (refill (length us) us (put_mid from (from + n - from) slice part)) part
+written n start from us slice part at within size same =
+    let width : from + n - from ≡ n = omega arith in
+    let long : length (put_mid from n us part) ≡ length us = put_mid-length n from us part within size in
+    record {
+      within = omega (arith, at, within);
+      size = size;
+      is = ap₂ (λ k xs. refill (length us) us (put_mid from k xs part)) width same
+          ∙ (refill_whole us (put_mid from n us part) long ∙ ap (λ f. put_mid f n us part) at);
+    }
+
+pub vector_set : (n tanks number time seconds : ℕ) (us ws part : List ℤ) (problem : Problem) (side : Side) → IsProblemOf tanks problem → IsWritten n (place_in problem side * n) us ws part
+    → vector_of (row_with n tanks number time seconds ws) problem side ≡ part
+vector_set n tanks number time seconds us ws part problem side low k =
+    sym (vector_at n tanks number time seconds ws problem side low)
+    ∙ (ap (λ xs. take n (drop (place_in problem side * n) xs)) k.is ∙ part_set n (place_in problem side * n) us part k.within k.size)
+
+pub vector_kept : (n tanks number time seconds : ℕ) (us ws part : List ℤ) (problem other : Problem) (side face : Side) → IsProblemOf tanks other → IsWritten n (place_in problem side * n) us ws part
+    → place_in other face ≢ place_in problem side
+    → vector_of (row_with n tanks number time seconds ws) other face ≡ vector_of (row_with n tanks number time seconds us) other face
+vector_kept n tanks number time seconds us ws part problem other side face low k apart =
+    let a = place_in other face in
+    let b = place_in problem side in
+    sym (vector_at n tanks number time seconds ws other face low)
+    ∙ (ap (λ xs. take n (drop (a * n) xs)) k.is
+    ∙ (part_by_order n a b us part k.within k.size (orders a b (nat_lt a b) refl apart) ∙ vector_at n tanks number time seconds us other face low))

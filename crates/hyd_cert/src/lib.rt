@@ -7,6 +7,7 @@ mod lines;
 mod reader;
 mod record;
 mod source;
+mod version;
 mod words;
 mod writing;
 
@@ -14,6 +15,7 @@ pub use answers::{CertFault, CertNext, End, Stand};
 pub use laws::{certificates_by_lines, fault_behind_records, fault_is_first, refused_is_no_certificate};
 pub use reader::CertReader;
 pub use record::Record;
+pub use version::version_of;
 pub use writing::{put_end, put_head, put_record};
 
 /// The error of a call that found no memory.

@@ -1,6 +1,6 @@
 //! A record of a certificate.
 
-ghost use Rattle.std.specs.Prelude.{◌≡◌, ◌+◌, ◌<◌, ◌≤◌, ℤ, pos, All, length, IfOk, OnOk};
+ghost use Rattle.std.specs.Prelude.{◌≡◌, ◌≢◌, ◌+◌, ◌*◌, ◌<◌, ◌≤◌, ℤ, pos, All, length, IfOk, OnOk};
 ghost use Rattle.hyd_cert.specs.Vectors.{AreVectors, place_in};
 
 use hyd_net::List;
@@ -57,15 +57,45 @@ impl Record {
         })
     }
 
+    /// Where the vector of a problem and side begins in `vectors`, of a tank that the record has. It has a head for each
+    /// junction.
+    pub fn start_of(&self, problem: Problem, side: Side) -> usize
+        requires { IsProblemOf self.now.tanks problem }
+        ensures start { result ≡ place_in problem side * self.now.junctions }
+        ensures within { result + self.now.junctions ≤ length self.now.vectors.list }
+    {
+        let _heads = self.vectors.as_slice();
+        place_of(problem, side) * self.junctions as usize
+    }
+
     /// The vector of a problem and side, of a tank that the record has.
     pub fn vector(&self, problem: Problem, side: Side) -> &[i64]
         requires { IsProblemOf self.now.tanks problem }
         ensures { result.now ≡ vector_of (row_of self.now) problem side }
     {
-        let heads = self.vectors.as_slice();
         let junctions = self.junctions as usize;
-        let from = place_of(problem, side) * junctions;
-        &heads[from..from + junctions]
+        let from = self.start_of(problem, side);
+        let all = self.vectors.as_slice();
+        &all[from..from + junctions]
+    }
+
+    /// Writes the vector of a problem and side, of a tank that the record has, in place.
+    pub fn set_vector(&mut self, problem: Problem, side: Side, heads: &[i64])
+        requires problem { IsProblemOf self.old.tanks problem }
+        requires size { length heads.now ≡ self.old.junctions }
+        ensures vector { vector_of (row_of self.new) problem side ≡ heads.now }
+        ensures others { (other : Problem) (face : Side) → IsProblemOf self.old.tanks other
+            → place_in other face ≢ place_in problem side
+            → vector_of (row_of self.new) other face ≡ vector_of (row_of self.old) other face }
+        ensures header { header_of self.new ≡ header_of self.old }
+        ensures number { self.new.number ≡ self.old.number }
+        ensures time { self.new.time ≡ self.old.time }
+        ensures length { self.new.length ≡ self.old.length }
+    {
+        let junctions = self.junctions as usize;
+        let from = self.start_of(problem, side);
+        let all = self.vectors.as_mut_slice();
+        all[from..from + junctions].copy_from_slice(heads);
     }
 }
 
