@@ -1,5 +1,5 @@
 -- The heads of a record, one after another.
-use Rattle.std.proofs.Common.{◌≡◌, ◌≢◌, ℕ, zero, suc, ◌+◌, ◌^◌, ◌<◌, ◌≤◌, ◌⊎◌, ℤ, Option, Some, List, [], ◌∷◌, ◌++◌, length, length-append, take, slice_set, All, if◌then◌else◌, rules, refl, sym, ap, ap₂, subst, ◌∙◌, append_assoc, arith, to_z, of_z, w64, inl, inr, codes, Bool, Result, Ok, Err, IfErr}
+use Rattle.std.proofs.Common.{◌≡◌, ◌≢◌, ℕ, zero, suc, ◌+◌, ◌^◌, ◌<◌, ◌≤◌, ◌⊎◌, ℤ, Option, Some, List, [], ◌∷◌, ◌++◌, length, length-append, take, slice_set, All, if◌then◌else◌, rules, refl, sym, ap, subst, ◌∙◌, append_assoc, arith, to_z, of_z, w64, inl, inr, codes, Bool, Result, Ok, Err, IfErr}
 use Rattle.std.proofs.lemmas.Int.{ints}
 use Rattle.std.specs.Fmt.{decimal, signed_decimal}
 use Rattle.std.proofs.lemmas.List.{take_more_set, length-take-le}
@@ -13,12 +13,12 @@ use Rattle.hyd_spec_certificates.specs.Certificate.{IsInBox}
 use Rattle.hyd_cert.specs.declared.answers.CertNext.{CertNext}
 use Rattle.hyd_cert.specs.declared.answers.CertFault.{CertFault}
 use Rattle.hyd_cert.specs.declared.answers.CertFault.TheVariants.{Read, Grammar, Count}
-use Rattle.hyd_spec_reports.specs.CertificateText.{words, header_line}
+use Rattle.hyd_spec_reports.specs.CertificateText.{words}
 use Rattle.hyd_spec_laws.proofs.CertificateLines.{header-short}
 use Rattle.hyd_cert.specs.Cutting.{HasNo}
 use Rattle.hyd_cert.proofs.LineLemmas.{header_is_line}
 use Rattle.hyd_cert.specs.NextLine.{IsPeriodOrEnd}
-use Rattle.hyd_cert.specs.Lines.{Header, header_text, IsHeaderLine, IsHeadLine, IsPeriodLine, IsEndLine, end_word}
+use Rattle.hyd_cert.specs.Lines.{Header, IsHeaderLine, IsHeadLine, IsPeriodLine, IsEndLine, end_word}
 use Rattle.hyd_cert.specs.Places.{Place, here, later, Head, Over, Between, First, CanStand, IsFault, front_of, front_at, heads_in, place_after, head_text}
 use Rattle.hyd_cert.specs.Faults.{IsLineFault, IsHeadsFault, IsHeaderFault, IsTextFault, HasOtherHeader, IsFront, lines_on}
 

@@ -112,14 +112,26 @@ pub header_made : (line rest version counts junctions tanks : List ℕ) → line
     → (version ≡ codes "1") ⊎ (version ≡ codes "2") → counts ≡ junctions ++ (32 ∷ tanks)
     → (n : ℕ) × ((n < 10 ^ 64) × (junctions ≡ decimal n)) → (n : ℕ) × ((n < 10 ^ 64) × (tanks ≡ decimal n)) → length line < 64
     → (header : Header) × IsHeaderLine header line
-header_made line rest version counts junctions tanks cut parted (inl is) two n k short =
-    (record { version = 1; junctions = n.0; tanks = k.0 },
-    record { known = inl refl; junctions_fit = n.1.0; tanks_fit = k.1.0; short = short;
-    is = cut ∙ ap (λ t. codes "HYDCERT " ++ t) (parted ∙ ap₂ (λ v c. v ++ (32 ∷ c)) (is ∙ sym one_known) (two ∙ ap₂ (λ a b. a ++ (32 ∷ b)) n.1.1 k.1.1)) })
-header_made line rest version counts junctions tanks cut parted (inr is) two n k short =
-    (record { version = 2; junctions = n.0; tanks = k.0 },
-    record { known = inr refl; junctions_fit = n.1.0; tanks_fit = k.1.0; short = short;
-    is = cut ∙ ap (λ t. codes "HYDCERT " ++ t) (parted ∙ ap₂ (λ v c. v ++ (32 ∷ c)) (is ∙ sym two_known) (two ∙ ap₂ (λ a b. a ++ (32 ∷ b)) n.1.1 k.1.1)) })
+header_made line rest version counts junctions tanks cut parted (inl is) two n k short = (
+  record { version = 1; junctions = n.0; tanks = k.0 },
+  record {
+    known = inl refl;
+    junctions_fit = n.1.0;
+    tanks_fit = k.1.0;
+    short = short;
+    is = cut ∙ ap (λ t. codes "HYDCERT " ++ t) (parted ∙ ap₂ (λ v c. v ++ (32 ∷ c)) (is ∙ sym one_known) (two ∙ ap₂ (λ a b. a ++ (32 ∷ b)) n.1.1 k.1.1));
+  },
+)
+header_made line rest version counts junctions tanks cut parted (inr is) two n k short = (
+  record { version = 2; junctions = n.0; tanks = k.0 },
+  record {
+    known = inr refl;
+    junctions_fit = n.1.0;
+    tanks_fit = k.1.0;
+    short = short;
+    is = cut ∙ ap (λ t. codes "HYDCERT " ++ t) (parted ∙ ap₂ (λ v c. v ++ (32 ∷ c)) (is ∙ sym two_known) (two ∙ ap₂ (λ a b. a ++ (32 ∷ b)) n.1.1 k.1.1));
+  },
+)
 
 -- ---- lines that begin a text
 
@@ -198,9 +210,10 @@ header_is_line header l p =
     let counts = has_no_append 10 (decimal header.junctions) (32 ∷ decimal header.tanks) (wide_free 10 header.junctions (omega arith) p.junctions_fit)
     ((λ e. omega (arith, e)), wide_free 10 header.tanks (omega arith) p.tanks_fit) in
     let numbers = has_no_append 10 (decimal header.version) (32 ∷ (decimal header.junctions ++ (32 ∷ decimal header.tanks)))
-    (wide_free 10 header.version (omega arith) (known_short header p.known)) ((λ e. omega (arith, e)), counts) in
-    (subst (HasNo 10) (sym p.is) (has_no_append 10 (codes "HYDCERT ") (decimal header.version ++ (32 ∷ (decimal header.junctions ++ (32 ∷ decimal header.tanks)))) (search (rules, arith)) numbers),
-    p.short)
+    (wide_free 10 header.version (omega arith) (known_short header p.known)) ((λ e. omega (arith, e)), counts) in (
+      subst (HasNo 10) (sym p.is) (has_no_append 10 (codes "HYDCERT ") (decimal header.version ++ (32 ∷ (decimal header.junctions ++ (32 ∷ decimal header.tanks)))) (search (rules, arith)) numbers),
+      p.short,
+    )
 
 pub next_is_line : (l : List ℕ) → IsPeriodOrEnd l → HasNo 10 l × (length l < 64)
 next_is_line l (inl p) =

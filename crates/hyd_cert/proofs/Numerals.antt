@@ -83,6 +83,7 @@ starts_high n fits = decimal_by_steps_wide StartsHigh (λ m low. record { some =
     front_same : (ds : List ℕ) (c : ℕ) → 0 < length ds → get_or (ds ++ (c ∷ [])) 0 0 ≡ get_or ds 0 0
     front_same [] c some = absurd (omega (arith, some))
     front_same (d ∷ ds) c some = refl
+
     longer : (m : ℕ) (ds : List ℕ) → 10 ≤ m → StartsHigh (m / 10) ds → StartsHigh m (ds ++ ((48 + m % 10) ∷ []))
     longer m ds big so_far = record {
       some = (let l = length-append ds ((48 + m % 10) ∷ []) in omega (arith, l));

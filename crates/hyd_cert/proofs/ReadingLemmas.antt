@@ -1,5 +1,5 @@
 -- The texts that go from line to line are the certificates.
-use Rattle.std.proofs.Common.{◌≡◌, ◌≢◌, ℕ, zero, suc, ◌+◌, ◌*◌, ◌-◌, ◌^◌, ◌<◌, ◌≤◌, ℤ, Bool, true, false, List, [], ◌∷◌, ◌++◌, length, length-append, map, take, drop, All, nat_lt, if◌then◌else◌, codes, Option, Some, None, ◌⊎◌, inl, inr, refl, sym, ap, ap₂, subst, ◌∙◌, append_assoc, arith}
+use Rattle.std.proofs.Common.{◌≡◌, ℕ, suc, ◌+◌, ◌*◌, ◌^◌, ◌<◌, ◌≤◌, ℤ, Bool, true, false, List, [], ◌∷◌, ◌++◌, length, length-append, map, take, drop, All, nat_lt, if◌then◌else◌, codes, Option, Some, None, inl, inr, refl, sym, ap, ap₂, subst, ◌∙◌, append_assoc, arith}
 use Rattle.std.specs.Fmt.{decimal, signed_decimal}
 use Rattle.std.proofs.lemmas.Grind.{common_steps}
 use Rattle.std.proofs.lemmas.Bool.Decides.{Decides-ltb}
@@ -9,7 +9,7 @@ use Rattle.hyd_io.specs.Told.{prepend_known}
 use Rattle.hyd_io.proofs.ToldLemmas.{prepend_known-prepend_known}
 use Rattle.hyd_spec_certificates.specs.Certificate.{IsInBox}
 use Rattle.hyd_spec_certificates.specs.Record.{Record as Row, Vectors}
-use Rattle.hyd_spec_reports.specs.CertificateText.{words, header_line, period_line, record_text, end_line, IsVector, IsRow, IsCertificateText}
+use Rattle.hyd_spec_reports.specs.CertificateText.{words, period_line, record_text, end_line, IsVector, IsRow, IsCertificateText}
 use Rattle.hyd_cert.specs.Lines.{Header, header_text, IsHeaderLine, IsPeriodLine, IsHeadLine, IsEndLine, end_word}
 use Rattle.hyd_cert.specs.Places.{Place, First, Between, Head, Over, CanStand, IsFault, later, front_at, heads_in, place_after, head_text, Goes, ends, goes}
 use Rattle.hyd_cert.specs.Vectors.{AreVectors, two_vectors, behind_two, problems_in}

@@ -1,14 +1,13 @@
 -- What a fault says of the whole text.
-use Rattle.std.proofs.Common.{◌≡◌, ◌≢◌, ℕ, suc, List, [], ◌∷◌, ◌++◌, Option, Some, None, refl, sym, ap, subst, ◌∙◌, append_assoc, inl}
-use Rattle.hyd_io.specs.Told.{prepend_known}
+use Rattle.std.proofs.Common.{◌≡◌, ℕ, suc, List, [], ◌∷◌, ◌++◌, Option, Some, refl, sym, ap, subst, ◌∙◌, append_assoc, inl}
 use Rattle.hyd_cert.specs.Lines.{Header, IsHeaderLine}
 use Rattle.hyd_cert.specs.Cutting.{HasNo}
-use Rattle.hyd_cert.specs.Places.{Place, First, Between, Over, MayStand, IsFault, here, later, Lacks, CanStand, Goes}
+use Rattle.hyd_cert.specs.Places.{Place, First, Between, MayStand, IsFault, here, later, Lacks, CanStand, Goes}
 use Rattle.hyd_cert.specs.Faults.{HasOtherHeader}
 use Rattle.hyd_cert.specs.Sentence.{IsCertificate, HasFirstLine, ended, unended, IsFirstFault}
 use Rattle.hyd_cert.proofs.Pieces.{cut-same}
 use Rattle.hyd_cert.proofs.LineLemmas.{header_is_line}
-use Rattle.hyd_cert.proofs.GoesLemmas.{can_go_on, FaultFrom, fault_from, later_fault, no_certificate, GoesOn, opened, HasRest, has_rest, header_same, goes_behind}
+use Rattle.hyd_cert.proofs.GoesLemmas.{can_go_on, FaultFrom, fault_from, later_fault, no_certificate, GoesOn, opened, has_rest, header_same, goes_behind}
 use Rattle.hyd_cert.proofs.ReadingLemmas.{certificate_goes, goes_certificate}
 
 some_same : (a b : List ℕ) → Some a ≡ Some b → a ≡ b

@@ -1,5 +1,5 @@
 -- Heads that are put one after another.
-use Rattle.std.proofs.Common.{◌≡◌, ◌≢◌, ℕ, ◌+◌, ◌<◌, ◌≤◌, ℤ, pos, List, [], ◌∷◌, ◌++◌, length, take, drop, get_or, Option, Some, None, IfErr, codes, map, Result, Ok, Err, OnOk, OnErr, refl, sym, ap, ap₂, subst, ◌∙◌, append_assoc, arith}
+use Rattle.std.proofs.Common.{◌≡◌, ℕ, ◌+◌, ◌<◌, ℤ, pos, List, [], ◌∷◌, ◌++◌, length, take, drop, get_or, Option, codes, map, Result, Ok, Err, OnOk, OnErr, refl, sym, ap, subst, ◌∙◌, append_assoc, arith}
 use Rattle.std.specs.Fmt.{signed_decimal}
 use Rattle.std.proofs.lemmas.List.{take_more, length-take-le, take-append-drop}
 use Rattle.hyd_io.specs.Told.{Moves, PutOut}
@@ -7,7 +7,6 @@ use Rattle.hyd_io.specs.Output.{by_channel, OnCert, OnReport, HasOutCause}
 use Rattle.hyd_io.specs.declared.output.Channel.{Channel}
 use Rattle.hyd_io.specs.declared.output.Channel.TheVariants.{Cert, Report}
 use Rattle.hyd_io.specs.declared.output.OutFault.{OutFault}
-use Rattle.hyd_io.specs.declared.output.OutFault.TheVariants.{Fault, Stalled}
 use Rattle.hyd_io.specs.declared.desk.Faults.{Faults}
 use Rattle.hyd_io.proofs.ToldLemmas.{moves_then, put_out_then, put_out_more, moves_nothing}
 use Rattle.hyd_cert.specs.Places.{front_at, head_text}
@@ -33,6 +32,7 @@ heads_begin to w p n us held = subst (λ (all : List ℕ). Moves (by_channel to 
     nothing : (xs : List ℕ) → xs ≡ xs ++ []
     nothing [] = refl
     nothing (x ∷ xs) = ap (λ r. x ∷ r) (nothing xs)
+
     start : (us : List ℤ) → held ≡ held ++ head_text n 0 (take 0 us)
     start [] = nothing held
     start (u ∷ us) = nothing held

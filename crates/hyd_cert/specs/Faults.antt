@@ -16,7 +16,8 @@ lines_on line more = min (line + more) (2 ^ 64 - 1)
 -- Of one line: a read failed, or no such line begins the text.
 abbrev pub IsLineFault : (List ℕ → Type 0) → ℕ → Option (List ℕ) → Faults → Faults → CertFault → Type 0
 IsLineFault IsSuch line text before now Read = now ≡ with_read_fault before
-IsLineFault IsSuch line text before now (Grammar number) = (number ≡ lines_on line 1) × Lacks IsSuch text × (now ≡ before)
+IsLineFault IsSuch line text before now (Grammar number) =
+    (number ≡ lines_on line 1) × Lacks IsSuch text × (now ≡ before)
 IsLineFault IsSuch line text before now (Count number) = ⊥
 
 -- A front that the line of a head begins with.
@@ -49,8 +50,8 @@ IsHeaderFault header line text before now (Grammar number) =
 IsHeaderFault header line text before now (Count number) =
     (number ≡ lines_on line 1) × HasOtherHeader header text × (now ≡ before)
 
--- Of a text that goes on at a place, behind so many lines: a read failed; or the line is the first that can't stand where
--- it does; or it is the first line of all, a header line of another version or of other counts.
+-- Of a text that goes on at a place, behind so many lines: a read failed; or the line is the first that can't stand
+-- where it does; or it is the first line of all, a header line of another version or of other counts.
 abbrev pub IsTextFault : Header → Place → ℕ → Option (List ℕ) → Faults → Faults → CertFault → Type 0
 IsTextFault header place line text before now Read = now ≡ with_read_fault before
 IsTextFault header place line text before now (Grammar number) =

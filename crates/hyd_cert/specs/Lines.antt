@@ -11,7 +11,12 @@ pub record Header : Type 0 where
   pub junctions : ℕ
   pub tanks : ℕ
 
--- Its line with the line feed.
+-- Its line without the line feed.
+abbrev pub header_words : Header → List ℕ
+header_words header =
+    words (codes "HYDCERT" ∷ (decimal header.version ∷ (decimal header.junctions ∷ (decimal header.tanks ∷ []))))
+
+-- And with it.
 abbrev pub header_text : Header → List ℕ
 header_text header = header_line header.version header.junctions header.tanks
 
@@ -21,7 +26,7 @@ pub record IsHeaderLine (header : Header) (line : List ℕ) : Type 0 where
   pub junctions_fit : header.junctions < 10 ^ 64
   pub tanks_fit : header.tanks < 10 ^ 64
   pub short : length line < 64
-  pub is : line ≡ words (codes "HYDCERT" ∷ (decimal header.version ∷ (decimal header.junctions ∷ (decimal header.tanks ∷ []))))
+  pub is : line ≡ header_words header
 
 -- `PERIOD p t s`
 pub record IsPeriodLine (line : List ℕ) : Type 0 where

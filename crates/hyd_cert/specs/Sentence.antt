@@ -23,7 +23,8 @@ IsLines text = (text ≡ []) ⊎ ((body : List ℕ) × (text ≡ body ++ (10 ∷
 -- The other text begins with the first line of the text: that line and its line feed, whatever follows; or, where the
 -- text has no line feed, the whole of it with its end.
 pub data HasFirstLine (text : List ℕ) : List ℕ → Type 0 where
-  ended : (line rest after : List ℕ) → HasNo 10 line → text ≡ line ++ (10 ∷ rest) → HasFirstLine text (line ++ (10 ∷ after))
+  ended : (line rest after : List ℕ) → HasNo 10 line → text ≡ line ++ (10 ∷ rest)
+      → HasFirstLine text (line ++ (10 ∷ after))
   unended : HasNo 10 text → HasFirstLine text text
 
 -- The line of this number, counted from 1, is the first with which, the end of the text counted in, the text begins no

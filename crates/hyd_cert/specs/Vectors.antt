@@ -1,5 +1,5 @@
--- The vectors of a record in one list of heads: with all tanks alike, the UPPER one and the LOWER one, then these two with
--- each tank pinned in turn.
+-- The vectors of a record in one list of heads: with all tanks alike, the UPPER one and the LOWER one, then these two
+-- with each tank pinned in turn.
 use Rattle.std.specs.Prelude.{◌≡◌, ℕ, zero, suc, ◌+◌, ◌*◌, ℤ, List, [], ◌∷◌, length, take, drop}
 use Rattle.hyd_spec_certificates.specs.declared.Problem.{Problem}
 use Rattle.hyd_spec_certificates.specs.declared.Problem.TheVariants.{Main, Pinned}

@@ -21,8 +21,8 @@ pub fn fault_is_first()
         → IsFault header First (Some text) number → IsFirstFault header text number }
 {}
 
-/// A text that a reader refuses is no certificate: one that is at fault in a line with no header, one with a header line of
-/// another version or of other counts not with the header that was asked for.
+/// A text that a reader refuses is no certificate: one that is at fault in a line with no header at all, one that has a
+/// header line of another version or of other counts not with the header that was asked for.
 pub fn refused_is_no_certificate()
     ensures grammar { (header other : Header) (text : List ℕ) (number : ℕ) → IsFault header First (Some text) number
         → IsCertificate other text → ⊥ }

@@ -12,7 +12,9 @@ mod words;
 mod writing;
 
 pub use answers::{CertFault, CertNext, End, Stand};
-pub use laws::{certificates_by_lines, fault_behind_records, fault_is_first, refused_is_no_certificate};
+pub use laws::{
+    certificates_by_lines, fault_behind_records, fault_is_first, refused_is_no_certificate,
+};
 pub use reader::CertReader;
 pub use record::Record;
 pub use version::version_of;

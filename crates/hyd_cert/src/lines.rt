@@ -99,7 +99,8 @@ pub(crate) fn period_line(line: &[u8]) -> Option<Period>
 
 /// What the END line says, if the line is one.
 pub(crate) fn end_line(line: &[u8]) -> Option<End>
-    ensures some { IfSome result (λ e. line.now ≡ codes "END" ++ (32 ∷ (decimal e.periods ++ (32 ∷ end_word e.finished)))) }
+    ensures some { IfSome result (λ e. line.now
+        ≡ codes "END" ++ (32 ∷ (decimal e.periods ++ (32 ∷ end_word e.finished)))) }
     ensures fits { IfSome result (λ e. e.periods < 2 ^ 32) }
     ensures none { IfNone result ((l : List ℕ) → IsEndLine l → line.now ≢ l) }
 {

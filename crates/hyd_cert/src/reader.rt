@@ -42,7 +42,8 @@ impl Lines {
     fn next_line<D: Desk>(&mut self, desk: &mut D) -> Result<usize, CertFault>
         ensures same { OnOk result (prepend_known self.new.source (D.rest desk.new)
             ≡ prepend_known self.old.source (D.rest desk.old)) }
-        ensures some { IfOk result (λ n. self.new.source ≡ take n self.new.source ++ (10 ∷ drop (n + 1) self.new.source)) }
+        ensures some { IfOk result (λ n. self.new.source
+            ≡ take n self.new.source ++ (10 ∷ drop (n + 1) self.new.source)) }
         ensures within { IfOk result (λ n. n < length self.new.source) }
         ensures short { IfOk result (λ n. n < 64) }
         ensures first { IfOk result (λ n. HasNo 10 (take n self.new.source)) }
@@ -81,7 +82,8 @@ impl Lines {
     fn head<D: Desk>(&mut self, desk: &mut D, front: &[u8]) -> Result<i64, CertFault>
         requires { IsFront front.now }
         ensures text { IfOk result (λ h. prepend_known self.old.source (D.rest desk.old)
-            ≡ prepend_known (front.now ++ (signed_decimal h ++ (10 ∷ []))) (prepend_known self.new.source (D.rest desk.new))) }
+            ≡ prepend_known (front.now ++ (signed_decimal h ++ (10 ∷ [])))
+            (prepend_known self.new.source (D.rest desk.new))) }
         ensures in_box { IfOk result IsInBox }
         ensures line { OnOk result (self.new.line ≡ lines_on self.old.line 1) }
         ensures fault { IfErr result (λ f. IsLineFault (IsHeadLine front.now) self.old.line
@@ -212,7 +214,8 @@ impl Lines {
         ensures over { IfOk result (λ over. IsTrue over → prepend_known self.old.source (D.rest desk.old)
             ≡ where_told (D.rest desk.old) []) }
         ensures more { IfOk result (λ over. over ≡ false → prepend_known self.old.source (D.rest desk.old) ≢ Some []) }
-        ensures fault { IfErr result (λ f. (f ≡ CertFault.Read) × (D.counts desk.new ≡ with_read_fault (D.counts desk.old))) }
+        ensures fault { IfErr result (λ f. (f ≡ CertFault.Read)
+            × (D.counts desk.new ≡ with_read_fault (D.counts desk.old))) }
         ensures line { self.new.line ≡ self.old.line }
         ensures steady { OnOk result (D.counts desk.new ≡ D.counts desk.old) }
         ensures never_fall { NeverFall (D.counts desk.old) (D.counts desk.new) }
@@ -279,7 +282,8 @@ impl CertReader {
         ensures end { IsGoing self.old.stand → IfOk result (λ next. OnEnd next (λ periods finished.
             to_come self.old (D.rest desk.old) ≡ where_told (D.rest desk.old)
             (lead self.old.stand (header_of into.new) ++ end_line periods finished))) }
-        ensures end_fits { IsGoing self.old.stand → IfOk result (λ next. OnEnd next (λ periods finished. periods < 2 ^ 32)) }
+        ensures end_fits { IsGoing self.old.stand
+            → IfOk result (λ next. OnEnd next (λ periods finished. periods < 2 ^ 32)) }
         ensures fault { IsGoing self.old.stand → IfErr result (IsTextFault (header_of into.old)
             (place_of self.old.stand) self.old.line
             (to_come self.old (D.rest desk.old)) (D.counts desk.old) (D.counts desk.new)) }
@@ -330,7 +334,8 @@ fn read_first<D: Desk>(
     into: &mut Record,
 ) -> Result<CertNext, CertFault>
     ensures record { IfOk result (λ next. OnRecord next (prepend_known lines.old.source (D.rest desk.old)
-        ≡ prepend_known (header_text (header_of into.new) ++ record_text (row_of into.new)) (prepend_known lines.new.source (D.rest desk.new)))) }
+        ≡ prepend_known (header_text (header_of into.new) ++ record_text (row_of into.new))
+        (prepend_known lines.new.source (D.rest desk.new)))) }
     ensures row { IfOk result (λ next. OnRecord next (IsRow into.new.junctions into.new.tanks (row_of into.new))) }
     ensures line { IfOk result (λ next. OnRecord next
         (lines.new.line ≡ lines_on lines.old.line (2 + length into.new.vectors.list))) }

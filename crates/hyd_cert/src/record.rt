@@ -35,7 +35,12 @@ impl Record {
     ghost use Rattle.hyd_cert.specs.RecordView.{header_of, row_of, IsProblemOf};
 
     /// A record for a text of this version, 1 or 2, and for so many junctions and tanks, in which all is 0.
-    pub fn open(alloc: Global, version: u32, junctions: u32, tanks: u32) -> Result<Record, OutOfMemory>
+    pub fn open(
+        alloc: Global,
+        version: u32,
+        junctions: u32,
+        tanks: u32,
+    ) -> Result<Record, OutOfMemory>
         requires { (1 ≤ version) × (version ≤ 2) }
         ensures header { IfOk result (λ row. header_of row
             ≡ record { version = version; junctions = junctions; tanks = tanks }) }
@@ -57,8 +62,8 @@ impl Record {
         })
     }
 
-    /// Where the vector of a problem and side begins in `vectors`, of a tank that the record has. It has a head for each
-    /// junction.
+    /// Where the vector of a problem and side begins in `vectors`, of a tank that the record has. It has a head for
+    /// each junction.
     pub fn start_of(&self, problem: Problem, side: Side) -> usize
         requires { IsProblemOf self.now.tanks problem }
         ensures start { result ≡ place_in problem side * self.now.junctions }

@@ -131,7 +131,8 @@ impl Source {
 
     /// Whether nothing is left to read.
     pub(crate) fn is_over<D: Desk>(&mut self, desk: &mut D) -> Result<bool, Failed>
-        ensures over { IfOk result (λ over. IsTrue over → prepend_known self.old (D.rest desk.old) ≡ where_told (D.rest desk.old) []) }
+        ensures over { IfOk result (λ over. IsTrue over
+            → prepend_known self.old (D.rest desk.old) ≡ where_told (D.rest desk.old) []) }
         ensures more { IfOk result (λ over. over ≡ false → prepend_known self.old (D.rest desk.old) ≢ Some []) }
         ensures fault { OnErr result (D.counts desk.new ≡ with_read_fault (D.counts desk.old)) }
         ensures steady { OnOk result (D.counts desk.new ≡ D.counts desk.old) }

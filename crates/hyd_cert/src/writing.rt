@@ -2,8 +2,8 @@
 
 ghost use Rattle.std.specs.Prelude.{◌≡◌, ◌≢◌, ℕ, ◌+◌, ◌<◌, ◌≤◌, ◌^◌, Bool, false, List, [], ◌∷◌, ◌++◌, length, take, codes, decimal, Option, Some, None, Err, IfErr, IfSome, IsSome, OnOk, OnErr, IsTrue, is_some};
 ghost use Rattle.std.specs.Fmt.{signed_decimal};
-ghost use Rattle.hyd_spec_reports.specs.CertificateText.{words, header_line, period_line, record_text, end_line};
-ghost use Rattle.hyd_cert.specs.Lines.{header_text, end_word};
+ghost use Rattle.hyd_spec_reports.specs.CertificateText.{period_line, record_text, end_line};
+ghost use Rattle.hyd_cert.specs.Lines.{header_words, header_text, end_word};
 ghost use Rattle.hyd_cert.specs.Places.{front_of, head_text};
 ghost use Rattle.hyd_cert.specs.RecordView.{header_of, row_of};
 ghost use Rattle.hyd_io.specs.Told.{file_at, Moves, PutOut};
@@ -44,8 +44,7 @@ fn append_number(buffer: &mut [u8; LINE], used: usize, number: u32) -> usize
 fn make_header(buffer: &mut [u8; LINE], row: &Record) -> usize
     ensures within { result ≤ 42 }
     ensures fits { (row.now.junctions < 2 ^ 32) × (row.now.tanks < 2 ^ 32) }
-    ensures text { take result buffer.new
-        ≡ words (codes "HYDCERT" ∷ (decimal row.now.version ∷ (decimal row.now.junctions ∷ (decimal row.now.tanks ∷ [])))) }
+    ensures text { take result buffer.new ≡ header_words (header_of row.now) }
 {
     let used = append(buffer, 0, b"HYDCERT ");
     let used = append_number(buffer, used, row.version);
@@ -68,8 +67,7 @@ fn make_header_line(buffer: &mut [u8; LINE], row: &Record) -> usize
 pub(crate) fn is_header_of(line: &[u8], row: &Record) -> bool
     ensures yes { IsTrue result → line.now ++ (10 ∷ []) ≡ header_text (header_of row.now) }
     ensures fits { (row.now.junctions < 2 ^ 32) × (row.now.tanks < 2 ^ 32) }
-    ensures no { result ≡ false → line.now
-        ≢ words (codes "HYDCERT" ∷ (decimal row.now.version ∷ (decimal row.now.junctions ∷ (decimal row.now.tanks ∷ [])))) }
+    ensures no { result ≡ false → line.now ≢ header_words (header_of row.now) }
 {
     let mut buffer = [0; LINE];
     let used = make_header(&mut buffer, row);

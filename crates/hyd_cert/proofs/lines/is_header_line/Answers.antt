@@ -1,4 +1,3 @@
-use Rattle.std.proofs.Common.{arith}
 use Rattle.hyd_cert.proofs.LineLemmas.{no_first_space, no_second_space, first_counts, two_counts, version_known, header_made}
 use Rattle.hyd_cert.proofs.lines.is_header_line.Goals as goal
 

@@ -1,4 +1,4 @@
-use Rattle.std.proofs.Common.{◌≡◌, length, ◌∷◌, [], codes, refl, sym, ap, ◌∙◌, subst, arith}
+use Rattle.std.proofs.Common.{◌≡◌, length, ◌∷◌, [], codes, refl, ap, ◌∙◌, subst, arith}
 use Rattle.std.specs.Fmt.{decimal}
 use Rattle.hyd_io.specs.Told.{prepend_known}
 use Rattle.hyd_spec_reports.specs.CertificateText.{words}

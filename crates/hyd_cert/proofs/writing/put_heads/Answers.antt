@@ -1,6 +1,5 @@
-use Rattle.std.proofs.Common.{◌≡◌, ◌+◌, ◌/◌, ◌∷◌, ◌++◌, [], pos, get_or, sym, ap, ◌∙◌, arith}
+use Rattle.std.proofs.Common.{◌∷◌, ◌++◌, [], pos, get_or, sym, ap, ◌∙◌, arith}
 use Rattle.std.specs.Fmt.{signed_decimal}
-use Rattle.hyd_cert.specs.Places.{front_at}
 use Rattle.hyd_cert.proofs.WritingLemmas.{heads_move, heads_cut, on_report_then, on_cert_then}
 use Rattle.hyd_cert.proofs.writing.put_heads.Goals as goal
 

@@ -1,6 +1,3 @@
-use Rattle.hyd_cert.specs.RecordView.{row_of}
-use Rattle.hyd_spec_reports.specs.CertificateText.{period_line}
-use Rattle.hyd_cert.proofs.VectorLemmas.{row_text}
 use Rattle.hyd_cert.proofs.WritingLemmas.{record_moves, record_cut, period_cut}
 use Rattle.hyd_cert.proofs.writing.put_record.Goals as goal
 

@@ -34,9 +34,9 @@ loop-i-preserved g c =
           let same : length c.store.new.into ≡ length c.loop-i.into = ap length written ∙ length-set c.loop-i.into c.loop-i.i c.in-Ok.head in
           let many : length c.loop-i.into ≡ heads_in header.junctions header.tanks = sym same ∙ (whole ∙ ap (λ n. heads_in n header.tanks) (sym at)) in
           fault_more header c.loop-i.i c.in-Ok.head (prepend_known c.args.self.now.source (g.D.Desk.rest c.args.desk.now)) (prepend_known c.loop-i.self.source (g.D.Desk.rest c.loop-i.desk)) (prepend_known c.head.new.self.source (g.D.Desk.rest c.head.new.desk))
-              (omega (arith, c.loop-i-test.true, many)) c.in-Ok.ensures.in_box
-              (read ∙ ap (λ n. prepend_known (front_at n c.loop-i.i ++ (signed_decimal c.in-Ok.head ++ (10 ∷ []))) (prepend_known c.head.new.self.source (g.D.Desk.rest c.head.new.desk))) (sym at))
-              (c.loop-i.invariant.fault header at (sym same ∙ whole));
+          (omega (arith, c.loop-i-test.true, many)) c.in-Ok.ensures.in_box
+          (read ∙ ap (λ n. prepend_known (front_at n c.loop-i.i ++ (signed_decimal c.in-Ok.head ++ (10 ∷ []))) (prepend_known c.head.new.self.source (g.D.Desk.rest c.head.new.desk))) (sym at))
+          (c.loop-i.invariant.fault header at (sym same ∙ whole));
       steady = c.in-Ok.ensures.steady ∙ c.loop-i.invariant.steady;
       files_stay = c.in-Ok.ensures.files_stay ∙ c.loop-i.invariant.files_stay;
       written_stays = c.in-Ok.ensures.written_stays ∙ c.loop-i.invariant.written_stays;

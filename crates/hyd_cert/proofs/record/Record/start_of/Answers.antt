@@ -1,4 +1,4 @@
-use Rattle.std.proofs.Common.{◌*◌, ap, ◌∙◌, arith}
+use Rattle.std.proofs.Common.{◌*◌, ap, arith}
 use Rattle.hyd_cert.proofs.VectorLemmas.{vector_within}
 use Rattle.hyd_cert.proofs.record.Record.start_of.Goals as goal
 

@@ -1,4 +1,4 @@
-use Rattle.std.proofs.Common.{◌≡◌, ◌*◌, ◌+◌, ◌-◌, take, drop, ap, ap₂, ◌∙◌, arith}
+use Rattle.std.proofs.Common.{◌≡◌, ◌+◌, ◌-◌, take, drop, ap, ap₂, ◌∙◌, arith}
 use Rattle.hyd_cert.proofs.VectorLemmas.{vector_at}
 use Rattle.hyd_cert.proofs.record.Record.vector.Goals as goal
 
