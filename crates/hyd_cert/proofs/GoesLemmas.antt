@@ -96,7 +96,7 @@ pub record CanGoOn (header : Header) (place : Place) : Type 0 where
   pub text : List ℕ
   pub goes_on : Goes header place text
 
-between_goes : (header : Header) → CanGoOn header Between
+pub between_goes : (header : Header) → CanGoOn header Between
 between_goes header = record { text = _; goes_on = goes (words (codes "END" ∷ (decimal 0 ∷ (end_word false ∷ [])))) (inr (end_is 0 false (omega arith), refl)) ends }
 
 head_goes : (header : Header) (i : ℕ) → CanGoOn header (place_after (heads_in header.junctions header.tanks) (i + 1)) → CanGoOn header (Head i)

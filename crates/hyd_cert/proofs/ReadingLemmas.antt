@@ -9,8 +9,8 @@ use Rattle.hyd_io.specs.Told.{prepend_known}
 use Rattle.hyd_io.proofs.ToldLemmas.{prepend_known-prepend_known}
 use Rattle.hyd_spec_certificates.specs.Certificate.{IsInBox}
 use Rattle.hyd_spec_certificates.specs.Record.{Record as Row, Vectors}
-use Rattle.hyd_spec_reports.specs.CertificateText.{words, period_line, record_text, end_line, IsVector, IsRow, IsCertificateText}
-use Rattle.hyd_cert.specs.Lines.{Header, header_text, IsHeaderLine, IsPeriodLine, IsHeadLine, IsEndLine, end_word}
+use Rattle.hyd_spec_reports.specs.CertificateText.{words, period_line, record_text, end_line, IsVector, IsRow, IsCertificateText, certificate_text}
+use Rattle.hyd_cert.specs.Lines.{Header, header_text, IsHeaderLine, IsPeriodLine, IsHeadLine, IsEndLine, end_word, header_words}
 use Rattle.hyd_cert.specs.Places.{Place, First, Between, Head, Over, CanStand, IsFault, later, front_at, heads_in, place_after, head_text, Goes, ends, goes}
 use Rattle.hyd_cert.specs.Vectors.{AreVectors, two_vectors, behind_two, problems_in}
 use Rattle.hyd_cert.specs.Sentence.{IsCertificate, lines_of, BeginsWith}
@@ -284,25 +284,29 @@ read_end header line rest is none = record {
   is = ap₂ (λ l r. l ++ (10 ∷ r)) is.is none;
 }
 
-read_header : (header : Header) (line rest : List ℕ) → IsHeaderLine header line → Rows header rest → IsCertificate header (line ++ (10 ∷ rest))
-read_header header line rest is k =
-    let l = words (codes "HYDCERT" ∷ (decimal header.version ∷ (decimal header.junctions ∷ (decimal header.tanks ∷ [])))) in
-    let whole = length-append l (10 ∷ []) in
-    let long : length line ≡ length l = ap length is.is in
+pub whole_reading : (header : Header) (line text : List ℕ) (rows : List Row) (periods : ℕ) (finished : Bool) → IsHeaderLine header line → All (IsRow header.junctions header.tanks) rows
+    → periods < 2 ^ 32 → text ≡ certificate_text header.version header.junctions header.tanks rows periods finished
+    → IsCertificateText text header.version header.junctions header.tanks rows periods finished
+whole_reading header line text rows periods finished is all fits e =
+    let whole = length-append (header_words header) (10 ∷ []) in
+    let long : length line ≡ length (header_words header) = ap length is.is in
     record {
-      rows = k.rows;
-      periods = k.periods;
-      finished = k.finished;
-      is_text = record {
-        known = is.known;
-        junctions_fit = is.junctions_fit;
-        tanks_fit = is.tanks_fit;
-        header_fits = (let short = is.short in omega (arith, whole, long, short));
-        rows_fit = k.rows_fit;
-        periods_fit = k.periods_fit;
-        is_text = header_parts header line rest is ∙ ap (λ r. header_text header ++ r) k.is;
-      };
+      known = is.known;
+      junctions_fit = is.junctions_fit;
+      tanks_fit = is.tanks_fit;
+      header_fits = (let short = is.short in omega (arith, whole, long, short));
+      rows_fit = all;
+      periods_fit = fits;
+      is_text = e;
     }
+
+read_header : (header : Header) (line rest : List ℕ) → IsHeaderLine header line → Rows header rest → IsCertificate header (line ++ (10 ∷ rest))
+read_header header line rest is k = record {
+  rows = k.rows;
+  periods = k.periods;
+  finished = k.finished;
+  is_text = whole_reading header line (line ++ (10 ∷ rest)) k.rows k.periods k.finished is k.rows_fit k.periods_fit (header_parts header line rest is ∙ ap (λ r. header_text header ++ r) k.is);
+}
 
 read_line : (header : Header) (place next : Place) (line rest : List ℕ) → CanStand header place line next → ReadFrom header next rest → ReadFrom header place (line ++ (10 ∷ rest))
 read_line header First next line rest can reads = read_header header line rest can.0 (subst (λ (p : Place). ReadFrom header p rest) can.1 reads)

@@ -13,7 +13,8 @@ mod writing;
 
 pub use answers::{CertFault, CertNext, End, Stand};
 pub use laws::{
-    certificates_by_lines, fault_behind_records, fault_is_first, refused_is_no_certificate,
+    certificates_by_lines, fault_behind_records, fault_is_first, first_fault_is_one,
+    reading_is_whole, record_has_a_header, refused_is_no_certificate,
 };
 pub use reader::CertReader;
 pub use record::Record;
