@@ -6,6 +6,8 @@ mod ample;
 #[cfg(test)]
 mod capacities;
 #[cfg(test)]
+mod cert;
+#[cfg(test)]
 mod command;
 #[cfg(test)]
 mod lines;

@@ -1,6 +1,7 @@
 //! Lists, tables of IDs and the comparison of projects, on small examples.
 #![tactic(auto)]
 
+use hyd_cert::version_of;
 use hyd_net::{List, Names, Options, OutOfMemory, Project, Reservoir, Tank, Times, same};
 use hyd_num::{Decimal, FlowUnit};
 use std::alloc::Global;
@@ -126,5 +127,17 @@ fn projects_are_the_same_but_for_what_is_left_aside(rt: HostRuntime) -> Result<(
     };
     assert!(rt; is_same(rt.alloc(), 1_000_000_000_000_000, narrow, 10)?);
     assert!(rt; !is_same(rt.alloc(), 999_999_999_999_999, narrow, 0)?);
+    Ok(())
+}
+
+#[test]
+fn a_tank_that_overflows_has_the_second_version(rt: HostRuntime) -> Result<(), Fail> {
+    let wide = Decimal {
+        nano: 20_000_000_000,
+    };
+    let mut project = network(rt.alloc(), 1_000_000_000_000_000, wide, 0)?;
+    assert_eq!(rt; version_of(&project), 1);
+    project.tanks.as_mut_slice()[0].overflow = true;
+    assert_eq!(rt; version_of(&project), 2);
     Ok(())
 }

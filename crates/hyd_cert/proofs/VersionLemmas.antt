@@ -1,0 +1,14 @@
+-- Whether one of the tanks is of the second version.
+use Rattle.std.proofs.Common.{◌≡◌, Bool, false, if◌then◌else◌, sym, ap, ◌||◌}
+use Rattle.std.specs.Prelude.{is_some}
+use Rattle.std.specs.List.{All}
+use Rattle.std.proofs.lemmas.List.Folds.{list_any_none}
+use Rattle.hyd_spec.specs.Types.{Project, Tank}
+use Rattle.hyd_spec_reports.specs.CertificateText.{version_of}
+
+-- the tank has a volume curve or overflows
+abbrev pub IsNew : Tank → Bool
+IsNew tank = is_some tank.shape || tank.overflow
+
+pub first_version : (network : Project) → All (λ tank. IsNew tank ≡ false) network.tanks.list → 1 ≡ version_of network
+first_version network none = sym (ap (λ (b : Bool). if b then 2 else 1) (list_any_none IsNew network.tanks.list none))

@@ -1,0 +1,60 @@
+-- What the faults of a reader say.
+use Rattle.std.specs.Prelude.{◌≡◌, ◌≢◌, ℕ, ◌+◌, ◌-◌, ◌^◌, ◌<◌, min, List, [], ◌∷◌, ◌++◌, length, Option}
+use Rattle.hyd_io.specs.Told.{prepend_known}
+use Rattle.hyd_io.specs.declared.desk.Faults.{Faults}
+use Rattle.hyd_io.specs.Counts.{with_read_fault}
+use Rattle.hyd_cert.specs.Cutting.{HasNo}
+use Rattle.hyd_cert.specs.Lines.{Header, IsHeaderLine}
+use Rattle.hyd_cert.specs.Places.{Place, First, Lacks, IsFault, heads_in, place_after}
+use Rattle.hyd_cert.specs.declared.answers.CertFault.{CertFault}
+use Rattle.hyd_cert.specs.declared.answers.CertFault.TheVariants.{Read, Grammar, Count}
+
+-- So many lines further, up to the last number that a line can have.
+abbrev pub lines_on : ℕ → ℕ → ℕ
+lines_on line more = min (line + more) (2 ^ 64 - 1)
+
+-- Of one line: a read failed, or no such line begins the text.
+abbrev pub IsLineFault : (List ℕ → Type 0) → ℕ → Option (List ℕ) → Faults → Faults → CertFault → Type 0
+IsLineFault IsSuch line text before now Read = now ≡ with_read_fault before
+IsLineFault IsSuch line text before now (Grammar number) =
+    (number ≡ lines_on line 1) × Lacks IsSuch text × (now ≡ before)
+IsLineFault IsSuch line text before now (Count number) = ⊥
+
+-- A front that the line of a head begins with.
+pub record IsFront (front : List ℕ) : Type 0 where
+  pub short : length front < 4
+  pub one_line : HasNo 10 front
+
+-- Of the heads of a record: a read failed, or the line is the first that can't stand where it does.
+abbrev pub IsHeadsFault : Header → ℕ → Option (List ℕ) → Faults → Faults → CertFault → Type 0
+IsHeadsFault header line text before now Read = now ≡ with_read_fault before
+IsHeadsFault header line text before now (Grammar number) =
+    (offset : ℕ) × ((number ≡ lines_on line offset)
+    × IsFault header (place_after (heads_in header.junctions header.tanks) 0) text offset × (now ≡ before))
+IsHeadsFault header line text before now (Count number) = ⊥
+
+-- The text begins with a header line, of another version or of other counts.
+pub record HasOtherHeader (header : Header) (text : Option (List ℕ)) : Type 0 where
+  pub other : Header
+  pub line : List ℕ
+  pub rest : Option (List ℕ)
+  pub is_header : IsHeaderLine other line
+  pub apart : other ≢ header
+  pub begins : text ≡ prepend_known (line ++ (10 ∷ [])) rest
+
+-- Of the header line: a read failed; or no header line begins the text; or another one does.
+abbrev pub IsHeaderFault : Header → ℕ → Option (List ℕ) → Faults → Faults → CertFault → Type 0
+IsHeaderFault header line text before now Read = now ≡ with_read_fault before
+IsHeaderFault header line text before now (Grammar number) =
+    (number ≡ lines_on line 1) × ((other : Header) → Lacks (IsHeaderLine other) text) × (now ≡ before)
+IsHeaderFault header line text before now (Count number) =
+    (number ≡ lines_on line 1) × HasOtherHeader header text × (now ≡ before)
+
+-- Of a text that goes on at a place, behind so many lines: a read failed; or the line is the first that can't stand
+-- where it does; or it is the first line of all, a header line of another version or of other counts.
+abbrev pub IsTextFault : Header → Place → ℕ → Option (List ℕ) → Faults → Faults → CertFault → Type 0
+IsTextFault header place line text before now Read = now ≡ with_read_fault before
+IsTextFault header place line text before now (Grammar number) =
+    (offset : ℕ) × ((number ≡ lines_on line offset) × IsFault header place text offset × (now ≡ before))
+IsTextFault header place line text before now (Count number) =
+    (place ≡ First) × (number ≡ lines_on line 1) × HasOtherHeader header text × (now ≡ before)

@@ -1,0 +1,25 @@
+//! The text of a certificate: its records, what puts them out, and what reads them.
+#![tactic(auto)]
+
+mod answers;
+mod laws;
+mod lines;
+mod reader;
+mod record;
+mod source;
+mod version;
+mod words;
+mod writing;
+
+pub use answers::{CertFault, CertNext, End, Stand};
+pub use laws::{
+    certificates_by_lines, fault_behind_records, fault_is_first, first_fault_is_one,
+    reading_is_whole, record_has_a_header, refused_is_no_certificate,
+};
+pub use reader::CertReader;
+pub use record::Record;
+pub use version::version_of;
+pub use writing::{put_end, put_head, put_record};
+
+/// The error of a call that found no memory.
+pub use std::alloc::AllocError as OutOfMemory;

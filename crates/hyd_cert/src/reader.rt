@@ -1,0 +1,411 @@
+//! Reading a certificate text.
+
+ghost use Rattle.std.specs.Prelude.{◌≡◌, ◌≢◌, ℕ, ◌+◌, ◌<◌, ◌^◌, false, IsTrue, List, [], ◌∷◌, ◌++◌, length, take, drop, slice_set, Some, All, IfOk, IfErr, OnOk};
+ghost use Rattle.std.specs.Fmt.{signed_decimal};
+ghost use Rattle.hyd_io.specs.Told.{where_told, prepend_known};
+ghost use Rattle.hyd_io.specs.Counts.{NeverFall, with_read_fault};
+ghost use Rattle.hyd_spec_certificates.specs.Certificate.{IsInBox};
+ghost use Rattle.hyd_spec_reports.specs.CertificateText.{IsRow, record_text, end_line};
+ghost use Rattle.hyd_cert.specs.Cutting.{HasNo};
+ghost use Rattle.hyd_cert.specs.Lines.{Header, IsHeadLine, header_text};
+ghost use Rattle.hyd_cert.specs.NextLine.{next_text, NextFits, IsPeriodOrEnd};
+ghost use Rattle.hyd_cert.specs.Places.{First, Between, front_of, heads_in, head_text};
+ghost use Rattle.hyd_cert.specs.Faults.{lines_on, IsFront, IsLineFault, IsHeadsFault, IsHeaderFault, IsTextFault};
+ghost use Rattle.hyd_cert.specs.ReaderView.{fresh, to_come, IsGoing, IsDone, place_of, lead, lead_lines, answer_of, stand_of, OnRecord, OnEnd};
+ghost use Rattle.hyd_cert.specs.RecordView.{header_of, row_of};
+
+use crate::answers::{CertFault, CertNext, End, Stand};
+use crate::lines::{Next, head_line, is_header_line, period_or_end};
+use crate::record::Record;
+use crate::source::Source;
+use crate::writing::{front_of, is_header_of};
+use hyd_io::Desk;
+use std::marker::Model;
+
+/// The lines of a text, and how many were passed.
+#[derive(Drop)]
+pub(crate) struct Lines {
+    pub(crate) source: Source,
+    pub(crate) line: u64,
+}
+
+/// Writes the head at its place.
+fn store(into: &mut [i64], i: usize, head: i64)
+    requires { i < length into.old }
+    ensures { into.new ≡ slice_set into.old i head }
+{
+    into[i] = head;
+}
+
+impl Lines {
+    /// The length of the next line.
+    fn next_line<D: Desk>(&mut self, desk: &mut D) -> Result<usize, CertFault>
+        ensures same { OnOk result (prepend_known self.new.source (D.rest desk.new)
+            ≡ prepend_known self.old.source (D.rest desk.old)) }
+        ensures some { IfOk result (λ n. self.new.source
+            ≡ take n self.new.source ++ (10 ∷ drop (n + 1) self.new.source)) }
+        ensures within { IfOk result (λ n. n < length self.new.source) }
+        ensures short { IfOk result (λ n. n < 64) }
+        ensures first { IfOk result (λ n. HasNo 10 (take n self.new.source)) }
+        ensures fault { IfErr result (λ f. IsLineFault (λ line. HasNo 10 line × (length line < 64)) self.old.line
+            (prepend_known self.old.source (D.rest desk.old)) (D.counts desk.old) (D.counts desk.new) f) }
+        ensures line { self.new.line ≡ self.old.line }
+        ensures steady { OnOk result (D.counts desk.new ≡ D.counts desk.old) }
+        ensures never_fall { NeverFall (D.counts desk.old) (D.counts desk.new) }
+        ensures files_stay { D.files desk.new ≡ D.files desk.old }
+        ensures written_stays { D.written desk.new ≡ D.written desk.old }
+        ensures printed_stays { D.printed desk.new ≡ D.printed desk.old }
+        ensures target_stays { D.target desk.new ≡ D.target desk.old }
+        ensures ready_stays { D.ready desk.new ≡ D.ready desk.old }
+        ensures openings_stay { D.openings desk.new ≡ D.openings desk.old }
+    {
+        match self.source.line(desk) {
+            Err(_) => Err(CertFault::Read),
+            Ok(None) => Err(CertFault::Grammar {
+                line: self.line.saturating_add(1),
+            }),
+            Ok(Some(n)) => Ok(n),
+        }
+    }
+
+    /// Passes over a line of that length.
+    fn pass(&mut self, n: usize)
+        requires { n < length self.old.source }
+        ensures source { self.new.source ≡ drop (n + 1) self.old.source }
+        ensures line { self.new.line ≡ lines_on self.old.line 1 }
+    {
+        self.source.skip_line(n);
+        self.line = self.line.saturating_add(1);
+    }
+
+    /// The head of the next line, which begins with `front`.
+    fn head<D: Desk>(&mut self, desk: &mut D, front: &[u8]) -> Result<i64, CertFault>
+        requires { IsFront front.now }
+        ensures text { IfOk result (λ h. prepend_known self.old.source (D.rest desk.old)
+            ≡ prepend_known (front.now ++ (signed_decimal h ++ (10 ∷ [])))
+            (prepend_known self.new.source (D.rest desk.new))) }
+        ensures in_box { IfOk result IsInBox }
+        ensures line { OnOk result (self.new.line ≡ lines_on self.old.line 1) }
+        ensures fault { IfErr result (λ f. IsLineFault (IsHeadLine front.now) self.old.line
+            (prepend_known self.old.source (D.rest desk.old)) (D.counts desk.old) (D.counts desk.new) f) }
+        ensures steady { OnOk result (D.counts desk.new ≡ D.counts desk.old) }
+        ensures never_fall { NeverFall (D.counts desk.old) (D.counts desk.new) }
+        ensures files_stay { D.files desk.new ≡ D.files desk.old }
+        ensures written_stays { D.written desk.new ≡ D.written desk.old }
+        ensures printed_stays { D.printed desk.new ≡ D.printed desk.old }
+        ensures target_stays { D.target desk.new ≡ D.target desk.old }
+        ensures ready_stays { D.ready desk.new ≡ D.ready desk.old }
+        ensures openings_stay { D.openings desk.new ≡ D.openings desk.old }
+    {
+        let n = match self.next_line(desk) {
+            Ok(n) => n,
+            Err(fault) => return Err(fault),
+        };
+        let Some(head) = head_line(&self.source.held()[..n], front) else {
+            return Err(CertFault::Grammar {
+                line: self.line.saturating_add(1),
+            });
+        };
+        self.pass(n);
+        Ok(head)
+    }
+
+    /// The heads of a record for so many junctions, the vectors one after another.
+    pub(crate) fn heads<D: Desk>(
+        &mut self,
+        desk: &mut D,
+        junctions: usize,
+        into: &mut [i64],
+    ) -> Result<(), CertFault>
+        requires some { 0 < length into.old → 0 < junctions }
+        ensures text { OnOk result (prepend_known self.old.source (D.rest desk.old)
+            ≡ prepend_known (head_text junctions 0 into.new) (prepend_known self.new.source (D.rest desk.new))) }
+        ensures in_box { OnOk result (All IsInBox into.new) }
+        ensures line { OnOk result (self.new.line ≡ lines_on self.old.line (length into.new)) }
+        ensures fault { IfErr result (λ f. (header : Header) → header.junctions ≡ junctions
+            → length into.old ≡ heads_in junctions header.tanks → IsHeadsFault header self.old.line
+            (prepend_known self.old.source (D.rest desk.old)) (D.counts desk.old) (D.counts desk.new) f) }
+        ensures steady { OnOk result (D.counts desk.new ≡ D.counts desk.old) }
+        ensures never_fall { NeverFall (D.counts desk.old) (D.counts desk.new) }
+        ensures files_stay { D.files desk.new ≡ D.files desk.old }
+        ensures written_stays { D.written desk.new ≡ D.written desk.old }
+        ensures printed_stays { D.printed desk.new ≡ D.printed desk.old }
+        ensures target_stays { D.target desk.new ≡ D.target desk.old }
+        ensures ready_stays { D.ready desk.new ≡ D.ready desk.old }
+        ensures openings_stay { D.openings desk.new ≡ D.openings desk.old }
+    {
+        for i in 0..into.len() {
+            match self.head(desk, front_of(i / junctions)) {
+                Ok(head) => store(into, i, head),
+                Err(fault) => return Err(fault),
+            }
+        }
+        Ok(())
+    }
+
+    /// Passes over the header line, which is next and has to be the record's.
+    fn header<D: Desk>(&mut self, desk: &mut D, row: &Record) -> Result<(), CertFault>
+        ensures text { OnOk result (prepend_known self.old.source (D.rest desk.old)
+            ≡ prepend_known (header_text (header_of row.now)) (prepend_known self.new.source (D.rest desk.new))) }
+        ensures fits { OnOk result ((row.now.junctions < 2 ^ 32) × (row.now.tanks < 2 ^ 32)) }
+        ensures line { OnOk result (self.new.line ≡ lines_on self.old.line 1) }
+        ensures fault { IfErr result (IsHeaderFault (header_of row.now) self.old.line
+            (prepend_known self.old.source (D.rest desk.old)) (D.counts desk.old) (D.counts desk.new)) }
+        ensures steady { OnOk result (D.counts desk.new ≡ D.counts desk.old) }
+        ensures never_fall { NeverFall (D.counts desk.old) (D.counts desk.new) }
+        ensures files_stay { D.files desk.new ≡ D.files desk.old }
+        ensures written_stays { D.written desk.new ≡ D.written desk.old }
+        ensures printed_stays { D.printed desk.new ≡ D.printed desk.old }
+        ensures target_stays { D.target desk.new ≡ D.target desk.old }
+        ensures ready_stays { D.ready desk.new ≡ D.ready desk.old }
+        ensures openings_stay { D.openings desk.new ≡ D.openings desk.old }
+    {
+        let n = match self.next_line(desk) {
+            Ok(n) => n,
+            Err(fault) => return Err(fault),
+        };
+        let line = &self.source.held()[..n];
+        if !is_header_line(line) {
+            return Err(CertFault::Grammar {
+                line: self.line.saturating_add(1),
+            });
+        }
+        if !is_header_of(line, row) {
+            return Err(CertFault::Count {
+                line: self.line.saturating_add(1),
+            });
+        }
+        self.pass(n);
+        Ok(())
+    }
+
+    /// The PERIOD line or the END line, one of which is next.
+    fn period_or_end<D: Desk>(&mut self, desk: &mut D) -> Result<Next, CertFault>
+        ensures text { IfOk result (λ next. prepend_known self.old.source (D.rest desk.old)
+            ≡ prepend_known (next_text next) (prepend_known self.new.source (D.rest desk.new))) }
+        ensures fits { IfOk result NextFits }
+        ensures line { OnOk result (self.new.line ≡ lines_on self.old.line 1) }
+        ensures fault { IfErr result (λ f. IsLineFault IsPeriodOrEnd self.old.line
+            (prepend_known self.old.source (D.rest desk.old)) (D.counts desk.old) (D.counts desk.new) f) }
+        ensures steady { OnOk result (D.counts desk.new ≡ D.counts desk.old) }
+        ensures never_fall { NeverFall (D.counts desk.old) (D.counts desk.new) }
+        ensures files_stay { D.files desk.new ≡ D.files desk.old }
+        ensures written_stays { D.written desk.new ≡ D.written desk.old }
+        ensures printed_stays { D.printed desk.new ≡ D.printed desk.old }
+        ensures target_stays { D.target desk.new ≡ D.target desk.old }
+        ensures ready_stays { D.ready desk.new ≡ D.ready desk.old }
+        ensures openings_stay { D.openings desk.new ≡ D.openings desk.old }
+    {
+        let n = match self.next_line(desk) {
+            Ok(n) => n,
+            Err(fault) => return Err(fault),
+        };
+        let Some(next) = period_or_end(&self.source.held()[..n]) else {
+            return Err(CertFault::Grammar {
+                line: self.line.saturating_add(1),
+            });
+        };
+        self.pass(n);
+        Ok(next)
+    }
+
+    /// Whether the text is at its end.
+    fn is_over<D: Desk>(&mut self, desk: &mut D) -> Result<bool, CertFault>
+        ensures over { IfOk result (λ over. IsTrue over → prepend_known self.old.source (D.rest desk.old)
+            ≡ where_told (D.rest desk.old) []) }
+        ensures more { IfOk result (λ over. over ≡ false → prepend_known self.old.source (D.rest desk.old) ≢ Some []) }
+        ensures fault { IfErr result (λ f. (f ≡ CertFault.Read)
+            × (D.counts desk.new ≡ with_read_fault (D.counts desk.old))) }
+        ensures line { self.new.line ≡ self.old.line }
+        ensures steady { OnOk result (D.counts desk.new ≡ D.counts desk.old) }
+        ensures never_fall { NeverFall (D.counts desk.old) (D.counts desk.new) }
+        ensures files_stay { D.files desk.new ≡ D.files desk.old }
+        ensures written_stays { D.written desk.new ≡ D.written desk.old }
+        ensures printed_stays { D.printed desk.new ≡ D.printed desk.old }
+        ensures target_stays { D.target desk.new ≡ D.target desk.old }
+        ensures ready_stays { D.ready desk.new ≡ D.ready desk.old }
+        ensures openings_stay { D.openings desk.new ≡ D.openings desk.old }
+    {
+        match self.source.is_over(desk) {
+            Ok(over) => Ok(over),
+            Err(_) => Err(CertFault::Read),
+        }
+    }
+}
+
+/// A reader of a certificate text. Contracts see where it stands, how many lines it passed, and what it read ahead.
+#[derive(Drop)]
+pub struct CertReader {
+    lines: Lines,
+    stand: Stand,
+}
+
+impl Model for CertReader {
+    ghost use Rattle.hyd_cert.specs.ReaderView.{ReaderView};
+
+    ghost Value = { ReaderView };
+
+    ghost view = { λ r. record { stand = r.stand; line = r.lines.line; ahead = r.lines.source } };
+}
+
+impl CertReader {
+    /// A reader that has read nothing and has no fault.
+    pub fn new() -> CertReader
+        ensures { result ≡ fresh }
+    {
+        CertReader {
+            lines: Lines {
+                source: Source::new(),
+                line: 0,
+            },
+            stand: Stand::First,
+        }
+    }
+
+    /// The next record, or the end of the text. The text is that of the file which is being read, and its header line
+    /// has to be that of `into`: its version and its counts.
+    ///
+    /// - `Read`: a read failed, and the read faults rose.
+    /// - `Grammar`: at the first line that can't stand where it does, the end of the text counted in.
+    /// - `Count`: at a first line that is the header line of another version or of other counts.
+    ///
+    /// After a fault each call answers it again, and after an end that end. What `into` holds is then open, but for its
+    /// version and counts.
+    pub fn next<D: Desk>(&mut self, desk: &mut D, into: &mut Record) -> Result<CertNext, CertFault>
+        ensures record { IsGoing self.old.stand → IfOk result (λ next. OnRecord next
+            (to_come self.old (D.rest desk.old) ≡ prepend_known (lead self.old.stand (header_of into.new)
+            ++ record_text (row_of into.new)) (to_come self.new (D.rest desk.new)))) }
+        ensures row { IsGoing self.old.stand → IfOk result (λ next. OnRecord next
+            (IsRow into.new.junctions into.new.tanks (row_of into.new))) }
+        ensures line { IsGoing self.old.stand → IfOk result (λ next. OnRecord next
+            (self.new.line ≡ lines_on self.old.line (lead_lines self.old.stand + length into.new.vectors.list))) }
+        ensures end { IsGoing self.old.stand → IfOk result (λ next. OnEnd next (λ periods finished.
+            to_come self.old (D.rest desk.old) ≡ where_told (D.rest desk.old)
+            (lead self.old.stand (header_of into.new) ++ end_line periods finished))) }
+        ensures end_fits { IsGoing self.old.stand
+            → IfOk result (λ next. OnEnd next (λ periods finished. periods < 2 ^ 32)) }
+        ensures fault { IsGoing self.old.stand → IfErr result (IsTextFault (header_of into.old)
+            (place_of self.old.stand) self.old.line
+            (to_come self.old (D.rest desk.old)) (D.counts desk.old) (D.counts desk.new)) }
+        ensures stand { IsGoing self.old.stand → self.new.stand ≡ stand_of result }
+        ensures again { IsDone self.old.stand
+            → (result ≡ answer_of self.old.stand) × (self.new ≡ self.old) × (desk.new ≡ desk.old) }
+        ensures header { header_of into.new ≡ header_of into.old }
+        ensures never_fall { NeverFall (D.counts desk.old) (D.counts desk.new) }
+        ensures steady { OnOk result (D.counts desk.new ≡ D.counts desk.old) }
+        ensures files_stay { D.files desk.new ≡ D.files desk.old }
+        ensures written_stays { D.written desk.new ≡ D.written desk.old }
+        ensures printed_stays { D.printed desk.new ≡ D.printed desk.old }
+        ensures target_stays { D.target desk.new ≡ D.target desk.old }
+        ensures ready_stays { D.ready desk.new ≡ D.ready desk.old }
+        ensures openings_stay { D.openings desk.new ≡ D.openings desk.old }
+    {
+        let read = match self.stand {
+            Stand::Stuck(fault) => return Err(fault),
+            Stand::Over(end) => {
+                return Ok(CertNext::End {
+                    periods: end.periods,
+                    finished: end.finished,
+                });
+            }
+            Stand::First => read_first(&mut self.lines, desk, into),
+            Stand::Between => read_record(&mut self.lines, desk, into),
+        };
+        self.stand = stand_after(&read);
+        read
+    }
+}
+
+/// Where the reader stands after it answered so.
+fn stand_after(read: &Result<CertNext, CertFault>) -> Stand
+    ensures { result ≡ stand_of read.now }
+{
+    match *read {
+        Ok(CertNext::Record) => Stand::Between,
+        Ok(CertNext::End { periods, finished }) => Stand::Over(End { periods, finished }),
+        Err(fault) => Stand::Stuck(fault),
+    }
+}
+
+/// Reads the header line, and then a record or the end.
+fn read_first<D: Desk>(
+    lines: &mut Lines,
+    desk: &mut D,
+    into: &mut Record,
+) -> Result<CertNext, CertFault>
+    ensures record { IfOk result (λ next. OnRecord next (prepend_known lines.old.source (D.rest desk.old)
+        ≡ prepend_known (header_text (header_of into.new) ++ record_text (row_of into.new))
+        (prepend_known lines.new.source (D.rest desk.new)))) }
+    ensures row { IfOk result (λ next. OnRecord next (IsRow into.new.junctions into.new.tanks (row_of into.new))) }
+    ensures line { IfOk result (λ next. OnRecord next
+        (lines.new.line ≡ lines_on lines.old.line (2 + length into.new.vectors.list))) }
+    ensures end { IfOk result (λ next. OnEnd next (λ periods finished. prepend_known lines.old.source (D.rest desk.old)
+        ≡ where_told (D.rest desk.old) (header_text (header_of into.new) ++ end_line periods finished))) }
+    ensures end_fits { IfOk result (λ next. OnEnd next (λ periods finished. periods < 2 ^ 32)) }
+    ensures fault { IfErr result (IsTextFault (header_of into.old) First lines.old.line
+        (prepend_known lines.old.source (D.rest desk.old)) (D.counts desk.old) (D.counts desk.new)) }
+    ensures header { header_of into.new ≡ header_of into.old }
+    ensures never_fall { NeverFall (D.counts desk.old) (D.counts desk.new) }
+    ensures steady { OnOk result (D.counts desk.new ≡ D.counts desk.old) }
+    ensures files_stay { D.files desk.new ≡ D.files desk.old }
+    ensures written_stays { D.written desk.new ≡ D.written desk.old }
+    ensures printed_stays { D.printed desk.new ≡ D.printed desk.old }
+    ensures target_stays { D.target desk.new ≡ D.target desk.old }
+    ensures ready_stays { D.ready desk.new ≡ D.ready desk.old }
+    ensures openings_stay { D.openings desk.new ≡ D.openings desk.old }
+{
+    match lines.header(desk, into) {
+        Ok(()) => read_record(lines, desk, into),
+        Err(fault) => Err(fault),
+    }
+}
+
+/// Reads a record, or the end.
+fn read_record<D: Desk>(
+    lines: &mut Lines,
+    desk: &mut D,
+    into: &mut Record,
+) -> Result<CertNext, CertFault>
+    ensures record { IfOk result (λ next. OnRecord next (prepend_known lines.old.source (D.rest desk.old)
+        ≡ prepend_known (record_text (row_of into.new)) (prepend_known lines.new.source (D.rest desk.new)))) }
+    ensures row { IfOk result (λ next. OnRecord next (IsRow into.new.junctions into.new.tanks (row_of into.new))) }
+    ensures line { IfOk result (λ next. OnRecord next
+        (lines.new.line ≡ lines_on lines.old.line (1 + length into.new.vectors.list))) }
+    ensures end { IfOk result (λ next. OnEnd next (λ periods finished. prepend_known lines.old.source (D.rest desk.old)
+        ≡ where_told (D.rest desk.old) (end_line periods finished))) }
+    ensures end_fits { IfOk result (λ next. OnEnd next (λ periods finished. periods < 2 ^ 32)) }
+    ensures fault { IfErr result (IsTextFault (header_of into.old) Between lines.old.line
+        (prepend_known lines.old.source (D.rest desk.old)) (D.counts desk.old) (D.counts desk.new)) }
+    ensures header { header_of into.new ≡ header_of into.old }
+    ensures never_fall { NeverFall (D.counts desk.old) (D.counts desk.new) }
+    ensures steady { OnOk result (D.counts desk.new ≡ D.counts desk.old) }
+    ensures files_stay { D.files desk.new ≡ D.files desk.old }
+    ensures written_stays { D.written desk.new ≡ D.written desk.old }
+    ensures printed_stays { D.printed desk.new ≡ D.printed desk.old }
+    ensures target_stays { D.target desk.new ≡ D.target desk.old }
+    ensures ready_stays { D.ready desk.new ≡ D.ready desk.old }
+    ensures openings_stay { D.openings desk.new ≡ D.openings desk.old }
+{
+    match lines.period_or_end(desk) {
+        Err(fault) => Err(fault),
+        Ok(Next::Period(period)) => {
+            into.number = period.number;
+            into.time = period.time;
+            into.length = period.length;
+            match lines.heads(desk, into.junctions as usize, into.vectors.as_mut_slice()) {
+                Ok(()) => Ok(CertNext::Record),
+                Err(fault) => Err(fault),
+            }
+        }
+        Ok(Next::End(end)) => match lines.is_over(desk) {
+            Ok(true) => Ok(CertNext::End {
+                periods: end.periods,
+                finished: end.finished,
+            }),
+            Ok(false) => Err(CertFault::Grammar {
+                line: lines.line.saturating_add(1),
+            }),
+            Err(fault) => Err(fault),
+        },
+    }
+}
