@@ -465,7 +465,7 @@ fn second_rule_word(word: &[u8]) -> Option<RuleWord>
 
 /// What a line of a rule is, by its first word.
 #[tactic(auto, unfolding(hyd_spec_input::specs::Keywords::rule_word))]
-pub(crate) fn rule_word(word: &[u8]) -> Option<RuleWord>
+pub fn rule_word(word: &[u8]) -> Option<RuleWord>
     ensures { result ≡ form.rule_word word.now }
 {
     match first_rule_word(word) {
