@@ -43,7 +43,7 @@ fn named_curve<'a>(text: &Lines<'a>, line: &Line) -> Option<&'a [u8]>
     ensures { text_of result ≡ row.tank_curve (words_at text.now line.now) }
 {
     let word = text.word(line, 7)?;
-    if word == b"*" {
+    if word == b"*".as_slice() {
         return None;
     }
     Some(word)

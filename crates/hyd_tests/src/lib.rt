@@ -12,6 +12,8 @@ mod lines;
 #[cfg(test)]
 mod network;
 #[cfg(test)]
+mod network_rows;
+#[cfg(test)]
 mod numbers;
 #[cfg(test)]
 mod outside;
