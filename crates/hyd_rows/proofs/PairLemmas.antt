@@ -1,31 +1,28 @@
--- Pairs of a pump's row, and words behind others.
-use Rattle.std.proofs.Common.{◌≡◌, ℕ, ◌^◌, Bool, true, false, List, [], ◌∷◌, drop, codes, Option, Some, None, refl, inl, inr, pos}
+-- Pairs of a pump's row.
+use Rattle.std.proofs.Common.{◌≡◌, ℕ, List, [], ◌∷◌, codes, Option, Some, None, Result, refl, subst, inl, inr, pos}
 use Rattle.std.proofs.lemmas.Bool.{cases_Bool}
 use lib.Signed.{le_z}
 use Rattle.std.specs.Prelude.{◌&&◌}
 use Rattle.hyd_num.specs.Numeral.{nano_of}
+use Rattle.hyd_num.specs.declared.decimals.Decimal.{Decimal}
 use Rattle.hyd_lex.specs.Bytes.{is_keyword}
-use Rattle.hyd_spec_input.specs.Columns.{Column, number, or_else, unless, up_to, units}
-use Rattle.hyd_spec_input.specs.DataRows.{each}
-use Rattle.hyd_spec_input.specs.NetworkRows.{pump_key, pump_value, pump_pairs, and_key, pair_value}
+use Rattle.hyd_opts.specs.Judged.{Judged}
+use Rattle.hyd_spec_input.specs.Columns.{number, or_else, unless, up_to, units}
+use Rattle.hyd_spec_input.specs.NetworkRows.{pump_key, pump_value, pump_pairs, none_earlier, and_key, pair_value, speed_of}
 use Rattle.hyd_spec_input.specs.declared.EarlierKeys.{EarlierKeys}
 use Rattle.hyd_net.specs.declared.cause.Cause.{Cause}
 use Rattle.hyd_net.specs.declared.cause.Cause.TheVariants.{Range}
 
-pub each_more : (column : Column) (word : List ℕ) (all rest : List (List ℕ)) → all ≡ word ∷ rest → column word ≡ None
-    → each column rest ≡ each column all
-each_more column word all rest a n = rw (a, n) refl
+nothing_more : (fault : Option Cause) → fault ≡ or_else fault None
+nothing_more None = refl
+nothing_more (Some cause) = refl
 
 -- a pair without a fault
 pub pair_more : (earlier next : EarlierKeys) (key value : List ℕ) (all behind rest : List (List ℕ)) → all ≡ key ∷ behind
     → behind ≡ value ∷ rest → pump_key earlier key ≡ None → pump_value key value ≡ None → next ≡ and_key earlier key
     → pump_pairs next rest ≡ pump_pairs earlier all
-pair_more earlier next key value all behind rest a b k v n = rw (a, b, k, v, n) refl
-
--- a pair of another keyword
-pub pair_skipped : (keyword key value : List ℕ) (all behind rest : List (List ℕ)) → all ≡ key ∷ behind
-    → behind ≡ value ∷ rest → is_keyword keyword key ≡ false → pair_value keyword rest ≡ pair_value keyword all
-pair_skipped keyword key value all behind rest a b other = rw (a, b, other) refl
+pair_more earlier next key value all behind rest a b k v n =
+    rw (a, b, k, v, n) (nothing_more (pump_pairs (and_key earlier key) rest))
 
 none_of : (fault next : Option Cause) → or_else fault next ≡ None → (fault ≡ None) × (next ≡ None)
 none_of None next e = (refl, e)
@@ -45,15 +42,17 @@ speed_is_number earlier (key ∷ value ∷ words) word right found =
       | inl is ↦ (let same : Some value ≡ Some word = rw is at found in
           let speed : up_to 10 value ≡ None = rw is at behind.0 in
           let number_is = none_of (number value)
-              (unless (le_z (pos 0) (nano_of value) && le_z (nano_of value) (units 10)) Range) speed in
+          (unless (le_z (pos 0) (nano_of value) && le_z (nano_of value) (units 10)) Range) speed in
           let equal : value ≡ word = cc in
           rw (← equal) number_is.0)
       | inr other ↦ (let next : pair_value (codes "SPEED") words ≡ Some word = rw other at found in
           speed_is_number (and_key earlier key) words word rest.0 next)
     ]
 
-pub drop_three : (words : List (List ℕ)) → drop 1 (drop 1 (drop 1 words)) ≡ drop 3 words
-drop_three [] = refl
-drop_three (first ∷ []) = refl
-drop_three (first ∷ second ∷ []) = refl
-drop_three (first ∷ second ∷ third ∷ words) = refl
+pub speed_is_right : (words : List (List ℕ)) (word : List ℕ) (result : Result Decimal Cause)
+    → pump_pairs none_earlier words ≡ None → pair_value (codes "SPEED") words ≡ Some word
+    → Judged (number word) result (λ (speed : Decimal). speed.nano ≡ nano_of word)
+    → Judged None result (λ (speed : Decimal). speed.nano ≡ speed_of (pair_value (codes "SPEED") words))
+speed_is_right words word result right found judged =
+    let P : Option Cause → Type 0 = λ fault. Judged fault result (λ (speed : Decimal). speed.nano ≡ nano_of word) in
+    rw found (subst P (speed_is_number none_earlier words word right found) judged)

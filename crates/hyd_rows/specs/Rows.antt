@@ -1,5 +1,5 @@
 -- What the rows of nodes, links and what belongs to them say, as the results of their readers.
-use Rattle.std.specs.Prelude.{◌≡◌, ℕ, Bool, true, false, List, drop, Option, Some, None, slice_get, if◌then◌else◌, pos}
+use Rattle.std.specs.Prelude.{◌≡◌, ℕ, true, false, List, drop, Some, slice_get, if◌then◌else◌, pos}
 use Rattle.hyd_lex.specs.Bytes.{text_of, words_in}
 use Rattle.hyd_opts.specs.Meanings.{IsAsked}
 use Rattle.hyd_spec_input.specs.Columns.{word, amount, amount_or}
