@@ -7,6 +7,7 @@ use Rattle.std.proofs.lemmas.Option.{slice_get-map, slice_get-get_or, slice_get_
 use Rattle.std.proofs.Math.Nat.{eq-or-lt_of_le}
 use Rattle.hyd_lex.specs.Lines.{Row, row_of}
 use Rattle.hyd_lex.specs.declared.line.Line.{Line}
+use Rattle.hyd_spec_input.specs.Faults.{IsFirst, NoneIs}
 use Rattle.hyd_net.specs.declared.cause.Cause.{Cause}
 use Rattle.hyd_tables.specs.declared.found.Found.{Found}
 use Rattle.hyd_tables.specs.Found.{HasFound, IsFirstAt, IsVerdict, kept, rows_at}
@@ -60,3 +61,21 @@ pub verdict_of : (Wrong : Cause → Type 0) (fault cause : Option Cause) → cau
     → IsVerdict Wrong cause
 verdict_of Wrong fault None e to from = λ c w. let f : fault ≡ Some c = to c w in absurd (let x : ⊥ = cc in x)
 verdict_of Wrong fault (Some c) e to from = from c (sym e)
+
+-- ---- the first fault of all rows
+
+pub first_of : (rows : List Row) (Wrong : ℕ → Cause → Type 0) (found : Found) → IsFirstAt rows Wrong found
+    → IsFirst rows Wrong found.line found.cause
+first_of rows Wrong found is = record {
+  place = found.place;
+  wrong = is.wrong;
+  row = is.row;
+  row_is = is.row_is;
+  line_is = is.line_is;
+  earlier = is.earlier;
+}
+
+-- where all rows were judged
+pub none_of : (rows : List Row) (Wrong : ℕ → Cause → Type 0) (n : ℕ) → HasFound rows Wrong n None → length rows ≤ n
+    → ((k : ℕ) (cause : Cause) → Wrong k cause → k < length rows) → NoneIs Wrong
+none_of rows Wrong n none all within k cause w = none k (omega (arith, within k cause w, all)) cause w

@@ -1,15 +1,11 @@
--- The first of two faults of different families.
-use Rattle.std.proofs.Common.{◌≡◌, ◌+◌, ◌<◌, ◌≤◌, ◌⊎◌, ℕ, Bool, true, false, List, length, slice_get, Option, Some, None, refl, sym, arith, inl, inr, nat_lt, ltb-true, ltb-false, if◌then◌else◌}
+-- The first of two faults of different kinds.
+use Rattle.std.proofs.Common.{◌<◌, ◌≤◌, ℕ, List, length, Option, Some, None, arith, inl, inr, nat_lt, ltb-true, ltb-false}
 use Rattle.std.proofs.lemmas.Bool.{cases_Bool}
 use Rattle.std.proofs.lemmas.Option.{slice_get_within}
 use Rattle.hyd_lex.specs.Lines.{Row}
 use Rattle.hyd_net.specs.declared.cause.Cause.{Cause}
 use Rattle.hyd_tables.specs.declared.found.Found.{Found}
-use Rattle.hyd_tables.specs.Found.{HasFound, IsFirstAt, least}
-
--- wrong by either
-abbrev pub Either : (ℕ → Cause → Type 0) → (ℕ → Cause → Type 0) → ℕ → Cause → Type 0
-Either One Other k cause = One k cause ⊎ Other k cause
+use Rattle.hyd_tables.specs.Found.{HasFound, Either, least}
 
 pub found_least : (rows : List Row) (One Other : ℕ → Cause → Type 0) (n : ℕ) (one other : Option Found) → length rows ≤ n
     → HasFound rows One n one → HasFound rows Other n other → HasFound rows (Either One Other) n (least one other)

@@ -1,7 +1,7 @@
 -- Look-ups in tables of IDs.
-use Rattle.std.proofs.Common.{◌≡◌, ◌+◌, ◌<◌, ◌≤◌, ◌++◌, ℕ, Bool, true, false, cond, not, ◌||◌, List, [], ◌∷◌, map, length, slice_get, position, Option, Some, None, Contains, refl, sym, ap, ◌∙◌, true≢false, arith, if◌then◌else◌, nat_lt, ltb-true, ltb-false, get_or, inl, inr, one-add, suc, zero, IfSome}
+use Rattle.std.proofs.Common.{◌≡◌, ◌+◌, ◌<◌, ◌≤◌, ◌++◌, ℕ, Bool, true, false, not, List, [], ◌∷◌, map, length, slice_get, position, Option, Some, None, Contains, refl, sym, ap, ◌∙◌, true≢false, arith, nat_lt, ltb-true, ltb-false, get_or, inl, inr, one-add, suc}
 use Rattle.std.specs.Prelude.{◌↔◌}
-use Rattle.std.specs.List.{All, list_any, position_or_len}
+use Rattle.std.specs.List.{list_any, position_or_len}
 use Rattle.std.specs.Str.{bytes_eq}
 use Rattle.std.specs.Option.{option_map}
 use Rattle.std.specs.Cmp.Lexicographic.{bytes_decides, nat_list_eq_equiv}

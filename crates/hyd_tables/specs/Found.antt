@@ -1,5 +1,5 @@
 -- The first wrong row among the first rows of a file.
-use Rattle.std.specs.Prelude.{◌≡◌, ℕ, ◌<◌, Bool, true, List, Option, Some, None, slice_get, map, nat_lt, if◌then◌else◌}
+use Rattle.std.specs.Prelude.{◌≡◌, ℕ, ◌<◌, ◌⊎◌, Bool, true, List, Option, Some, None, slice_get, map, nat_lt, if◌then◌else◌}
 use Rattle.hyd_lex.specs.Lines.{Row, row_of}
 use Rattle.hyd_lex.specs.declared.line.Line.{Line}
 use Rattle.hyd_net.specs.declared.cause.Cause.{Cause}
@@ -33,6 +33,10 @@ pub record IsWrongAmong (family : Row → Bool) (Wrong : ℕ → Cause → Type 
   pub row_is : slice_get rows k ≡ Some row
   pub member : family row ≡ true
   pub wrong : Wrong k cause
+
+-- a place is wrong by either of two
+abbrev pub Either : (ℕ → Cause → Type 0) → (ℕ → Cause → Type 0) → ℕ → Cause → Type 0
+Either One Other k cause = One k cause ⊎ Other k cause
 
 -- the fault that was found first, or else the one at a place
 abbrev pub kept : Option Found → ℕ → ℕ → Option Cause → Option Found

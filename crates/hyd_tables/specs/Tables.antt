@@ -1,7 +1,7 @@
 -- Tables of IDs.
 use Rattle.std.specs.Prelude.{◌≡◌, ℕ, List, map, length}
 use Rattle.std.specs.List.{All}
-use Rattle.hyd_lex.specs.Lines.{Row, row_of, LiesIn}
+use Rattle.hyd_lex.specs.Lines.{Row, LiesIn}
 use Rattle.hyd_lex.specs.declared.line.Line.{Line}
 use Rattle.hyd_spec_input.specs.Tables.{own_id, row_with}
 use Rattle.hyd_tables.specs.Found.{rows_at}

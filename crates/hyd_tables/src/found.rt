@@ -15,12 +15,7 @@ pub struct Found {
 }
 
 /// The wrong row that was found first, or else what is wrong at the next place.
-pub fn kept(
-    found: Option<Found>,
-    place: usize,
-    line: u32,
-    cause: Option<Cause>,
-) -> Option<Found>
+pub fn kept(found: Option<Found>, place: usize, line: u32, cause: Option<Cause>) -> Option<Found>
     ensures { result ≡ faults.kept found place line cause }
 {
     match found {

@@ -3,9 +3,9 @@
 #![tactic(auto)]
 
 mod found;
-mod gather;
 mod table;
+mod text;
 
 pub use found::{Found, kept, least};
-pub use gather::{Gathered, gather};
 pub use table::{Table, own_id};
+pub use text::{Gathered, gather};

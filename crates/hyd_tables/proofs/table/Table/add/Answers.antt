@@ -1,6 +1,4 @@
-use Rattle.std.proofs.Common.{◌≡◌, true, false, not, ◌++◌, ◌∷◌, [], refl, sym, ap, ◌∙◌}
-use Rattle.hyd_lex.specs.Lines.{row_of}
-use Rattle.hyd_spec_input.specs.Tables.{own_id, has_id}
+use Rattle.std.proofs.Common.{refl, sym, ◌∙◌}
 use Rattle.hyd_tables.specs.Found.{rows_at}
 use Rattle.hyd_tables.proofs.TableLemmas.{new_is, firsts_push, firsts_keep, not_false}
 use Rattle.hyd_tables.proofs.table.Table.add.Goals as goal

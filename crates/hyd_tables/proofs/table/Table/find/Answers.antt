@@ -1,8 +1,4 @@
-use Rattle.std.proofs.Common.{◌≡◌, ◌<◌, ◌≤◌, length, map, Some, None, slice_get, position, refl, sym, ap, ◌∙◌, arith, ltb-true, ltb-false, true, false, nat_lt}
-use Rattle.std.specs.List.{position_or_len}
-use Rattle.std.specs.Str.{bytes_eq}
-use Rattle.hyd_spec_input.specs.Tables.{own_id, row_with}
-use Rattle.hyd_tables.specs.Found.{rows_at}
+use Rattle.std.proofs.Common.{sym}
 use Rattle.hyd_tables.proofs.TableLemmas.{found_at, not_found}
 use Rattle.hyd_tables.proofs.table.Table.find.Goals as goal
 

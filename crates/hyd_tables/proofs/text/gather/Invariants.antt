@@ -2,7 +2,7 @@ use Rattle.std.proofs.Common.{◌≡◌, ◌++◌, ◌+◌, ◌≤◌, length}
 use Rattle.std.specs.List.{All}
 use Rattle.hyd_lex.specs.Lines.{LiesIn, items_of, rows_in, fault_in}
 use Rattle.hyd_tables.specs.Found.{rows_at}
-use Rattle.hyd_tables.proofs.gather.gather.Given as goal
+use Rattle.hyd_tables.proofs.text.gather.Given as goal
 
 abbrev pub invariant-loop-item : goal.invariant-loop-item
 invariant-loop-item l = record {
