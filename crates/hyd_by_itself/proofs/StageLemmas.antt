@@ -1,12 +1,12 @@
 -- Rows at the stage of the rules before them.
-use Rattle.std.proofs.Common.{◌≡◌, ◌+◌, ◌<◌, ℕ, Bool, true, false, List, [], ◌∷◌, ◌++◌, map, drop, take, length, slice_get, get_or, Option, Some, None, refl, sym, ap, ◌∙◌, inl, inr}
+use Rattle.std.proofs.Common.{◌≡◌, ◌+◌, ◌-◌, ◌<◌, ℕ, List, [], ◌∷◌, ◌++◌, map, drop, take, length, slice_get, get_or, Option, Some, None, refl, sym, ap, ◌∙◌, arith, inl, inr}
 use Rattle.std.proofs.lemmas.Bool.{cases_Bool}
-use Rattle.std.proofs.lemmas.List.{map-append, drop-map}
+use Rattle.std.proofs.lemmas.List.{map-append, drop-map, take_all, length-drop}
 use Rattle.std.proofs.lemmas.List.Sums.{fold-append}
 use Rattle.hyd_lex.specs.Lines.{Row, row_of}
 use Rattle.hyd_lex.specs.declared.line.Line.{Line}
 use Rattle.hyd_lex.specs.declared.section.Section.{Section}
-use Rattle.hyd_lex.specs.declared.section.Section.TheVariants.{Junctions, Reservoirs, Tanks, Pipes, Pumps, Valves, Demands, Emitters, Curves, Patterns, Status, Controls, Rules, Options, Times}
+use Rattle.hyd_lex.specs.declared.section.Section.TheVariants.{Rules}
 use Rattle.hyd_spec_input.specs.ByItself.{section_fault, row_fault, IsWrongByItself}
 use Rattle.hyd_spec_input.specs.RuleRows.{stage_by, begins_with, stage_after}
 use Rattle.hyd_spec_input.specs.Tables.{is_of, words_of, words_of_row, rows_of}
@@ -28,13 +28,13 @@ pub next_stage : (rows : List Row) (k : ℕ) (row : Row) (stage next : Stage) �
     → next ≡ stage_after (words_of Rules (take (k + 1) rows))
 next_stage rows k row stage next is before e = elim (cases_Bool (is_of Rules row)) [
   | inl t ↦ (let more : words_of Rules (take (k + 1) rows) ≡ words_of Rules (take k rows) ++ row.words ∷ [] =
-          ap (map words_of_row) (filter_more (is_of Rules) rows k row is t)
-          ∙ map-append words_of_row (rows_of Rules (take k rows)) (row ∷ []) in
+      ap (map words_of_row) (filter_more (is_of Rules) rows k row is t)
+      ∙ map-append words_of_row (rows_of Rules (take k rows)) (row ∷ []) in
       let here : next ≡ stage_by stage (begins_with row.words) = rw t at e in
       rw more (here ∙ ap (λ s. stage_by s (begins_with row.words)) before
       ∙ sym (stage_more (words_of Rules (take k rows)) row.words)))
   | inr f ↦ (let same : words_of Rules (take (k + 1) rows) ≡ words_of Rules (take k rows) =
-          ap (map words_of_row) (filter_same (is_of Rules) rows k row is f) in
+      ap (map words_of_row) (filter_same (is_of Rules) rows k row is f) in
       let here : next ≡ stage = rw f at e in
       rw same (here ∙ before))
 ]
@@ -48,14 +48,18 @@ fault_is Rules stage earlier words later e = rw e refl
 fault_is _ stage earlier words later e = refl
 
 -- what is found at a stage is the fault of the row
-pub row_fault_is : (text : List ℕ) (lines : List Line) (k : ℕ) (line : Line) (stage : Stage) (fault : Option Cause)
+pub row_fault_is : (text : List ℕ) (lines : List Line) (k : ℕ) (d : Line) (stage : Stage) (fault : Option Cause)
     → stage ≡ stage_after (words_of Rules (take k (rows_at text lines)))
-    → fault ≡ fault_at_stage line.section stage (row_of text line).words (rule_lines text (drop (k + 1) lines))
-    → row_fault (rows_at text lines) k (row_of text line) ≡ fault
-row_fault_is text lines k line stage fault s f =
+    → fault ≡ fault_at_stage (get_or lines k d).section stage (row_of text (get_or lines k d)).words
+    (rule_lines text (take (length lines - (k + 1)) (drop (k + 1) lines)))
+    → row_fault (rows_at text lines) k (row_of text (get_or lines k d)) ≡ fault
+row_fault_is text lines k d stage fault s f =
+    let line = get_or lines k d in
     let rows = rows_at text lines in
-    let behind : rule_lines text (drop (k + 1) lines) ≡ words_of Rules (drop (k + 1) rows) =
-        ap (words_of Rules) (sym (drop-map (row_of text) (k + 1) lines)) in
+    let all : take (length lines - (k + 1)) (drop (k + 1) lines) ≡ drop (k + 1) lines =
+    take_all (length lines - (k + 1)) (drop (k + 1) lines) (omega (arith, length-drop (k + 1) lines)) in
+    let behind : rule_lines text (take (length lines - (k + 1)) (drop (k + 1) lines)) ≡ words_of Rules (drop (k + 1) rows) =
+    ap (rule_lines text) all ∙ ap (words_of Rules) (sym (drop-map (row_of text) (k + 1) lines)) in
     sym (f ∙ ap (fault_at_stage line.section stage (row_of text line).words) behind
     ∙ fault_is line.section stage (words_of Rules (take k rows)) (row_of text line).words (words_of Rules (drop (k + 1) rows)) s)
 
