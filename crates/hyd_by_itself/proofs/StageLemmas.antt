@@ -58,10 +58,12 @@ row_fault_is text lines k d stage fault s f =
     let rows = rows_at text lines in
     let all : take (length lines - (k + 1)) (drop (k + 1) lines) ≡ drop (k + 1) lines =
     take_all (length lines - (k + 1)) (drop (k + 1) lines) (omega (arith, length-drop (k + 1) lines)) in
-    let behind : rule_lines text (take (length lines - (k + 1)) (drop (k + 1) lines)) ≡ words_of Rules (drop (k + 1) rows) =
+    let behind : rule_lines text (take (length lines - (k + 1)) (drop (k + 1) lines))
+    ≡ words_of Rules (drop (k + 1) rows) =
     ap (rule_lines text) all ∙ ap (words_of Rules) (sym (drop-map (row_of text) (k + 1) lines)) in
     sym (f ∙ ap (fault_at_stage line.section stage (row_of text line).words) behind
-    ∙ fault_is line.section stage (words_of Rules (take k rows)) (row_of text line).words (words_of Rules (drop (k + 1) rows)) s)
+    ∙ fault_is line.section stage (words_of Rules (take k rows)) (row_of text line).words
+    (words_of Rules (drop (k + 1) rows)) s)
 
 right : (rows : List Row) (k : ℕ) (row : Row) → slice_get rows k ≡ Some row → row_fault rows k row ≡ None
     → (cause : Cause) → IsWrongByItself rows k cause → ⊥

@@ -1,5 +1,5 @@
-//! The rows of nodes, links and what belongs to them in an input file (EPANET 2.2 User Manual, appendix C), each read by
-//! itself: what it says, or the first thing that is wrong with it, word by word from the left.
+//! The rows of nodes, links and what belongs to them (EPANET 2.2 User Manual, appendix C), each read by itself: what it
+//! says, or the first thing that is wrong with it, word by word from the left.
 #![tactic(auto)]
 
 mod columns;

@@ -13,26 +13,33 @@ use Rattle.hyd_tables.specs.declared.found.Found.{Found}
 use Rattle.hyd_tables.specs.Found.{HasFound, IsFirstAt, IsVerdict, kept, rows_at}
 
 -- the row of a line
-pub row_at : (text : List ℕ) (lines : List Line) (k : ℕ) (d : Line) → k < length lines → slice_get (rows_at text lines) k ≡ Some (row_of text (get_or lines k d))
-row_at text lines k d l = slice_get-map (row_of text) lines k ∙ ap (option_map (row_of text)) (slice_get-get_or lines k d l)
+pub row_at : (text : List ℕ) (lines : List Line) (k : ℕ) (d : Line) → k < length lines
+    → slice_get (rows_at text lines) k ≡ Some (row_of text (get_or lines k d))
+row_at text lines k d l = slice_get-map (row_of text) lines k
+    ∙ ap (option_map (row_of text)) (slice_get-get_or lines k d l)
 
 -- ---- the first rows, one more
 
-next_row : (rows : List Row) (k : ℕ) (row : Row) → slice_get rows k ≡ Some row → take (k + 1) rows ≡ take k rows ++ row ∷ []
-next_row rows k row is = take_more rows k row (slice_get_within rows k row is) ∙ ap (λ (r : Row). take k rows ++ r ∷ []) (get_or_from_slice_get rows k row row is)
+next_row : (rows : List Row) (k : ℕ) (row : Row) → slice_get rows k ≡ Some row
+    → take (k + 1) rows ≡ take k rows ++ row ∷ []
+next_row rows k row is = take_more rows k row (slice_get_within rows k row is)
+    ∙ ap (λ (r : Row). take k rows ++ r ∷ []) (get_or_from_slice_get rows k row row is)
 
 pub filter_more : (p : Row → Bool) (rows : List Row) (k : ℕ) (row : Row) → slice_get rows k ≡ Some row → p row ≡ true
     → filter p (take (k + 1) rows) ≡ filter p (take k rows) ++ row ∷ []
-filter_more p rows k row is member = ap (filter p) (next_row rows k row is) ∙ filter-append p (take k rows) (row ∷ []) ∙ rw member refl
+filter_more p rows k row is member = ap (filter p) (next_row rows k row is)
+    ∙ filter-append p (take k rows) (row ∷ []) ∙ rw member refl
 
 pub filter_same : (p : Row → Bool) (rows : List Row) (k : ℕ) (row : Row) → slice_get rows k ≡ Some row → p row ≡ false
     → filter p (take (k + 1) rows) ≡ filter p (take k rows)
-filter_same p rows k row is other = ap (filter p) (next_row rows k row is) ∙ filter-append p (take k rows) (row ∷ []) ∙ rw other (append-nil (filter p (take k rows)))
+filter_same p rows k row is other = ap (filter p) (next_row rows k row is)
+    ∙ filter-append p (take k rows) (row ∷ []) ∙ rw other (append-nil (filter p (take k rows)))
 
 -- ---- the first fault, one row more
 
 -- one more row is right
-pub none_more : (rows : List Row) (Wrong : ℕ → Cause → Type 0) (n : ℕ) → HasFound rows Wrong n None → ((cause : Cause) → Wrong n cause → ⊥) → HasFound rows Wrong (n + 1) None
+pub none_more : (rows : List Row) (Wrong : ℕ → Cause → Type 0) (n : ℕ) → HasFound rows Wrong n None
+    → ((cause : Cause) → Wrong n cause → ⊥) → HasFound rows Wrong (n + 1) None
 none_more rows Wrong n before here k l cause w =
     let m : k ≤ n = omega (arith, l) in
     elim (eq-or-lt_of_le m) [
@@ -41,23 +48,29 @@ none_more rows Wrong n before here k l cause w =
     ]
 
 -- the next row is the first wrong one
-pub first_here : (rows : List Row) (Wrong : ℕ → Cause → Type 0) (n : ℕ) (row : Row) (cause : Cause) → HasFound rows Wrong n None → slice_get rows n ≡ Some row → Wrong n cause
+pub first_here : (rows : List Row) (Wrong : ℕ → Cause → Type 0) (n : ℕ) (row : Row) (cause : Cause)
+    → HasFound rows Wrong n None → slice_get rows n ≡ Some row → Wrong n cause
     → IsFirstAt rows Wrong (record { place = n; line = row.number; cause = cause })
-first_here rows Wrong n row cause before is w = record { wrong = w; row = row; row_is = is; line_is = refl; earlier = before }
+first_here rows Wrong n row cause before is w =
+    record { wrong = w; row = row; row_is = is; line_is = refl; earlier = before }
 
-pub found_skip : (rows : List Row) (Wrong : ℕ → Cause → Type 0) (n : ℕ) (found : Option Found) → HasFound rows Wrong n found → ((cause : Cause) → Wrong n cause → ⊥)
+pub found_skip : (rows : List Row) (Wrong : ℕ → Cause → Type 0) (n : ℕ) (found : Option Found)
+    → HasFound rows Wrong n found → ((cause : Cause) → Wrong n cause → ⊥)
     → HasFound rows Wrong (n + 1) found
 found_skip rows Wrong n None before here = none_more rows Wrong n before here
 found_skip rows Wrong n (Some found) before here = before
 
-pub found_kept : (rows : List Row) (Wrong : ℕ → Cause → Type 0) (n : ℕ) (row : Row) (found : Option Found) (cause : Option Cause) → HasFound rows Wrong n found
-    → slice_get rows n ≡ Some row → IsVerdict (Wrong n) cause → HasFound rows Wrong (n + 1) (kept found n row.number cause)
+pub found_kept : (rows : List Row) (Wrong : ℕ → Cause → Type 0) (n : ℕ) (row : Row) (found : Option Found)
+    (cause : Option Cause) → HasFound rows Wrong n found
+    → slice_get rows n ≡ Some row → IsVerdict (Wrong n) cause
+    → HasFound rows Wrong (n + 1) (kept found n row.number cause)
 found_kept rows Wrong n row (Some found) cause before is verdict = before
 found_kept rows Wrong n row None None before is verdict = none_more rows Wrong n before verdict
 found_kept rows Wrong n row None (Some cause) before is verdict = first_here rows Wrong n row cause before is verdict
 
 -- a verdict by what is computed
-pub verdict_of : (Wrong : Cause → Type 0) (fault cause : Option Cause) → cause ≡ fault → ((c : Cause) → Wrong c → fault ≡ Some c) → ((c : Cause) → fault ≡ Some c → Wrong c)
+pub verdict_of : (Wrong : Cause → Type 0) (fault cause : Option Cause) → cause ≡ fault
+    → ((c : Cause) → Wrong c → fault ≡ Some c) → ((c : Cause) → fault ≡ Some c → Wrong c)
     → IsVerdict Wrong cause
 verdict_of Wrong fault None e to from = λ c w. let f : fault ≡ Some c = to c w in absurd (let x : ⊥ = cc in x)
 verdict_of Wrong fault (Some c) e to from = from c (sym e)

@@ -25,7 +25,8 @@ is_there None = false
 is_there (Some row) = true
 
 -- among more rows
-pub row_with-append : (name : List ℕ) (xs ys : List Row) → row_with name (xs ++ ys) ≡ either (row_with name xs) (row_with name ys)
+pub row_with-append : (name : List ℕ) (xs ys : List Row) → row_with name (xs ++ ys) ≡ either (row_with name xs)
+    (row_with name ys)
 row_with-append name [] ys = refl
 row_with-append name (x ∷ xs) ys = elim (cases_Bool (bytes_eq name (own_id x))) [
   | inl t ↦ rw t refl
@@ -48,25 +49,31 @@ among_ids name (x ∷ xs) = elim (cases_Bool (bytes_eq name (own_id x))) [
 ]
 
 -- an ID is there, or is new
-pub new_is : (name : List ℕ) (xs rows : List Row) (ids : List (List ℕ)) (new : Bool) → ids ≡ map own_id xs → ((q : List ℕ) → row_with q xs ≡ row_with q rows)
+pub new_is : (name : List ℕ) (xs rows : List Row) (ids : List (List ℕ)) (new : Bool) → ids ≡ map own_id xs
+    → ((q : List ℕ) → row_with q xs ≡ row_with q rows)
     → ((new ≡ false) ↔ Contains ids name) → new ≡ not (has_id name rows)
 new_is name xs rows ids new e same present =
-    let there : list_any (bytes_eq name) ids ≡ has_id name rows = rw e (among_ids name xs ∙ ap is_there (same name) ∙ sym (has_id-is name rows)) in
+    let there : list_any (bytes_eq name) ids ≡ has_id name rows = rw e (among_ids name xs
+    ∙ ap is_there (same name) ∙ sym (has_id-is name rows)) in
     elim (cases_Bool (has_id name rows)) [
       | inl t ↦ rw t (present.1 (Contains-from_any (λ x y h. (bytes_decides x y).0 h) name ids (there ∙ t)))
       | inr f ↦ rw f (elim (cases_Bool new) [
         | inl n ↦ n
-        | inr n ↦ absurd (true≢false (sym (list_any-from_Contains nat_list_eq_equiv name ids (present.0 n)) ∙ there ∙ f))
+        | inr n ↦ absurd (true≢false (sym (list_any-from_Contains nat_list_eq_equiv name ids (present.0 n))
+            ∙ there ∙ f))
       ])
     ]
 
 -- a row joins both lists
-pub same_after_new : (xs ys : List Row) (row : Row) → ((q : List ℕ) → row_with q xs ≡ row_with q ys) → (q : List ℕ) → row_with q (xs ++ row ∷ []) ≡ row_with q (ys ++ row ∷ [])
+pub same_after_new : (xs ys : List Row) (row : Row) → ((q : List ℕ) → row_with q xs ≡ row_with q ys)
+    → (q : List ℕ) → row_with q (xs ++ row ∷ []) ≡ row_with q (ys ++ row ∷ [])
 same_after_new xs ys row same q =
-    row_with-append q xs (row ∷ []) ∙ ap (λ o. either o (row_with q (row ∷ []))) (same q) ∙ sym (row_with-append q ys (row ∷ []))
+    row_with-append q xs (row ∷ []) ∙ ap (λ o. either o (row_with q (row ∷ []))) (same q)
+    ∙ sym (row_with-append q ys (row ∷ []))
 
 -- what is found stays found
-kept : (q : List ℕ) (ys : List Row) (row : Row) → has_id (own_id row) ys ≡ true → (o : Option Row) → o ≡ row_with q ys → either o (row_with q (row ∷ [])) ≡ o
+kept : (q : List ℕ) (ys : List Row) (row : Row) → has_id (own_id row) ys ≡ true → (o : Option Row)
+    → o ≡ row_with q ys → either o (row_with q (row ∷ [])) ≡ o
 kept q ys row there (Some found) e = refl
 kept q ys row there None e = elim (cases_Bool (bytes_eq q (own_id row))) [
   | inl t ↦ (let same : q ≡ own_id row = (bytes_decides q (own_id row)).0 t in
@@ -76,9 +83,11 @@ kept q ys row there None e = elim (cases_Bool (bytes_eq q (own_id row))) [
 ]
 
 -- a row whose ID is there joins one
-pub same_after_old : (xs ys : List Row) (row : Row) → has_id (own_id row) ys ≡ true → ((q : List ℕ) → row_with q xs ≡ row_with q ys)
+pub same_after_old : (xs ys : List Row) (row : Row) → has_id (own_id row) ys ≡ true → ((q : List ℕ)
+    → row_with q xs ≡ row_with q ys)
     → (q : List ℕ) → row_with q xs ≡ row_with q (ys ++ row ∷ [])
-same_after_old xs ys row there same q = same q ∙ sym (row_with-append q ys (row ∷ []) ∙ kept q ys row there (row_with q ys) refl)
+same_after_old xs ys row there same q = same q ∙ sym (row_with-append q ys (row ∷ [])
+    ∙ kept q ys row there (row_with q ys) refl)
 
 -- a place among IDs is that of the row
 pub row_at_place : (name : List ℕ) (xs : List Row) → position_or_len (bytes_eq name) (map own_id xs) < length xs
@@ -91,7 +100,8 @@ row_at_place name (x ∷ xs) l = elim (cases_Bool (bytes_eq name (own_id x))) [
       rw (f, one-add) (row_at_place name xs (omega arith)))
 ]
 
-pub no_row : (name : List ℕ) (xs : List Row) → length xs ≤ position_or_len (bytes_eq name) (map own_id xs) → row_with name xs ≡ None
+pub no_row : (name : List ℕ) (xs : List Row) → length xs ≤ position_or_len (bytes_eq name) (map own_id xs)
+    → row_with name xs ≡ None
 no_row name [] l = refl
 no_row name (x ∷ xs) l = elim (cases_Bool (bytes_eq name (own_id x))) [
   | inl t ↦ (let m : suc (length xs) ≤ 0 = rw t at l in absurd (omega arith))
@@ -101,11 +111,13 @@ no_row name (x ∷ xs) l = elim (cases_Bool (bytes_eq name (own_id x))) [
 ]
 
 -- a table with a new ID
-pub firsts_push : (text : List ℕ) (rows : List Row) (names ids : List (List ℕ)) (firsts lines : List Line) (id : List ℕ) (line : Line)
+pub firsts_push : (text : List ℕ) (rows : List Row) (names ids : List (List ℕ)) (firsts lines : List Line)
+    (id : List ℕ) (line : Line)
     → AreFirsts text rows names firsts → id ≡ own_id (row_of text line) → LiesIn text line
     → ids ≡ names ++ id ∷ [] → lines ≡ firsts ++ line ∷ [] → AreFirsts text (rows ++ row_of text line ∷ []) ids lines
 firsts_push text rows names ids firsts lines id line is e lies n l =
-    let m : rows_at text lines ≡ rows_at text firsts ++ row_of text line ∷ [] = rw l (map-append (row_of text) firsts (line ∷ [])) in
+    let m : rows_at text lines ≡ rows_at text firsts ++ row_of text line ∷ [] =
+    rw l (map-append (row_of text) firsts (line ∷ [])) in
     record {
       aligned = rw m (n ∙ rw (is.aligned, e) (sym (map-append own_id (rows_at text firsts) (row_of text line ∷ []))));
       same = rw m (same_after_new (rows_at text firsts) rows (row_of text line) is.same);
@@ -129,7 +141,8 @@ not_false {b} e = elim (cases_Bool b) [
 ]
 
 -- a place that is found is the first one
-place_of : (p : List ℕ → Bool) (ids : List (List ℕ)) (k : ℕ) → position p ids ≡ Some k → (position_or_len p ids ≡ k) × (k < length ids)
+place_of : (p : List ℕ → Bool) (ids : List (List ℕ)) (k : ℕ) → position p ids ≡ Some k
+    → (position_or_len p ids ≡ k) × (k < length ids)
 place_of p ids k e = elim (cases_Bool (nat_lt (position_or_len p ids) (length ids))) [
   | inl t ↦ (let f : Some (position_or_len p ids) ≡ Some k = rw t at e in
       let g : position_or_len p ids ≡ k = cc in
@@ -145,7 +158,8 @@ no_place p ids e = elim (cases_Bool (nat_lt (position_or_len p ids) (length ids)
 ]
 
 -- a name is there
-pub found_at : (text : List ℕ) (rows : List Row) (names : List (List ℕ)) (firsts : List Line) (name : List ℕ) (k : ℕ) (line : Line)
+pub found_at : (text : List ℕ) (rows : List Row) (names : List (List ℕ)) (firsts : List Line) (name : List ℕ)
+    (k : ℕ) (line : Line)
     → AreFirsts text rows names firsts → position (bytes_eq name) names ≡ Some k → line ≡ get_or firsts k line
     → row_with name rows ≡ Some (row_of text line)
 found_at text rows names firsts name k line is p l =
@@ -154,8 +168,10 @@ found_at text rows names firsts name k line is p l =
     let s = place_of (bytes_eq name) (map own_id rs) k q in
     let n : length (map own_id rs) ≡ length rs = length-map rs own_id in
     let m : length rs ≡ length firsts = length-map firsts (row_of text) in
-    let at : slice_get firsts k ≡ Some line = slice_get_read firsts (length firsts) k line refl (omega (arith, s.1)) l in
-    sym (is.same name) ∙ row_at_place name rs (omega (arith, s.0, s.1)) ∙ ap (slice_get rs) s.0 ∙ slice_get-map (row_of text) firsts k ∙ ap (option_map (row_of text)) at
+    let at : slice_get firsts k ≡ Some line = slice_get_read firsts (length firsts) k line refl (omega (arith, s.1))
+    l in
+    sym (is.same name) ∙ row_at_place name rs (omega (arith, s.0, s.1)) ∙ ap (slice_get rs) s.0
+    ∙ slice_get-map (row_of text) firsts k ∙ ap (option_map (row_of text)) at
 
 pub not_found : (text : List ℕ) (rows : List Row) (names : List (List ℕ)) (firsts : List Line) (name : List ℕ)
     → AreFirsts text rows names firsts → position (bytes_eq name) names ≡ None → row_with name rows ≡ None
@@ -166,6 +182,7 @@ not_found text rows names firsts name is p =
     sym (is.same name) ∙ no_row name rs (omega (arith, no_place (bytes_eq name) (map own_id rs) q))
 
 -- a table of rows has a line for each ID
-pub even : (text : List ℕ) (rows : List Row) (names : List (List ℕ)) (firsts : List Line) → AreFirsts text rows names firsts → length names ≡ length firsts
+pub even : (text : List ℕ) (rows : List Row) (names : List (List ℕ)) (firsts : List Line)
+    → AreFirsts text rows names firsts → length names ≡ length firsts
 even text rows names firsts is =
     ap length is.aligned ∙ length-map (rows_at text firsts) own_id ∙ length-map firsts (row_of text)

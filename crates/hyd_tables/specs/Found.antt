@@ -28,7 +28,8 @@ IsVerdict Wrong None = (cause : Cause) → Wrong cause → ⊥
 IsVerdict Wrong (Some cause) = Wrong cause
 
 -- a row of some sections is wrong
-pub record IsWrongAmong (family : Row → Bool) (Wrong : ℕ → Cause → Type 0) (rows : List Row) (k : ℕ) (cause : Cause) : Type 0 where
+pub record IsWrongAmong (family : Row → Bool) (Wrong : ℕ → Cause
+    → Type 0) (rows : List Row) (k : ℕ) (cause : Cause) : Type 0 where
   pub row : Row
   pub row_is : slice_get rows k ≡ Some row
   pub member : family row ≡ true

@@ -1,7 +1,7 @@
 //! Tables of IDs.
 #![tactic(auto)]
 
-ghost use Rattle.std.specs.Prelude.{◌≡◌, ◌^◌, ◌<◌, ◌≤◌, ◌+◌, [], ◌∷◌, ◌++◌, ℕ, List, length, not, Some, None, IfOk, IfSome, IfNone};
+ghost use Rattle.std.specs.Prelude.{◌≡◌, ◌^◌, ◌<◌, ◌≤◌, ◌+◌, [], ◌∷◌, ◌++◌, ℕ, List, length, not, if◌then◌else◌, Some, None, IfOk, IfSome, IfNone};
 ghost use Rattle.hyd_lex.specs.Lines.{LiesIn, row_of, Row};
 ghost use Rattle.hyd_spec_input.specs.Tables as table;
 ghost use Rattle.hyd_spec_input.specs.Tables.{row_with, has_id};
@@ -47,6 +47,8 @@ impl Table {
             → new ≡ not (has_id (table.own_id (row_of text.now.text line.now)) rows)) }
         ensures table { IfOk result (λ _. (rows : List Row) → IsTable text.now.text rows self.old
             → IsTable text.now.text (rows ++ row_of text.now.text line.now ∷ []) self.new) }
+        ensures count { IfOk result (λ new. length self.new.names
+            ≡ (if new then length self.old.names + 1 else length self.old.names)) }
         ensures longer { IfOk result (λ _. length self.new.names ≤ length self.old.names + 1) }
     {
         let new = self.names.add(own_id(text, line))?;

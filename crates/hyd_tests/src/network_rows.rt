@@ -177,12 +177,7 @@ fn data_row(alloc: Global, lines: &Lines<'_>, line: &Line) -> Result<String, Fai
 }
 
 /// What the only row of a section says.
-fn shown(
-    alloc: Global,
-    heading: &[u8],
-    words: &[u8],
-    of_network: bool,
-) -> Result<String, Fail> {
+fn shown(alloc: Global, heading: &[u8], words: &[u8], of_network: bool) -> Result<String, Fail> {
     let mut text = Vec::new(alloc);
     text.extend_from_slice(heading)?;
     text.extend_from_slice(words)?;

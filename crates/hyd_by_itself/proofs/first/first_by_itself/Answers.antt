@@ -15,8 +15,8 @@ returns-in-Some c =
     let text = c.args.text.now.text in
     let lines = c.args.lines.now in
     wrong_here text lines c.loop-place.place nothing c.in-Some.cause c.loop-place-test.true c.loop-place.invariant.none
-    (row_fault_is text lines c.loop-place.place nothing c.loop-place.stage c.row_fault.result c.loop-place.invariant.stage
-    c.row_fault.ensures
+    (row_fault_is text lines c.loop-place.place nothing c.loop-place.stage c.row_fault.result
+    c.loop-place.invariant.stage c.row_fault.ensures
     ∙ c.in-Some.is)
 
 pub loop-place-preserved : goal.loop-place-preserved

@@ -1,0 +1,4 @@
+pub mod SectionLemmas
+pub mod DistinctLemmas
+pub mod CurveLemmas
+pub mod PatternLemmas

@@ -1,0 +1,10 @@
+//! The rows of an input file judged among all rows, section by section (EPANET 2.2 User Manual, appendix C). Each pass
+//! keeps the table of its IDs and its first wrong row.
+#![tactic(auto)]
+
+mod curves;
+mod limits;
+mod patterns;
+
+pub use curves::{Curves, judge_curves};
+pub use patterns::{Patterns, judge_patterns};
