@@ -1,7 +1,7 @@
 -- How many IDs stand in rows, one row more.
 use Rattle.std.proofs.Common.{◌≡◌, ◌+◌, ◌++◌, ℕ, Bool, true, false, not, List, [], ◌∷◌, length, cond, if◌then◌else◌, refl, sym, ap, ◌∙◌, arith, inl, inr, append-nil}
 use Rattle.std.proofs.lemmas.Bool.{cases_Bool}
-use Rattle.std.proofs.lemmas.List.{append-assoc}
+use Rattle.std.proofs.lemmas.List.{append_assoc}
 use Rattle.hyd_lex.specs.Lines.{Row}
 use Rattle.hyd_spec_input.specs.Tables.{own_id, has_id, one_if_new, distinct, distinct_after}
 
@@ -10,7 +10,7 @@ after_more : (earlier rows : List Row) (row : Row)
 after_more earlier [] row = rw (append-nil earlier) (omega arith)
 after_more earlier (next ∷ rows) row =
     let rest = after_more (earlier ++ next ∷ []) rows row in
-    let all : (earlier ++ next ∷ []) ++ rows ≡ earlier ++ next ∷ rows = append-assoc earlier (next ∷ []) rows in
+    let all : (earlier ++ next ∷ []) ++ rows ≡ earlier ++ next ∷ rows = append_assoc earlier (next ∷ []) rows in
     let more : distinct_after (earlier ++ next ∷ []) (rows ++ row ∷ [])
         ≡ distinct_after (earlier ++ next ∷ []) rows + one_if_new (earlier ++ next ∷ rows) row = rw (← all) rest in
     omega (arith, more)

@@ -1,4 +1,5 @@
 pub mod SectionLemmas
 pub mod DistinctLemmas
 pub mod CurveLemmas
+pub mod OptionLemmas
 pub mod PatternLemmas

@@ -1,3 +1,4 @@
 pub mod Patterns
 pub mod Curves
 pub mod Sections
+pub mod InForce

@@ -68,7 +68,7 @@ impl Curves {
         }
         self.table.add(text, line)?;
         self.count += 1;
-        let cause = fault(self.table.firsts.len(), self.count);
+        let cause = fault(self.table.firsts.as_slice().len(), self.count);
         self.found = kept(self.found, place, line.number, cause);
         Ok(())
     }

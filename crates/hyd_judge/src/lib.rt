@@ -5,6 +5,8 @@
 mod curves;
 mod limits;
 mod patterns;
+mod units;
 
 pub use curves::{Curves, judge_curves};
 pub use patterns::{Patterns, judge_patterns};
+pub use units::{last_option, unit_in_force};

@@ -6,7 +6,7 @@ ghost use Rattle.std.specs.List.{All};
 ghost use Rattle.hyd_lex.specs.Lines.{LiesIn, row_of};
 ghost use Rattle.hyd_opts.specs.Judged.{words_at};
 ghost use Rattle.hyd_spec_input.specs.Columns.{first};
-ghost use Rattle.hyd_spec_input.specs.DataRows as data;
+ghost use Rattle.hyd_spec_input.specs.DataRows as row;
 ghost use Rattle.hyd_spec_input.specs.Tables.{place as section_place};
 ghost use Rattle.hyd_spec_input.specs.WithOthers as others;
 ghost use Rattle.hyd_tables.specs.Found.{rows_at};
@@ -43,7 +43,7 @@ fn is_patterns(section: Section) -> bool
 // How many multipliers a row has, or one above the most that are allowed.
 fn multipliers(text: &Lines<'_>, line: &Line) -> usize
     requires { LiesIn text.now.text line.now }
-    ensures { result ≡ min (length (data.multipliers (words_at text.now line.now))) most_counted }
+    ensures { result ≡ min (length (row.multipliers (words_at text.now line.now))) most_counted }
 {
     count_words(text.body(line), MOST_MULTIPLIERS + 2).saturating_sub(1)
 }
@@ -90,7 +90,7 @@ impl Patterns {
         }
         self.table.add(text, line)?;
         self.count = counted(self.count, multipliers(text, line));
-        let cause = fault(self.table.firsts.len(), self.count);
+        let cause = fault(self.table.firsts.as_slice().len(), self.count);
         self.found = kept(self.found, place, line.number, cause);
         Ok(())
     }

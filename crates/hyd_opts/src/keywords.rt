@@ -59,7 +59,7 @@ fn metric_unit(word: &[u8]) -> Option<FlowUnit>
 
 /// The unit of flows that a word names.
 #[tactic(auto, unfolding(hyd_spec_input::specs::Keywords::flow_unit))]
-pub(crate) fn flow_unit(word: &[u8]) -> Option<FlowUnit>
+pub fn flow_unit(word: &[u8]) -> Option<FlowUnit>
     ensures { result ≡ form.flow_unit word.now }
 {
     match us_unit(word) {

@@ -17,7 +17,7 @@ pub use columns::{
 pub use controls::{Asked, ControlLine, WhenLine, asked_at, read_control};
 pub use hyd_net::Relation;
 pub use hyd_spec_input::{Attribute, LinkWord, NodeWord};
-pub use keywords::rule_word;
+pub use keywords::{flow_unit, rule_word};
 pub use moments::{read_clock, read_time};
 pub use options::{OptionSet, read_option};
 pub use rules::{ActionLine, ClauseLine, Object, RuleLine, Value, read_rule_line};

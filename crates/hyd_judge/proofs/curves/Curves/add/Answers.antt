@@ -1,7 +1,9 @@
-use Rattle.std.proofs.Common.{◌≡◌, ◌+◌, ◌<◌, ◌≤◌, ◌^◌, length, take, sym, ◌∙◌, arith, refl}
+use Rattle.std.proofs.Common.{◌≡◌, ◌+◌, ◌<◌, ◌≤◌, ◌^◌, List, [], ◌∷◌, length, take, sym, ap, ◌∙◌, arith, refl}
 use Rattle.hyd_lex.specs.declared.line.Line.{Line}
 use Rattle.hyd_lex.specs.declared.section.Section.TheVariants.{Junctions, Curves as InCurves}
+use Rattle.hyd_spec_input.specs.Columns.{first}
 use Rattle.hyd_spec_input.specs.Tables.{rows_of}
+use Rattle.hyd_spec_input.specs.WithOthers.{passes}
 use Rattle.hyd_tables.specs.Found.{rows_at}
 use Rattle.hyd_tables.proofs.FoundLemmas.{row_at}
 use Rattle.hyd_judge.proofs.CurveLemmas.{skip_row, add_row}
@@ -31,4 +33,8 @@ returns c =
     add_row text rows c.args.place _ c.args.self.now _ _ c.fault-cause.result c.requires.judged
     (row_at text lines c.args.place nothing c.requires.within) (sym c.is_curves.ensures ∙ c.if-not-is_curves.false)
     (c.in_ok-add.ensures.table done c.requires.judged.table) (c.in_ok-add.ensures.new done c.requires.judged.table)
-    c.in_ok-add.ensures.count c.in_ok-add.ensures.longer refl c.fault-cause.ensures c.kept-self.ensures
+    c.in_ok-add.ensures.count c.in_ok-add.ensures.longer refl
+    (c.fault-cause.ensures
+    ∙ ap (λ (xs : List Line). first (passes 1000 9 (length xs) ∷ passes 100000 9 (c.args.self.now.count + 1) ∷ []))
+    c.as_slice.ensures.value)
+    c.kept-self.ensures
