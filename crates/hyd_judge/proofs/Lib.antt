@@ -1,5 +1,6 @@
 pub mod SectionLemmas
 pub mod DistinctLemmas
 pub mod CurveLemmas
+pub mod NodeLemmas
 pub mod OptionLemmas
 pub mod PatternLemmas

@@ -2,3 +2,5 @@ pub mod Patterns
 pub mod Curves
 pub mod Sections
 pub mod InForce
+pub mod Ranges
+pub mod Nodes

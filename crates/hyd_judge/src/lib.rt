@@ -4,9 +4,13 @@
 
 mod curves;
 mod limits;
+mod names;
+mod nodes;
 mod patterns;
+mod ranges;
 mod units;
 
 pub use curves::{Curves, judge_curves};
+pub use nodes::{Nodes, judge_nodes};
 pub use patterns::{Patterns, judge_patterns};
 pub use units::{last_option, unit_in_force};

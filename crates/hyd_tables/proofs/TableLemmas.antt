@@ -20,7 +20,7 @@ abbrev either : Option Row → Option Row → Option Row
 either (Some row) other = Some row
 either None other = other
 
-abbrev is_there : Option Row → Bool
+abbrev pub is_there : Option Row → Bool
 is_there None = false
 is_there (Some row) = true
 
