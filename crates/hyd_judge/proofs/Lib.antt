@@ -1,4 +1,5 @@
 pub mod SectionLemmas
+pub mod DemandLemmas
 pub mod DistinctLemmas
 pub mod CurveLemmas
 pub mod NodeLemmas

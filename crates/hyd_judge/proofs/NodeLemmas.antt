@@ -22,13 +22,9 @@ use Rattle.hyd_judge.specs.Nodes.{AreNodes, junction_fault}
 use Rattle.hyd_judge.specs.Ranges.{head_fault, flow_fault}
 use Rattle.hyd_judge.specs.Sections.{IsWrongIn}
 use Rattle.hyd_judge.specs.declared.nodes.Nodes.{Nodes}
-use Rattle.hyd_judge.proofs.SectionLemmas.{verdict_without_capacity, other_section}
+use Rattle.hyd_judge.proofs.SectionLemmas.{none_of, verdict_without_capacity, other_section}
 
 -- ---- a junction that is right by itself
-
-none_of : (fault : Option Cause) → ((cause : Cause) → fault ≡ Some cause → ⊥) → fault ≡ None
-none_of None h = refl
-none_of (Some cause) h = absurd (h cause refl)
 
 by_itself : (section : Section) (earlier : List (List (List ℕ))) (words : List (List ℕ)) (later : List (List (List ℕ)))
     → (place section == 0) ≡ true → itself.section_fault section earlier words later ≡ row_form.junction words

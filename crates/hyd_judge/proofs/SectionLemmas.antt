@@ -1,5 +1,5 @@
 -- A row of one section among all rows.
-use Rattle.std.proofs.Common.{◌≡◌, ◌+◌, ◌⊎◌, ℕ, Bool, true, false, List, take, slice_get, Option, Some, None, sym, ◌∙◌, inl, inr, true≢false}
+use Rattle.std.proofs.Common.{◌≡◌, ◌+◌, ◌⊎◌, ℕ, Bool, true, false, List, take, slice_get, Option, Some, None, refl, sym, ◌∙◌, inl, inr, true≢false}
 use Rattle.hyd_lex.specs.Lines.{Row}
 use Rattle.hyd_lex.specs.declared.section.Section.{Section}
 use Rattle.hyd_spec_input.specs.Capacities.{IsRefusedRow}
@@ -8,6 +8,11 @@ use Rattle.hyd_spec_input.specs.WithOthers.{row_fault}
 use Rattle.hyd_net.specs.declared.cause.Cause.{Cause}
 use Rattle.hyd_tables.specs.Found.{IsVerdict}
 use Rattle.hyd_judge.specs.Sections.{IsWrongIn}
+
+-- no cause is the fault
+pub none_of : (fault : Option Cause) → ((cause : Cause) → fault ≡ Some cause → ⊥) → fault ≡ None
+none_of None h = refl
+none_of (Some cause) h = absurd (h cause refl)
 
 -- the verdict on a row that has no capacity
 pub verdict_without_capacity : (section : Section) (rows : List Row) (k : ℕ) (row : Row) (fault : Option Cause)

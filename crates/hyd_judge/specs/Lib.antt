@@ -4,3 +4,4 @@ pub mod Sections
 pub mod InForce
 pub mod Ranges
 pub mod Nodes
+pub mod Demands

@@ -3,6 +3,7 @@
 #![tactic(auto)]
 
 mod curves;
+mod demands;
 mod limits;
 mod names;
 mod nodes;
@@ -11,6 +12,7 @@ mod ranges;
 mod units;
 
 pub use curves::{Curves, judge_curves};
+pub use demands::{Demands, judge_demands};
 pub use nodes::{Nodes, judge_nodes};
 pub use patterns::{Patterns, judge_patterns};
 pub use units::{last_option, unit_in_force};

@@ -5,10 +5,11 @@ ghost use Rattle.std.specs.Prelude.{◌≡◌, List, ℕ};
 ghost use Rattle.hyd_lex.specs.Bytes.{text_of};
 ghost use Rattle.hyd_lex.specs.Lines.{Row};
 ghost use Rattle.hyd_lex.specs.declared.section.Section.TheVariants.{Patterns};
-ghost use Rattle.hyd_spec_input.specs.Tables.{has_id, rows_of};
+ghost use Rattle.hyd_spec_input.specs.Tables.{has_id, rows_of, node_rows};
 ghost use Rattle.hyd_spec_input.specs.WithOthers as others;
 ghost use Rattle.hyd_tables.specs.Tables.{IsTable, IsEven};
 
+use crate::nodes::is_junctions;
 use hyd_lex::Lines;
 use hyd_net::Cause;
 use hyd_tables::Table;
@@ -38,6 +39,21 @@ pub(crate) fn unknown_pattern(
         return None;
     };
     if has(text, patterns, name) {
+        return None;
+    }
+    Some(Cause::UnknownName)
+}
+
+/// UnknownName where no junction has a name.
+pub(crate) fn unknown_junction(text: &Lines<'_>, nodes: &Table, name: &[u8]) -> Option<Cause>
+    requires { IsEven nodes.now }
+    ensures { (rows : List Row) → IsTable text.now.text (node_rows rows) nodes.now
+        → result ≡ others.known_junction rows name.now }
+{
+    let Some(line) = nodes.find(text, name) else {
+        return Some(Cause::UnknownName);
+    };
+    if is_junctions(line.section) {
         return None;
     }
     Some(Cause::UnknownName)

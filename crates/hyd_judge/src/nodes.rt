@@ -50,7 +50,8 @@ fn is_node(section: Section) -> bool
     }
 }
 
-fn is_junctions(section: Section) -> bool
+/// Whether a section is [JUNCTIONS].
+pub(crate) fn is_junctions(section: Section) -> bool
     ensures { result ≡ (section_place section == 0) }
 {
     match section {
