@@ -1,20 +1,22 @@
 -- Rows at the stage of the rules before them.
-use Rattle.std.proofs.Common.{◌≡◌, ◌+◌, ◌-◌, ◌<◌, ℕ, List, [], ◌∷◌, ◌++◌, map, drop, take, length, slice_get, get_or, Option, Some, None, refl, sym, ap, ◌∙◌, arith, inl, inr}
+use Rattle.std.proofs.Common.{◌≡◌, ◌+◌, ◌-◌, ◌<◌, ◌≤◌, ℕ, List, [], ◌∷◌, ◌++◌, map, drop, take, length, slice_get, get_or, Option, Some, None, refl, sym, ap, ◌∙◌, arith, inl, inr}
 use Rattle.std.proofs.lemmas.Bool.{cases_Bool}
-use Rattle.std.proofs.lemmas.List.{map-append, drop-map, take_all, length-drop}
+use Rattle.std.proofs.lemmas.List.{map-append, drop-map, take_all, length-drop, length-map}
+use Rattle.std.proofs.lemmas.Option.{slice_get_within}
 use Rattle.std.proofs.lemmas.List.Sums.{fold-append}
 use Rattle.hyd_lex.specs.Lines.{Row, row_of}
 use Rattle.hyd_lex.specs.declared.line.Line.{Line}
 use Rattle.hyd_lex.specs.declared.section.Section.{Section}
 use Rattle.hyd_lex.specs.declared.section.Section.TheVariants.{Rules}
 use Rattle.hyd_spec_input.specs.ByItself.{section_fault, row_fault, IsWrongByItself}
+use Rattle.hyd_spec_input.specs.Faults.{NoneIs}
 use Rattle.hyd_spec_input.specs.RuleRows.{stage_by, begins_with, stage_after}
 use Rattle.hyd_spec_input.specs.Tables.{is_of, words_of, words_of_row, rows_of}
 use Rattle.hyd_spec_input.specs.declared.Stage.{Stage}
 use Rattle.hyd_spec_input.specs.declared.Stage.TheVariants.{Outside}
 use Rattle.hyd_net.specs.declared.cause.Cause.{Cause}
 use Rattle.hyd_tables.specs.Found.{HasFound, IsFirstAt, rows_at}
-use Rattle.hyd_tables.proofs.FoundLemmas.{filter_more, filter_same, none_more, first_here, row_at}
+use Rattle.hyd_tables.proofs.FoundLemmas.{filter_more, filter_same, none_more, none_of, first_here, row_at}
 use Rattle.hyd_by_itself.specs.Stages.{stage_with, fault_at_stage, rule_lines}
 
 -- ---- the stage, one row further
@@ -92,3 +94,11 @@ wrong_here text lines k d cause l before fault =
     let is = row_at text lines k d l in
     let row = row_of text (get_or lines k d) in
     first_here rows (IsWrongByItself rows) k row cause before is (record { row = row; row_is = is; fault = fault })
+
+pub none_at_all : (text : List ℕ) (lines : List Line) (k : ℕ) → length lines ≤ k
+    → HasFound (rows_at text lines) (IsWrongByItself (rows_at text lines)) k None
+    → NoneIs (IsWrongByItself (rows_at text lines))
+none_at_all text lines k l none =
+    let rows = rows_at text lines in
+    let all : length rows ≤ k = omega (arith, l, length-map lines (row_of text)) in
+    none_of rows (IsWrongByItself rows) k none all (λ place cause w. slice_get_within rows place w.row w.row_is)

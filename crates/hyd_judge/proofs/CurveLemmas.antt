@@ -1,8 +1,8 @@
 -- The curves, one row further.
-use Rattle.std.proofs.Common.{◌≡◌, ◌+◌, ◌<◌, ◌≤◌, ◌++◌, ℕ, Bool, true, false, not, List, [], ◌∷◌, take, length, slice_get, Option, Some, None, if◌then◌else◌, refl, sym, ap, ◌∙◌, subst, arith, inl, inr, ◌==◌, true≢false, length-append}
+use Rattle.std.proofs.Common.{◌≡◌, ◌+◌, ◌≤◌, ◌++◌, ℕ, Bool, true, false, not, List, [], ◌∷◌, take, length, slice_get, Option, Some, if◌then◌else◌, refl, sym, ap, ◌∙◌, subst, arith, ◌==◌, true≢false, length-append}
 use Rattle.hyd_lex.specs.Lines.{Row}
 use Rattle.hyd_lex.specs.declared.section.Section.{Section}
-use Rattle.hyd_lex.specs.declared.section.Section.TheVariants.{Junctions, Reservoirs, Tanks, Pipes, Pumps, Valves, Demands, Emitters, Curves as InCurves, Patterns, Status, Controls, Rules, Options, Times}
+use Rattle.hyd_lex.specs.declared.section.Section.TheVariants.{Curves as InCurves}
 use Rattle.hyd_spec_input.specs.Capacities.{IsRefusedIn}
 use Rattle.hyd_spec_input.specs.Columns.{first}
 use Rattle.hyd_spec_input.specs.Tables.{place, is_of, rows_of, own_id, has_id, distinct}
@@ -33,7 +33,7 @@ pub skip_row : (text : List ℕ) (rows : List Row) (k : ℕ) (row : Row) (curves
     → slice_get rows k ≡ Some row → is_of InCurves row ≡ false → AreCurves text rows (k + 1) curves
 skip_row text rows k row curves before is other =
     let same : rows_of InCurves (take (k + 1) rows) ≡ rows_of InCurves (take k rows) =
-        filter_same (is_of InCurves) rows k row is other in
+    filter_same (is_of InCurves) rows k row is other in
     record {
       count = rw same before.count;
       small = omega (arith, before.small);
@@ -55,16 +55,16 @@ pub add_row : (text : List ℕ) (rows : List Row) (k : ℕ) (row : Row) (curves 
     → next.found ≡ kept curves.found k row.number fault → AreCurves text rows (k + 1) next
 add_row text rows k row curves next new fault before is member table e names longer n f found =
     let more : rows_of InCurves (take (k + 1) rows) ≡ rows_of InCurves (take k rows) ++ row ∷ [] =
-        filter_more (is_of InCurves) rows k row is member in
+    filter_more (is_of InCurves) rows k row is member in
     let count : next.count ≡ length (rows_of InCurves (take (k + 1) rows)) =
-        rw more (n ∙ ap (λ m. m + 1) before.count ∙ sym (length-append (rows_of InCurves (take k rows)) (row ∷ []))) in
+    rw more (n ∙ ap (λ m. m + 1) before.count ∙ sym (length-append (rows_of InCurves (take k rows)) (row ∷ []))) in
     let ids : length next.table.names ≡ distinct (rows_of InCurves (take (k + 1) rows)) =
-        rw more (distinct_more (rows_of InCurves (take k rows)) row (length curves.table.names)
-        (length next.table.names) new before.distinct e names) in
+    rw more (distinct_more (rows_of InCurves (take k rows)) row (length curves.table.names)
+    (length next.table.names) new before.distinct e names) in
     let lines : length next.table.firsts.items ≡ distinct (rows_of InCurves (take (k + 1) rows)) =
-        sym (even text _ next.table.names next.table.firsts.items table) ∙ ids in
+    sym (even text _ next.table.names next.table.firsts.items table) ∙ ids in
     let verdict : fault ≡ others.row_fault rows k row =
-        f ∙ rw (lines, count) (sym (fault_is row.section rows k row member)) in
+    f ∙ rw (lines, count) (sym (fault_is row.section rows k row member)) in
     record {
       count = count;
       small = omega (arith, before.small, n);

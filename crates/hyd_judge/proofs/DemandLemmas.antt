@@ -1,9 +1,9 @@
 -- The demands, one row further.
-use Rattle.std.proofs.Common.{◌≡◌, ◌+◌, ◌<◌, ◌≤◌, ◌++◌, ℕ, Bool, true, false, List, [], ◌∷◌, take, length, slice_get, Option, Some, None, refl, sym, ap, ◌∙◌, arith, ◌==◌, true≢false, length-append}
+use Rattle.std.proofs.Common.{◌≡◌, ◌+◌, ◌++◌, ℕ, Bool, true, false, List, [], ◌∷◌, take, length, slice_get, Option, Some, None, refl, sym, ap, ◌∙◌, arith, ◌==◌, true≢false, length-append}
 use Rattle.hyd_num.specs.declared.units.FlowUnit.{FlowUnit}
 use Rattle.hyd_lex.specs.Lines.{Row}
 use Rattle.hyd_lex.specs.declared.section.Section.{Section}
-use Rattle.hyd_lex.specs.declared.section.Section.TheVariants.{Junctions, Reservoirs, Tanks, Pipes, Pumps, Valves, Demands as InDemands, Emitters, Curves, Patterns, Status, Controls, Rules, Options, Times}
+use Rattle.hyd_lex.specs.declared.section.Section.TheVariants.{Demands as InDemands}
 use Rattle.hyd_spec_input.specs.ByItself as itself
 use Rattle.hyd_spec_input.specs.ByItself.{IsWrongByItself}
 use Rattle.hyd_spec_input.specs.Capacities.{IsRefusedIn}
@@ -50,7 +50,7 @@ pub skip_row : (rows : List Row) (k : ℕ) (row : Row) (demands : Demands) → A
     → slice_get rows k ≡ Some row → is_of InDemands row ≡ false → AreDemands rows (k + 1) demands
 skip_row rows k row demands before is other =
     let same : rows_of InDemands (take (k + 1) rows) ≡ rows_of InDemands (take k rows) =
-        filter_same (is_of InDemands) rows k row is other in
+    filter_same (is_of InDemands) rows k row is other in
     record {
       count = rw same before.count;
       small = omega (arith, before.small);
@@ -64,12 +64,12 @@ pub add_row : (rows : List Row) (k : ℕ) (row : Row) (demands next : Demands) (
     → next.found ≡ kept demands.found k row.number fault → AreDemands rows (k + 1) next
 add_row rows k row demands next unit fault before is member u n f found =
     let more : rows_of InDemands (take (k + 1) rows) ≡ rows_of InDemands (take k rows) ++ row ∷ [] =
-        filter_more (is_of InDemands) rows k row is member in
+    filter_more (is_of InDemands) rows k row is member in
     let count : next.count ≡ length (rows_of InDemands (take (k + 1) rows)) =
-        rw more (n ∙ ap (λ m. m + 1) before.count
-        ∙ sym (length-append (rows_of InDemands (take k rows)) (row ∷ []))) in
+    rw more (n ∙ ap (λ m. m + 1) before.count
+    ∙ sym (length-append (rows_of InDemands (take k rows)) (row ∷ []))) in
     let verdict : fault ≡ others.row_fault rows k row =
-        f ∙ demand_fault_is rows k row unit next.count u count ∙ sym (fault_is row.section rows k row member) in
+    f ∙ demand_fault_is rows k row unit next.count u count ∙ sym (fault_is row.section rows k row member) in
     record {
       count = count;
       small = omega (arith, before.small, n);

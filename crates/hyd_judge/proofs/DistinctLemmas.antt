@@ -1,5 +1,5 @@
 -- How many IDs stand in rows, one row more.
-use Rattle.std.proofs.Common.{◌≡◌, ◌+◌, ◌++◌, ℕ, Bool, true, false, not, List, [], ◌∷◌, length, cond, if◌then◌else◌, refl, sym, ap, ◌∙◌, arith, inl, inr, append-nil}
+use Rattle.std.proofs.Common.{◌≡◌, ◌+◌, ◌++◌, ℕ, Bool, true, false, not, List, [], ◌∷◌, if◌then◌else◌, refl, arith, inl, inr, append-nil}
 use Rattle.std.proofs.lemmas.Bool.{cases_Bool}
 use Rattle.std.proofs.lemmas.List.{append_assoc}
 use Rattle.hyd_lex.specs.Lines.{Row}
@@ -12,7 +12,7 @@ after_more earlier (next ∷ rows) row =
     let rest = after_more (earlier ++ next ∷ []) rows row in
     let all : (earlier ++ next ∷ []) ++ rows ≡ earlier ++ next ∷ rows = append_assoc earlier (next ∷ []) rows in
     let more : distinct_after (earlier ++ next ∷ []) (rows ++ row ∷ [])
-        ≡ distinct_after (earlier ++ next ∷ []) rows + one_if_new (earlier ++ next ∷ rows) row = rw (← all) rest in
+    ≡ distinct_after (earlier ++ next ∷ []) rows + one_if_new (earlier ++ next ∷ rows) row = rw (← all) rest in
     omega (arith, more)
 
 -- a table of IDs counts them

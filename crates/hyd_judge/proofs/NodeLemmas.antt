@@ -1,10 +1,10 @@
 -- The nodes, one row further.
-use Rattle.std.proofs.Common.{◌≡◌, ◌+◌, ◌<◌, ◌≤◌, ◌++◌, ℕ, Bool, true, false, not, List, [], ◌∷◌, take, length, slice_get, Option, Some, None, refl, sym, ap, ◌∙◌, subst, arith, inl, inr, ◌||◌, ◌==◌, true≢false, length-append, pos}
+use Rattle.std.proofs.Common.{◌≡◌, ◌+◌, ◌≤◌, ◌++◌, ℕ, Bool, true, false, not, List, [], ◌∷◌, take, length, slice_get, Option, Some, None, refl, sym, ap, ◌∙◌, subst, arith, inl, inr, ◌==◌, true≢false, length-append, pos}
 use Rattle.std.proofs.lemmas.Bool.{cases_Bool}
 use Rattle.hyd_num.specs.declared.units.FlowUnit.{FlowUnit}
 use Rattle.hyd_lex.specs.Lines.{Row}
 use Rattle.hyd_lex.specs.declared.section.Section.{Section}
-use Rattle.hyd_lex.specs.declared.section.Section.TheVariants.{Junctions, Reservoirs, Tanks, Pipes, Pumps, Valves, Demands, Emitters, Curves, Patterns, Status, Controls, Rules, Options, Times}
+use Rattle.hyd_lex.specs.declared.section.Section.TheVariants.{Junctions}
 use Rattle.hyd_spec_input.specs.ByItself as itself
 use Rattle.hyd_spec_input.specs.ByItself.{IsWrongByItself}
 use Rattle.hyd_spec_input.specs.Capacities.{IsRefusedIn}
@@ -77,7 +77,7 @@ pub skip_row : (text : List ℕ) (rows : List Row) (k : ℕ) (row : Row) (nodes 
 skip_row text rows k row nodes before is other =
     let no_junction = is_no_junction row other in
     let same : rows_of Junctions (take (k + 1) rows) ≡ rows_of Junctions (take k rows) =
-        filter_same (is_of Junctions) rows k row is no_junction in
+    filter_same (is_of Junctions) rows k row is no_junction in
     let nodes_same : node_rows (take (k + 1) rows) ≡ node_rows (take k rows) = filter_same is_node rows k row is other in
     record {
       junctions = rw same before.junctions;
@@ -96,9 +96,9 @@ pub other_node : (text : List ℕ) (rows : List Row) (k : ℕ) (row : Row) (node
     → next.found ≡ nodes.found → AreNodes text rows (k + 1) next
 other_node text rows k row nodes next before is member other table longer n found =
     let same : rows_of Junctions (take (k + 1) rows) ≡ rows_of Junctions (take k rows) =
-        filter_same (is_of Junctions) rows k row is other in
+    filter_same (is_of Junctions) rows k row is other in
     let more : node_rows (take (k + 1) rows) ≡ node_rows (take k rows) ++ row ∷ [] =
-        filter_more is_node rows k row is member in
+    filter_more is_node rows k row is member in
     record {
       junctions = rw same (n ∙ before.junctions);
       small = omega (arith, before.small, n);
@@ -120,15 +120,15 @@ pub add_junction : (text : List ℕ) (rows : List Row) (k : ℕ) (row : Row) (no
 add_junction text rows k row nodes next unit new fault before is member u table e longer n f found =
     let node : is_node row ≡ true = rw member refl in
     let more : rows_of Junctions (take (k + 1) rows) ≡ rows_of Junctions (take k rows) ++ row ∷ [] =
-        filter_more (is_of Junctions) rows k row is member in
+    filter_more (is_of Junctions) rows k row is member in
     let nodes_more : node_rows (take (k + 1) rows) ≡ node_rows (take k rows) ++ row ∷ [] =
-        filter_more is_node rows k row is node in
+    filter_more is_node rows k row is node in
     let count : next.junctions ≡ length (rows_of Junctions (take (k + 1) rows)) =
-        rw more (n ∙ ap (λ m. m + 1) before.junctions
-        ∙ sym (length-append (rows_of Junctions (take k rows)) (row ∷ []))) in
+    rw more (n ∙ ap (λ m. m + 1) before.junctions
+    ∙ sym (length-append (rows_of Junctions (take k rows)) (row ∷ []))) in
     let verdict : fault ≡ others.row_fault rows k row =
-        f ∙ junction_fault_is rows k row unit next.junctions new u count e
-        ∙ sym (fault_is row.section rows k row member) in
+    f ∙ junction_fault_is rows k row unit next.junctions new u count e
+    ∙ sym (fault_is row.section rows k row member) in
     record {
       junctions = count;
       small = omega (arith, before.small, n);

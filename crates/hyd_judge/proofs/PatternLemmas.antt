@@ -1,13 +1,13 @@
 -- The patterns, one row further.
-use Rattle.std.proofs.Common.{◌≡◌, ◌+◌, ◌-◌, ◌<◌, ◌≤◌, ◌++◌, ℕ, Bool, true, false, not, List, [], ◌∷◌, take, drop, map, length, slice_get, Option, Some, None, if◌then◌else◌, refl, sym, ap, ◌∙◌, subst, arith, inl, inr, ◌==◌, nat_le, true≢false}
-use Rattle.std.specs.Prelude.{min, sum_by}
+use Rattle.std.proofs.Common.{◌≡◌, ◌+◌, ◌-◌, ◌≤◌, ◌++◌, ℕ, Bool, true, false, not, List, [], ◌∷◌, take, drop, length, slice_get, Option, Some, if◌then◌else◌, refl, sym, ◌∙◌, subst, arith, ◌==◌, nat_le, true≢false}
+use Rattle.std.specs.Prelude.{min}
 use Rattle.std.proofs.lemmas.Bool.Decides.{nat_tests}
 use Rattle.std.proofs.lemmas.List.{length-map, length-drop}
 use Rattle.std.proofs.lemmas.List.Sums.{sum_by-append}
 use Rattle.hyd_num.specs.Numeral.{nano_of}
 use Rattle.hyd_lex.specs.Lines.{Row}
 use Rattle.hyd_lex.specs.declared.section.Section.{Section}
-use Rattle.hyd_lex.specs.declared.section.Section.TheVariants.{Junctions, Reservoirs, Tanks, Pipes, Pumps, Valves, Demands, Emitters, Curves, Patterns as InPatterns, Status, Controls, Rules, Options, Times}
+use Rattle.hyd_lex.specs.declared.section.Section.TheVariants.{Patterns as InPatterns}
 use Rattle.hyd_spec_input.specs.Capacities.{IsRefusedIn}
 use Rattle.hyd_spec_input.specs.Columns.{first}
 use Rattle.hyd_spec_input.specs.DataRows.{multipliers}
@@ -38,7 +38,7 @@ count_more : (rows : List Row) (row : Row) (count next more : ℕ) → count ≡
     → next ≡ min (multiplier_count (rows ++ row ∷ [])) most_counted
 count_more rows row count next more before m n =
     let all : multiplier_count (rows ++ row ∷ []) ≡ multiplier_count rows + multiplier_count (row ∷ []) =
-        sum_by-append (λ (row : Row). length (multipliers row.words)) rows (row ∷ []) in
+    sum_by-append (λ (row : Row). length (multipliers row.words)) rows (row ∷ []) in
     let one : multiplier_count (row ∷ []) ≡ length (multipliers row.words) = omega arith in
     grind (arith, all, one, before, m, n)
 
@@ -64,7 +64,7 @@ pub skip_row : (text : List ℕ) (rows : List Row) (k : ℕ) (row : Row) (patter
     → ArePatterns text rows (k + 1) patterns
 skip_row text rows k row patterns before is other =
     let same : rows_of InPatterns (take (k + 1) rows) ≡ rows_of InPatterns (take k rows) =
-        filter_same (is_of InPatterns) rows k row is other in
+    filter_same (is_of InPatterns) rows k row is other in
     record {
       count = rw same before.count;
       table = (let P : List Row → Type 0 = λ rs. AreFirsts text rs patterns.table.names patterns.table.firsts.items in
@@ -87,18 +87,18 @@ pub add_row : (text : List ℕ) (rows : List Row) (k : ℕ) (row : Row) (pattern
     → next.found ≡ kept patterns.found k row.number fault → ArePatterns text rows (k + 1) next
 add_row text rows k row patterns next new more fault before is member table e names longer m n f found =
     let all : rows_of InPatterns (take (k + 1) rows) ≡ rows_of InPatterns (take k rows) ++ row ∷ [] =
-        filter_more (is_of InPatterns) rows k row is member in
+    filter_more (is_of InPatterns) rows k row is member in
     let count : next.count ≡ min (multiplier_count (rows_of InPatterns (take (k + 1) rows))) most_counted =
-        rw all (count_more (rows_of InPatterns (take k rows)) row patterns.count next.count more before.count m n) in
+    rw all (count_more (rows_of InPatterns (take k rows)) row patterns.count next.count more before.count m n) in
     let ids : length next.table.names ≡ distinct (rows_of InPatterns (take (k + 1) rows)) =
-        rw all (distinct_more (rows_of InPatterns (take k rows)) row (length patterns.table.names)
-        (length next.table.names) new before.distinct e names) in
+    rw all (distinct_more (rows_of InPatterns (take k rows)) row (length patterns.table.names)
+    (length next.table.names) new before.distinct e names) in
     let lines : length next.table.firsts.items ≡ distinct (rows_of InPatterns (take (k + 1) rows)) =
-        sym (even text _ next.table.names next.table.firsts.items table) ∙ ids in
+    sym (even text _ next.table.names next.table.firsts.items table) ∙ ids in
     let counted : passes 1000000 8 next.count ≡ passes 1000000 8 (multiplier_count (rows_of InPatterns (take (k + 1) rows))) =
-        passes_alike (multiplier_count (rows_of InPatterns (take (k + 1) rows))) next.count count in
+    passes_alike (multiplier_count (rows_of InPatterns (take (k + 1) rows))) next.count count in
     let verdict : fault ≡ others.row_fault rows k row =
-        f ∙ rw (lines, counted) (sym (fault_is row.section rows k row member)) in
+    f ∙ rw (lines, counted) (sym (fault_is row.section rows k row member)) in
     record {
       count = count;
       table = (let P : List Row → Type 0 = λ rs. AreFirsts text rs next.table.names next.table.firsts.items in

@@ -1,5 +1,5 @@
 -- A row of one section among all rows.
-use Rattle.std.proofs.Common.{◌≡◌, ◌+◌, ◌⊎◌, ℕ, Bool, true, false, List, take, slice_get, Option, Some, None, refl, sym, ◌∙◌, inl, inr, true≢false}
+use Rattle.std.proofs.Common.{◌≡◌, ℕ, true, false, List, take, slice_get, Option, Some, None, refl, sym, ◌∙◌, inl, inr, true≢false}
 use Rattle.hyd_lex.specs.Lines.{Row}
 use Rattle.hyd_lex.specs.declared.section.Section.{Section}
 use Rattle.hyd_spec_input.specs.Capacities.{IsRefusedRow}

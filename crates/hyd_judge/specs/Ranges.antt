@@ -1,5 +1,5 @@
 -- Quantities out of range, in a unit of flows.
-use Rattle.std.specs.Prelude.{ℕ, List, [], ◌∷◌, Option, ℤ}
+use Rattle.std.specs.Prelude.{Option, ℤ}
 use Rattle.hyd_num.specs.Quantity.{is_us_unit, head_ticks}
 use Rattle.hyd_num.specs.declared.units.FlowUnit.{FlowUnit}
 use Rattle.hyd_spec_input.specs.Columns.{or_else, unless}

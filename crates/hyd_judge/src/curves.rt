@@ -50,12 +50,7 @@ fn fault(curves: usize, points: usize) -> Option<Cause>
 
 impl Curves {
     // The next row.
-    fn add(
-        &mut self,
-        text: &Lines<'_>,
-        lines: &[Line],
-        place: usize,
-    ) -> Result<(), OutOfMemory>
+    fn add(&mut self, text: &Lines<'_>, lines: &[Line], place: usize) -> Result<(), OutOfMemory>
         requires within { place < length lines.now }
         requires few { length lines.now < 2 ^ 31 }
         requires lie { All (LiesIn text.now.text) lines.now }
@@ -76,11 +71,7 @@ impl Curves {
 
 /// The curves of a file, and its first row of [CURVES] that is wrong with the others: Limit 9 where it is the first
 /// with more than 1,000 curves or 100,000 points up to it.
-pub fn judge_curves(
-    alloc: Global,
-    text: &Lines<'_>,
-    lines: &[Line],
-) -> Result<Curves, OutOfMemory>
+pub fn judge_curves(alloc: Global, text: &Lines<'_>, lines: &[Line]) -> Result<Curves, OutOfMemory>
     requires few { length lines.now < 2 ^ 31 }
     requires lie { All (LiesIn text.now.text) lines.now }
     ensures { IfOk result (AreCurves text.now.text (rows_at text.now.text lines.now) (length lines.now)) }

@@ -72,12 +72,7 @@ fn fault(patterns: usize, multipliers: usize) -> Option<Cause>
 
 impl Patterns {
     // The next row.
-    fn add(
-        &mut self,
-        text: &Lines<'_>,
-        lines: &[Line],
-        place: usize,
-    ) -> Result<(), OutOfMemory>
+    fn add(&mut self, text: &Lines<'_>, lines: &[Line], place: usize) -> Result<(), OutOfMemory>
         requires within { place < length lines.now }
         requires few { length lines.now < 2 ^ 31 }
         requires lie { All (LiesIn text.now.text) lines.now }

@@ -1,9 +1,10 @@
-use Rattle.std.proofs.Common.{◌∙◌, arith}
+use Rattle.std.proofs.Common.{◌∙◌}
 use Rattle.hyd_lex.specs.declared.line.Line.{Line}
 use Rattle.hyd_lex.specs.declared.section.Section.TheVariants.{Junctions}
+use Rattle.hyd_spec_input.specs.ByItself.{IsWrongByItself}
 use Rattle.hyd_tables.specs.Found.{rows_at}
-use Rattle.hyd_tables.proofs.FoundLemmas.{row_at}
-use Rattle.hyd_by_itself.proofs.StageLemmas.{next_stage, row_fault_is, none_further, wrong_here}
+use Rattle.hyd_tables.proofs.FoundLemmas.{row_at, first_of}
+use Rattle.hyd_by_itself.proofs.StageLemmas.{next_stage, row_fault_is, none_further, none_at_all, wrong_here}
 use Rattle.hyd_by_itself.proofs.first.first_by_itself.Goals as goal
 
 nothing : Line
@@ -14,10 +15,11 @@ unfolding nothing
 returns-in-Some c =
     let text = c.args.text.now.text in
     let lines = c.args.lines.now in
-    wrong_here text lines c.loop-place.place nothing c.in-Some.cause c.loop-place-test.true c.loop-place.invariant.none
+    first_of (rows_at text lines) (IsWrongByItself (rows_at text lines)) _
+    (wrong_here text lines c.loop-place.place nothing c.in-Some.cause c.loop-place-test.true c.loop-place.invariant.none
     (row_fault_is text lines c.loop-place.place nothing c.loop-place.stage c.row_fault.result
     c.loop-place.invariant.stage c.row_fault.ensures
-    ∙ c.in-Some.is)
+    ∙ c.in-Some.is))
 
 pub loop-place-preserved : goal.loop-place-preserved
 unfolding nothing
@@ -34,4 +36,5 @@ loop-place-preserved c =
     }
 
 pub returns : goal.returns
-returns c = λ k l. c.loop-place.invariant.none k (omega (arith, l, c.loop-place-test.false))
+returns c =
+    none_at_all c.args.text.now.text c.args.lines.now c.loop-place.place c.loop-place-test.false c.loop-place.invariant.none

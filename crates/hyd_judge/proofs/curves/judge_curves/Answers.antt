@@ -1,4 +1,4 @@
-use Rattle.std.proofs.Common.{refl, arith, length, ap, ◌≤◌}
+use Rattle.std.proofs.Common.{refl, arith, length, ap}
 use Rattle.hyd_judge.proofs.curves.judge_curves.Goals as goal
 
 pub loop-place-init : goal.loop-place-init

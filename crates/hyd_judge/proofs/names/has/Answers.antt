@@ -1,4 +1,4 @@
-use Rattle.std.proofs.Common.{◌≡◌, refl, sym, ap, ◌∙◌}
+use Rattle.std.proofs.Common.{sym, ap, ◌∙◌}
 use Rattle.hyd_tables.proofs.TableLemmas.{has_id-is, is_there}
 use Rattle.hyd_judge.proofs.names.has.Goals as goal
 
