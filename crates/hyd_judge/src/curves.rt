@@ -4,11 +4,14 @@
 ghost use Rattle.std.specs.Prelude.{◌≡◌, ◌<◌, ◌+◌, ◌^◌, ◌==◌, [], ◌∷◌, length, IfOk, OnOk};
 ghost use Rattle.std.specs.List.{All};
 ghost use Rattle.hyd_lex.specs.Lines.{LiesIn};
+ghost use Rattle.hyd_lex.specs.declared.section.Section.TheVariants.{Curves as InCurves};
 ghost use Rattle.hyd_spec_input.specs.Columns.{first};
-ghost use Rattle.hyd_spec_input.specs.Tables.{place as section_place};
+ghost use Rattle.hyd_spec_input.specs.Tables.{place as section_place, rows_of};
 ghost use Rattle.hyd_spec_input.specs.WithOthers as others;
-ghost use Rattle.hyd_tables.specs.Found.{rows_at};
+ghost use Rattle.hyd_tables.specs.Found.{HasFound, rows_at};
+ghost use Rattle.hyd_tables.specs.Tables.{IsTable};
 ghost use Rattle.hyd_judge.specs.Curves.{AreCurves};
+ghost use Rattle.hyd_judge.specs.Sections.{IsWrongIn};
 
 use crate::limits::limit;
 use hyd_lex::{Line, Lines, Section};
@@ -74,7 +77,10 @@ impl Curves {
 pub fn judge_curves(alloc: Global, text: &Lines<'_>, lines: &[Line]) -> Result<Curves, OutOfMemory>
     requires few { length lines.now < 2 ^ 31 }
     requires lie { All (LiesIn text.now.text) lines.now }
-    ensures { IfOk result (AreCurves text.now.text (rows_at text.now.text lines.now) (length lines.now)) }
+    ensures table { IfOk result (λ curves.
+        IsTable text.now.text (rows_of InCurves (rows_at text.now.text lines.now)) curves.table) }
+    ensures found { IfOk result (λ curves. HasFound (rows_at text.now.text lines.now)
+        (IsWrongIn InCurves (rows_at text.now.text lines.now)) (length lines.now) curves.found) }
 {
     let mut curves = Curves {
         count: 0,

@@ -4,16 +4,17 @@
 ghost use Rattle.std.specs.Prelude.{◌≡◌, ◌<◌, ◌+◌, ◌^◌, ◌==◌, List, None, length};
 ghost use Rattle.std.specs.List.{All};
 ghost use Rattle.hyd_lex.specs.Lines.{LiesIn, Row};
-ghost use Rattle.hyd_lex.specs.declared.section.Section.TheVariants.{Patterns};
+ghost use Rattle.hyd_lex.specs.declared.section.Section.TheVariants.{Demands as InDemands, Patterns};
 ghost use Rattle.hyd_opts.specs.Judged.{words_at};
 ghost use Rattle.hyd_spec_input.specs.ByItself.{IsWrongByItself};
 ghost use Rattle.hyd_spec_input.specs.DataRows as row;
 ghost use Rattle.hyd_spec_input.specs.Faults.{NoneIs};
 ghost use Rattle.hyd_spec_input.specs.InForce as force;
 ghost use Rattle.hyd_spec_input.specs.Tables.{place as section_place, rows_of, node_rows};
-ghost use Rattle.hyd_tables.specs.Found.{rows_at};
+ghost use Rattle.hyd_tables.specs.Found.{HasFound, rows_at};
 ghost use Rattle.hyd_tables.specs.Tables.{IsTable, IsEven};
 ghost use Rattle.hyd_judge.specs.Demands.{AreDemands, demand_fault as fault_of_demand};
+ghost use Rattle.hyd_judge.specs.Sections.{IsWrongIn};
 
 use crate::limits::limit;
 use crate::names::{unknown_junction, unknown_pattern};
@@ -89,8 +90,6 @@ impl Demands {
         requires few { length lines.now < 2 ^ 31 }
         requires lie { All (LiesIn text.now.text) lines.now }
         requires right { NoneIs (IsWrongByItself (rows_at text.now.text lines.now)) }
-        requires even_nodes { IsEven nodes.now }
-        requires even_patterns { IsEven patterns.now }
         requires nodes { IsTable text.now.text (node_rows (rows_at text.now.text lines.now)) nodes.now }
         requires patterns { IsTable text.now.text (rows_of Patterns (rows_at text.now.text lines.now)) patterns.now }
         requires unit { unit ≡ force.unit (rows_at text.now.text lines.now) }
@@ -120,12 +119,11 @@ pub fn judge_demands(
     requires few { length lines.now < 2 ^ 31 }
     requires lie { All (LiesIn text.now.text) lines.now }
     requires right { NoneIs (IsWrongByItself (rows_at text.now.text lines.now)) }
-    requires even_nodes { IsEven nodes.now }
-    requires even_patterns { IsEven patterns.now }
     requires nodes { IsTable text.now.text (node_rows (rows_at text.now.text lines.now)) nodes.now }
     requires patterns { IsTable text.now.text (rows_of Patterns (rows_at text.now.text lines.now)) patterns.now }
     requires unit { unit ≡ force.unit (rows_at text.now.text lines.now) }
-    ensures { AreDemands (rows_at text.now.text lines.now) (length lines.now) result }
+    ensures { HasFound (rows_at text.now.text lines.now) (IsWrongIn InDemands (rows_at text.now.text lines.now))
+        (length lines.now) result.found }
 {
     let mut demands = Demands {
         count: 0,

@@ -4,17 +4,18 @@
 ghost use Rattle.std.specs.Prelude.{◌≡◌, ◌<◌, ◌+◌, ◌^◌, ◌==◌, ◌||◌, List, None, length, IfOk, OnOk};
 ghost use Rattle.std.specs.List.{All};
 ghost use Rattle.hyd_lex.specs.Lines.{LiesIn, Row};
-ghost use Rattle.hyd_lex.specs.declared.section.Section.TheVariants.{Patterns};
+ghost use Rattle.hyd_lex.specs.declared.section.Section.TheVariants.{Junctions as InJunctions, Patterns};
 ghost use Rattle.hyd_opts.specs.Judged.{words_at};
 ghost use Rattle.hyd_spec_input.specs.ByItself.{IsWrongByItself};
 ghost use Rattle.hyd_spec_input.specs.Faults.{NoneIs};
 ghost use Rattle.hyd_spec_input.specs.InForce as force;
 ghost use Rattle.hyd_spec_input.specs.NetworkRows as row;
-ghost use Rattle.hyd_spec_input.specs.Tables.{place as section_place, rows_of};
-ghost use Rattle.hyd_tables.specs.Found.{rows_at};
+ghost use Rattle.hyd_spec_input.specs.Tables.{place as section_place, rows_of, node_rows};
+ghost use Rattle.hyd_tables.specs.Found.{HasFound, rows_at};
 ghost use Rattle.hyd_tables.specs.Tables.{IsTable, IsEven};
 ghost use Rattle.hyd_judge.specs.Ranges as range;
 ghost use Rattle.hyd_judge.specs.Nodes.{AreNodes, junction_fault as fault_of_junction};
+ghost use Rattle.hyd_judge.specs.Sections.{IsWrongIn};
 
 use crate::limits::limit;
 use crate::names::unknown_pattern;
@@ -114,7 +115,6 @@ impl Nodes {
         requires few { length lines.now < 2 ^ 31 }
         requires lie { All (LiesIn text.now.text) lines.now }
         requires right { NoneIs (IsWrongByItself (rows_at text.now.text lines.now)) }
-        requires even { IsEven patterns.now }
         requires patterns { IsTable text.now.text (rows_of Patterns (rows_at text.now.text lines.now)) patterns.now }
         requires unit { unit ≡ force.unit (rows_at text.now.text lines.now) }
         requires judged { AreNodes text.now.text (rows_at text.now.text lines.now) place self.old }
@@ -149,10 +149,12 @@ pub fn judge_nodes(
     requires few { length lines.now < 2 ^ 31 }
     requires lie { All (LiesIn text.now.text) lines.now }
     requires right { NoneIs (IsWrongByItself (rows_at text.now.text lines.now)) }
-    requires even { IsEven patterns.now }
     requires patterns { IsTable text.now.text (rows_of Patterns (rows_at text.now.text lines.now)) patterns.now }
     requires unit { unit ≡ force.unit (rows_at text.now.text lines.now) }
-    ensures { IfOk result (AreNodes text.now.text (rows_at text.now.text lines.now) (length lines.now)) }
+    ensures table { IfOk result (λ nodes.
+        IsTable text.now.text (node_rows (rows_at text.now.text lines.now)) nodes.table) }
+    ensures found { IfOk result (λ nodes. HasFound (rows_at text.now.text lines.now)
+        (IsWrongIn InJunctions (rows_at text.now.text lines.now)) (length lines.now) nodes.found) }
 {
     let mut nodes = Nodes {
         junctions: 0,

@@ -3,14 +3,17 @@
 
 ghost use Rattle.std.specs.Prelude.{◌≡◌, ◌<◌, ◌+◌, ◌^◌, ◌==◌, [], ◌∷◌, length, min, IfOk, OnOk};
 ghost use Rattle.std.specs.List.{All};
-ghost use Rattle.hyd_lex.specs.Lines.{LiesIn, row_of};
+ghost use Rattle.hyd_lex.specs.Lines.{LiesIn};
+ghost use Rattle.hyd_lex.specs.declared.section.Section.TheVariants.{Patterns as InPatterns};
 ghost use Rattle.hyd_opts.specs.Judged.{words_at};
 ghost use Rattle.hyd_spec_input.specs.Columns.{first};
 ghost use Rattle.hyd_spec_input.specs.DataRows as row;
-ghost use Rattle.hyd_spec_input.specs.Tables.{place as section_place};
+ghost use Rattle.hyd_spec_input.specs.Tables.{place as section_place, rows_of};
 ghost use Rattle.hyd_spec_input.specs.WithOthers as others;
-ghost use Rattle.hyd_tables.specs.Found.{rows_at};
+ghost use Rattle.hyd_tables.specs.Found.{HasFound, rows_at};
+ghost use Rattle.hyd_tables.specs.Tables.{IsTable};
 ghost use Rattle.hyd_judge.specs.Patterns.{ArePatterns, most_counted};
+ghost use Rattle.hyd_judge.specs.Sections.{IsWrongIn};
 
 use crate::limits::{count_words, limit};
 use hyd_lex::{Line, Lines, Section};
@@ -100,7 +103,10 @@ pub fn judge_patterns(
 ) -> Result<Patterns, OutOfMemory>
     requires few { length lines.now < 2 ^ 31 }
     requires lie { All (LiesIn text.now.text) lines.now }
-    ensures { IfOk result (ArePatterns text.now.text (rows_at text.now.text lines.now) (length lines.now)) }
+    ensures table { IfOk result (λ patterns.
+        IsTable text.now.text (rows_of InPatterns (rows_at text.now.text lines.now)) patterns.table) }
+    ensures found { IfOk result (λ patterns. HasFound (rows_at text.now.text lines.now)
+        (IsWrongIn InPatterns (rows_at text.now.text lines.now)) (length lines.now) patterns.found) }
 {
     let mut patterns = Patterns {
         count: 0,

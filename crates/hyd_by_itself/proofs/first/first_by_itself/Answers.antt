@@ -15,11 +15,12 @@ unfolding nothing
 returns-in-Some c =
     let text = c.args.text.now.text in
     let lines = c.args.lines.now in
-    first_of (rows_at text lines) (IsWrongByItself (rows_at text lines)) _
-    (wrong_here text lines c.loop-place.place nothing c.in-Some.cause c.loop-place-test.true c.loop-place.invariant.none
-    (row_fault_is text lines c.loop-place.place nothing c.loop-place.stage c.row_fault.result
-    c.loop-place.invariant.stage c.row_fault.ensures
-    ∙ c.in-Some.is))
+    let found = wrong_here text lines c.loop-place.place nothing c.in-Some.cause c.loop-place-test.true
+        c.loop-place.invariant.none
+        (row_fault_is text lines c.loop-place.place nothing c.loop-place.stage c.row_fault.result
+        c.loop-place.invariant.stage c.row_fault.ensures
+        ∙ c.in-Some.is) in
+    record { first = first_of (rows_at text lines) (IsWrongByItself (rows_at text lines)) _ found; none = tt }
 
 pub loop-place-preserved : goal.loop-place-preserved
 unfolding nothing
@@ -36,5 +37,8 @@ loop-place-preserved c =
     }
 
 pub returns : goal.returns
-returns c =
-    none_at_all c.args.text.now.text c.args.lines.now c.loop-place.place c.loop-place-test.false c.loop-place.invariant.none
+returns c = record {
+  first = tt;
+  none = none_at_all c.args.text.now.text c.args.lines.now c.loop-place.place c.loop-place-test.false
+      c.loop-place.invariant.none;
+}

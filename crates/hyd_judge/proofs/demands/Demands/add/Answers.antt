@@ -1,8 +1,10 @@
 use Rattle.std.proofs.Common.{sym, ◌∙◌, refl}
 use Rattle.hyd_lex.specs.declared.line.Line.{Line}
-use Rattle.hyd_lex.specs.declared.section.Section.TheVariants.{Junctions}
+use Rattle.hyd_lex.specs.declared.section.Section.TheVariants.{Junctions, Patterns}
+use Rattle.hyd_spec_input.specs.Tables.{node_rows, rows_of}
 use Rattle.hyd_tables.specs.Found.{rows_at}
 use Rattle.hyd_tables.proofs.FoundLemmas.{row_at}
+use Rattle.hyd_tables.proofs.TableLemmas.{even}
 use Rattle.hyd_judge.proofs.DemandLemmas.{demand_is_right, skip_row, add_row}
 use Rattle.hyd_judge.proofs.demands.Demands.add.Goals as goal
 
@@ -24,6 +26,16 @@ demand_fault-cause-requires-clause-right c =
     let lines = c.args.lines.now in
     demand_is_right (rows_at text lines) c.args.place _ c.requires.right
     (row_at text lines c.args.place nothing c.requires.within) (sym c.is_demands.ensures ∙ c.if-not-is_demands.false)
+
+pub demand_fault-cause-requires-clause-even_nodes : goal.demand_fault-cause-requires-clause-even_nodes
+demand_fault-cause-requires-clause-even_nodes c =
+    even c.args.text.now.text (node_rows (rows_at c.args.text.now.text c.args.lines.now))
+    c.args.nodes.now.names c.args.nodes.now.firsts.items c.requires.nodes
+
+pub demand_fault-cause-requires-clause-even_patterns : goal.demand_fault-cause-requires-clause-even_patterns
+demand_fault-cause-requires-clause-even_patterns c =
+    even c.args.text.now.text (rows_of Patterns (rows_at c.args.text.now.text c.args.lines.now))
+    c.args.patterns.now.names c.args.patterns.now.firsts.items c.requires.patterns
 
 pub returns : goal.returns
 unfolding nothing

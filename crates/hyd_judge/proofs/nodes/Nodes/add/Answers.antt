@@ -1,9 +1,10 @@
 use Rattle.std.proofs.Common.{take, sym, ◌∙◌, refl}
 use Rattle.hyd_lex.specs.declared.line.Line.{Line}
-use Rattle.hyd_lex.specs.declared.section.Section.TheVariants.{Junctions}
-use Rattle.hyd_spec_input.specs.Tables.{node_rows}
+use Rattle.hyd_lex.specs.declared.section.Section.TheVariants.{Junctions, Patterns}
+use Rattle.hyd_spec_input.specs.Tables.{node_rows, rows_of}
 use Rattle.hyd_tables.specs.Found.{rows_at}
 use Rattle.hyd_tables.proofs.FoundLemmas.{row_at}
+use Rattle.hyd_tables.proofs.TableLemmas.{even}
 use Rattle.hyd_judge.proofs.NodeLemmas.{junction_is_right, skip_row, other_node, add_junction}
 use Rattle.hyd_judge.proofs.nodes.Nodes.add.Goals as goal
 
@@ -37,6 +38,11 @@ junction_fault-cause-requires-clause-right c =
     let lines = c.args.lines.now in
     junction_is_right (rows_at text lines) c.args.place _ c.requires.right
     (row_at text lines c.args.place nothing c.requires.within) (sym c.is_junctions.ensures ∙ c.if-not-is_junctions.false)
+
+pub junction_fault-cause-requires-clause-even : goal.junction_fault-cause-requires-clause-even
+junction_fault-cause-requires-clause-even c =
+    even c.args.text.now.text (rows_of Patterns (rows_at c.args.text.now.text c.args.lines.now))
+    c.args.patterns.now.names c.args.patterns.now.firsts.items c.requires.patterns
 
 pub returns : goal.returns
 unfolding nothing
