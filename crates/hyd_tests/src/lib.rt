@@ -10,6 +10,8 @@ mod command;
 #[cfg(test)]
 mod first_rows;
 #[cfg(test)]
+mod judged_rows;
+#[cfg(test)]
 mod lines;
 #[cfg(test)]
 mod network;
