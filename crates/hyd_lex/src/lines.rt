@@ -179,4 +179,12 @@ impl<'a> Lines<'a> {
     {
         word(&self.text[line.from as usize..line.to as usize], number)
     }
+
+    /// A line before its comment, for lines of many words.
+    pub fn body(&self, line: &Line) -> &'a [u8]
+        requires { LiesIn self.now.text line.now }
+        ensures { words_in result.now ≡ (row_of self.now.text line.now).words }
+    {
+        &self.text[line.from as usize..line.to as usize]
+    }
 }

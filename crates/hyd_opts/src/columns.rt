@@ -51,7 +51,7 @@ pub fn id<'a>(text: &Lines<'a>, line: &Line, k: u32) -> Result<&'a [u8], Cause>
 }
 
 /// The number that a word writes: Number exactly where the word is no number or one above 10^12 up or down.
-pub(crate) fn number_of(word: &[u8]) -> Result<Decimal, Cause>
+pub fn number_of(word: &[u8]) -> Result<Decimal, Cause>
     ensures { Judged (column.number word.now) result (λ number. number.nano ≡ nano_of word.now) }
 {
     match read_decimal(word) {
@@ -92,8 +92,8 @@ pub fn number_within(
     Ok(number)
 }
 
-/// A number of at least 0 that is needed.
-pub(crate) fn not_negative(text: &Lines<'_>, line: &Line, k: u32) -> Result<Decimal, Cause>
+/// A number of at least 0 that is needed: Syntax and Number as for `number`, Range below 0.
+pub fn not_negative(text: &Lines<'_>, line: &Line, k: u32) -> Result<Decimal, Cause>
     requires { LiesIn text.now.text line.now }
     ensures { Judged (column.needed column.not_negative k (words_at text.now line.now)) result
         (λ number. number.nano ≡ amount k (words_at text.now line.now)) }
@@ -118,7 +118,7 @@ pub fn ends(text: &Lines<'_>, line: &Line, k: u32) -> Result<(), Cause>
 }
 
 /// Whether a word is there and is this keyword.
-pub(crate) fn word_is(text: &Lines<'_>, line: &Line, k: u32, keyword: &[u8]) -> bool
+pub fn word_is(text: &Lines<'_>, line: &Line, k: u32, keyword: &[u8]) -> bool
     requires { LiesIn text.now.text line.now }
     ensures { result ≡ column.word_is k keyword.now (words_at text.now line.now) }
 {
@@ -164,7 +164,7 @@ pub(crate) fn either_keyword(
 }
 
 /// A word, empty where it isn't there.
-pub(crate) fn or_empty<'a>(text: &Lines<'a>, line: &Line, k: u32) -> &'a [u8]
+pub fn or_empty<'a>(text: &Lines<'a>, line: &Line, k: u32) -> &'a [u8]
     requires { LiesIn text.now.text line.now }
     ensures { result.now ≡ column.word k (words_at text.now line.now) }
 {

@@ -65,7 +65,9 @@ fn asked_by(word: &[u8]) -> Result<Asked, Cause>
     Ok(Asked::Number(number))
 }
 
-fn asked_at(text: &Lines<'_>, line: &Line, k: u32) -> Result<Asked, Cause>
+/// The state that a word asks of a link: Syntax where the word is missing, Number where it is no OPEN or CLOSED and no
+/// number or one above 10^12 up or down.
+pub fn asked_at(text: &Lines<'_>, line: &Line, k: u32) -> Result<Asked, Cause>
     requires { LiesIn text.now.text line.now }
     ensures { Judged (column.needed column.asked k (words_at text.now line.now)) result
         (IsAsked (column.word k (words_at text.now line.now))) }

@@ -59,7 +59,7 @@ fn metric_unit(word: &[u8]) -> Option<FlowUnit>
 
 /// The unit of flows that a word names.
 #[tactic(auto, unfolding(hyd_spec_input::specs::Keywords::flow_unit))]
-pub(crate) fn flow_unit(word: &[u8]) -> Option<FlowUnit>
+pub fn flow_unit(word: &[u8]) -> Option<FlowUnit>
     ensures { result ≡ form.flow_unit word.now }
 {
     match us_unit(word) {
@@ -465,7 +465,7 @@ fn second_rule_word(word: &[u8]) -> Option<RuleWord>
 
 /// What a line of a rule is, by its first word.
 #[tactic(auto, unfolding(hyd_spec_input::specs::Keywords::rule_word))]
-pub(crate) fn rule_word(word: &[u8]) -> Option<RuleWord>
+pub fn rule_word(word: &[u8]) -> Option<RuleWord>
     ensures { result ≡ form.rule_word word.now }
 {
     match first_rule_word(word) {

@@ -11,10 +11,13 @@ mod parts;
 mod rules;
 mod times;
 
-pub use columns::{check_id, ends, id, needed, number, number_within};
-pub use controls::{Asked, ControlLine, WhenLine, read_control};
+pub use columns::{
+    check_id, ends, id, needed, not_negative, number, number_of, number_within, or_empty, word_is,
+};
+pub use controls::{Asked, ControlLine, WhenLine, asked_at, read_control};
 pub use hyd_net::Relation;
 pub use hyd_spec_input::{Attribute, LinkWord, NodeWord};
+pub use keywords::{flow_unit, rule_word};
 pub use moments::{read_clock, read_time};
 pub use options::{OptionSet, read_option};
 pub use rules::{ActionLine, ClauseLine, Object, RuleLine, Value, read_rule_line};

@@ -1,5 +1,6 @@
 -- The fault of a text as a value that computes, capacities out of range left out, and texts that many examples begin with.
 use Rattle.std.specs.Prelude.{ℕ, ◌+◌, List, [], ◌∷◌, ◌++◌, codes, Option, Some, None}
+use Rattle.std.specs.List.{flat_map}
 use Rattle.hyd_lex.specs.Lines.{Row, items_of, rows_in, fault_in}
 use Rattle.hyd_lex.specs.declared.fault.LexFault.{LexFault}
 use Rattle.hyd_spec_input.specs.Keywords.{either}
@@ -63,6 +64,10 @@ abbrev pub tank_with : List ℕ → List ℕ
 tank_with points =
     front ++ codes "[CURVES]\n" ++ points
     ++ codes "[TANKS]\nT 0 4 0 10 0 0 C\n"
+
+-- tanks, each of a letter
+abbrev pub tanks : List ℕ → List ℕ
+tanks letters = front ++ codes "[TANKS]\n" ++ flat_map (λ letter. letter ∷ codes " 0 5 0 10 20\n") letters
 
 -- every section that is read, and every kind of row
 abbrev pub every_section : List ℕ

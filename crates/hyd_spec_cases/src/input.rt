@@ -2,9 +2,9 @@
 //! out of range are left out.
 #![tactic(auto, unfolding(hyd_lex::specs::Lines::items_of, hyd_lex::specs::Lines::kind_of, hyd_lex::specs::Headings::read_section, hyd_lex::specs::Headings::is_passed_over, hyd_lex::specs::Headings::heading_kind, hyd_lex::specs::Bytes::words_in, hyd_lex::specs::Bytes::is_keyword, hyd_num::specs::Numeral::is_numeral, hyd_num::specs::Numeral::magnitude_of, hyd_num::specs::Numeral::nano_of, hyd_spec_input::specs::Keywords::flow_unit, hyd_spec_input::specs::Keywords::option_word, hyd_spec_input::specs::Keywords::time_word, hyd_spec_input::specs::Keywords::link_word, hyd_spec_input::specs::Keywords::node_word, hyd_spec_input::specs::Keywords::object_word, hyd_spec_input::specs::Keywords::attribute_word, hyd_spec_input::specs::Keywords::relation_word, hyd_spec_input::specs::Keywords::rule_word, hyd_spec_input::specs::Moments::unit_seconds))]
 
-ghost use Rattle.std.specs.Prelude.{◌≡◌, ◌++◌, codes, Some, None};
+ghost use Rattle.std.specs.Prelude.{◌≡◌, ◌++◌, codes, replicate, Some, None};
 ghost use Rattle.hyd_net.specs.declared.cause.Cause.TheVariants.{Syntax, Number, Range, DuplicateId, UnknownName, Unsupported, Limit, Missing};
-ghost use Rattle.hyd_spec_cases.specs.Input.{fault_of, front, one_valve, town, pump_with, valve_with, tank_with, every_section};
+ghost use Rattle.hyd_spec_cases.specs.Input.{fault_of, front, one_valve, town, pump_with, valve_with, tank_with, tanks, every_section};
 
 /// Texts without a fault: one that has every section and every kind of row, and a valve.
 pub fn whole_texts()
@@ -199,6 +199,14 @@ pub fn curves()
     ensures volumes { fault_of (tank_with (codes "C 0 0\nC 5 500\nC 10 2000\n")) ≡ None }
     ensures volumes_that_stay { fault_of (tank_with (codes "C 0 0\nC 5 0\nC 10 2000\n")) ≡ Some (9, Range) }
     ensures short_of_the_maximum { fault_of (tank_with (codes "C 0 0\nC 9.9 2000\n")) ≡ Some (8, Range) }
+{}
+
+/// Limits: a line of 1,024 bytes and one of 1,025, 32 tanks and one more.
+pub fn limits()
+    ensures longest_line { fault_of (codes "[TITLE]\n" ++ replicate 1024 120) ≡ Some (0, Unsupported 1) }
+    ensures long_line { fault_of (codes "[TITLE]\n" ++ replicate 1025 120) ≡ Some (2, Limit 2) }
+    ensures most_tanks { fault_of (tanks (codes "ABCDEFGHIJKLMNOPQRSTUVWXYZabcdef")) ≡ None }
+    ensures more_tanks { fault_of (tanks (codes "ABCDEFGHIJKLMNOPQRSTUVWXYZabcdefg")) ≡ Some (37, Limit 6) }
 {}
 
 /// What a whole file lacks: a head loss formula, and a reservoir or tank.

@@ -10,9 +10,15 @@ mod cert;
 #[cfg(test)]
 mod command;
 #[cfg(test)]
+mod first_rows;
+#[cfg(test)]
+mod judged_rows;
+#[cfg(test)]
 mod lines;
 #[cfg(test)]
 mod network;
+#[cfg(test)]
+mod network_rows;
 #[cfg(test)]
 mod numbers;
 #[cfg(test)]

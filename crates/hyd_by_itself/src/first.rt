@@ -1,0 +1,37 @@
+//! The first row that is wrong by itself.
+#![tactic(auto)]
+
+ghost use Rattle.std.specs.Prelude.{IfSome, IfNone};
+ghost use Rattle.std.specs.List.{All};
+ghost use Rattle.hyd_lex.specs.Lines.{LiesIn};
+ghost use Rattle.hyd_spec_input.specs.ByItself.{IsWrongByItself};
+ghost use Rattle.hyd_spec_input.specs.Faults.{IsFirst, NoneIs};
+ghost use Rattle.hyd_tables.specs.Found.{rows_at};
+
+use crate::sections::row_fault;
+use crate::stages::next_stage;
+use hyd_lex::{Line, Lines};
+use hyd_spec_input::Stage;
+use hyd_tables::Found;
+
+/// The first row that is wrong by itself. `None` comes exactly where no row is.
+pub fn first_by_itself(text: &Lines<'_>, lines: &[Line]) -> Option<Found>
+    requires { All (LiesIn text.now.text) lines.now }
+    ensures first { IfSome result (λ found. IsFirst (rows_at text.now.text lines.now)
+        (IsWrongByItself (rows_at text.now.text lines.now)) found.line found.cause) }
+    ensures none { IfNone result (NoneIs (IsWrongByItself (rows_at text.now.text lines.now))) }
+{
+    let mut stage = Stage::Outside;
+    for place in 0..lines.len() {
+        let line = &lines[place];
+        if let Some(cause) = row_fault(text, line, stage, &lines[place + 1..]) {
+            return Some(Found {
+                place,
+                line: line.number,
+                cause,
+            });
+        }
+        stage = next_stage(text, line, stage);
+    }
+    None
+}

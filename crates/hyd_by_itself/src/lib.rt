@@ -1,0 +1,10 @@
+//! The first row of an input file that is wrong by itself, whatever the other rows say (EPANET 2.2 User Manual,
+//! appendix C).
+#![tactic(auto)]
+
+mod first;
+mod rules;
+mod sections;
+mod stages;
+
+pub use first::first_by_itself;

@@ -1,0 +1,18 @@
+//! The rows of an input file judged among all rows, section by section (EPANET 2.2 User Manual, appendix C). Each pass
+//! keeps the table of its IDs and its first wrong row.
+#![tactic(auto)]
+
+mod curves;
+mod demands;
+mod limits;
+mod names;
+mod nodes;
+mod patterns;
+mod ranges;
+mod units;
+
+pub use curves::{Curves, judge_curves};
+pub use demands::{Demands, judge_demands};
+pub use nodes::{Nodes, judge_nodes};
+pub use patterns::{Patterns, judge_patterns};
+pub use units::{last_option, unit_in_force};
