@@ -1,16 +1,18 @@
 //! Laws of links and of demands at both sides of each knee, against values worked out by an independent program.
 #![tactic(auto)]
 
-ghost use Rattle.std.specs.Prelude.{◌≡◌, ◌≤◌, ◌*◌, ◌^◌, ℤ, unsigned_abs};
+ghost use Rattle.std.specs.Prelude.{◌≡◌, ◌≤◌, ◌*◌, ◌^◌, ℤ, ◌≤ℤ◌, unsigned_abs, IfOk};
+ghost use Rattle.hyd_law.specs.Curves.{IsCurve};
 ghost use Rattle.hyd_law.specs.LinkLaws.{IsSoundLink, LinkAccepts};
 ghost use Rattle.hyd_law.specs.OutLaws.{IsSoundOut, OutAccepts};
 ghost use Rattle.hyd_spec_laws.specs.Laws.{IsSoundCapacity};
 
-use hyd_law::{Capped, Fixed, Law, Lifted, Linear, LinkLaw, OneWay, OutLaw, Pda, Quad, Shut};
-use hyd_net::ShutoffHead;
+use hyd_law::{Bent, Capped, Fixed, Held, Knot, Law, Lifted, Linear, LinkLaw, OneWay, OutLaw, Pda, Quad, Shut};
+use hyd_net::{List, OutOfMemory, ShutoffHead};
 use hyd_num::{Capacity, Decimal, Span};
 use hyd_resist::pda_capacity;
-use hyd_units::pressure_ticks;
+use std::alloc::Global;
+use std::test::Fail;
 
 /// What passes at least and at most at a head difference of at most 2 * 10^18 head ticks.
 fn link_flows(law: &LinkLaw, d: i64) -> Option<(i128, i128)>
@@ -222,6 +224,104 @@ fn limits_are_as_calculated(rt: HostRuntime) {
     }
 }
 
+/// A list of these knots.
+fn listed(alloc: Global, knots: &[Knot]) -> Result<List<Knot>, OutOfMemory>
+    requires { IsCurve knots.now }
+    ensures { IfOk result (λ list. IsCurve list.list) }
+{
+    let mut list = List::new(alloc);
+    for knot in knots {
+        list.push(*knot)?;
+    }
+    Ok(list)
+}
+
+/// Straight lines through these knots, held from a least to a greatest flow.
+fn bent(least: i64, most: i64, knots: List<Knot>) -> LinkLaw
+    requires curve { IsCurve knots.list }
+    requires bounds { least ≤ℤ most }
+    ensures sound { IsSoundLink result }
+    ensures accepts { (x : ℤ) → unsigned_abs x ≤ 2 * 10 ^ 18 → LinkAccepts result x }
+{
+    LinkLaw::Bent(Held {
+        least,
+        most,
+        inner: Bent { knots },
+    })
+}
+
+fn knot(head: i64, flow: i64) -> Knot
+    ensures { result ≡ record { head = head; flow = flow } }
+{
+    Knot { head, flow }
+}
+
+#[test]
+fn curves_are_as_calculated(rt: HostRuntime) -> Result<(), Fail> {
+    let pump = [
+        knot(-400_000_000_000_000, 0),
+        knot(-350_000_000_000_000, 5_000_000_000),
+        knot(-250_000_000_000_000, 9_000_000_000),
+        knot(-100_000_000_000_000, 12_000_000_000),
+    ];
+    let law = bent(0, 100_000_000_000_000_000, listed(rt.alloc(), &pump)?);
+    for (d, low, high) in [
+        (-500_000_000_000_000, 0, 0),
+        (-400_000_000_000_001, 0, 0),
+        (-400_000_000_000_000, 0, 0),
+        (-399_999_999_999_999, 0, 1),
+        (-350_000_000_000_001, 4_999_999_999, 5_000_000_000),
+        (-350_000_000_000_000, 5_000_000_000, 5_000_000_000),
+        (-349_999_999_999_999, 5_000_000_000, 5_000_000_001),
+        (-250_000_000_000_001, 8_999_999_999, 9_000_000_000),
+        (-250_000_000_000_000, 9_000_000_000, 9_000_000_000),
+        (-249_999_999_999_999, 9_000_000_000, 9_000_000_001),
+        (-100_000_000_000_001, 11_999_999_999, 12_000_000_000),
+        (-100_000_000_000_000, 12_000_000_000, 12_000_000_000),
+        (-99_999_999_999_999, 12_000_000_000, 12_000_000_001),
+        (0, 14_000_000_000, 14_000_000_000),
+        (1_000_000_000_000_000_000, 20_014_000_000_000, 20_014_000_000_000),
+    ] {
+        assert_eq!(rt; link_flows(&law, d), Some((low, high)), "pump's curve at {d}");
+    }
+    Ok(())
+}
+
+#[test]
+fn steep_curves_are_as_calculated(rt: HostRuntime) -> Result<(), Fail> {
+    let valve = [
+        knot(-1, -1_000_000_000_000_000),
+        knot(0, 0),
+        knot(0, 0),
+        knot(1, 1_000_000_000_000_000),
+    ];
+    let law = bent(
+        -100_000_000_000_000_000,
+        100_000_000_000_000_000,
+        listed(rt.alloc(), &valve)?,
+    );
+    for (d, flow) in [
+        (-101, -100_000_000_000_000_000),
+        (-100, -100_000_000_000_000_000),
+        (-99, -99_000_000_000_000_000),
+        (-1, -1_000_000_000_000_000),
+        (0, 0),
+        (1, 1_000_000_000_000_000),
+        (99, 99_000_000_000_000_000),
+        (100, 100_000_000_000_000_000),
+        (101, 100_000_000_000_000_000),
+    ] {
+        assert_eq!(rt; link_flows(&law, d), Some((flow, flow)), "valve's curve at {d}");
+    }
+
+    let steps = [knot(-3, -7), knot(-3, 2), knot(4, 9), knot(4, 11)];
+    let law = bent(-100, 100, listed(rt.alloc(), &steps)?);
+    for (d, flow) in [(-4, -7), (-3, 2), (-2, 3), (0, 5), (3, 8), (4, 11), (5, 11)] {
+        assert_eq!(rt; link_flows(&law, d), Some((flow, flow)), "steps at {d}");
+    }
+    Ok(())
+}
+
 /// The law of 100 cubic metres a day from 5 to 45 pounds a square inch.
 fn by_pressure() -> OutLaw
     ensures sound { IsSoundOut result }
@@ -236,8 +336,14 @@ fn by_pressure() -> OutLaw
     OutLaw::Pda(Pda {
         demand: 1_000_000_000,
         cap: pda_capacity(1_000_000_000, minimum, required, true),
-        p0: pressure_ticks(minimum, true),
-        pf: pressure_ticks(required, true),
+        p0: Span {
+            lo: 35_171_936_302_792,
+            hi: 35_171_936_302_793,
+        },
+        pf: Span {
+            lo: 316_547_426_725_132,
+            hi: 316_547_426_725_133,
+        },
         minimum,
         required,
         us: true,
