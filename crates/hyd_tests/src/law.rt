@@ -7,7 +7,9 @@ ghost use Rattle.hyd_law.specs.LinkLaws.{IsSoundLink, LinkAccepts};
 ghost use Rattle.hyd_law.specs.OutLaws.{IsSoundOut, OutAccepts};
 ghost use Rattle.hyd_spec_laws.specs.Laws.{IsSoundCapacity};
 
-use hyd_law::{Bent, Capped, Fixed, Held, Knot, Law, Lifted, Linear, LinkLaw, OneWay, OutLaw, Pda, Quad, Shut};
+use hyd_law::{
+    Bent, Capped, Fixed, Held, Knot, Law, Lifted, Linear, LinkLaw, OneWay, OutLaw, Pda, Quad, Shut,
+};
 use hyd_net::{List, OutOfMemory, ShutoffHead};
 use hyd_num::{Capacity, Decimal, Span};
 use hyd_resist::pda_capacity;
@@ -280,9 +282,17 @@ fn curves_are_as_calculated(rt: HostRuntime) -> Result<(), Fail> {
         (-100_000_000_000_000, 12_000_000_000, 12_000_000_000),
         (-99_999_999_999_999, 12_000_000_000, 12_000_000_001),
         (0, 14_000_000_000, 14_000_000_000),
-        (1_000_000_000_000_000_000, 20_014_000_000_000, 20_014_000_000_000),
+        (
+            1_000_000_000_000_000_000,
+            20_014_000_000_000,
+            20_014_000_000_000,
+        ),
     ] {
-        assert_eq!(rt; link_flows(&law, d), Some((low, high)), "pump's curve at {d}");
+        assert_eq!(rt;
+            link_flows(&law, d),
+            Some((low, high)),
+            "pump's curve at {d}"
+        );
     }
     Ok(())
 }
@@ -311,7 +321,11 @@ fn steep_curves_are_as_calculated(rt: HostRuntime) -> Result<(), Fail> {
         (100, 100_000_000_000_000_000),
         (101, 100_000_000_000_000_000),
     ] {
-        assert_eq!(rt; link_flows(&law, d), Some((flow, flow)), "valve's curve at {d}");
+        assert_eq!(rt;
+            link_flows(&law, d),
+            Some((flow, flow)),
+            "valve's curve at {d}"
+        );
     }
 
     let steps = [knot(-3, -7), knot(-3, 2), knot(4, 9), knot(4, 11)];
