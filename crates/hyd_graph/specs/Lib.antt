@@ -1,5 +1,8 @@
 pub mod NetView
 pub mod Ties
+pub mod Demands
 pub mod ExactLaw
 pub mod Settings
-pub mod Demands
+pub mod GridOf
+pub mod Nets
+pub mod Periods

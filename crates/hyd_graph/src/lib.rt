@@ -1,15 +1,23 @@
 //! The network of a period: its links with their laws, and the link ends at each junction.
 #![tactic(auto)]
 
+mod accessors;
 mod closed;
 mod curves;
 mod demands;
 mod fault;
+mod fixed;
 mod laws;
+mod net;
+mod opening;
 mod parts;
+mod period;
 mod pumps;
 mod rows;
 mod settings;
+mod theorems;
 
 pub use fault::PeriodDemand;
+pub use net::Net;
 pub use parts::{Ends, LevelSpan, NetJunction, Setting, Tie};
+pub use theorems::periods;

@@ -1,0 +1,57 @@
+//! Heads of reservoirs and tanks.
+#![tactic(auto)]
+
+ghost use Rattle.std.specs.Prelude.{◌≡◌, pos, ◌+ℤ◌, ◌≤ℤ◌, length, map, All};
+ghost use Rattle.hyd_net.specs.Ranges.{IsHead};
+ghost use Rattle.hyd_net.specs.Sound.{Sound};
+ghost use Rattle.hyd_spec.specs.Quantity.{reservoir_head};
+ghost use Rattle.hyd_spec_certificates.specs.Grid.{tank_intervals};
+ghost use Rattle.hyd_graph.specs.GridOf.{interval_of};
+ghost use Rattle.hyd_graph.specs.Nets.{AreHeads};
+ghost use Rattle.hyd_graph.specs.Periods.{AreLevels, IsSpanOf, HasHeads};
+
+use crate::parts::LevelSpan;
+use hyd_demand::head_at;
+use hyd_net::{Project, Tank};
+
+/// Writes the head of each reservoir at a time.
+pub(crate) fn set_reservoirs(project: &Project, time: u32, heads: &mut [i64])
+    requires sound { Sound project.now }
+    requires each { length heads.old ≡ length project.now.reservoirs.list }
+    ensures count { length heads.new ≡ length heads.old }
+    ensures set { heads.new ≡ map (reservoir_head project.now time) project.now.reservoirs.list }
+    ensures range { All IsHead heads.new }
+{
+    for i in 0..heads.len() {
+        heads[i] = head_at(project, i as u32, time);
+    }
+}
+
+// A tank's heads: its bottom plus its levels.
+fn heads_of(tank: &Tank, levels: &LevelSpan) -> LevelSpan
+    requires bottom { IsHead tank.now.bottom }
+    requires top { IsHead (tank.now.bottom +ℤ tank.now.maximum) }
+    requires lowest { pos 0 ≤ℤ tank.now.minimum }
+    requires levels { IsSpanOf tank.now levels.now }
+    ensures { HasHeads tank.now levels.now result }
+{
+    LevelSpan {
+        lo: levels.lo + tank.bottom,
+        hi: levels.hi + tank.bottom,
+    }
+}
+
+/// Writes the heads of each tank at its levels.
+pub(crate) fn set_tanks(project: &Project, levels: &[LevelSpan], heads: &mut [LevelSpan])
+    requires sound { Sound project.now }
+    requires levels { AreLevels project.now levels.now }
+    requires each { length heads.old ≡ length project.now.tanks.list }
+    ensures count { length heads.new ≡ length heads.old }
+    ensures set { map interval_of heads.new ≡ tank_intervals project.now.tanks.list (map interval_of levels.now) }
+    ensures range { All AreHeads heads.new }
+{
+    let tanks = project.tanks.as_slice();
+    for i in 0..tanks.len() {
+        heads[i] = heads_of(&tanks[i], &levels[i]);
+    }
+}
