@@ -8,6 +8,8 @@ mod capacities;
 #[cfg(test)]
 mod command;
 #[cfg(test)]
+mod demand;
+#[cfg(test)]
 mod law;
 #[cfg(test)]
 mod lines;
