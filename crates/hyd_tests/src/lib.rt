@@ -13,6 +13,9 @@ mod command;
 mod first_rows;
 #[cfg(test)]
 mod judged_rows;
+mod demand;
+#[cfg(test)]
+mod law;
 #[cfg(test)]
 mod lines;
 #[cfg(test)]

@@ -1,0 +1,138 @@
+//! Demands and heads of reservoirs over time, against values worked out by an independent program.
+#![tactic(auto)]
+
+ghost use Rattle.std.specs.Prelude.{◌≡◌, [], ◌∷◌, pos, false, Some, length, IfOk, codes};
+ghost use Rattle.hyd_num.specs.declared.units.FlowUnit.TheVariants.{Cmd};
+ghost use Rattle.hyd_net.specs.Sound.{Sound};
+
+use hyd_demand::{DemandRange, demand_at, head_at};
+use hyd_net::{
+    Demand, Junction, List, Names, Options, OutOfMemory, Pattern, Project, Reservoir, Times,
+};
+use hyd_num::{Decimal, FlowUnit};
+use std::alloc::Global;
+use std::test::Fail;
+
+fn one<T: Drop>(alloc: Global, item: T) -> Result<List<T>, OutOfMemory>
+    ensures { IfOk result (λ list. list.list ≡ item ∷ []) }
+{
+    let mut list = List::new(alloc);
+    list.push(item)?;
+    Ok(list)
+}
+
+fn two<T: Drop>(alloc: Global, first: T, second: T) -> Result<List<T>, OutOfMemory>
+    ensures { IfOk result (λ list. list.list ≡ first ∷ (second ∷ [])) }
+{
+    let mut list = one(alloc, first)?;
+    list.push(second)?;
+    Ok(list)
+}
+
+fn names(alloc: Global) -> Result<Names, OutOfMemory>
+    ensures { IfOk result (λ names. names ≡ codes "J" ∷ (codes "R" ∷ [])) }
+{
+    let mut names = Names::new(alloc);
+    names.add(b"J")?;
+    names.add(b"R")?;
+    Ok(names)
+}
+
+const TIMES: Times = Times {
+    duration: 86_400,
+    hydraulic: 3_600,
+    pattern: 7_200,
+    pattern_start: 3_600,
+    report: 3_600,
+    report_start: 0,
+    start_clock: 0,
+    rule: 360,
+};
+
+/// The demand multiplier is 2.5 and a billionth.
+fn options() -> Options
+    ensures unit { result.unit ≡ Cmd }
+    ensures given { result.pda ≡ false }
+    ensures minimum { result.p0.nano ≡ pos 0 }
+    ensures required { result.pf.nano ≡ pos 100000000 }
+    ensures multiplier { result.multiplier.nano ≡ pos 2500000001 }
+    ensures pattern { result.default_pattern ≡ Some 0 }
+{
+    Options {
+        unit: FlowUnit::Cmd,
+        pda: false,
+        p0: Decimal { nano: 0 },
+        pf: Decimal { nano: 100_000_000 },
+        multiplier: Decimal {
+            nano: 2_500_000_001,
+        },
+        default_pattern: Some(0),
+    }
+}
+
+/// A junction of two categories, one of them by the default pattern, and a reservoir.
+fn network(alloc: Global) -> Result<Project, OutOfMemory>
+    ensures sound { IfOk result (λ project. Sound project) }
+    ensures junctions { IfOk result (λ project. length project.junctions.list ≡ 1) }
+    ensures reservoirs { IfOk result (λ project. length project.reservoirs.list ≡ 1) }
+{
+    let halves = Pattern {
+        multipliers: two(alloc, 1_000_000_000, 500_000_000)?,
+    };
+    let jumps = Pattern {
+        multipliers: two(alloc, -333_333_333, 3_000_000_000)?,
+    };
+    let usual = Demand {
+        base: 1_000_000_007,
+        pattern: None,
+    };
+    let own = Demand {
+        base: 200_000_000_000_001,
+        pattern: Some(1),
+    };
+    let junction = Junction {
+        elevation: 0,
+        demands: two(alloc, usual, own)?,
+        emitter: None,
+    };
+    let reservoir = Reservoir {
+        head: -1_000_000_000_000_001,
+        pattern: Some(0),
+    };
+    Ok(Project {
+        options: options(),
+        times: TIMES,
+        node_ids: names(alloc)?,
+        link_ids: Names::new(alloc),
+        junctions: one(alloc, junction)?,
+        reservoirs: one(alloc, reservoir)?,
+        tanks: List::new(alloc),
+        links: List::new(alloc),
+        patterns: two(alloc, halves, jumps)?,
+        shapes: List::new(alloc),
+        bends: List::new(alloc),
+        controls: List::new(alloc),
+        rules: List::new(alloc),
+    })
+}
+
+#[test]
+fn demands_and_heads_are_as_calculated(rt: HostRuntime) -> Result<(), Fail> {
+    let project = network(rt.alloc())?;
+    let low = Ok(-166_664_166_399_982);
+    let high = Err(DemandRange {
+        value: 1_500_001_250_600_015,
+    });
+    for (time, demand, head) in [
+        (0, low, -1_000_000_000_000_001),
+        (3_599, low, -1_000_000_000_000_001),
+        (3_600, high, -500_000_000_000_000),
+        (10_799, high, -500_000_000_000_000),
+        (10_800, low, -1_000_000_000_000_001),
+        (18_000, high, -500_000_000_000_000),
+    ] {
+        assert_eq!(rt; demand_at(&project, 0, time), demand, "demand at {time}");
+        assert_eq!(rt; head_at(&project, 0, time), head, "head at {time}");
+    }
+    Ok(())
+}
