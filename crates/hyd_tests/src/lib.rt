@@ -1,4 +1,5 @@
-//! The tests of all crates: each public call on its happy path, and tables of values worked out by an independent program.
+//! The tests of numbers, units, capacities, the desk and the program: each public call on its happy path, and tables of values
+//! worked out by an independent program.
 #![tactic(auto)]
 
 #[cfg(test)]
@@ -6,28 +7,11 @@ mod ample;
 #[cfg(test)]
 mod capacities;
 #[cfg(test)]
-mod cert;
-#[cfg(test)]
 mod command;
-#[cfg(test)]
-mod first_rows;
-#[cfg(test)]
-mod judged_rows;
-mod demand;
-#[cfg(test)]
-mod law;
-#[cfg(test)]
-mod lines;
-#[cfg(test)]
-mod network;
-#[cfg(test)]
-mod network_rows;
 #[cfg(test)]
 mod numbers;
 #[cfg(test)]
 mod outside;
-#[cfg(test)]
-mod rows;
 #[cfg(test)]
 mod sparse;
 #[cfg(test)]

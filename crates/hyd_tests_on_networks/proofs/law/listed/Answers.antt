@@ -2,7 +2,7 @@ use Rattle.std.proofs.Common.{List, ◌++◌, sym, ap, ◌∙◌, subst, arith}
 use Rattle.std.proofs.lemmas.List.{append-nil, drop_all}
 use Rattle.hyd_law.specs.declared.kinds.Knot.{Knot}
 use Rattle.hyd_law.specs.Curves.{IsCurve}
-use Rattle.hyd_tests.proofs.law.listed.Goals as goal
+use Rattle.hyd_tests_on_networks.proofs.law.listed.Goals as goal
 
 pub returns : goal.returns
 returns c =

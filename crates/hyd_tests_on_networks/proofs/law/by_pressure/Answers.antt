@@ -1,7 +1,7 @@
 use Rattle.std.proofs.Common.{refl, arith}
 use Rattle.std.proofs.lemmas.Int.{ints}
 use Rattle.hyd_spec_laws.proofs.EachLaw.{IsSoundCapacity-made}
-use Rattle.hyd_tests.proofs.law.by_pressure.Goals as goal
+use Rattle.hyd_tests_on_networks.proofs.law.by_pressure.Goals as goal
 
 pub returns-clause-sound : goal.returns-clause-sound
 returns-clause-sound c = record {

@@ -1,6 +1,6 @@
 use Rattle.std.proofs.Common.{pos, None, refl}
-use Rattle.hyd_tests.proofs.SmallNetwork.{sound_of}
-use Rattle.hyd_tests.proofs.demand.network.Goals as goal
+use Rattle.hyd_tests_on_networks.proofs.SmallNetwork.{sound_of}
+use Rattle.hyd_tests_on_networks.proofs.demand.network.Goals as goal
 
 pub returns-clause-sound : goal.returns-clause-sound
 returns-clause-sound c =

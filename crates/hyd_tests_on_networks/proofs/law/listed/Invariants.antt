@@ -1,5 +1,5 @@
 use Rattle.std.proofs.Common.{◌≡◌, ◌++◌, drop}
-use Rattle.hyd_tests.proofs.law.listed.Given as goal
+use Rattle.hyd_tests_on_networks.proofs.law.listed.Given as goal
 
 abbrev pub invariant-loop-knot : goal.invariant-loop-knot
 invariant-loop-knot l = l.list.list ++ drop l.knot-index l.knots ≡ l.knots

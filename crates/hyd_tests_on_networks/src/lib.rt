@@ -1,0 +1,10 @@
+//! The tests of crates that reckon with networks: laws, demands, periods, certificates, tanks and controls, against values
+//! worked out by an independent program.
+#![tactic(auto)]
+
+#[cfg(test)]
+mod demand;
+#[cfg(test)]
+mod law;
+#[cfg(test)]
+mod network;
