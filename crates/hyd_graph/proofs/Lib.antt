@@ -2,14 +2,9 @@ pub mod Counts
 pub mod Fixing
 pub mod Lifting
 pub mod LawsStand
-pub mod Knots
 pub mod Ranging
 pub mod SettingOne
 pub mod Reading
-pub mod Sounding
 pub mod Steady
 pub mod Summing
 pub mod TieLemmas
-pub mod Standing
-pub mod Closed
-pub mod Junctions

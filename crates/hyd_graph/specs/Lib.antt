@@ -5,4 +5,3 @@ pub mod ExactLaw
 pub mod Settings
 pub mod GridOf
 pub mod Nets
-pub mod Periods

@@ -10,7 +10,7 @@ ghost use Rattle.hyd_sweep.specs.Sweeps.{HoldsInBox, MayMove};
 
 use crate::raising::held_head;
 use crate::ticks::{is_beyond, is_same};
-use hyd_check::{head_of, is_in_box, passes_with};
+use hyd_check::{head_of, is_in_box, passes};
 use hyd_graph::Net;
 use hyd_spec_certificates::{HeldJunction, Problem, Side};
 
@@ -48,6 +48,7 @@ fn may_move(
     requires inside { i < length u.now }
     ensures { IsTrue result ↔ MayMove held (grid_of net.now) problem side u.now to.now i }
 {
+    let _junctions = net.junctions();
     let from = head_of(u, i);
     let head = head_of(to, i);
     if is_same(head, from) {
@@ -58,7 +59,7 @@ fn may_move(
     }
     match held_head(held, i) {
         Some(_) => false,
-        None => !passes_with(net, problem, side, to, i, head),
+        None => !passes(net, problem, side, to, i),
     }
 }
 
@@ -140,6 +141,7 @@ pub(crate) fn leap_on(
     requires held_in_box { HoldsInBox held }
     ensures { Climbs held (grid_of net.now) problem side [] u.old u.new }
 {
+    let _junctions = net.junctions();
     for _leaps in 0..LEAPS {
         propose(u, before, to);
         if !leap(net, problem, side, held, u, to) {

@@ -75,7 +75,7 @@ fn heads(alloc: Global, count: u32) -> Result<Vec<i64>, OutOfMemory>
     ensures { IfOk result (λ heads. length heads.items ≡ count) }
 {
     let mut heads = Vec::new(alloc);
-    for _ in 0..count {
+    for _made in 0..count {
         heads.push(0)?;
     }
     Ok(heads)
@@ -106,7 +106,7 @@ impl Sweeper {
         requires start { IsStart held (grid_of net.now) problem side u.old }
         requires pinned { HasProblem net.now problem }
         requires held_in_box { HoldsInBox held }
-        ensures { SweepGives held (grid_of net.now) problem side rounds u.old u.new result }
+        ensures sweep { SweepGives held (grid_of net.now) problem side rounds u.old u.new result }
         ensures keeps { self.new ≡ self.old }
     {
         tighten_by_leaps(
