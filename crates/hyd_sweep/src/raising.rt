@@ -1,7 +1,7 @@
 //! Raises of single junctions.
 #![tactic(auto)]
 
-ghost use Rattle.std.specs.Prelude.{◌≡◌, ◌<◌, ◌≤◌, ℕ, pos, ◌+◌, ◌-ℤ◌, length, All, MatchOption, None};
+ghost use Rattle.std.specs.Prelude.{◌≡◌, ◌<◌, ◌≤◌, ℕ, pos, ◌+◌, ◌-ℤ◌, ◌≤ℤ◌, ◌↔◌, length, All, IsTrue, MatchOption, None};
 ghost use Rattle.hyd_spec.specs.Assignment.{head_at};
 ghost use Rattle.hyd_spec_certificates.specs.declared.Side.TheVariants.{Upper, Lower};
 ghost use Rattle.hyd_spec_certificates.specs.Certificate.{box_limit, IsInBox};
@@ -18,6 +18,12 @@ use crate::ticks::{further, is_beyond, room};
 use hyd_check::{head_of, surplus};
 use hyd_graph::Net;
 use hyd_spec_certificates::{HeldJunction, Problem, Side};
+
+fn is_enough(surplus: i128) -> bool
+    ensures { IsTrue result ↔ pos 0 ≤ℤ surplus }
+{
+    surplus >= 0
+}
 
 // The least number of ticks from its head at which the junction passes, or one more than the room where there is none.
 fn ticks_to_pass(net: &Net, problem: Problem, side: Side, u: &[i64], i: u32, room: u64) -> u64
@@ -40,7 +46,7 @@ fn ticks_to_pass(net: &Net, problem: Problem, side: Side, u: &[i64], i: u32, roo
         let ticks = aim.next(low, high);
         let surplus = surplus(net, problem, side, u, i, further(side, here, ticks));
         aim = aim.after(surplus);
-        if surplus >= 0 {
+        if is_enough(surplus) {
             high = ticks;
         } else {
             low = ticks + 1;

@@ -75,7 +75,7 @@ fn heads(alloc: Global, count: u32) -> Result<Vec<i64>, OutOfMemory>
     ensures { IfOk result (λ heads. length heads.items ≡ count) }
 {
     let mut heads = Vec::new(alloc);
-    for _made in 0..count {
+    for _ in 0..count {
         heads.push(0)?;
     }
     Ok(heads)

@@ -17,8 +17,8 @@ yes-not true a e = false≢true a
 yes-not false a e = false≢true e
 
 not-yes : (b : Bool) → (IsTrue b → ⊥) → IsTrue (not_bool b)
-not-yes true no = absurd (no refl)
-not-yes false no = refl
+not-yes true missing = absurd (missing refl)
+not-yes false missing = refl
 
 one : (X : Type 0) (x y : X) → ◌≡◌ {A = Option X} (Some x) (Some y) → x ≡ y
 one X x y e = cc
@@ -33,7 +33,7 @@ returns-in-Some c =
     let head : to_z w64 (of_z w64 c.head_of-head.result) ≡ head_at v i = (let k : to_z w64 (of_z w64 c.head_of-head.result) ≡ c.head_of-head.result = omega (arith, ints) in k ∙ c.head_of-head.ensures) in
     let inside : i < length v = (let a = c.requires.inside in let b = c.requires.other_each in omega (arith, a, b)) in
     let within : i < length grid.junctions = (let a = c.requires.inside in let b = c.requires.one_each in let e = c.junctions-junctions.ensures.each in omega (arith, a, b, e)) in (
-      (λ no. absurd (false≢true no)),
+      (λ e. absurd (false≢true e)),
       (λ may. (
         let at = junction-there grid.junctions i within in
         absurd (elim (may.fails at.0 at.1) [

@@ -1,5 +1,6 @@
 use Rattle.std.proofs.Common.{◌≡◌, ◌≤◌, ◌<◌, ◌∙◌, sym, subst, ap, w64, to_z, of_z, arith, ℤ, pos, ◌≤ℤ◌, ◌<ℤ◌, None}
 use Rattle.std.specs.Int.{w128}
+use Rattle.std.proofs.lemmas.Bool.{false≢true}
 use Rattle.std.proofs.lemmas.Int.{ints}
 use Rattle.hyd_spec.specs.Assignment.{head_at}
 use Rattle.hyd_graph.specs.GridOf.{grid_of}
@@ -8,8 +9,8 @@ use Rattle.hyd_sweep.specs.Sweeps.{further}
 use Rattle.hyd_sweep.proofs.Values.{passes-later}
 use Rattle.hyd_sweep.proofs.raising.ticks_to_pass.Goals as goal
 
-pub loop-low-preserved-then-surplus-ge0 : goal.loop-low-preserved-then-surplus-ge0
-loop-low-preserved-then-surplus-ge0 c =
+pub loop-low-preserved-then-is_enough : goal.loop-low-preserved-then-is_enough
+loop-low-preserved-then-is_enough c =
     let grid = grid_of c.args.net.now in
     let side = c.args.side in
     let u = c.args.u.now in
@@ -24,7 +25,7 @@ loop-low-preserved-then-surplus-ge0 c =
     let below = c.next-ticks.ensures.below in
     let most = inv.at_most in
     let kept-over : to_z w128 (of_z w128 c.surplus-surplus.result) ≡ c.surplus-surplus.result = omega (arith, ints) in
-    let over : pos 0 ≤ℤ c.surplus-surplus.result = subst (λ (s : ℤ). pos 0 ≤ℤ s) kept-over c.if-surplus-ge0.true in
+    let over : pos 0 ≤ℤ c.surplus-surplus.result = subst (λ (s : ℤ). pos 0 ≤ℤ s) kept-over (c.is_enough.ensures.0 c.if-is_enough.true) in
     let passes : PassesWith grid c.args.problem side u i (further side (head_at u i) ticks) =
     subst (λ (h : ℤ). PassesWith grid c.args.problem side u i h) at (c.surplus-surplus.ensures.passes.0 over) in
     record {
@@ -49,7 +50,6 @@ loop-low-preserved c =
     let below = c.next-ticks.ensures.below in
     let most = inv.at_most in
     let kept-over : to_z w128 (of_z w128 c.surplus-surplus.result) ≡ c.surplus-surplus.result = omega (arith, ints) in
-    let lacking : c.surplus-surplus.result <ℤ pos 0 = subst (λ (s : ℤ). s <ℤ pos 0) kept-over c.if-surplus-ge0.false in
     record {
       ordered = omega (arith, below);
       at_most = most;
@@ -57,6 +57,6 @@ loop-low-preserved c =
           let le : k ≤ ticks = omega (arith, lt) in
           let over = c.surplus-surplus.ensures.passes.1 (subst (λ (h : ℤ). PassesWith grid c.args.problem side u i h) (sym at)
           (passes-later None grid c.requires.steady c.args.problem side u i c.requires.inside (head_at u i) k ticks le passes)) in
-          absurd (omega (arith, ints, over, lacking));
+          false≢true (sym c.if-is_enough.false ∙ c.is_enough.ensures.1 (subst (λ (s : ℤ). pos 0 ≤ℤ s) (sym kept-over) over));
       after = inv.after;
     }
