@@ -1,14 +1,10 @@
 -- The laws of junctions' demands stand for those of the grid of a period.
-use Rattle.std.proofs.Common.{◌≡◌, ◌*◌, ◌^◌, ◌<◌, ◌≤◌, ℕ, ℤ, pos, ◌-ℤ◌, ◌≤ℤ◌, Bool, unsigned_abs, refl, sym, ap, subst, ◌∙◌, true, false, arith}
-use Rattle.std.specs.Prelude.{MatchBool, int_le, if◌then◌else◌}
-use Rattle.std.specs.Int.{int_min}
-use Rattle.std.proofs.lemmas.Int.{ints}
-use Rattle.hyd_num.specs.Rational.{Rational, floor, ceiling}
+use Rattle.std.proofs.Common.{◌≡◌, ℤ, pos, refl}
+use Rattle.hyd_num.specs.Rational.{floor, ceiling}
 use Rattle.hyd_spec.specs.Types.{Project}
 use Rattle.hyd_spec.specs.Quantity.{pressure_value}
 use Rattle.hyd_spec_certificates.specs.Enclosing.{demand_low, demand_high, quadratic_low, quadratic_high}
 use Rattle.hyd_law.specs.OutLaws.{out_low, out_high, IsSoundOut, stepped}
-use Rattle.hyd_law.specs.declared.outflows.Fixed.{Fixed}
 use Rattle.hyd_law.specs.declared.outflows.OutLaw.{OutLaw}
 use Rattle.hyd_law.specs.declared.outflows.OutLaw.TheVariants.{Fixed as FixedOut, Pda as PdaOut}
 use Rattle.hyd_graph.specs.Demands.{demand_of_law, IsHeld}

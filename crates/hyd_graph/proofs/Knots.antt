@@ -1,13 +1,17 @@
 -- The knots of curves: their ranges, and that they are curves of a law.
-use Rattle.std.proofs.Common.{◌≡◌, ℕ, zero, suc, ◌+◌, ◌*◌, ◌^◌, ◌<◌, ◌≤◌, ℤ, pos, negsuc, ◌+ℤ◌, ◌-ℤ◌, ◌*ℤ◌, ◌≤ℤ◌, ◌<ℤ◌, neg_ℤ, true, List, [], ◌∷◌, length, map, slice_index_or, unsigned_abs, refl, sym, ap, subst, ◌∙◌, arith}
+use Rattle.std.proofs.Common.{◌≡◌, ℕ, zero, suc, ◌+◌, ◌*◌, ◌^◌, ◌<◌, ◌≤◌, ℤ, pos, negsuc, ◌+ℤ◌, ◌-ℤ◌, ◌*ℤ◌, ◌≤ℤ◌, ◌<ℤ◌, neg_ℤ, true, List, [], ◌∷◌, ◌++◌, ◌-◌, length, map, reverse, drop, drop-cons, add-one, append_assoc, slice_index_or, unsigned_abs, refl, sym, ap, subst, ◌∙◌, w64, arith}
 use Rattle.std.specs.Prelude.{int_lt, int_le, All}
+use Rattle.std.specs.Int.{w128}
+use Rattle.std.proofs.Common.{FitsSigned}
 use Rattle.std.proofs.Math.IntN.{*ℤ_comm, zero-*ℤ, negsuc-*ℤ-pos, negsuc-*ℤ-negsuc}
 use Rattle.std.proofs.lemmas.Int.{ints}
-use Rattle.std.proofs.lemmas.List.{length-map, get_or-map}
-use Rattle.hyd_num.specs.Rational.{Rational, whole, is_at_most}
+use Rattle.std.proofs.lemmas.List.{length-map, get_or-map, length-reverse, get_or-reverse, map-append, length-append, append-nil, drop_all}
+use Rattle.std.proofs.lemmas.List.Elements.{All-append}
+use Rattle.hyd_num.specs.Rational.{whole, is_at_most}
 use Rattle.hyd_num.proofs.Integers.{times_one_more, times_reflects}
-use Rattle.hyd_net.specs.Curves.{Knot as Place, on_line, value_at, head_knots, IsPumpCurve, IsLossCurve}
-use Rattle.hyd_net.specs.Ranges.{Lies, IsHead, IsFlow}
+use Rattle.hyd_net.specs.Curves.{Knot as Place, value_at, head_knots, IsPumpCurve, IsLossCurve}
+use Rattle.hyd_net.specs.Ranges.{Lies}
+use Rattle.hyd_net.specs.States.{IsSpeed}
 use Rattle.hyd_net.specs.declared.curves.HeadPoint.{HeadPoint}
 use Rattle.hyd_spec.specs.Scale.{cut}
 use Rattle.hyd_spec.specs.Quantity.{pump_knots, valve_knots}
@@ -93,7 +97,75 @@ pump_curve points speed knots curve e ranges = record {
 
 pub valve_curve : (points : List HeadPoint) (knots : List Knot) → IsLossCurve points → places knots ≡ valve_knots points → All IsKnot knots → IsCurve knots
 valve_curve points knots curve e ranges = record {
-  two = ?;
+  two =
+      let back : HeadPoint → Place = λ p. record { place = neg_ℤ p.head; value = neg_ℤ p.flow } in
+      let ahead : HeadPoint → Place = λ p. record { place = p.head; value = p.flow } in
+      let n = ap length e in
+      let m = places_length knots in
+      let a = length-append (map back (reverse points)) (map ahead points) in
+      let b = length-map points ahead in
+      omega (arith, n, m, a, b, curve.two);
   ordered = subst AreInOrder (sym e) (valve_knots-in_order points curve);
   ranges = ranges;
 }
+
+-- ---- knots one by one
+
+pub cut_head : (z : ℤ) → unsigned_abs z ≤ 10 ^ 36 → unsigned_abs (cut z (10 ^ 18)) ≤ 10 ^ 18
+cut_head (pos n) small = omega (arith, ints, small)
+cut_head (negsuc n) small = omega (arith, ints, small)
+
+pub cut_flow : (z : ℤ) → unsigned_abs z ≤ 10 ^ 25 → unsigned_abs (cut z (10 ^ 9)) ≤ 10 ^ 16
+cut_flow (pos n) small = omega (arith, ints, small)
+cut_flow (negsuc n) small = omega (arith, ints, small)
+
+pub fits_128 : (z : ℤ) → unsigned_abs z ≤ 10 ^ 18 → FitsSigned w128 z
+fits_128 (pos n) small = record { sfits = omega (arith, ints, small) }
+fits_128 (negsuc n) small = record { sfits = omega (arith, ints, small) }
+
+pub fits_64 : (z : ℤ) → unsigned_abs z ≤ 10 ^ 18 → FitsSigned w64 z
+fits_64 (pos n) small = record { sfits = omega (arith, ints, small) }
+fits_64 (negsuc n) small = record { sfits = omega (arith, ints, small) }
+
+pub pump_knot_is : (point : HeadPoint) (speed h f : ℤ) (knot : Knot) → IsSpeed speed → h ≡ (speed *ℤ speed) *ℤ point.head → f ≡ speed *ℤ point.flow
+    → knot.head ≡ cut (neg_ℤ h) (10 ^ 18) → knot.flow ≡ cut f (10 ^ 9) → place_of knot ∷ [] ≡ pump_knots (point ∷ []) speed
+pump_knot_is point (pos s) h f knot is e g a b = rw (a, b, e, g) refl
+pump_knot_is point (negsuc s) h f knot is e g a b = absurd (omega (arith, ints, is.at_least))
+
+pub pump_more : (points : List HeadPoint) (S : ℤ) (i : ℕ) (d : HeadPoint) (knot : Knot) → i < length points → place_of knot ∷ [] ≡ pump_knots (slice_index_or points i d ∷ []) S
+    → pump_knots (drop i points) S ≡ place_of knot ∷ pump_knots (drop (i + 1) points) S
+pump_more points S i d knot within here =
+    let first : drop i points ≡ slice_index_or points i d ∷ drop (i + 1) points = drop-cons points i d within ∙ (rw add-one refl) in
+    let more : pump_knots (slice_index_or points i d ∷ []) S ++ pump_knots (drop (i + 1) points) S ≡ (place_of knot ∷ []) ++ pump_knots (drop (i + 1) points) S =
+    ap (λ (xs : List Place). xs ++ pump_knots (drop (i + 1) points) S) (sym here) in
+    ap (λ (ps : List HeadPoint). pump_knots ps S) first ∙ more
+
+pub pump_all : (points : List HeadPoint) (S : ℤ) (i : ℕ) (left all : List Place) → length points ≤ i → left ++ pump_knots (drop i points) S ≡ all → left ≡ all
+pump_all points S i left all end h =
+    sym (append-nil left) ∙ ap (λ (ps : List HeadPoint). left ++ pump_knots ps S) (sym (drop_all i points end)) ∙ h
+
+pub back_more : (points : List HeadPoint) (i : ℕ) (d : HeadPoint) (knot : Knot) → i < length points
+    → place_of knot ≡ record { place = neg_ℤ (slice_index_or points (length points - 1 - i) d).head; value = neg_ℤ (slice_index_or points (length points - 1 - i) d).flow }
+    → map (λ (q : HeadPoint). record { place = neg_ℤ q.head; value = neg_ℤ q.flow }) (drop i (reverse points))
+    ≡ place_of knot ∷ map (λ (q : HeadPoint). record { place = neg_ℤ q.head; value = neg_ℤ q.flow }) (drop (i + 1) (reverse points))
+back_more points i d knot within here =
+    let back : HeadPoint → Place = λ q. record { place = neg_ℤ q.head; value = neg_ℤ q.flow } in
+    let rest = map back (drop (i + 1) (reverse points)) in
+    let first : drop i (reverse points) ≡ slice_index_or (reverse points) i d ∷ drop (i + 1) (reverse points) = drop-cons (reverse points) i d (rw (length-reverse points) within) ∙ (rw add-one refl) in
+    let each : map back (drop i (reverse points)) ≡ back (slice_index_or (reverse points) i d) ∷ rest = ap (map back) first in
+    let same : back (slice_index_or (reverse points) i d) ∷ rest ≡ back (slice_index_or points (length points - 1 - i) d) ∷ rest = ap (λ (q : HeadPoint). back q ∷ rest) (get_or-reverse points i d within) in
+    let knot_is : back (slice_index_or points (length points - 1 - i) d) ∷ rest ≡ place_of knot ∷ rest = ap (λ (q : Place). q ∷ rest) (sym here) in
+    each ∙ same ∙ knot_is
+
+-- a knot more
+pub more_places : (knots news : List Knot) (knot : Knot) (left more all : List Place) → news ≡ knots ++ knot ∷ [] → left ≡ place_of knot ∷ more → places knots ++ left ≡ all → places news ++ more ≡ all
+more_places knots news knot left more all new e h =
+    ap (λ (xs : List Knot). places xs ++ more) new ∙ ap (λ (xs : List Place). xs ++ more) (map-append place_of knots (knot ∷ []))
+    ∙ (rw append_assoc (ap (λ (xs : List Place). places knots ++ xs) (sym e) ∙ h))
+
+one_knot : (knot : Knot) → IsKnot knot → All IsKnot (knot ∷ [])
+one_knot knot is zero d within = is
+one_knot knot is (suc k) d within = absurd (omega arith)
+
+pub more_ranges : (knots news : List Knot) (knot : Knot) → news ≡ knots ++ knot ∷ [] → All IsKnot knots → IsKnot knot → All IsKnot news
+more_ranges knots news knot new all is = subst (All IsKnot) (sym new) (All-append IsKnot knots (knot ∷ []) all (one_knot knot is))

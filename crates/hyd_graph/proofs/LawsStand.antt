@@ -51,8 +51,30 @@ pump_stands us c head speed lift made is least greatest = record {
 pub linear_stands : (l : LinearValue) → Stands (Linear l) LinearLaw
 linear_stands l = record { low_is = λ d. refl; high_is = λ d. refl; sound = tt; accepts = λ d le. omega arith }
 
-pub linear_limit_stands : (t : ℤ) (l : LinearValue) → Stands (LinearLimit (record { cap = t; inner = l })) (CappedLaw t LinearLaw)
-linear_limit_stands t l = record { low_is = λ d. refl; high_is = λ d. refl; sound = tt; accepts = λ d le. omega arith }
+pub linear_limit_represents : (t : ℤ) (l : LinearValue) → Represents (LinearLimit (record { cap = t; inner = l })) (CappedLaw t LinearLaw)
+linear_limit_represents t l = record { stands = record { low_is = λ d. refl; high_is = λ d. refl; sound = tt; accepts = λ d le. omega arith }; is_exact = refl }
+
+-- straight lines held from 0 to 0, and those of a curve
+nothing_between : (q : ℤ) → held (pos 0) (pos 0) q ≡ pos 0
+nothing_between q = omega (arith, ints, clamps)
+
+pub closed_represents : (b : BentValue) → IsCurve b.knots.list → Represents (Bent (record { least = pos 0; most = pos 0; inner = b })) ShutLaw
+closed_represents b curve = record {
+  stands = record { low_is = λ d. nothing_between (floor (value_at 1 (places b.knots.list) d)); high_is = λ d. nothing_between (ceiling (value_at 1 (places b.knots.list) d)); sound = (omega (arith, ints), curve); accepts = λ d le. omega arith };
+  is_exact = refl;
+}
+
+pub curve_represents : (least : ℤ) (b : BentValue) (knots : List Place) → least ≤ℤ greatest_flow → is_nothing least greatest_flow ≡ false → IsCurve b.knots.list → places b.knots.list ≡ knots
+    → Represents (Bent (record { least = least; most = greatest_flow; inner = b })) (HeldLaw least greatest_flow (BentLaw knots))
+curve_represents least b knots le some curve e = record {
+  stands = record {
+    low_is = λ d. ap (λ (ks : List Place). held least greatest_flow (floor (value_at 1 ks d))) e;
+    high_is = λ d. ap (λ (ks : List Place). held least greatest_flow (ceiling (value_at 1 ks d))) e;
+    sound = (le, curve);
+    accepts = λ d small. omega arith;
+  };
+  is_exact = ap (λ (t : Bool). if t then ShutLaw else HeldLaw least greatest_flow (BentLaw (places b.knots.list))) some ∙ ap (λ (ks : List Place). HeldLaw least greatest_flow (BentLaw ks)) e;
+}
 
 -- ---- one way
 

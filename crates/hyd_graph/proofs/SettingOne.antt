@@ -8,13 +8,13 @@ use Rattle.hyd_law.specs.declared.link_law.LinkLaw.{LinkLaw}
 use Rattle.hyd_graph.specs.declared.parts.Setting.{Setting}
 use Rattle.hyd_graph.specs.Settings.{AreLawsOf, AreLaws, AreSet, setting_of}
 
-same_or : (k i : ℕ) → (k ≡ i) ⊎ (k ≢ i)
+pub same_or : (k i : ℕ) → (k ≡ i) ⊎ (k ≢ i)
 same_or zero zero = inl refl
 same_or zero (suc i) = inr (λ e. absurd (omega arith))
 same_or (suc k) zero = inr (λ e. absurd (omega arith))
 same_or (suc k) (suc i) = elim (same_or k i) [ inl e ↦ inl (ap suc e) | inr n ↦ inr (λ e. n (omega arith)) ]
 
-any_default : {X : Type 0} (xs : List X) (i : ℕ) (d e : X) → i < length xs → slice_index_or xs i d ≡ slice_index_or xs i e
+pub any_default : {X : Type 0} (xs : List X) (i : ℕ) (d e : X) → i < length xs → slice_index_or xs i d ≡ slice_index_or xs i e
 any_default [] i d e h = absurd (omega arith)
 any_default (x ∷ xs) zero d e h = refl
 any_default (x ∷ xs) (suc i) d e h = any_default xs i d e (omega arith)

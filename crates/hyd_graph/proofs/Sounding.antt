@@ -82,7 +82,7 @@ have_laws project links settings own laws e all k setting o l h =
 pub sound_net : (project : Project) (net : NetView) → Sound project → IsNetOf project net → All IsHead net.reservoirs → All AreHeads net.tanks → IsSoundNet net
 sound_net project net sound of reservoirs tanks =
     let j = long_zipped IsNetJunction project.junctions.list net.junctions of.junctions in
-    let l : length net.ends ≡ length project.links.list = rw of.ends (length-map ends_of project.links.list) in
+    let l : length net.ends ≡ length project.links.list = rw of.ends (length-map project.links.list ends_of) in
     let cj = sound.counts.junctions in
     let cr = sound.counts.reservoirs in
     let ct = sound.counts.tanks in

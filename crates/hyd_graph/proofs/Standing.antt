@@ -1,5 +1,5 @@
 -- Each link of a sound project can stand in its state.
-use Rattle.std.proofs.Common.{◌≡◌, ℕ, ◌<◌, length, slice_index_or, sym, subst}
+use Rattle.std.proofs.Common.{ℕ, ◌<◌, length, slice_index_or, sym, subst}
 use Rattle.hyd_net.specs.Sound.{Sound}
 use Rattle.hyd_spec.specs.Types.{Project, Link, LinkState}
 use Rattle.std.specs.Prelude.{List}

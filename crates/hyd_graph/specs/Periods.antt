@@ -1,5 +1,5 @@
 -- What a net of a project always is, and what is asked of a period.
-use Rattle.std.specs.Prelude.{◌≡◌, ◌<◌, ℕ, ℤ, pos, ◌≤ℤ◌, List, length, map, All, slice_index_or}
+use Rattle.std.specs.Prelude.{◌≡◌, ◌<◌, ℕ, ℤ, pos, ◌+ℤ◌, ◌≤ℤ◌, List, [], ◌∷◌, length, map, All, slice_index_or}
 use Rattle.std.specs.List.{AllZip}
 use Rattle.hyd_spec.specs.Types.{Project, Link, Tank, LinkState}
 use Rattle.hyd_spec.specs.Quantity.{is_us}
@@ -12,6 +12,7 @@ use Rattle.hyd_graph.specs.declared.parts.LevelSpan.{LevelSpan}
 use Rattle.hyd_graph.specs.NetView.{NetView}
 use Rattle.hyd_graph.specs.Settings.{AreLaws, closed_setting}
 use Rattle.hyd_graph.specs.Demands.{IsNetJunction, AreHeld}
+use Rattle.hyd_graph.specs.Nets.{AreHeads}
 
 -- the two nodes of a link
 abbrev pub ends_of : Link → Ends
@@ -43,6 +44,12 @@ pub record IsSpanOf (tank : Tank) (span : LevelSpan) : Type 0 where
   pub from_minimum : tank.minimum ≤ℤ span.lo
   pub ordered : span.lo ≤ℤ span.hi
   pub to_maximum : span.hi ≤ℤ tank.maximum
+
+-- a tank's heads at levels: its bottom plus them
+pub record HasHeads (tank : Tank) (levels heads : LevelSpan) : Type 0 where
+  pub lo : heads.lo ≡ (levels.lo +ℤ tank.bottom)
+  pub hi : heads.hi ≡ (levels.hi +ℤ tank.bottom)
+  pub range : AreHeads heads
 
 -- each tank has its levels
 pub record AreLevels (project : Project) (levels : List LevelSpan) : Type 0 where

@@ -66,8 +66,9 @@ pub(crate) fn closed_laws(alloc: Global, project: &Project) -> Result<Vec<LinkLa
     ensures count { IfOk result (λ laws. length laws.items ≡ length project.now.links.list) }
     ensures closed { IfOk result (λ laws. AreClosed project.now project.now.links.list laws.items) }
 {
+    let links = project.links.as_slice();
     let mut laws = Vec::new(alloc);
-    for link in project.links.as_slice() {
+    for link in links {
         laws.push(closed_law(alloc, project, &link.kind)?)?;
     }
     Ok(laws)

@@ -16,10 +16,13 @@ ghost use Rattle.hyd_law.specs.Curves.{IsCurve, IsKnot, place_of, places};
 ghost use Rattle.hyd_law.specs.LinkLaws.{IsSoundLink};
 ghost use Rattle.hyd_graph.specs.Settings.{HasRoom, Represents};
 
+use crate::pumps::{SQUARED_BILLION, product, squared_times};
 use hyd_law::{Bent, Held, Knot, LinkLaw};
 use hyd_net::{HeadPoint, LinkState, List, Project};
 
 const GREATEST_FLOW: i64 = 100_000_000_000_000_000;
+
+const BILLION: i128 = 1_000_000_000;
 
 /// The points of a curve by straight lines.
 pub(crate) fn points_of(project: &Project, bend: u32) -> &[HeadPoint]
@@ -61,10 +64,11 @@ fn pump_knot(point: HeadPoint, speed: i64) -> Knot
     ensures knot { place_of result ∷ [] ≡ pump_knots (point ∷ []) speed }
     ensures range { IsKnot result }
 {
-    let speed = i128::from(speed);
+    let head = -squared_times(speed, i128::from(point.head));
+    let flow = product(i128::from(speed), i128::from(point.flow));
     Knot {
-        head: (-(speed * speed * i128::from(point.head)) / 1_000_000_000_000_000_000) as i64,
-        flow: (speed * i128::from(point.flow) / 1_000_000_000) as i64,
+        head: (head / SQUARED_BILLION) as i64,
+        flow: (flow / BILLION) as i64,
     }
 }
 
@@ -83,6 +87,19 @@ pub(crate) fn write_pump_knots(points: &[HeadPoint], speed: i64, knots: &mut Lis
     }
 }
 
+// The knot of a valve's point in reverse.
+fn reverse_knot(point: HeadPoint) -> Knot
+    requires head { IsHead point.head }
+    requires flow { IsFlow point.flow }
+    ensures knot { place_of result ≡ record { place = neg_ℤ point.head; value = neg_ℤ point.flow } }
+    ensures range { IsKnot result }
+{
+    Knot {
+        head: -point.head,
+        flow: -point.flow,
+    }
+}
+
 // Appends a valve's knots in reverse: the negatives of its points, the last one first.
 fn add_reverse_knots(points: &[HeadPoint], knots: &mut List<Knot>)
     requires heads { All (λ (p : HeadPoint). IsHead p.head) points.now }
@@ -94,14 +111,7 @@ fn add_reverse_knots(points: &[HeadPoint], knots: &mut List<Knot>)
     ensures room { knots.old.spare ≤ knots.new.spare + length points.now }
 {
     for i in 0..points.len() {
-        let point = points[points.len() - 1 - i];
-        add_knot(
-            knots,
-            Knot {
-                head: -point.head,
-                flow: -point.flow,
-            },
-        );
+        add_knot(knots, reverse_knot(points[points.len() - 1 - i]));
     }
 }
 
@@ -189,8 +199,8 @@ pub(crate) fn curve_pump_law(points: &[HeadPoint], state: &LinkState, knots: Lis
     requires speed { (speed : ℤ) → state.now ≡ LinkState.Speed speed → IsSpeed speed }
     requires held { IsCurve knots.list }
     requires room { length points.now ≤ length knots.list + knots.spare }
-    ensures represents { (us : Bool) (bends : List (ListView HeadPoint)) (bend : ℕ) (pattern : Option ℕ) → points.now ≡ points_of bends bend
-        → Represents result (spec.own_law us bends (CurvePump bend pattern) state.now) }
+    ensures represents { (us : Bool) (bend : ℕ) (pattern : Option ℕ) (project : Project) → points.now ≡ points_of project.bends.list bend
+        → Represents result (spec.own_law us project.bends.list (CurvePump bend pattern) state.now) }
     ensures room { (n : ℕ) → n ≤ length knots.list + knots.spare → HasRoom n result }
 {
     match state {
@@ -207,8 +217,8 @@ pub(crate) fn curve_valve_law(points: &[HeadPoint], state: &LinkState, knots: Li
     requires curve { IsLossCurve points.now }
     requires held { IsCurve knots.list }
     requires room { 2 * length points.now ≤ length knots.list + knots.spare }
-    ensures represents { (us : Bool) (bends : List (ListView HeadPoint)) (bend : ℕ) → points.now ≡ points_of bends bend
-        → Represents result (spec.own_law us bends (Gpv bend) state.now) }
+    ensures represents { (us : Bool) (bend : ℕ) (project : Project) → points.now ≡ points_of project.bends.list bend
+        → Represents result (spec.own_law us project.bends.list (Gpv bend) state.now) }
     ensures room { (n : ℕ) → n ≤ length knots.list + knots.spare → HasRoom n result }
 {
     match state {

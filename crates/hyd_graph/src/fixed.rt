@@ -8,7 +8,7 @@ ghost use Rattle.hyd_spec.specs.Quantity.{reservoir_head};
 ghost use Rattle.hyd_spec_certificates.specs.Grid.{tank_intervals};
 ghost use Rattle.hyd_graph.specs.GridOf.{interval_of};
 ghost use Rattle.hyd_graph.specs.Nets.{AreHeads};
-ghost use Rattle.hyd_graph.specs.Periods.{AreLevels, IsSpanOf};
+ghost use Rattle.hyd_graph.specs.Periods.{AreLevels, IsSpanOf, HasHeads};
 
 use crate::parts::LevelSpan;
 use hyd_demand::head_at;
@@ -33,9 +33,7 @@ fn heads_of(tank: &Tank, levels: &LevelSpan) -> LevelSpan
     requires top { IsHead (tank.now.bottom +ℤ tank.now.maximum) }
     requires lowest { pos 0 ≤ℤ tank.now.minimum }
     requires levels { IsSpanOf tank.now levels.now }
-    ensures lo { result.lo ≡ levels.now.lo +ℤ tank.now.bottom }
-    ensures hi { result.hi ≡ levels.now.hi +ℤ tank.now.bottom }
-    ensures range { AreHeads result }
+    ensures { HasHeads tank.now levels.now result }
 {
     LevelSpan {
         lo: levels.lo + tank.bottom,

@@ -133,6 +133,29 @@ pub(crate) fn own_law(project: &Project, kind: &LinkKind, state: &LinkState) -> 
     }
 }
 
+// The law of a link in a state, without regard to tanks. Straight lines are written in the room of the law that was held.
+fn own_law(project: &Project, kind: &LinkKind, state: &LinkState, held: LinkLaw) -> LinkLaw
+    requires can { CanStand project.now kind.now state.now }
+    requires sound { IsSoundLink held }
+    requires room { HasRoomFor project.now.bends.list kind.now held }
+    ensures represents { Represents result (spec.own_law (is_us project.now) project.now.bends.list kind.now state.now) }
+    ensures room { HasRoomFor project.now.bends.list kind.now result }
+{
+    match kind {
+        LinkKind::Pipe(_) => plain_law(project, kind, state),
+        LinkKind::CheckPipe(_) => plain_law(project, kind, state),
+        LinkKind::Pump { .. } => plain_law(project, kind, state),
+        LinkKind::CurvePump { bend, pattern: _ } => curve_pump_law(
+            points_of(project, *bend),
+            state,
+            knots_of(held),
+        ),
+        LinkKind::Tcv { .. } => plain_law(project, kind, state),
+        LinkKind::Fcv { .. } => plain_law(project, kind, state),
+        LinkKind::Gpv { bend } => curve_valve_law(points_of(project, *bend), state, knots_of(held)),
+    }
+}
+
 fn is_same_way(a: bool, b: bool) -> bool
     ensures same { OnTrue result (a ≡ b) }
     ensures opposite { OnFalse result (a ≡ not b) }

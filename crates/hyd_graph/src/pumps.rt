@@ -9,14 +9,15 @@ ghost use Rattle.hyd_spec.specs.Law as exact;
 ghost use Rattle.hyd_spec.specs.Quantity.{shutoff_head, lift_of};
 ghost use Rattle.hyd_law.specs.Wrapped.{IsLift};
 ghost use Rattle.hyd_law.specs.Curves.{IsValue};
-ghost use Rattle.hyd_graph.specs.Settings.{Stands, IsShutoff};
+ghost use Rattle.hyd_graph.specs.Settings.{Represents, IsShutoff};
 
 use hyd_law::{Lifted, LinkLaw, OneWay, Quad};
 use hyd_net::ShutoffHead;
 use hyd_num::{Capacity, Span};
 use hyd_units::head_ticks;
 
-const SQUARED_BILLION: i128 = 1_000_000_000_000_000_000;
+/// The square of a speed of 1.
+pub(crate) const SQUARED_BILLION: i128 = 1_000_000_000_000_000_000;
 
 // The shutoff head as a numerator and a denominator.
 fn shutoff_head(us: bool, head: &ShutoffHead) -> (i128, i128)
@@ -34,7 +35,8 @@ fn shutoff_head(us: bool, head: &ShutoffHead) -> (i128, i128)
     }
 }
 
-fn product(a: i128, b: i128) -> i128
+/// A product.
+pub(crate) fn product(a: i128, b: i128) -> i128
     requires { unsigned_abs a * unsigned_abs b ≤ 3 * 10 ^ 36 }
     ensures value { result ≡ a *ℤ b }
     ensures small { unsigned_abs result ≡ unsigned_abs a * unsigned_abs b }
@@ -56,8 +58,8 @@ fn rounded(numerator: i128, denominator: i128) -> Span
     Span { lo, hi }
 }
 
-// A squared speed times a head, both as fractions of their billionths and thirds.
-fn squared_times(speed: i64, head: i128) -> i128
+/// A squared speed times a head, both as fractions of their billionths and thirds.
+pub(crate) fn squared_times(speed: i64, head: i128) -> i128
     requires speed { IsSpeed speed }
     requires head { unsigned_abs head ≤ 3 * 10 ^ 16 }
     ensures value { result ≡ ((speed *ℤ speed) *ℤ head) }
@@ -87,7 +89,7 @@ pub(crate) fn pump_law(us: bool, cap: &Capacity, head: &ShutoffHead, speed: i64)
     requires made { IsMade cap.now }
     requires head { IsShutoff us head.now }
     requires speed { IsSpeed speed }
-    ensures { Stands result (exact.ForwardOnly (exact.Lifted (lift_of us head.now speed) (exact.QuadraticLaw cap.now))) }
+    ensures { Represents result (exact.ForwardOnly (exact.Lifted (lift_of us head.now speed) (exact.QuadraticLaw cap.now))) }
 {
     LinkLaw::Pump(OneWay {
         forward: true,

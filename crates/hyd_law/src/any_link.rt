@@ -1,7 +1,7 @@
 //! The law of any link is a law.
 #![tactic(auto)]
 
-ghost use Rattle.std.specs.Prelude.{◌^◌};
+ghost use Rattle.std.specs.Prelude.{◌*◌, ◌^◌};
 ghost use Rattle.hyd_law.specs.LinkLaws.{link_at_least, link_at_most, link_low, link_high, IsSoundLink, LinkAccepts, IsLaw-link};
 
 use crate::law::Law;
@@ -20,7 +20,7 @@ impl Law for LinkLaw {
 
     ghost accepts = { LinkAccepts };
 
-    ghost most = { 2 ^ 81 };
+    ghost most = { 241 * 10 ^ 20 };
 
     fn low(&self, d: i64) -> i128 {
         match self {

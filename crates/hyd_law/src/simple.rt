@@ -79,7 +79,7 @@ impl Law for Linear {
 
     ghost accepts = { λ s. IsDifference };
 
-    ghost most = { 2 ^ 80 };
+    ghost most = { 2409 * 10 ^ 19 };
 
     fn low(&self, d: i64) -> i128 {
         (8_026_822_656 * i128::from(d)).div_euclid(1_000_000)

@@ -1,39 +1,37 @@
-use Rattle.std.proofs.Common.{◌≡◌, ℤ, Bool, to_z, of_z, w64, subst, arith}
-use Rattle.std.proofs.lemmas.Int.{ints}
-use Rattle.hyd_spec.specs.Types.{Speed, Limit}
-use Rattle.hyd_spec.specs.Quantity.{is_us}
-use Rattle.hyd_spec.specs.LinkLaw.{own_law}
-use Rattle.hyd_graph.specs.Settings.{Stands}
-use Rattle.hyd_graph.proofs.LawsStand.{shut_stands}
-use Rattle.hyd_graph.proofs.Ranging.{speed_of, flow_of, shutoff_of, closed_is}
+use Rattle.std.proofs.Common.{◌*◌, length, subst, sym, ap, arith}
+use Rattle.hyd_net.specs.Curves.{IsLossCurve}
+use Rattle.hyd_spec.specs.Quantity.{is_us, points_of}
+use Rattle.hyd_graph.proofs.Rooms.{bend_points}
 use Rattle.hyd_graph.proofs.laws.own_law.Goals as goal
 
-pub running_law-requires-clause-head : goal.running_law-requires-clause-head
-running_law-requires-clause-head c = rw c.is_us.ensures (shutoff_of c.args.project.now.options.unit _ _ c.args.kind.now c.requires.can.sizes)
+pub curve_pump_law-requires-clause-room : goal.curve_pump_law-requires-clause-room
+curve_pump_law-requires-clause-room c =
+    let room = c.knots_of.ensures.room (length (points_of c.args.project.now.bends.list c.in-CurvePump.bend)) (rw c.in-CurvePump.is at c.requires.room) in
+    let same = ap length c.points_of.ensures in
+    omega (arith, room, same)
 
-pub running_law-requires-clause-speed : goal.running_law-requires-clause-speed
-running_law-requires-clause-speed c =
-    let s = speed_of c.args.kind.now c.in-Speed.speed (rw c.in-Speed.is at c.requires.can.can) in
-    record { at_least = omega (arith, ints, s.at_least, s.at_most); at_most = omega (arith, ints, s.at_least, s.at_most) }
+pub returns-in-CurvePump-clause-represents : goal.returns-in-CurvePump-clause-represents
+returns-in-CurvePump-clause-represents c =
+    rw c.in-CurvePump.is (c.curve_pump_law.ensures.represents (is_us c.args.project.now) c.in-CurvePump.bend c.in-CurvePump.pattern c.args.project.now c.points_of.ensures)
 
-pub returns-in-Open : goal.returns-in-Open
-returns-in-Open c = rw c.in-Open.is (c.open_law.ensures _ _)
+pub returns-in-CurvePump-clause-room : goal.returns-in-CurvePump-clause-room
+returns-in-CurvePump-clause-room c =
+    rw c.in-CurvePump.is (c.curve_pump_law.ensures.room _ (c.knots_of.ensures.room (length (points_of c.args.project.now.bends.list c.in-CurvePump.bend)) (rw c.in-CurvePump.is at c.requires.room)))
 
-pub returns-in-Closed : goal.returns-in-Closed
-returns-in-Closed c = rw c.in-Closed.is (rw (closed_is _ _ c.args.kind.now) (shut_stands (record {})))
+pub curve_valve_law-requires-clause-curve : goal.curve_valve_law-requires-clause-curve
+curve_valve_law-requires-clause-curve c =
+    subst IsLossCurve (sym c.points_of-in-Gpv.ensures) (bend_points IsLossCurve c.args.project.now.bends.list c.in-Gpv.bend (rw c.in-Gpv.is at c.requires.can.sizes))
 
-pub returns-in-Speed : goal.returns-in-Speed
-returns-in-Speed c =
-    let s = speed_of c.args.kind.now c.in-Speed.speed (rw c.in-Speed.is at c.requires.can.can) in
-    let same : to_z w64 (of_z w64 c.in-Speed.speed) ≡ c.in-Speed.speed = omega (arith, ints, s.at_least, s.at_most) in
-    rw c.in-Speed.is (subst (λ (us : Bool). Stands c.running_law.result (own_law us c.args.project.now.bends.list c.args.kind.now (Speed c.in-Speed.speed))) c.is_us.ensures
-    (subst (λ (z : ℤ). Stands c.running_law.result (own_law c.is_us.result c.args.project.now.bends.list c.args.kind.now (Speed z))) same (c.running_law.ensures c.args.project.now.bends.list)))
+pub curve_valve_law-requires-clause-room : goal.curve_valve_law-requires-clause-room
+curve_valve_law-requires-clause-room c =
+    let room = c.knots_of-in-Gpv.ensures.room (2 * length (points_of c.args.project.now.bends.list c.in-Gpv.bend)) (rw c.in-Gpv.is at c.requires.room) in
+    let same = ap length c.points_of-in-Gpv.ensures in
+    omega (arith, room, same)
 
-pub returns-in-Throttle : goal.returns-in-Throttle
-returns-in-Throttle c = rw c.in-Throttle.is (c.throttled_law.ensures _ _ c.in-Throttle.nano)
+pub returns-in-Gpv-clause-represents : goal.returns-in-Gpv-clause-represents
+returns-in-Gpv-clause-represents c =
+    rw c.in-Gpv.is (c.curve_valve_law.ensures.represents (is_us c.args.project.now) c.in-Gpv.bend c.args.project.now c.points_of-in-Gpv.ensures)
 
-pub returns-in-Limit : goal.returns-in-Limit
-returns-in-Limit c =
-    let s = flow_of c.args.kind.now c.in-Limit.nano c.in-Limit.ticks (rw c.in-Limit.is at c.requires.can.can) in
-    let same : to_z w64 (of_z w64 c.in-Limit.ticks) ≡ c.in-Limit.ticks = omega (arith, ints, s.at_least, s.at_most) in
-    rw c.in-Limit.is (subst (λ (z : ℤ). Stands c.limited_law.result (own_law (is_us c.args.project.now) c.args.project.now.bends.list c.args.kind.now (Limit c.in-Limit.nano z))) same (c.limited_law.ensures (is_us c.args.project.now) c.args.project.now.bends.list c.in-Limit.nano))
+pub returns-in-Gpv-clause-room : goal.returns-in-Gpv-clause-room
+returns-in-Gpv-clause-room c =
+    rw c.in-Gpv.is (c.curve_valve_law.ensures.room _ (c.knots_of-in-Gpv.ensures.room (2 * length (points_of c.args.project.now.bends.list c.in-Gpv.bend)) (rw c.in-Gpv.is at c.requires.room)))
