@@ -1,16 +1,19 @@
 -- Laws of the program that stand for exact laws.
-use Rattle.std.proofs.Common.{◌≡◌, ◌*◌, ◌^◌, ◌≤◌, ℤ, pos, ◌+ℤ◌, ◌≤ℤ◌, Bool, true, false, unsigned_abs, not, refl, sym, ap, subst, ◌∙◌, arith}
+use Rattle.std.proofs.Common.{◌≡◌, ◌*◌, ◌^◌, ◌≤◌, ℤ, pos, ◌+ℤ◌, ◌≤ℤ◌, Bool, true, false, unsigned_abs, not, List, refl, sym, ap, subst, ◌∙◌, arith}
 use Rattle.std.specs.Int.{int_max}
 use Rattle.std.proofs.lemmas.Int.{ints, clamps}
 use Rattle.hyd_num.specs.Chain.{IsMade}
 use Rattle.hyd_num.specs.declared.decimals.Span.{Span}
 use Rattle.hyd_spec.specs.Types.{Capacity, ShutoffHead}
+use Rattle.hyd_num.specs.Rational.{floor, ceiling}
+use Rattle.hyd_net.specs.Curves.{Knot as Place, value_at}
 use Rattle.hyd_spec.specs.Quantity.{lift_of}
-use Rattle.hyd_spec.specs.Law.{Law, Shut as ShutLaw, QuadraticLaw, LinearLaw, Lifted, ForwardOnly, Capped as CappedLaw}
+use Rattle.hyd_spec.specs.LinkLaw.{greatest_flow}
+use Rattle.hyd_spec.specs.Law.{Law, Shut as ShutLaw, QuadraticLaw, LinearLaw, Lifted, ForwardOnly, Capped as CappedLaw, Bent as BentLaw, Held as HeldLaw}
 use Rattle.hyd_spec_certificates.specs.Enclosing.{quadratic_low, quadratic_high, low, high}
 use Rattle.hyd_spec_laws.proofs.EachLaw.{IsSoundCapacity-made}
 use Rattle.hyd_law.specs.Wrapped.{IsLift, directed, held}
-use Rattle.hyd_law.specs.Curves.{IsCurve}
+use Rattle.hyd_law.specs.Curves.{IsCurve, places}
 use Rattle.hyd_law.specs.LinkLaws.{link_low, link_high, IsSoundLink, LinkAccepts}
 use Rattle.hyd_law.specs.declared.kinds.Shut.{Shut as ShutValue}
 use Rattle.hyd_law.specs.declared.kinds.Linear.{Linear as LinearValue}
@@ -22,34 +25,40 @@ use Rattle.hyd_law.specs.declared.kinds.Held.{Held}
 use Rattle.hyd_law.specs.declared.kinds.Bent.{Bent as BentValue}
 use Rattle.hyd_law.specs.declared.link_law.LinkLaw.{LinkLaw}
 use Rattle.hyd_law.specs.declared.link_law.LinkLaw.TheVariants.{Shut, Quad, Linear, QuadOneWay, LinearOneWay, Pump, Limit, LinearLimit, LimitOneWay, LinearLimitOneWay, Bent}
-use Rattle.hyd_graph.specs.ExactLaw.{one_way_law}
-use Rattle.hyd_graph.specs.Settings.{Stands}
+use Rattle.hyd_graph.specs.ExactLaw.{one_way_law, is_nothing}
+use Rattle.std.specs.Prelude.{if◌then◌else◌}
+use Rattle.hyd_graph.specs.Settings.{Stands, Represents}
 
-pub shut_stands : (s : ShutValue) → Stands (Shut s) ShutLaw
-shut_stands s = record { low_is = λ d. refl; high_is = λ d. refl; sound = tt; accepts = λ d le. tt }
+-- ---- a link's own law
 
-pub quad_stands : (c : Capacity) → IsMade c → Stands (Quad (record { cap = c })) (QuadraticLaw c)
-quad_stands c made = record { low_is = λ d. refl; high_is = λ d. refl; sound = IsSoundCapacity-made c made; accepts = λ d le. omega arith }
+pub shut_represents : (s : ShutValue) → Represents (Shut s) ShutLaw
+shut_represents s = record { stands = record { low_is = λ d. refl; high_is = λ d. refl; sound = tt; accepts = λ d le. tt }; is_exact = refl }
 
-pub check_stands : (c : Capacity) → IsMade c → Stands (QuadOneWay (record { forward = true; inner = record { cap = c } })) (ForwardOnly (QuadraticLaw c))
-check_stands c made = record { low_is = λ d. refl; high_is = λ d. refl; sound = IsSoundCapacity-made c made; accepts = λ d le. omega arith }
+pub quad_represents : (c : Capacity) → IsMade c → Represents (Quad (record { cap = c })) (QuadraticLaw c)
+quad_represents c made = record { stands = record { low_is = λ d. refl; high_is = λ d. refl; sound = IsSoundCapacity-made c made; accepts = λ d le. omega arith }; is_exact = refl }
 
-pub limit_stands : (t : ℤ) (c : Capacity) → IsMade c → Stands (Limit (record { cap = t; inner = record { cap = c } })) (CappedLaw t (QuadraticLaw c))
-limit_stands t c made = record { low_is = λ d. refl; high_is = λ d. refl; sound = IsSoundCapacity-made c made; accepts = λ d le. omega arith }
+pub check_represents : (c : Capacity) → IsMade c → Represents (QuadOneWay (record { forward = true; inner = record { cap = c } })) (ForwardOnly (QuadraticLaw c))
+check_represents c made = record { stands = record { low_is = λ d. refl; high_is = λ d. refl; sound = IsSoundCapacity-made c made; accepts = λ d le. omega arith }; is_exact = refl }
 
-pub pump_stands : (us : Bool) (c : Capacity) (head : ShutoffHead) (speed : ℤ) (lift : Span) → IsMade c → IsLift (lift_of us head speed) lift
+pub limit_represents : (t : ℤ) (c : Capacity) → IsMade c → Represents (Limit (record { cap = t; inner = record { cap = c } })) (CappedLaw t (QuadraticLaw c))
+limit_represents t c made = record { stands = record { low_is = λ d. refl; high_is = λ d. refl; sound = IsSoundCapacity-made c made; accepts = λ d le. omega arith }; is_exact = refl }
+
+pub pump_represents : (us : Bool) (c : Capacity) (head : ShutoffHead) (speed : ℤ) (lift : Span) → IsMade c → IsLift (lift_of us head speed) lift
     → unsigned_abs lift.lo ≤ 10 ^ 18 → unsigned_abs lift.hi ≤ 10 ^ 18
-    → Stands (Pump (record { forward = true; inner = record { lift = lift; head = head; speed = speed; us = us; inner = record { cap = c } } }))
+    → Represents (Pump (record { forward = true; inner = record { lift = lift; head = head; speed = speed; us = us; inner = record { cap = c } } }))
     (ForwardOnly (Lifted (lift_of us head speed) (QuadraticLaw c)))
-pump_stands us c head speed lift made is least greatest = record {
-  low_is = λ d. ap (λ (z : ℤ). int_max (pos 0) (quadratic_low c (d +ℤ z))) is.floor_is;
-  high_is = λ d. ap (λ (z : ℤ). int_max (pos 0) (quadratic_high c (d +ℤ z))) is.ceiling_is;
-  sound = (is, IsSoundCapacity-made c made);
-  accepts = λ d le. ((omega (arith, ints, le, least), omega (arith, ints, le, least)), (omega (arith, ints, le, greatest), omega (arith, ints, le, greatest)));
+pump_represents us c head speed lift made is least greatest = record {
+  stands = record {
+    low_is = λ d. ap (λ (z : ℤ). int_max (pos 0) (quadratic_low c (d +ℤ z))) is.floor_is;
+    high_is = λ d. ap (λ (z : ℤ). int_max (pos 0) (quadratic_high c (d +ℤ z))) is.ceiling_is;
+    sound = (is, IsSoundCapacity-made c made);
+    accepts = λ d le. ((omega (arith, ints, le, least), omega (arith, ints, le, least)), (omega (arith, ints, le, greatest), omega (arith, ints, le, greatest)));
+  };
+  is_exact = refl;
 }
 
-pub linear_stands : (l : LinearValue) → Stands (Linear l) LinearLaw
-linear_stands l = record { low_is = λ d. refl; high_is = λ d. refl; sound = tt; accepts = λ d le. omega arith }
+pub linear_represents : (l : LinearValue) → Represents (Linear l) LinearLaw
+linear_represents l = record { stands = record { low_is = λ d. refl; high_is = λ d. refl; sound = tt; accepts = λ d le. omega arith }; is_exact = refl }
 
 pub linear_limit_represents : (t : ℤ) (l : LinearValue) → Represents (LinearLimit (record { cap = t; inner = l })) (CappedLaw t LinearLaw)
 linear_limit_represents t l = record { stands = record { low_is = λ d. refl; high_is = λ d. refl; sound = tt; accepts = λ d le. omega arith }; is_exact = refl }

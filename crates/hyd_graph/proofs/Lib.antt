@@ -3,11 +3,13 @@ pub mod Fixing
 pub mod Gridding
 pub mod Lifting
 pub mod LawsStand
+pub mod Knots
 pub mod Ranging
 pub mod Refilling
 pub mod Rooms
 pub mod SettingOne
 pub mod Reading
+pub mod Sounding
 pub mod Steady
 pub mod Summing
 pub mod TieLemmas

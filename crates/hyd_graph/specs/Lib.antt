@@ -5,3 +5,4 @@ pub mod ExactLaw
 pub mod Settings
 pub mod GridOf
 pub mod Nets
+pub mod Periods

@@ -1,21 +1,23 @@
 -- The laws of links in their states, between tanks that may be full or empty.
-use Rattle.std.specs.Prelude.{◌≡◌, ◌<◌, ◌≤◌, ◌*◌, ◌^◌, ℕ, ℤ, Bool, List, unsigned_abs, length, slice_index_or, if◌then◌else◌, ⊤, Option, None, slice_get}
-use Rattle.std.specs.Prelude.{All}
+use Rattle.std.specs.Prelude.{◌≡◌, ◌<◌, ◌≤◌, ◌+◌, ◌*◌, ◌^◌, ℕ, ℤ, Bool, List, unsigned_abs, length, slice_index_or, if◌then◌else◌, ⊤, Option, None, slice_get}
+use Rattle.std.specs.Prelude.{All, false}
 use Rattle.hyd_net.specs.ListView.{ListView}
 use Rattle.hyd_net.specs.Made.{IsKindMade, IsStateMade, IsValveMade}
 use Rattle.hyd_num.specs.Chain.{IsMade}
 use Rattle.hyd_net.specs.Sizes.{HasSizes}
 use Rattle.hyd_net.specs.States.{CanHave}
 use Rattle.hyd_net.specs.declared.curves.HeadPoint.{HeadPoint}
-use Rattle.hyd_spec.specs.Types.{Project, Link, LinkKind, PipeLink, CheckPipe, PumpLink, CurvePump, Tcv, Fcv, Gpv, LinkState, ShutoffHead}
+use Rattle.hyd_spec.specs.Types.{Project, Link, LinkKind, PipeLink, CheckPipe, PumpLink, CurvePump, Tcv, Fcv, Gpv, LinkState, Closed, ShutoffHead}
 use Rattle.hyd_spec.specs.declared.TankState.{TankState}
 use Rattle.hyd_spec.specs.Network.{is_tank, tank_number}
-use Rattle.hyd_spec.specs.Quantity.{is_us, shutoff_head}
-use Rattle.hyd_spec.specs.Law.{Law, ForwardOnly, ReverseOnly}
+use Rattle.hyd_spec.specs.Quantity.{is_us, shutoff_head, points_of}
+use Rattle.hyd_spec.specs.Law.{Law, Shut, ForwardOnly, ReverseOnly}
 use Rattle.hyd_spec.specs.LinkLaw.{own_law, forbids_forward, forbids_reverse}
 use Rattle.hyd_spec_certificates.specs.Enclosing.{low, high}
 use Rattle.hyd_law.specs.LinkLaws.{link_low, link_high, IsSoundLink, LinkAccepts}
 use Rattle.hyd_law.specs.declared.link_law.LinkLaw.{LinkLaw}
+use Rattle.hyd_law.specs.declared.link_law.LinkLaw.TheVariants.{Bent}
+use Rattle.hyd_graph.specs.ExactLaw.{exact_law}
 use Rattle.hyd_graph.specs.declared.parts.Setting.{Setting}
 
 -- a law of the program stands for an exact law: it has its enclosing functions, its numbers are sound, and it accepts each
@@ -25,6 +27,11 @@ pub record Stands (law : LinkLaw) (exact : Law) : Type 0 where
   pub high_is : (d : ℤ) → link_high law d ≡ high exact d
   pub sound : IsSoundLink law
   pub accepts : (d : ℤ) → unsigned_abs d ≤ 2 * 10 ^ 18 → LinkAccepts law d
+
+-- a link's own law stands for an exact law, and is that very one
+pub record Represents (law : LinkLaw) (exact : Law) : Type 0 where
+  pub stands : Stands law exact
+  pub is_exact : exact_law law ≡ exact
 
 -- where a law's own flow would go a forbidden way, it is 0
 abbrev pub restricted : Bool → Bool → Law → Law
@@ -41,10 +48,24 @@ abbrev pub setting_of : Project → List TankState → Link → LinkState → Se
 setting_of project tanks link state =
     record { state = state; no_forward = forbids_forward project tanks link; no_reverse = forbids_reverse project tanks link }
 
+-- a law by straight lines in a list that takes so many knots without memory being taken
+abbrev pub HasRoom : ℕ → LinkLaw → Type 0
+HasRoom n (Bent l) = n ≤ length l.inner.knots.list + l.inner.knots.spare
+HasRoom n _ = ⊥
+
+-- the law of a link with a curve by straight lines has room for the knots of its curve, whatever its state: a pump's for one at each
+-- point, a general purpose valve's for two
+abbrev pub HasRoomFor : List (ListView HeadPoint) → LinkKind → LinkLaw → Type 0
+HasRoomFor bends (CurvePump bend pattern) law = HasRoom (length (points_of bends bend)) law
+HasRoomFor bends (Gpv bend) law = HasRoom (2 * length (points_of bends bend)) law
+HasRoomFor bends _ law = ⊤
+
 -- the two laws of a link are those of its setting: its own, and the one between its tanks
 pub record AreLawsOf (us : Bool) (bends : List (ListView HeadPoint)) (kind : LinkKind) (setting : Setting) (own law : LinkLaw) : Type 0 where
-  pub own_is : Stands own (own_law us bends kind setting.state)
+  pub own_is : Represents own (own_law us bends kind setting.state)
   pub law_is : Stands law (restricted setting.no_forward setting.no_reverse (own_law us bends kind setting.state))
+  pub own_room : HasRoomFor bends kind own
+  pub law_room : HasRoomFor bends kind law
 
 -- so it is for each link of a project
 abbrev pub AreLaws : Project → List Link → List Setting → List LinkLaw → List LinkLaw → Type 0
@@ -69,6 +90,20 @@ pub record AreStates (project : Project) (states : List LinkState) : Type 0 wher
   pub each : length states ≡ length project.links.list
   pub can : (k : ℕ) (link : Link) (state : LinkState) → k < length states → CanHave (slice_index_or project.links.list k link).kind (slice_index_or states k state)
   pub made : All (IsStateMade project.options.unit) states
+
+-- the setting of a closed link between tanks that are neither full nor empty
+abbrev pub closed_setting : Setting
+closed_setting = record { state = Closed; no_forward = false; no_reverse = false }
+
+-- the law of a closed link of a kind
+pub record IsClosedLaw (bends : List (ListView HeadPoint)) (kind : LinkKind) (law : LinkLaw) : Type 0 where
+  pub represents : Represents law Shut
+  pub room : HasRoomFor bends kind law
+
+-- so it is for each link of a project
+abbrev pub AreClosed : Project → List Link → List LinkLaw → Type 0
+AreClosed project links laws = (k : ℕ) (link : Link) (law : LinkLaw) → k < length links
+    → IsClosedLaw project.bends.list (slice_index_or links k link).kind (slice_index_or laws k law)
 
 -- a kind without a curve by straight lines
 abbrev pub IsPlain : LinkKind → Type 0
@@ -108,7 +143,3 @@ HasShutoff us (Gpv bend) = ⊤
 abbrev pub AreStanding : Project → List Link → List LinkState → Type 0
 AreStanding project links states = (k : ℕ) (link : Link) (state : LinkState) → k < length links
     → CanStand project (slice_index_or links k link).kind (slice_index_or states k state)
-
--- no link has a curve by straight lines
-abbrev pub ArePlain : List Link → Type 0
-ArePlain links = All (λ (l : Link). IsPlain l.kind) links

@@ -1,9 +1,10 @@
 //! The laws of links in their settings.
 #![tactic(auto)]
 
-ghost use Rattle.std.specs.Prelude.{◌≡◌, ℤ, Bool, true, not, List, if◌then◌else◌};
+ghost use Rattle.std.specs.Prelude.{◌≡◌, ℕ, ℤ, Bool, true, not, List, if◌then◌else◌};
 ghost use Rattle.std.specs.Bool.{OnTrue, OnFalse};
 ghost use Rattle.hyd_law.specs.Wrapped.{directed};
+ghost use Rattle.hyd_law.specs.LinkLaws.{IsSoundLink};
 ghost use Rattle.hyd_net.specs.ListView.{ListView};
 ghost use Rattle.hyd_net.specs.Made.{IsValveMade};
 ghost use Rattle.hyd_net.specs.States.{IsSpeed};
@@ -13,17 +14,19 @@ ghost use Rattle.hyd_spec.specs.Law.{Law};
 ghost use Rattle.hyd_spec.specs.Law as exact;
 ghost use Rattle.hyd_spec.specs.LinkLaw as spec;
 ghost use Rattle.hyd_spec.specs.Quantity.{is_us};
-ghost use Rattle.hyd_graph.specs.Settings.{Stands, IsPlain, IsLawMade, HasShutoff, CanStand, AreLawsOf, restricted};
 ghost use Rattle.hyd_graph.specs.ExactLaw.{one_way_law};
+ghost use Rattle.hyd_graph.specs.Settings.{Stands, Represents, HasRoom, HasRoomFor, IsPlain, IsLawMade, HasShutoff, CanStand, AreLawsOf, restricted};
 
+use crate::curves::{curve_pump_law, curve_valve_law, knots_of, points_of};
 use crate::parts::Setting;
 use crate::pumps::pump_law;
 use hyd_law::{Bent, Capped, Held, Linear, LinkLaw, OneWay, Quad, Shut};
 use hyd_net::{LinkKind, LinkState, OpenValve, Project};
+use std::mem;
 
 fn valve_law(valve: &OpenValve) -> LinkLaw
     requires { IsValveMade valve.now }
-    ensures { Stands result (spec.valve_law valve.now) }
+    ensures { Represents result (spec.valve_law valve.now) }
 {
     match valve {
         OpenValve::Quadratic(cap) => LinkLaw::Quad(Quad { cap: *cap }),
@@ -33,7 +36,7 @@ fn valve_law(valve: &OpenValve) -> LinkLaw
 
 fn limited(ticks: i64, valve: &OpenValve) -> LinkLaw
     requires { IsValveMade valve.now }
-    ensures { Stands result (exact.Capped ticks (spec.valve_law valve.now)) }
+    ensures { Represents result (exact.Capped ticks (spec.valve_law valve.now)) }
 {
     match valve {
         OpenValve::Quadratic(cap) => LinkLaw::Limit(Capped {
@@ -51,7 +54,7 @@ fn limited(ticks: i64, valve: &OpenValve) -> LinkLaw
 fn open_law(kind: &LinkKind) -> LinkLaw
     requires plain { IsPlain kind.now }
     requires made { IsLawMade kind.now }
-    ensures { (us : Bool) (bends : List (ListView HeadPoint)) → Stands result (spec.own_law us bends kind.now Open) }
+    ensures { (us : Bool) (bends : List (ListView HeadPoint)) → Represents result (spec.own_law us bends kind.now Open) }
 {
     match kind {
         LinkKind::Pipe(cap) => LinkLaw::Quad(Quad { cap: *cap }),
@@ -73,7 +76,7 @@ fn running_law(us: bool, kind: &LinkKind, speed: i64) -> LinkLaw
     requires made { IsLawMade kind.now }
     requires head { HasShutoff us kind.now }
     requires speed { IsSpeed speed }
-    ensures { (bends : List (ListView HeadPoint)) → Stands result (spec.own_law us bends kind.now (Speed speed)) }
+    ensures { (bends : List (ListView HeadPoint)) → Represents result (spec.own_law us bends kind.now (Speed speed)) }
 {
     match kind {
         LinkKind::Pipe(_) => LinkLaw::Shut(Shut),
@@ -89,7 +92,7 @@ fn running_law(us: bool, kind: &LinkKind, speed: i64) -> LinkLaw
 // The law of a link with the law of a throttled valve.
 fn throttled_law(kind: &LinkKind, law: &OpenValve) -> LinkLaw
     requires { IsValveMade law.now }
-    ensures { (us : Bool) (bends : List (ListView HeadPoint)) (nano : ℤ) → Stands result (spec.own_law us bends kind.now (Throttle nano law.now)) }
+    ensures { (us : Bool) (bends : List (ListView HeadPoint)) (nano : ℤ) → Represents result (spec.own_law us bends kind.now (Throttle nano law.now)) }
 {
     match kind {
         LinkKind::Pipe(_) => LinkLaw::Shut(Shut),
@@ -105,7 +108,7 @@ fn throttled_law(kind: &LinkKind, law: &OpenValve) -> LinkLaw
 // The law of a link with a greatest flow.
 fn limited_law(kind: &LinkKind, ticks: i64) -> LinkLaw
     requires { IsLawMade kind.now }
-    ensures { (us : Bool) (bends : List (ListView HeadPoint)) (nano : ℤ) → Stands result (spec.own_law us bends kind.now (Limit nano ticks)) }
+    ensures { (us : Bool) (bends : List (ListView HeadPoint)) (nano : ℤ) → Represents result (spec.own_law us bends kind.now (Limit nano ticks)) }
 {
     match kind {
         LinkKind::Pipe(_) => LinkLaw::Shut(Shut),
@@ -118,11 +121,11 @@ fn limited_law(kind: &LinkKind, ticks: i64) -> LinkLaw
     }
 }
 
-/// The law of a link in a state, without regard to tanks.
-pub(crate) fn own_law(project: &Project, kind: &LinkKind, state: &LinkState) -> LinkLaw
+// The law of a link without a curve by straight lines in a state.
+fn plain_law(project: &Project, kind: &LinkKind, state: &LinkState) -> LinkLaw
     requires plain { IsPlain kind.now }
     requires can { CanStand project.now kind.now state.now }
-    ensures { Stands result (spec.own_law (is_us project.now) project.now.bends.list kind.now state.now) }
+    ensures { Represents result (spec.own_law (is_us project.now) project.now.bends.list kind.now state.now) }
 {
     match state {
         LinkState::Open => open_law(kind),
@@ -184,7 +187,8 @@ fn one_way_held(held: Held<Bent>, forward: bool) -> Held<Bent>
 
 // The law that passes one way only.
 fn one_way(law: LinkLaw, forward: bool) -> LinkLaw
-    ensures { (of : Law) → Stands law of → Stands result (one_way_law forward of) }
+    ensures stands { (of : Law) → Stands law of → Stands result (one_way_law forward of) }
+    ensures room { (n : ℕ) → HasRoom n law → HasRoom n result }
 {
     match law {
         LinkLaw::Shut(law) => LinkLaw::Shut(law),
@@ -223,7 +227,8 @@ fn one_way(law: LinkLaw, forward: bool) -> LinkLaw
 
 // The law that passes nothing forward, where that is forbidden.
 fn without_forward(law: LinkLaw, forbidden: bool) -> LinkLaw
-    ensures { (of : Law) → Stands law of → Stands result (if forbidden then exact.ReverseOnly of else of) }
+    ensures stands { (of : Law) → Stands law of → Stands result (if forbidden then exact.ReverseOnly of else of) }
+    ensures room { (n : ℕ) → HasRoom n law → HasRoom n result }
 {
     if forbidden {
         return one_way(law, false);
@@ -233,7 +238,8 @@ fn without_forward(law: LinkLaw, forbidden: bool) -> LinkLaw
 
 // The law that passes nothing in reverse, where that is forbidden.
 fn without_reverse(law: LinkLaw, forbidden: bool) -> LinkLaw
-    ensures { (of : Law) → Stands law of → Stands result (if forbidden then exact.ForwardOnly of else of) }
+    ensures stands { (of : Law) → Stands law of → Stands result (if forbidden then exact.ForwardOnly of else of) }
+    ensures room { (n : ℕ) → HasRoom n law → HasRoom n result }
 {
     if forbidden {
         return one_way(law, true);
@@ -241,14 +247,12 @@ fn without_reverse(law: LinkLaw, forbidden: bool) -> LinkLaw
     law
 }
 
-/// The law of a link in a setting.
-pub(crate) fn law_of(project: &Project, kind: &LinkKind, setting: &Setting) -> LinkLaw
-    requires plain { IsPlain kind.now }
-    requires can { CanStand project.now kind.now setting.now.state }
-    ensures { Stands result (restricted setting.now.no_forward setting.now.no_reverse (spec.own_law (is_us project.now) project.now.bends.list kind.now setting.now.state)) }
+// The law of a link between tanks that forbid ways.
+fn restricted(law: LinkLaw, setting: &Setting) -> LinkLaw
+    ensures stands { (of : Law) → Stands law of → Stands result (restricted setting.now.no_forward setting.now.no_reverse of) }
+    ensures room { (n : ℕ) → HasRoom n law → HasRoom n result }
 {
-    let own = own_law(project, kind, &setting.state);
-    without_reverse(without_forward(own, setting.no_forward), setting.no_reverse)
+    without_reverse(without_forward(law, setting.no_forward), setting.no_reverse)
 }
 
 // Whether two states are known to be the same. Two throttles are not compared.
@@ -278,7 +282,7 @@ fn is_same(a: &Setting, b: &Setting) -> bool
         && is_same_state(&a.state, &b.state)
 }
 
-/// Puts a link into a setting. Where it is in that setting, nothing is written.
+/// Puts a link into a setting. Where it is in that setting, nothing is written. No memory is taken.
 pub(crate) fn set_link(
     project: &Project,
     kind: &LinkKind,
@@ -287,15 +291,16 @@ pub(crate) fn set_link(
     own: &mut LinkLaw,
     law: &mut LinkLaw,
 )
-    requires plain { IsPlain kind.now }
     requires can { CanStand project.now kind.now wanted.now.state }
     requires stand { AreLawsOf (is_us project.now) project.now.bends.list kind.now setting.old own.old law.old }
     ensures stand { AreLawsOf (is_us project.now) project.now.bends.list kind.now setting.new own.new law.new }
     ensures set { setting.new ≡ wanted.now }
 {
     if !is_same(setting, wanted) {
-        *own = own_law(project, kind, &wanted.state);
-        *law = law_of(project, kind, wanted);
+        let held_own = mem::replace(own, LinkLaw::Shut(Shut));
+        let held = mem::replace(law, LinkLaw::Shut(Shut));
+        *own = own_law(project, kind, &wanted.state, held_own);
+        *law = restricted(own_law(project, kind, &wanted.state, held), wanted);
         *setting = *wanted;
     }
 }

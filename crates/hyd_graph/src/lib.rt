@@ -2,10 +2,16 @@
 #![tactic(auto)]
 
 mod accessors;
+mod closed;
+mod curves;
+mod demands;
 mod fault;
+mod fixed;
 mod laws;
 mod net;
+mod opening;
 mod parts;
+mod period;
 mod pumps;
 mod rows;
 mod settings;

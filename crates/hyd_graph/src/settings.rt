@@ -5,7 +5,8 @@ ghost use Rattle.std.specs.Prelude.{◌≡◌, ◌+◌, ◌^◌, ◌≤◌, ◌<
 ghost use Rattle.std.specs.List.{All};
 ghost use Rattle.std.specs.Option.{option_map_or};
 ghost use Rattle.hyd_spec.specs.LinkLaw.{is_full, is_empty, overflows};
-ghost use Rattle.hyd_graph.specs.Settings.{tank_state, setting_of, AreLaws, AreSet, AreStanding, ArePlain};
+ghost use Rattle.hyd_net.specs.Sound.{Sound};
+ghost use Rattle.hyd_graph.specs.Settings.{tank_state, setting_of, AreLaws, AreSet, AreStates};
 
 use crate::laws::set_link;
 use crate::parts::Setting;
@@ -82,7 +83,7 @@ fn setting_of(project: &Project, tanks: &[TankState], link: &Link, state: &LinkS
 }
 
 /// Puts each link into the setting of its state, between tanks in theirs. Where a link is in that setting, nothing is
-/// written.
+/// written. No memory is taken.
 pub(crate) fn set_links(
     project: &Project,
     states: &[LinkState],
@@ -91,10 +92,8 @@ pub(crate) fn set_links(
     own: &mut [LinkLaw],
     laws: &mut [LinkLaw],
 )
-    requires few { length project.now.junctions.list + length project.now.reservoirs.list ≤ 2 ^ 32 }
-    requires plain { ArePlain project.now.links.list }
-    requires standing { AreStanding project.now project.now.links.list states.now }
-    requires each_state { length states.now ≡ length project.now.links.list }
+    requires sound { Sound project.now }
+    requires states { AreStates project.now states.now }
     requires each_setting { length settings.old ≡ length project.now.links.list }
     requires each_own { length own.old ≡ length project.now.links.list }
     requires each_law { length laws.old ≡ length project.now.links.list }

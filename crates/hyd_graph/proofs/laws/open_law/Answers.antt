@@ -1,17 +1,17 @@
-use Rattle.hyd_graph.proofs.LawsStand.{shut_stands, quad_stands, check_stands}
+use Rattle.hyd_graph.proofs.LawsStand.{shut_represents, quad_represents, check_represents}
 use Rattle.hyd_graph.proofs.laws.open_law.Goals as goal
 
 pub returns-in-Pipe : goal.returns-in-Pipe
-returns-in-Pipe c us bends = rw c.in-Pipe.is (quad_stands c.in-Pipe.cap (rw c.in-Pipe.is at c.requires.made))
+returns-in-Pipe c us bends = rw c.in-Pipe.is (quad_represents c.in-Pipe.cap (rw c.in-Pipe.is at c.requires.made))
 
 pub returns-in-CheckPipe : goal.returns-in-CheckPipe
-returns-in-CheckPipe c us bends = rw c.in-CheckPipe.is (check_stands c.in-CheckPipe.cap (rw c.in-CheckPipe.is at c.requires.made))
+returns-in-CheckPipe c us bends = rw c.in-CheckPipe.is (check_represents c.in-CheckPipe.cap (rw c.in-CheckPipe.is at c.requires.made))
 
 pub returns-in-Pump : goal.returns-in-Pump
-returns-in-Pump c us bends = rw c.in-Pump.is (shut_stands (record {}))
+returns-in-Pump c us bends = rw c.in-Pump.is (shut_represents (record {}))
 
 pub returns-in-CurvePump : goal.returns-in-CurvePump
-returns-in-CurvePump c us bends = rw c.in-CurvePump.is (shut_stands (record {}))
+returns-in-CurvePump c us bends = rw c.in-CurvePump.is (shut_represents (record {}))
 
 pub returns-in-Tcv : goal.returns-in-Tcv
 returns-in-Tcv c us bends = rw c.in-Tcv.is c.valve_law.ensures

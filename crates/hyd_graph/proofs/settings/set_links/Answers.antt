@@ -1,8 +1,9 @@
-use Rattle.std.proofs.Common.{List, length, slice_index_or, subst, sym, ap, ◌∙◌, rules, arith}
+use Rattle.std.proofs.Common.{ℕ, ◌<◌, List, length, slice_index_or, subst, sym, ap, ◌∙◌, rules, arith}
 use Rattle.hyd_spec.specs.Types.{Link, LinkState}
 use Rattle.hyd_graph.specs.declared.parts.Setting.{Setting}
-use Rattle.hyd_graph.specs.Settings.{AreLaws, AreStanding, CanStand}
+use Rattle.hyd_graph.specs.Settings.{AreLaws, CanStand}
 use Rattle.hyd_graph.proofs.SettingOne.{laws_set, sets_more}
+use Rattle.hyd_graph.proofs.Standing.{standing_of}
 use Rattle.hyd_graph.proofs.settings.set_links.Goals as goal
 
 pub loop-i-init : goal.loop-i-init
@@ -18,7 +19,9 @@ loop-i-init c =
 
 pub set_link-requires-clause-can : goal.set_link-requires-clause-can
 set_link-requires-clause-can c =
-    let all = subst (λ (ls : List Link). AreStanding c.args.project.now ls c.args.states.now) (sym c.as_slice-links.ensures) c.requires.standing in
+    let all : (k : ℕ) (link : Link) (state : LinkState) → k < length c.as_slice-links.result.now → CanStand c.args.project.now (slice_index_or c.as_slice-links.result.now k link).kind (slice_index_or c.args.states.now k state) =
+    subst (λ (ls : List Link). (k : ℕ) (link : Link) (state : LinkState) → k < length ls → CanStand c.args.project.now (slice_index_or ls k link).kind (slice_index_or c.args.states.now k state))
+    (sym c.as_slice-links.ensures) (standing_of c.args.project.now c.args.states.now c.requires.sound c.requires.states) in
     subst (λ (q : LinkState). CanStand c.args.project.now (slice_index_or c.as_slice-links.result.now c.loop-i.i c.index-links-i-in-loop-i.result).kind q) (sym (ap (λ (x : Setting). x.state) c.setting_of-wanted.ensures ∙ c.index-states-i.is))
     (all c.loop-i.i c.index-links-i-in-loop-i.result c.index-states-i.result (omega arith))
 
