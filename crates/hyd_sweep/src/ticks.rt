@@ -9,7 +9,7 @@ ghost use Rattle.hyd_sweep.specs.Sweeps.{further};
 use hyd_spec_certificates::Side;
 
 // The end of the box in which heads are sought, either way, in head ticks.
-const BOX_LIMIT: i64 = 1_000_000_000_000_000_000;
+pub(crate) const BOX_LIMIT: i64 = 1_000_000_000_000_000_000;
 
 /// How far a head is from the far end of the box.
 pub(crate) fn room(side: Side, head: i64) -> u64
