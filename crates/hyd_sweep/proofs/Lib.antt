@@ -1,3 +1,4 @@
 pub mod Ends
 pub mod Values
 pub mod Walking
+pub mod Turns

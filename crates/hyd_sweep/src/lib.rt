@@ -8,6 +8,7 @@ mod following;
 mod leaps;
 mod raising;
 mod rounds;
+mod strides;
 mod sweeper;
 mod ticks;
 

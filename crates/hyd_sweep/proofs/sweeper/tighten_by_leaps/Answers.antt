@@ -1,8 +1,8 @@
-use Rattle.std.proofs.Common.{◌≡◌, ◌+◌, ◌∙◌, sym, subst, arith, ℕ, [], length, suc}
+use Rattle.std.proofs.Common.{◌≡◌, ◌+◌, ◌∙◌, sym, subst, arith, ℕ, length, suc}
 use Rattle.std.proofs.lemmas.Bool.{false≢true}
 use Rattle.hyd_graph.specs.GridOf.{grid_of}
 use Rattle.hyd_spec_certificates.specs.Climbing.{HasRounds}
-use Rattle.hyd_spec_raises.proofs.Sweeping.{has-begins, climb-start, has-on, climb-on}
+use Rattle.hyd_spec_raises.proofs.Sweeping.{has-begins, climb-start, has-on}
 use Rattle.hyd_sweep.specs.Sweeps.{RoundGives, numbers}
 use Rattle.std.specs.Prelude.{Option}
 use Rattle.hyd_sweep.proofs.Walking.{round-more, sweep-none, sweep-spent}
@@ -26,13 +26,19 @@ loop-spent-preserved c =
     let gives = subst (λ (r : Option ℕ). RoundGives held grid problem side c.loop-spent.u c.round.new.u r) c.in_default.is c.round.ensures in
     let next = climb-start held grid c.junctions-junctions.ensures.steady problem side (numbers (length grid.junctions)) c.loop-spent.u c.round.new.u gives start in
     let rounds = round-more held grid c.junctions-junctions.ensures.steady problem side c.loop-spent.spent c.args.u.now c.loop-spent.u c.round.new.u start.one_each c.loop-spent.invariant.rounds gives in
-    let leaps = c.leap_on.ensures in
+    let leads = c.leap_on.ensures.leads in
     record {
-      start = climb-start held grid c.junctions-junctions.ensures.steady problem side [] c.round.new.u c.leap_on.new.u leaps next;
+      start = leads.start next;
       rounds = subst (λ (n : ℕ). HasRounds held grid problem side n c.args.u.now c.leap_on.new.u) (let e : suc c.loop-spent.spent ≡ c.loop-spent.spent + 1 = omega arith in e)
-          (has-on held grid c.junctions-junctions.ensures.steady problem side (suc c.loop-spent.spent) c.args.u.now c.round.new.u c.leap_on.new.u rounds
-          (climb-on held grid c.junctions-junctions.ensures.steady problem side [] c.round.new.u c.leap_on.new.u leaps next.one_each).1 next.one_each);
+          (has-on held grid c.junctions-junctions.ensures.steady problem side (suc c.loop-spent.spent) c.args.u.now c.round.new.u c.leap_on.new.u rounds leads.beyond next.one_each);
     }
+
+pub leap_on-requires-clause-in_box : goal.leap_on-requires-clause-in_box
+leap_on-requires-clause-in_box c =
+    let held = c.args.held in
+    let grid = grid_of c.args.net.now in
+    let gives = subst (λ (r : Option ℕ). RoundGives held grid c.args.problem c.args.side c.loop-spent.u c.round.new.u r) c.in_default.is c.round.ensures in
+    (climb-start held grid c.junctions-junctions.ensures.steady c.args.problem c.args.side (numbers (length grid.junctions)) c.loop-spent.u c.round.new.u gives c.loop-spent.invariant.start).in_box
 
 pub returns-else-suits_everywhere-2 : goal.returns-else-suits_everywhere-2
 returns-else-suits_everywhere-2 c =

@@ -1,0 +1,11 @@
+use Rattle.std.proofs.Common.{sym, subst, List, ℤ}
+use Rattle.hyd_spec_certificates.specs.Climbing.{IsStart}
+use Rattle.hyd_graph.specs.GridOf.{grid_of}
+use Rattle.hyd_sweep.proofs.Turns.{start-in-turn}
+use Rattle.hyd_sweep.proofs.leaps.leap.Goals as goal
+
+pub returns-clause-start : goal.returns-clause-start
+returns-clause-start c leapt start =
+    subst (λ (u : List ℤ). IsStart c.args.held (grid_of c.args.net.now) c.args.problem c.args.side u) (sym c.copy_from_slice.ensures.after)
+    (start-in-turn c.args.held (grid_of c.args.net.now) c.junctions-junctions.ensures.steady c.args.problem c.args.side c.args.u.now c.args.to.now start
+    (c.take_turns.ensures.leaps.0 c.if-not-take_turns.false))
