@@ -43,8 +43,8 @@ LiesAbovePinned grid tank u = (network : Project) (S time : ℕ) (intervals : Li
     (tanks : List TankState) (links : List LinkState) (assignment : Assignment)
     → IsCompared network S time intervals levels tanks links assignment grid
     → Each assignment.heads (λ j h.
-        (h -ℤ head_at (node_heads network S time levels assignment.heads) (tank_node network tank))
-        <ℤ at_scale S (above_tank network grid Upper tank u j))
+    (h -ℤ head_at (node_heads network S time levels assignment.heads) (tank_node network tank))
+    <ℤ at_scale S (above_tank network grid Upper tank u j))
 
 -- each lies farther above it than in u
 abbrev pub LiesBelowPinned : Grid → ℕ → List ℤ → Type 0
@@ -52,8 +52,8 @@ LiesBelowPinned grid tank u = (network : Project) (S time : ℕ) (intervals : Li
     (tanks : List TankState) (links : List LinkState) (assignment : Assignment)
     → IsCompared network S time intervals levels tanks links assignment grid
     → Each assignment.heads (λ j h.
-        at_scale S (above_tank network grid Lower tank u j)
-        <ℤ (h -ℤ head_at (node_heads network S time levels assignment.heads) (tank_node network tank)))
+    at_scale S (above_tank network grid Lower tank u j)
+    <ℤ (h -ℤ head_at (node_heads network S time levels assignment.heads) (tank_node network tank)))
 
 -- ---- certificates of the other side
 

@@ -9,16 +9,16 @@ use Rattle.hyd_spec_certificates.specs.declared.Problem.{Problem}
 use Rattle.hyd_spec_certificates.specs.declared.Side.{Side}
 use Rattle.hyd_spec_certificates.specs.declared.Side.TheVariants.{Upper, Lower}
 use Rattle.hyd_spec_certificates.specs.declared.HeldJunction.{HeldJunction}
-use Rattle.hyd_spec_certificates.specs.Grid.{Grid, GridJunction}
-use Rattle.hyd_spec_certificates.specs.Certificate.{IsInBox, IsBeyond, IsCertificateHolding}
-use Rattle.hyd_spec_certificates.specs.Climbing.{LiesBeyond, IsStart, Fails}
+use Rattle.hyd_spec_certificates.specs.Grid.{Grid}
+use Rattle.hyd_spec_certificates.specs.Certificate.{IsBeyond, IsCertificateHolding}
+use Rattle.hyd_spec_certificates.specs.Climbing.{IsStart}
 use Rattle.hyd_spec_laws.specs.Laws.{IsSteady}
 use Rattle.hyd_spec_laws.specs.Sides.{along}
-use Rattle.hyd_spec_raises.proofs.Leading.{beyond-is, is-beyond, lead, fails-leading}
-use Rattle.hyd_spec_raises.proofs.Raising.{beyond-self, by-beyond, set-here, set-there, set-in-box}
+use Rattle.hyd_spec_raises.proofs.Leading.{beyond-is, lead, fails-leading}
+use Rattle.hyd_spec_raises.proofs.Raising.{beyond-self, by-beyond, set-here, set-there}
 use Rattle.hyd_spec_raises.proofs.Sweeping.{one-vector, vector-self, vector-trans}
 use Rattle.hyd_check.proofs.Lookups.{junction-there}
-use Rattle.hyd_sweep.specs.Leaps.{nearer, IsTurn, MayMove, IsLeapInTurn, LeadsOn}
+use Rattle.hyd_sweep.specs.Leaps.{nearer, IsTurn, IsLeapInTurn, LeadsOn}
 
 pub along-nearer : (side : Side) (h : ℤ) → along side (nearer side h) ≡ along side h -ℤ pos 1
 along-nearer Upper h = refl
@@ -37,25 +37,34 @@ record IsFirstGreatest (f : ℕ → ℤ) (n i : ℕ) : Type 0 where
 
 first-greatest : (f : ℕ → ℤ) (n : ℕ) → 0 < n → (i : ℕ) × IsFirstGreatest f n i
 first-greatest f zero some = absurd (omega arith)
-first-greatest f (suc zero) some = (0, record {
-  below = omega arith;
-  each = λ m lt. subst (λ (k : ℕ). f k ≤ℤ f 0) (let e : 0 ≡ m = omega arith in e) (let l : f 0 ≤ℤ f 0 = omega (arith, ints) in l);
-  before = λ m lt. absurd (omega (arith, lt));
-})
+first-greatest f (suc zero) some = (
+  0,
+  record {
+    below = omega arith;
+    each = λ m lt. subst (λ (k : ℕ). f k ≤ℤ f 0) (let e : 0 ≡ m = omega arith in e) (let l : f 0 ≤ℤ f 0 = omega (arith, ints) in l);
+    before = λ m lt. absurd (omega (arith, lt));
+  },
+)
 first-greatest f (suc (suc n)) some = further (first-greatest f (suc n) (omega arith))
   where
     further : ((i : ℕ) × IsFirstGreatest f (suc n) i) → (i : ℕ) × IsFirstGreatest f (suc (suc n)) i
     further (i, best) = by_lt_z (f i) (f (suc n))
-        (λ lt. (suc n, record {
-          below = omega arith;
-          each = λ m le. last m le lt;
-          before = λ m le. (let b : f m ≤ℤ f i = best.each m le in omega (arith, ints, b, lt));
-        }))
-        (λ ge. (i, record {
-          below = (let b : i < suc n = best.below in omega arith);
-          each = λ m le. old m le ge;
-          before = best.before;
-        }))
+        (λ lt. (
+          suc n,
+          record {
+            below = omega arith;
+            each = λ m le. last m le lt;
+            before = λ m le. (let b : f m ≤ℤ f i = best.each m le in omega (arith, ints, b, lt));
+          },
+        ))
+        (λ ge. (
+          i,
+          record {
+            below = (let b : i < suc n = best.below in omega arith);
+            each = λ m le. old m le ge;
+            before = best.before;
+          },
+        ))
       where
         last : (m : ℕ) → m < suc (suc n) → f i <ℤ f (suc n) → f m ≤ℤ f (suc n)
         last m le lt = elim (cases_eq m (suc n)) [
@@ -79,13 +88,15 @@ module _ (side : Side) where
   turn-of (a ∷ u) [] i same = absurd (omega (arith, same))
   turn-of (a ∷ u) (b ∷ v) (suc i) same =
       let rest = turn-of u v i (omega (arith, same)) in
-      let turn = rest.1 in
-      (b ∷ rest.0, record {
-        one_each = (let e = turn.one_each in omega (arith, e));
-        before = by turn;
-        still = still turn;
-        short = short turn;
-      })
+      let turn = rest.1 in (
+        b ∷ rest.0,
+        record {
+          one_each = (let e = turn.one_each in omega (arith, e));
+          before = by turn;
+          still = still turn;
+          short = short turn;
+        },
+      )
     where
       by : {y : List ℤ} → IsTurn side u v y i → (m : ℕ) → m < suc i → head_at (b ∷ y) m ≡ head_at (b ∷ v) m
       by turn zero lt = refl
@@ -102,18 +113,24 @@ module _ (side : Side) where
       let rest = turn-of u v zero (omega (arith, same)) in
       let turn = rest.1 in
       elim (same-or-not b a) [
-        | inl e ↦ (b ∷ rest.0, record {
-          one_each = (let l = turn.one_each in omega (arith, l));
-          before = λ m lt. absurd (omega (arith, lt));
-          still = still turn;
-          short = short-still turn e;
-        })
-        | inr ne ↦ (nearer side b ∷ rest.0, record {
-          one_each = (let l = turn.one_each in omega (arith, l));
-          before = λ m lt. absurd (omega (arith, lt));
-          still = still-short turn ne;
-          short = short turn;
-        })
+        | inl e ↦ (
+          b ∷ rest.0,
+          record {
+            one_each = (let l = turn.one_each in omega (arith, l));
+            before = λ m lt. absurd (omega (arith, lt));
+            still = still turn;
+            short = short-still turn e;
+          },
+        )
+        | inr ne ↦ (
+          nearer side b ∷ rest.0,
+          record {
+            one_each = (let l = turn.one_each in omega (arith, l));
+            before = λ m lt. absurd (omega (arith, lt));
+            still = still-short turn ne;
+            short = short turn;
+          },
+        )
       ]
     where
       still : {y : List ℤ} → IsTurn side u v y zero → (m : ℕ) → 0 ≤ m → head_at (b ∷ v) m ≡ head_at (a ∷ u) m → head_at (b ∷ y) m ≡ head_at (b ∷ v) m
@@ -196,14 +213,14 @@ module _ (held : Option HeldJunction) (grid : Grid) (steady : IsSteady grid) (pr
                 | inr moved ↦ elim (leap.moves i (omega (arith, inside, long)) at.0 at.1) [
                   | inl e ↦ stays e
                   | inr fails ↦ (
-                    let turn = turn-of side u v i leap.one_each in
-                    fails-leading grid steady problem held side turn.0 w i at.0
-                    (turn.1.one_each ∙ (leap.one_each ∙ (start.one_each ∙ sym certificate.one_each)))
-                    (let l = turn.1.one_each in omega (arith, inside, l))
-                    (let o = own turn.0 turn.1 moved in omega (arith, ints, o, most, ahead))
-                    (λ k within. led turn.0 turn.1 moved k (let l = turn.1.one_each in omega (arith, within, l)))
-                    at.1 (fails turn.0 turn.1) (certificate.passes i at.0 at.1)
-                  )
+                      let turn = turn-of side u v i leap.one_each in
+                      fails-leading grid steady problem held side turn.0 w i at.0
+                      (turn.1.one_each ∙ (leap.one_each ∙ (start.one_each ∙ sym certificate.one_each)))
+                      (let l = turn.1.one_each in omega (arith, inside, l))
+                      (let o = own turn.0 turn.1 moved in omega (arith, ints, o, most, ahead))
+                      (λ k within. led turn.0 turn.1 moved k (let l = turn.1.one_each in omega (arith, within, l)))
+                      at.1 (fails turn.0 turn.1) (certificate.passes i at.0 at.1)
+                      )
                 ]
               ]
             where
@@ -222,23 +239,23 @@ module _ (held : Option HeldJunction) (grid : Grid) (steady : IsSteady grid) (pr
               led : (y : List ℤ) → IsTurn side u v y i → (head_at v i ≡ head_at u i → ⊥) → (k : ℕ) → k < length v → lead side y w k ≤ℤ lead side y w i
               led y turn moved k within = elim (cases_lt k i) [
                 | inl before ↦ (
-                  let o = own y turn moved in
-                  let e = ap (along side) (turn.before k before) in
-                  let b = best.before k before in omega (arith, ints, o, e, b)
-                )
+                    let o = own y turn moved in
+                    let e = ap (along side) (turn.before k before) in
+                    let b = best.before k before in omega (arith, ints, o, e, b)
+                    )
                 | inr after ↦ elim (same-or-not (head_at v k) (head_at u k)) [
                   | inl e ↦ (
-                    let o = own y turn moved in
-                    let f = ap (along side) (turn.still k after e ∙ e) in
-                    let n = near k within in
-                    let most = best.each m lt in omega (arith, ints, o, f, n, most, ahead)
-                  )
+                      let o = own y turn moved in
+                      let f = ap (along side) (turn.still k after e ∙ e) in
+                      let n = near k within in
+                      let most = best.each m lt in omega (arith, ints, o, f, n, most, ahead)
+                      )
                   | inr ne ↦ (
-                    let o = own y turn moved in
-                    let f = ap (along side) (turn.short k after ne) in
-                    let a = along-nearer side (head_at v k) in
-                    let most = best.each k within in omega (arith, ints, o, f, a, most)
-                  )
+                      let o = own y turn moved in
+                      let f = ap (along side) (turn.short k after ne) in
+                      let a = along-nearer side (head_at v k) in
+                      let most = best.each k within in omega (arith, ints, o, f, a, most)
+                      )
                 ]
               ]
 

@@ -35,13 +35,13 @@ returns-in-Some c =
     let within : i < length grid.junctions = (let a = c.requires.inside in let b = c.requires.one_each in let e = c.junctions-junctions.ensures.each in omega (arith, a, b, e)) in (
       (λ e. absurd (false≢true e)),
       (λ may. (
-        let at = junction-there grid.junctions i within in
-        absurd (elim (may at.0 at.1) [
-          | inl same ↦ false≢true (sym c.if-is_same.false ∙ c.is_same.ensures.1 (head ∙ (same ∙ sym from)))
-          | inr fails ↦ held-stays held grid steady c.args.problem c.args.side c.args.u.now i c.requires.inside c.in-Some.field-0 c.args.heads.now at.0 c.in-Some.ensures.0
-              (fails c.args.heads.now c.requires.turn)
-        ])
-      )),
+          let at = junction-there grid.junctions i within in
+          absurd (elim (may at.0 at.1) [
+            | inl same ↦ false≢true (sym c.if-is_same.false ∙ c.is_same.ensures.1 (head ∙ (same ∙ sym from)))
+            | inr fails ↦ held-stays held grid steady c.args.problem c.args.side c.args.u.now i c.requires.inside c.in-Some.field-0 c.args.heads.now at.0 c.in-Some.ensures.0
+                (fails c.args.heads.now c.requires.turn)
+          ])
+          )),
     )
 
 pub returns-in-None : goal.returns-in-None
@@ -63,10 +63,10 @@ returns-in-None c =
           yes-not c.passes.result not (c.passes.ensures.1 (λ other there.
           subst (λ (j : GridJunction). Passes grid problem side heads i j) (one GridJunction junction other (sym at ∙ there)) passes)))))),
       (λ may. not-yes c.passes.result (λ yes. (
-        let at = junction-there grid.junctions i within in
-        elim (may at.0 at.1) [
-          | inl same ↦ false≢true (sym c.if-is_same.false ∙ c.is_same.ensures.1 (head ∙ (same ∙ sym from)))
-          | inr fails ↦ fails-free held grid steady problem side u i c.requires.inside heads at.0 c.in-None.ensures (fails heads c.requires.turn) (c.passes.ensures.0 yes at.0 at.1)
-        ]
-      ))),
+          let at = junction-there grid.junctions i within in
+          elim (may at.0 at.1) [
+            | inl same ↦ false≢true (sym c.if-is_same.false ∙ c.is_same.ensures.1 (head ∙ (same ∙ sym from)))
+            | inr fails ↦ fails-free held grid steady problem side u i c.requires.inside heads at.0 c.in-None.ensures (fails heads c.requires.turn) (c.passes.ensures.0 yes at.0 at.1)
+          ]
+          ))),
     )

@@ -1,5 +1,5 @@
-use Rattle.std.proofs.Common.{◌≡◌, ◌<◌, ◌∙◌, sym, subst, ap, w64, to_z, of_z, arith, ℕ, ℤ, pos, length, inl, inr}
-use Rattle.std.specs.Prelude.{slice_set, slice_index_or, ◌≢◌}
+use Rattle.std.proofs.Common.{◌≡◌, ◌<◌, ◌∙◌, sym, subst, ap, w64, to_z, of_z, arith, ℕ, pos, length, inl, inr}
+use Rattle.std.specs.Prelude.{slice_set, ◌≢◌}
 use Rattle.std.proofs.lemmas.Int.{ints}
 use Rattle.std.proofs.lemmas.Bool.{cases_eq}
 use Rattle.std.proofs.lemmas.List.{length-set, get_or_default}
