@@ -1,14 +1,12 @@
 -- A net that was set to a period is the grid of that period.
-use Rattle.std.proofs.Common.{◌≡◌, ℕ, zero, suc, ◌<◌, List, [], ◌∷◌, length, map, slice_index_or, refl, sym, ap, subst, ◌∙◌, arith}
+use Rattle.std.proofs.Common.{◌≡◌, ℕ, suc, ◌<◌, List, [], ◌∷◌, length, map, slice_index_or, refl, ap, ◌∙◌, arith}
 use Rattle.std.specs.List.{AllZip}
-use Rattle.hyd_spec.specs.Types.{Project, Junction, Link, LinkState, Capacity}
-use Rattle.std.specs.Prelude.{Option}
+use Rattle.hyd_spec.specs.Types.{Project, Junction, Link, LinkState}
 use Rattle.hyd_spec.specs.declared.TankState.{TankState}
 use Rattle.hyd_spec.specs.Law.{Law}
 use Rattle.hyd_spec.specs.LinkLaw.{own_law, law_of}
 use Rattle.hyd_spec.specs.Quantity.{is_us, demand_of, reservoir_head}
-use Rattle.hyd_spec_certificates.specs.Interval.{Interval}
-use Rattle.hyd_spec_certificates.specs.Grid.{Grid, GridLink, IsGrid, IsJunctionOf, grid_links, tank_intervals}
+use Rattle.hyd_spec_certificates.specs.Grid.{IsGrid, IsJunctionOf, grid_links, tank_intervals}
 use Rattle.hyd_law.specs.declared.link_law.LinkLaw.{LinkLaw}
 use Rattle.hyd_law.specs.declared.outflows.OutLaw.{OutLaw}
 use Rattle.hyd_graph.specs.declared.parts.NetJunction.{NetJunction}

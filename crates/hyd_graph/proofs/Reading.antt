@@ -4,6 +4,7 @@ use Rattle.std.specs.Option.{option_map}
 use Rattle.std.proofs.lemmas.Option.{slice_get_within, get_or_from_slice_get}
 use Rattle.smallvec.specs.SmallVec.{SmallVec}
 use Rattle.hyd_spec.specs.Types.{Closed}
+use Rattle.hyd_spec.specs.Law.{Law}
 use Rattle.hyd_spec_certificates.specs.NetOutflow.{margin}
 use Rattle.hyd_law.specs.declared.kinds.Quad.{Quad}
 use Rattle.hyd_law.specs.declared.link_law.LinkLaw.{LinkLaw}
@@ -15,7 +16,7 @@ use Rattle.hyd_graph.specs.declared.parts.Tie.{Tie}
 use Rattle.hyd_graph.specs.NetView.{NetView}
 use Rattle.hyd_graph.specs.Demands.{demand_of_law}
 use Rattle.hyd_graph.specs.ExactLaw.{exact_law}
-use Rattle.hyd_graph.specs.Settings.{Stands}
+use Rattle.hyd_graph.specs.Settings.{Stands, restricted}
 use Rattle.hyd_graph.specs.GridOf.{grid_of, capacity_of}
 use Rattle.hyd_graph.specs.Nets.{HasLaws, HaveLaws, IsSoundNet}
 use Rattle.hyd_graph.specs.Ties.{ties_from, AreRowsOf}
@@ -64,6 +65,15 @@ pub law_at : (net : NetView) (k : ℕ) (l : LinkLaw) → IsSoundNet net → slic
 law_at net k l sound at =
     at_link net.ends net.settings net.own k (λ g. Stands l g.law)
     (λ e s o he hs ho. (laws_at net.settings net.own net.laws k s o l sound.laws hs ho at).law_is)
+
+-- whatever law it is
+pub law_stands : (net : NetView) (k : ℕ) (l : LinkLaw) → IsSoundNet net → slice_get net.laws k ≡ Some l → (exact : Law) × Stands l exact
+law_stands net k l sound at =
+    let inside = slice_get_within net.laws k l at in
+    let setting : Setting = slice_index_or net.settings k (record { state = Closed; no_forward = false; no_reverse = false }) in
+    let exact : Law = restricted setting.no_forward setting.no_reverse (exact_law (slice_index_or net.own k l)) in
+    let all = sound.laws k (record { state = Closed; no_forward = false; no_reverse = false }) l l (omega (arith, inside, sound.each_law, sound.each_setting)) in
+    (exact, subst (λ (x : LinkLaw). Stands x exact) (get_or_from_slice_get net.laws k l l at) all.law_is)
 
 pub own_at : (net : NetView) (k : ℕ) (o : LinkLaw) → IsSoundNet net → slice_get net.own k ≡ Some o → Stands o (exact_law o)
 own_at net k o sound at =

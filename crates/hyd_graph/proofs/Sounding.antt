@@ -1,5 +1,5 @@
 -- A net of a sound project whose heads are in range is a sound net.
-use Rattle.std.proofs.Common.{◌≡◌, ℕ, zero, suc, ◌<◌, Bool, List, [], ◌∷◌, length, map, All, Option, Some, None, IfSome, slice_index_or, refl, sym, ap, subst, ◌∙◌, arith}
+use Rattle.std.proofs.Common.{◌≡◌, ℕ, zero, suc, ◌<◌, Bool, List, [], ◌∷◌, length, map, All, Option, Some, None, IfSome, slice_index_or, refl, sym, ap, subst, arith}
 use Rattle.std.specs.List.{AllZip}
 use Rattle.std.specs.Option.{option_map}
 use Rattle.std.proofs.lemmas.List.{length-map}
@@ -19,16 +19,14 @@ use Rattle.hyd_spec_laws.specs.Laws.{IsSoundCapacity}
 use Rattle.hyd_spec_laws.proofs.EachLaw.{IsSoundCapacity-made}
 use Rattle.hyd_law.specs.declared.kinds.Quad.{Quad}
 use Rattle.hyd_law.specs.declared.link_law.LinkLaw.{LinkLaw}
-use Rattle.hyd_law.specs.declared.outflows.OutLaw.{OutLaw}
 use Rattle.hyd_graph.specs.declared.parts.NetJunction.{NetJunction}
-use Rattle.hyd_graph.specs.declared.parts.Ends.{Ends}
 use Rattle.hyd_graph.specs.declared.parts.Setting.{Setting}
 use Rattle.hyd_graph.specs.NetView.{NetView}
-use Rattle.hyd_graph.specs.Demands.{IsNetJunction, AreHeld}
+use Rattle.hyd_graph.specs.Demands.{IsNetJunction}
 use Rattle.hyd_graph.specs.Settings.{Stands, restricted, AreLaws, AreLawsOf}
 use Rattle.hyd_graph.specs.Ties.{HasEnds}
 use Rattle.hyd_graph.specs.GridOf.{node_count, capacity_of}
-use Rattle.hyd_graph.specs.Nets.{IsSoundJunction, IsSoundDemand, AreHeads, HasLaws, HaveLaws, IsSoundNet}
+use Rattle.hyd_graph.specs.Nets.{IsSoundJunction, AreHeads, HasLaws, HaveLaws, IsSoundNet}
 use Rattle.hyd_graph.specs.Periods.{ends_of, IsNetOf}
 
 pub long_zipped : {X Y : Type 0} (P : X → Y → Type 0) (xs : List X) (ys : List Y) → AllZip P xs ys → length xs ≡ length ys

@@ -1,12 +1,12 @@
 -- Every law of a net's grid is sound.
-use Rattle.std.proofs.Common.{◌≡◌, ℕ, zero, suc, ◌<◌, ◌≤ℤ◌, ℤ, pos, Bool, true, false, List, [], ◌∷◌, length, All, Option, Some, None, IfSome, slice_index_or, if◌then◌else◌, arith, lit<}
+use Rattle.std.proofs.Common.{◌≡◌, suc, ◌<◌, ℤ, Bool, true, false, List, [], ◌∷◌, length, All, Option, Some, None, IfSome, arith, lit<}
 use Rattle.std.specs.List.{AllByRecursion}
 use Rattle.std.specs.Option.{option_map}
 use Rattle.std.proofs.lemmas.Int.{ints}
 use Rattle.std.proofs.lemmas.Bool.{cond_both}
-use Rattle.hyd_spec.specs.Types.{ShutoffHead, FourThirds, Given, Capacity, Decimal}
+use Rattle.hyd_spec.specs.Types.{ShutoffHead, FourThirds, Given, Decimal}
 use Rattle.hyd_spec.specs.Quantity.{lift_of, pressure_value}
-use Rattle.hyd_spec.specs.Law.{Law, Shut as ShutLaw, ForwardOnly, ReverseOnly, Held as HeldLaw, Bent as BentLaw}
+use Rattle.hyd_spec.specs.Law.{Law, Shut as ShutLaw, Held as HeldLaw, Bent as BentLaw}
 use Rattle.hyd_spec_certificates.specs.Grid.{GridLink, GridJunction}
 use Rattle.hyd_spec_laws.specs.Laws.{IsSoundLaw, IsSoundCapacity, IsSoundDemand as IsSoundDemandLaw, IsSteady}
 use Rattle.hyd_law.specs.Curves.{places}
@@ -59,12 +59,14 @@ links_sound : (ends : List Ends) (settings : List Setting) (own laws : List Link
 links_sound [] settings own laws e all = tt
 links_sound (x ∷ ends) [] own laws e all = tt
 links_sound (x ∷ ends) (s ∷ settings) [] laws e all = tt
-links_sound (x ∷ ends) (s ∷ settings) (o ∷ own) [] e all =
-    (restricted_sound s.no_forward s.no_reverse (exact_law o) (exact_sound o (all 0 s o o (omega arith)).own_is.sound),
-    links_sound ends settings own [] (omega arith) (λ k setting a b h. all (suc k) setting a b (omega arith)))
-links_sound (x ∷ ends) (s ∷ settings) (o ∷ own) (l ∷ laws) e all =
-    (restricted_sound s.no_forward s.no_reverse (exact_law o) (exact_sound o (all 0 s o l (omega arith)).own_is.sound),
-    links_sound ends settings own laws (omega arith) (λ k setting a b h. all (suc k) setting a b (omega arith)))
+links_sound (x ∷ ends) (s ∷ settings) (o ∷ own) [] e all = (
+  restricted_sound s.no_forward s.no_reverse (exact_law o) (exact_sound o (all 0 s o o (omega arith)).own_is.sound),
+  links_sound ends settings own [] (omega arith) (λ k setting a b h. all (suc k) setting a b (omega arith)),
+)
+links_sound (x ∷ ends) (s ∷ settings) (o ∷ own) (l ∷ laws) e all = (
+  restricted_sound s.no_forward s.no_reverse (exact_law o) (exact_sound o (all 0 s o l (omega arith)).own_is.sound),
+  links_sound ends settings own laws (omega arith) (λ k setting a b h. all (suc k) setting a b (omega arith)),
+)
 
 emitter_sound : (e : Option QuadValue) → IfSome e (λ law. IsSoundCapacity (capacity_of law)) → IfSome (option_map capacity_of e) IsSoundCapacity
 emitter_sound None sound = tt

@@ -1,15 +1,13 @@
 -- Lists that are written item by item.
-use Rattle.std.proofs.Common.{◌≡◌, ◌≢◌, ◌⊎◌, inl, inr, ℕ, zero, suc, ◌+◌, ◌<◌, ℤ, pos, ◌+ℤ◌, List, [], ◌∷◌, ◌++◌, length, map, All, replicate, slice_get, slice_index_or, slice_set, refl, sym, ap, subst, ◌∙◌, arith}
+use Rattle.std.proofs.Common.{◌≡◌, inl, inr, ℕ, zero, suc, ◌+◌, ◌<◌, ℤ, pos, ◌+ℤ◌, List, [], ◌∷◌, ◌++◌, length, map, All, replicate, slice_get, slice_index_or, slice_set, refl, sym, ap, subst, ◌∙◌, arith}
 use Rattle.std.specs.List.{AllZip}
 use Rattle.std.specs.Option.{option_map_or}
 use Rattle.std.proofs.lemmas.Bool.{cases_eq}
 use Rattle.std.proofs.lemmas.List.{get_or-set_same, get_or-set_other, get_or_append_left, get_or_default, get_or_push}
 use Rattle.hyd_spec.specs.Types.{Tank}
-use Rattle.hyd_spec_certificates.specs.Interval.{Interval}
 use Rattle.hyd_spec_certificates.specs.Grid.{tank_intervals}
 use Rattle.hyd_graph.specs.declared.parts.LevelSpan.{LevelSpan}
 use Rattle.hyd_graph.specs.GridOf.{interval_of}
-use Rattle.hyd_graph.specs.Nets.{AreHeads}
 use Rattle.hyd_graph.specs.Periods.{HasHeads}
 
 -- what holds of the first items holds of one more, where it holds of the one that is written

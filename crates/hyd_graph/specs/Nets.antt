@@ -52,7 +52,7 @@ pub record IsSoundNet (net : NetView) : Type 0 where
   pub each_own : length net.own ≡ length net.ends
   pub each_law : length net.laws ≡ length net.ends
   pub few_nodes : node_count net ≤ 2 ^ 31
-  pub few_links : length net.ends ≤ 2 ^ 31
+  pub few_links : length net.ends ≤ 20000
   pub ends : All (HasEnds (node_count net)) net.ends
   pub junctions : All IsSoundJunction net.junctions
   pub demands : All IsSoundDemand net.demands

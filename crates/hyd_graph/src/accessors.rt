@@ -10,6 +10,7 @@ ghost use Rattle.hyd_spec_certificates.specs.Enclosing.{demand_low, demand_high}
 ghost use Rattle.hyd_spec_certificates.specs.Grid.{all_heads, tank_side};
 ghost use Rattle.hyd_spec_certificates.specs.NetOutflow.{net, margin};
 ghost use Rattle.hyd_spec_laws.specs.Laws.{IsSteady, IsSoundCapacity};
+ghost use Rattle.hyd_law.specs.LinkLaws.{IsSoundLink, LinkAccepts};
 ghost use Rattle.hyd_law.specs.OutLaws.{IsSoundOut, OutAccepts, out_low, out_high};
 ghost use Rattle.hyd_graph.specs.ExactLaw.{exact_law};
 ghost use Rattle.hyd_graph.specs.Demands.{demand_of_law};
@@ -46,7 +47,7 @@ impl Net {
     pub fn links(&self) -> u32
         ensures count { result ≡ length self.now.ends }
         ensures each { length (grid_of self.now).links ≡ length self.now.ends }
-        ensures few { length self.now.ends ≤ 2 ^ 31 }
+        ensures few { length self.now.ends ≤ 20000 }
     {
         self.ends.len() as u32
     }
@@ -122,6 +123,8 @@ impl Net {
         requires { link < length self.now.ends }
         ensures value { slice_get self.now.laws link ≡ Some result.now }
         ensures stands { IfSome (slice_get (grid_of self.now).links link) (λ l. Stands result.now l.law) }
+        ensures sound { IsSoundLink result.now }
+        ensures accepts { (d : ℤ) → unsigned_abs d ≤ 2 * 10 ^ 18 → LinkAccepts result.now d }
     {
         &self.laws[link as usize]
     }
@@ -141,7 +144,11 @@ impl Net {
         }
         let tank = number - self.reservoirs.len();
         let heads = self.tanks[tank];
-        if is_upper(problem, side, tank) { heads.hi } else { heads.lo }
+        if is_upper(problem, side, tank) {
+            heads.hi
+        } else {
+            heads.lo
+        }
     }
 
     /// The margin of a junction, in flow ticks: ten for each of its link ends, and thirty for its demand, its emitter and
@@ -158,7 +165,7 @@ impl Net {
         requires { node < node_count self.now }
         ensures row { result.now ≡ ties_from node 0 self.now.ends }
         ensures ties { All (IsTie (node_count self.now) (length self.now.ends)) result.now }
-        ensures few { length result.now ≤ 2 ^ 32 }
+        ensures few { length result.now ≤ 40000 }
         ensures sum { (out into : Law → ℤ → ℤ) (heads : List ℤ) → ties_share out into (grid_of self.now).links heads (head_at heads node) result.now ≡ net out into heads node (grid_of self.now).links }
     {
         self.rows[node as usize].as_slice()

@@ -15,7 +15,9 @@ mod period;
 mod pumps;
 mod rows;
 mod settings;
+mod theorems;
 
 pub use fault::PeriodDemand;
 pub use net::Net;
 pub use parts::{Ends, LevelSpan, NetJunction, Setting, Tie};
+pub use theorems::periods;

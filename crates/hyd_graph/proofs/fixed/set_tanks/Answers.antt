@@ -1,4 +1,4 @@
-use Rattle.std.proofs.Common.{◌≡◌, ◌<◌, ℕ, List, length, map, slice_index_or, pos, rules, subst, ap, ◌∙◌, arith}
+use Rattle.std.proofs.Common.{◌<◌, ℕ, List, length, map, slice_index_or, pos, rules, subst, ap, ◌∙◌, arith}
 use Rattle.hyd_spec.specs.Types.{Tank}
 use Rattle.hyd_spec_certificates.specs.Grid.{tank_intervals}
 use Rattle.hyd_graph.specs.declared.parts.LevelSpan.{LevelSpan}

@@ -1,4 +1,4 @@
-use Rattle.std.proofs.Common.{◌≡◌, ℕ, ◌<◌, ℤ, pos, length, map, All, slice_index_or, subst, ap, sym, ◌∙◌, arith}
+use Rattle.std.proofs.Common.{pos, map, subst, ap, sym, ◌∙◌, arith}
 use Rattle.std.specs.List.{AllZip}
 use Rattle.std.proofs.lemmas.Int.{ints}
 use Rattle.hyd_net.specs.Ranges.{IsHead}
@@ -13,7 +13,7 @@ use Rattle.hyd_graph.specs.Demands.{IsNetJunction, IsHeld}
 use Rattle.hyd_graph.specs.Settings.{closed_setting}
 use Rattle.hyd_graph.specs.Nets.{AreHeads}
 use Rattle.hyd_graph.specs.Periods.{ends_of, IsNetOf, IsFresh}
-use Rattle.hyd_graph.specs.Ties.{AreRows, AreRowsOf}
+use Rattle.hyd_graph.specs.Ties.{AreRows}
 use Rattle.hyd_graph.proofs.ClosedLaws.{closed_stand}
 use Rattle.hyd_graph.proofs.Junctions.{nothing_held}
 use Rattle.hyd_graph.proofs.Sounding.{sound_net}

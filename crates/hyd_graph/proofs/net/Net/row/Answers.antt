@@ -1,4 +1,4 @@
-use Rattle.std.proofs.Common.{◌≡◌, ◌≤◌, length, ◌∙◌, All, ap, subst, sym, arith}
+use Rattle.std.proofs.Common.{◌≡◌, length, ◌∙◌, All, ap, subst, arith}
 use Rattle.hyd_spec.specs.Assignment.{head_at}
 use Rattle.hyd_graph.specs.NetView.{NetView}
 use Rattle.hyd_graph.specs.Nets.{IsSoundNet}
