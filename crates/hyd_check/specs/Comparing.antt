@@ -20,15 +20,15 @@ use Rattle.hyd_spec_laws.specs.Laws.{IsCompared}
 
 -- at every scale, each head of every assignment whose tank levels lie in the intervals of the grid lies below u
 abbrev pub LiesAbove : Grid → List ℤ → Type 0
-LiesAbove grid u = (network : Project) (S time : ℕ) (intervals : List Interval) (levels : List ℤ) (tanks : List TankState)
-    (links : List LinkState) (assignment : Assignment)
+LiesAbove grid u = (network : Project) (S time : ℕ) (intervals : List Interval) (levels : List ℤ)
+    (tanks : List TankState) (links : List LinkState) (assignment : Assignment)
     → IsCompared network S time intervals levels tanks links assignment grid
     → Each assignment.heads (λ j h. h <ℤ at_scale S (head_at u j))
 
 -- each lies above u
 abbrev pub LiesBelow : Grid → List ℤ → Type 0
-LiesBelow grid u = (network : Project) (S time : ℕ) (intervals : List Interval) (levels : List ℤ) (tanks : List TankState)
-    (links : List LinkState) (assignment : Assignment)
+LiesBelow grid u = (network : Project) (S time : ℕ) (intervals : List Interval) (levels : List ℤ)
+    (tanks : List TankState) (links : List LinkState) (assignment : Assignment)
     → IsCompared network S time intervals levels tanks links assignment grid
     → Each assignment.heads (λ j h. at_scale S (head_at u j) <ℤ h)
 

@@ -1,7 +1,7 @@
 //! Flows of links out of a junction.
 #![tactic(auto)]
 
-ghost use Rattle.std.specs.Prelude.{◌≡◌, ◌<◌, ◌≤◌, ◌^◌, length, unsigned_abs, All, Some, slice_get, slice_set};
+ghost use Rattle.std.specs.Prelude.{◌≡◌, ◌<◌, ◌≤◌, ◌*◌, ◌^◌, length, unsigned_abs, All, Some, slice_get, slice_set};
 ghost use Rattle.hyd_spec.specs.Assignment.{head_at};
 ghost use Rattle.hyd_spec.specs.Law.{Law};
 ghost use Rattle.hyd_spec_certificates.specs.Grid.{GridLink, all_heads};
@@ -41,7 +41,7 @@ fn flow(law: &LinkLaw, high: bool, d: i64) -> i128
     requires sound { IsSoundLink law.now }
     requires accepted { LinkAccepts law.now d }
     ensures value { (exact : Law) → Stands law.now exact → result ≡ flow_by high exact d }
-    ensures small { unsigned_abs result ≤ 2 ^ 81 }
+    ensures small { unsigned_abs result ≤ 241 * 10 ^ 20 }
 {
     if high {
         return law.high(d);
@@ -49,18 +49,26 @@ fn flow(law: &LinkLaw, high: bool, d: i64) -> i128
     law.low(d)
 }
 
-// What a link end takes out of junction i at a head, less what it brings.
-fn share(net: &Net, problem: Problem, side: Side, u: &[i64], i: u32, head: i64, tie: Tie) -> i128
+// What a link end takes out of node i at a head, less what it brings.
+fn share(
+    net: &Net,
+    problem: Problem,
+    side: Side,
+    u: &[i64],
+    i: u32,
+    head: i64,
+    tie: Tie,
+) -> i128
     requires one_each { length u.now ≡ length net.now.junctions }
     requires in_box { All IsInBox u.now }
     requires head_in_box { IsInBox head }
-    requires inside { i < length u.now }
+    requires here { head ≡ head_at (all_heads (grid_of net.now) problem side (slice_set u.now i head)) i }
     requires pinned { HasProblem net.now problem }
     requires tie { IsTie (node_count net.now) (length net.now.ends) tie }
     requires links { length (grid_of net.now).links ≡ length net.now.ends }
     ensures value { let heads = all_heads (grid_of net.now) problem side (slice_set u.now i head) in
         result ≡ tie_share (flow_by (is_lower side)) (flow_by (is_upper side)) (grid_of net.now).links heads head tie }
-    ensures small { unsigned_abs result ≤ 2 ^ 81 }
+    ensures small { unsigned_abs result ≤ 241 * 10 ^ 20 }
 {
     let there = head_with(net, problem, side, u, i, head, tie.other);
     let law = net.law(tie.link);
@@ -70,17 +78,21 @@ fn share(net: &Net, problem: Problem, side: Side, u: &[i64], i: u32, head: i64, 
     -flow(law, is_upper(side), difference(there, head))
 }
 
-/// The flows of links out of junction i at a head, less those into it: for UPPER at most, for LOWER at least.
-pub(crate) fn flows(net: &Net, problem: Problem, side: Side, u: &[i64], i: u32, head: i64) -> i128
+/// The flows of links out of node i at a head (head ticks), less those into it, in flow ticks: for UPPER at most, for
+/// LOWER at least. The other junctions have the heads u; `head` is in place of a junction's own, and is a reservoir's
+/// or tank's.
+pub fn flows_out(net: &Net, problem: Problem, side: Side, u: &[i64], i: u32, head: i64) -> i128
     requires one_each { length u.now ≡ length net.now.junctions }
     requires in_box { All IsInBox u.now }
     requires head_in_box { IsInBox head }
-    requires inside { i < length u.now }
+    requires node { i < node_count net.now }
+    requires here { head ≡ head_at (all_heads (grid_of net.now) problem side (slice_set u.now i head)) i }
     requires pinned { HasProblem net.now problem }
-    requires links { length (grid_of net.now).links ≡ length net.now.ends }
-    ensures value { result ≡ flows_out side (all_heads (grid_of net.now) problem side (slice_set u.now i head)) i (grid_of net.now).links }
-    ensures small { unsigned_abs result ≤ 2 ^ 113 }
+    ensures value { result ≡ flows_out side (all_heads (grid_of net.now) problem side (slice_set u.now i head)) i
+        (grid_of net.now).links }
+    ensures small { unsigned_abs result ≤ 964 * 10 ^ 24 }
 {
+    let _links = net.links();
     let mut sum: i128 = 0;
     for tie in net.row(i) {
         sum += share(net, problem, side, u, i, head, *tie);

@@ -29,7 +29,7 @@ pub fn head_of(u: &[i64], i: u32) -> i64
     u[i as usize]
 }
 
-/// The head of a node, with `head` in place of junction i's.
+/// The head of a node, with `head` in place of node i's.
 pub(crate) fn head_with(
     net: &Net,
     problem: Problem,
@@ -42,7 +42,7 @@ pub(crate) fn head_with(
     requires one_each { length u.now ≡ length net.now.junctions }
     requires in_box { All IsInBox u.now }
     requires head_in_box { IsInBox head }
-    requires inside { i < length u.now }
+    requires here { head ≡ head_at (all_heads (grid_of net.now) problem side (slice_set u.now i head)) i }
     requires pinned { HasProblem net.now problem }
     requires node { node < node_count net.now }
     ensures value { result ≡ head_at (all_heads (grid_of net.now) problem side (slice_set u.now i head)) node }

@@ -9,5 +9,7 @@ mod outflows;
 mod passing;
 
 pub use checks::{Fails, check, check_sub, check_super};
+pub use flows::flows_out;
 pub use heads::{head_of, is_in_box};
+pub use outflows::outflow;
 pub use passing::{net_high, net_low, passes, surplus};

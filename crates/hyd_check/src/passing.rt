@@ -9,7 +9,7 @@ ghost use Rattle.hyd_graph.specs.GridOf.{grid_of};
 ghost use Rattle.hyd_graph.specs.Nets.{HasProblem};
 ghost use Rattle.hyd_check.specs.Sides.{net_outflow, PassesWith, PassesAt};
 
-use crate::flows::flows;
+use crate::flows::flows_out;
 use crate::heads::head_of;
 use crate::outflows::outflow;
 use hyd_graph::Net;
@@ -26,8 +26,8 @@ fn net_outflow(net: &Net, problem: Problem, side: Side, u: &[i64], i: u32, head:
         → result ≡ net_outflow side (grid_of net.now) problem (slice_set u.now i head) i junction }
     ensures small { unsigned_abs result ≤ 2 ^ 114 }
 {
-    let _links = net.links();
-    flows(net, problem, side, u, i, head) + outflow(net, side, i, head)
+    let _nodes = net.nodes();
+    flows_out(net, problem, side, u, i, head) + outflow(net, side, i, head)
 }
 
 /// At most the net outflow of junction i under heads u, in flow ticks: the low flows out of it, less the high flows

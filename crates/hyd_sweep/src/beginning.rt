@@ -24,8 +24,8 @@ fn near_end(side: Side) -> i64
 /// Puts every head where a sweep may begin in any case: to the floor of the box for UPPER, to its ceiling for LOWER.
 pub fn begin(side: Side, u: &mut [i64])
     ensures heads { u.new ≡ beginning side (length u.old) }
-    ensures start { (held : Option HeldJunction) (grid : Grid) (problem : Problem) → length u.old ≡ length grid.junctions
-        → IsStart held grid problem side u.new }
+    ensures start { (held : Option HeldJunction) (grid : Grid) (problem : Problem)
+        → length u.old ≡ length grid.junctions → IsStart held grid problem side u.new }
 {
     let end = near_end(side);
     for i in 0..u.len() {

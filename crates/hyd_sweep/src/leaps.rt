@@ -135,8 +135,8 @@ fn take_turns(
 }
 
 /// Leaps to a proposed vector exactly where that is a leap: it lies in the box and not before u, and each junction that
-/// it moves isn't held, and fails where the junctions before it stand as proposed and the moved ones from it on one tick
-/// short of that. From a start this leads to a start. A vector is lent for it, of which nothing is kept.
+/// it moves isn't held, and fails where the junctions before it stand as proposed and the moved ones from it on one
+/// tick short of that. From a start this leads to a start. A vector is lent for it, of which nothing is kept.
 pub fn leap(
     net: &Net,
     problem: Problem,
@@ -154,7 +154,8 @@ pub fn leap(
     requires held_in_box { HoldsInBox held }
     ensures leaps { IsTrue result ↔ IsLeapInTurn held (grid_of net.now) problem side u.old to.now }
     ensures new { u.new ≡ (if result then to.now else u.old) }
-    ensures start { IsTrue result → IsStart held (grid_of net.now) problem side u.old → IsStart held (grid_of net.now) problem side u.new }
+    ensures start { IsTrue result → IsStart held (grid_of net.now) problem side u.old
+        → IsStart held (grid_of net.now) problem side u.new }
     ensures each { length heads.new ≡ length heads.old }
 {
     let _junctions = net.junctions();

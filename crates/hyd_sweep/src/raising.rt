@@ -35,8 +35,10 @@ fn ticks_to_pass(net: &Net, problem: Problem, side: Side, u: &[i64], i: u32, roo
     requires room { pos room ≡ pos box_limit -ℤ along side (head_at u.now i) }
     requires small { room ≤ 2000000000000000000 }
     ensures at_most { result ≤ room + 1 }
-    ensures before { (k : ℕ) → k < result → PassesWith (grid_of net.now) problem side u.now i (further side (head_at u.now i) k) → ⊥ }
-    ensures after { (k : ℕ) → result ≤ k → k ≤ room → PassesWith (grid_of net.now) problem side u.now i (further side (head_at u.now i) k) }
+    ensures before { (k : ℕ) → k < result
+        → PassesWith (grid_of net.now) problem side u.now i (further side (head_at u.now i) k) → ⊥ }
+    ensures after { (k : ℕ) → result ≤ k → k ≤ room
+        → PassesWith (grid_of net.now) problem side u.now i (further side (head_at u.now i) k) }
 {
     let here = head_of(u, i);
     let mut aim = Aim::new();
@@ -70,7 +72,8 @@ fn free_value(
     requires inside { i < length u.now }
     requires in_box { All IsInBox u.now }
     requires free { IsFree held i }
-    ensures { MatchOption result (HasNoValue held (grid_of net.now) problem side u.now i) (λ x. RaisesTo held (grid_of net.now) problem side u.now i x) }
+    ensures { MatchOption result (HasNoValue held (grid_of net.now) problem side u.now i)
+        (λ x. RaisesTo held (grid_of net.now) problem side u.now i x) }
 {
     let here = head_of(u, i);
     let room = room(side, here);
@@ -113,7 +116,8 @@ fn value(
     requires inside { i < length u.now }
     requires in_box { All IsInBox u.now }
     requires held_in_box { HoldsInBox held }
-    ensures { MatchOption result (HasNoValue held (grid_of net.now) problem side u.now i) (λ x. RaisesTo held (grid_of net.now) problem side u.now i x) }
+    ensures { MatchOption result (HasNoValue held (grid_of net.now) problem side u.now i)
+        (λ x. RaisesTo held (grid_of net.now) problem side u.now i x) }
 {
     match held_head(held, i) {
         Some(head) => {

@@ -96,8 +96,8 @@ impl Sweeper {
         Ok(Sweeper { ways, to, heads })
     }
 
-    /// At most so many rounds in file order toward the tight vector, from heads that every certificate lies beyond, with
-    /// leaps after each: where flows are small, plain rounds come nearer by single ticks.
+    /// At most so many rounds in file order toward the tight vector, from heads that every certificate lies beyond,
+    /// with leaps after each: where flows are small, plain rounds come nearer by single ticks.
     pub fn tighten(
         &mut self,
         net: &Net,

@@ -20,4 +20,6 @@ mod rows;
 #[cfg(test)]
 mod sparse;
 #[cfg(test)]
+mod sweeps;
+#[cfg(test)]
 mod units;

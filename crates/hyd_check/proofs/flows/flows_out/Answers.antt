@@ -1,4 +1,4 @@
-use Rattle.std.proofs.Common.{◌≡◌, ap, subst, w64, to_z, of_z, arith, ℤ, pos, ◌+ℤ◌, List, [], drop, false}
+use Rattle.std.proofs.Common.{◌≡◌, ◌∙◌, ap, sym, subst, w64, to_z, of_z, arith, ℕ, ℤ, pos, ◌+ℤ◌, length, List, [], drop, false}
 use Rattle.std.specs.Prelude.{slice_set}
 use Rattle.std.specs.Int.{w128}
 use Rattle.std.proofs.lemmas.Int.{ints}
@@ -9,8 +9,7 @@ use Rattle.hyd_graph.specs.declared.parts.Tie.{Tie}
 use Rattle.hyd_graph.specs.GridOf.{grid_of}
 use Rattle.hyd_graph.specs.Ties.{ties_share}
 use Rattle.hyd_check.specs.Sides.{flow_by, is_lower, is_upper, flows_out}
-use Rattle.hyd_check.proofs.Lookups.{own-head}
-use Rattle.hyd_check.proofs.flows.flows.Goals as goal
+use Rattle.hyd_check.proofs.flows.flows_out.Goals as goal
 
 pub overflow_add-sum : goal.overflow_add-sum
 overflow_add-sum c =
@@ -47,7 +46,7 @@ returns-clause-value c =
     let heads = all_heads grid c.args.problem c.args.side (slice_set c.args.u.now c.args.i c.args.head) in
     let none : drop c.loop-tie.tie-index c.row-tie-items.result.now ≡ [] = drop_all c.loop-tie.tie-index c.row-tie-items.result.now c.loop-tie-test.false in
     let left : ties_share out into grid.links heads c.args.head (drop c.loop-tie.tie-index c.row-tie-items.result.now) ≡ pos 0 = ap (ties_share out into grid.links heads c.args.head) none in
-    let own : head_at heads c.args.i ≡ c.args.head = own-head grid c.args.problem c.args.side c.args.u.now c.args.i c.args.head c.requires.inside in
+    let own : head_at heads c.args.i ≡ c.args.head = sym c.requires.here in
     let sum = subst (λ (h : ℤ). ties_share out into grid.links heads h c.row-tie-items.result.now ≡ flows_out c.args.side heads c.args.i grid.links) own
     (c.row-tie-items.ensures.sum out into heads) in
     omega (arith, ints, told, left, sum)
