@@ -50,15 +50,7 @@ fn flow(law: &LinkLaw, high: bool, d: i64) -> i128
 }
 
 // What a link end takes out of node i at a head, less what it brings.
-fn share(
-    net: &Net,
-    problem: Problem,
-    side: Side,
-    u: &[i64],
-    i: u32,
-    head: i64,
-    tie: Tie,
-) -> i128
+fn share(net: &Net, problem: Problem, side: Side, u: &[i64], i: u32, head: i64, tie: Tie) -> i128
     requires one_each { length u.now ≡ length net.now.junctions }
     requires in_box { All IsInBox u.now }
     requires head_in_box { IsInBox head }

@@ -1,6 +1,6 @@
 -- Leaps in turn lead from a start to a start.
-use Rattle.std.proofs.Common.{◌≡◌, ℕ, zero, suc, ◌+◌, ◌<◌, ◌≤◌, ℤ, pos, ◌-ℤ◌, ◌≤ℤ◌, ◌<ℤ◌, Bool, true, false, refl, sym, ap, subst, ◌∙◌, arith, List, [], ◌∷◌, length, inl, inr, ◌⊎◌}
-use Rattle.std.specs.Prelude.{Option, slice_set, if◌then◌else◌}
+use Rattle.std.proofs.Common.{◌≡◌, ℕ, zero, suc, ◌+◌, ◌<◌, ◌≤◌, ℤ, pos, ◌-ℤ◌, ◌≤ℤ◌, ◌<ℤ◌, Bool, true, false, refl, sym, ap, subst, ◌∙◌, arith, List, [], ◌∷◌, ◌==◌, length, inl, inr, ◌⊎◌}
+use Rattle.std.specs.Prelude.{Option, None, Some, MatchBool, slice_get, slice_set, if◌then◌else◌}
 use Rattle.std.proofs.lemmas.Int.{ints, by_lt_z}
 use Rattle.std.proofs.lemmas.Bool.{cases_eq, cases_lt}
 use Rattle.std.proofs.lemmas.List.{length-set}
@@ -9,12 +9,12 @@ use Rattle.hyd_spec_certificates.specs.declared.Problem.{Problem}
 use Rattle.hyd_spec_certificates.specs.declared.Side.{Side}
 use Rattle.hyd_spec_certificates.specs.declared.Side.TheVariants.{Upper, Lower}
 use Rattle.hyd_spec_certificates.specs.declared.HeldJunction.{HeldJunction}
-use Rattle.hyd_spec_certificates.specs.Grid.{Grid}
-use Rattle.hyd_spec_certificates.specs.Certificate.{IsBeyond, IsCertificateHolding}
-use Rattle.hyd_spec_certificates.specs.Climbing.{IsStart}
+use Rattle.hyd_spec_certificates.specs.Grid.{Grid, GridJunction}
+use Rattle.hyd_spec_certificates.specs.Certificate.{Passes, IsBeyond, IsCertificateHolding}
+use Rattle.hyd_spec_certificates.specs.Climbing.{IsStart, IsLeap, Fails}
 use Rattle.hyd_spec_laws.specs.Laws.{IsSteady}
 use Rattle.hyd_spec_laws.specs.Sides.{along}
-use Rattle.hyd_spec_raises.proofs.Leading.{beyond-is, lead, fails-leading}
+use Rattle.hyd_spec_raises.proofs.Leading.{beyond-is, lead, IsLeading, passes-leading, fails-leading}
 use Rattle.hyd_spec_raises.proofs.Raising.{beyond-self, by-beyond, set-here, set-there}
 use Rattle.hyd_spec_raises.proofs.Sweeping.{one-vector, vector-self, vector-trans}
 use Rattle.hyd_check.proofs.Lookups.{junction-there}
@@ -258,6 +258,60 @@ module _ (held : Option HeldJunction) (grid : Grid) (steady : IsSteady grid) (pr
                       )
                 ]
               ]
+
+  -- a junction that fails at v fails where v leads by most
+  fails-back : (v y : List ℤ) (i : ℕ) (junction : GridJunction) → IsLeading grid steady problem side v y i
+      → slice_get grid.junctions i ≡ Some junction → Fails held grid problem side v i junction
+      → Fails held grid problem side y i junction
+  fails-back v y i junction leading at fails = by held fails
+    where
+      by-test : (b : Bool) → MatchBool b ⊥ (Passes grid problem side v i junction → ⊥)
+          → MatchBool b ⊥ (Passes grid problem side y i junction → ⊥)
+      by-test true is = is
+      by-test false is = λ passes. is (passes-leading grid steady problem side v y i junction leading at passes)
+
+      by : (some : Option HeldJunction) → Fails some grid problem side v i junction → Fails some grid problem side y i junction
+      by None is = λ passes. is (passes-leading grid steady problem side v y i junction leading at passes)
+      by (Some h) is = by-test (h.junction == i) is
+
+  -- a vector at which all that move fail is a leap in turn
+  pub in-turn : (u v : List ℤ) → IsLeap held grid problem side u v → IsLeapInTurn held grid problem side u v
+  in-turn u v leap = record {
+    one_each = leap.one_each;
+    in_box = leap.in_box;
+    beyond = leap.beyond;
+    moves = λ i lt junction at. elim (same-or-not (head_at v i) (head_at u i)) [
+      | inl e ↦ inl e
+      | inr moved ↦ elim (leap.fails i junction at) [
+        | inl e ↦ inl e
+        | inr fails ↦ inr (λ y turn. fails-back v y i junction (leading i lt moved y turn) at fails)
+      ]
+    ];
+  }
+    where
+      own : (i : ℕ) → (head_at v i ≡ head_at u i → ⊥) → (y : List ℤ) → IsTurn side u v y i → lead side v y i ≡ pos 1
+      own i moved y turn =
+          let e = ap (along side) (turn.short i (omega arith) moved) in
+          let a = along-nearer side (head_at v i) in
+          omega (arith, ints, e, a)
+
+      near : (i : ℕ) (y : List ℤ) → IsTurn side u v y i → (m : ℕ) → lead side v y m ≤ℤ pos 1
+      near i y turn m = elim (cases_lt m i) [
+        | inl before ↦ let e = ap (along side) (turn.before m before) in omega (arith, ints, e)
+        | inr after ↦ elim (same-or-not (head_at v m) (head_at u m)) [
+          | inl e ↦ let f = ap (along side) (turn.still m after e) in omega (arith, ints, f)
+          | inr ne ↦ (let f = ap (along side) (turn.short m after ne) in let a = along-nearer side (head_at v m) in omega (arith, ints, f, a))
+        ]
+      ]
+
+      leading : (i : ℕ) → i < length u → (head_at v i ≡ head_at u i → ⊥) → (y : List ℤ) → IsTurn side u v y i
+          → IsLeading grid steady problem side v y i
+      leading i lt moved y turn = record {
+        same = sym turn.one_each;
+        inside = (let l = leap.one_each in omega (arith, lt, l));
+        ahead = (let o = own i moved y turn in omega (arith, ints, o));
+        most = λ m within. (let o = own i moved y turn in let n = near i y turn m in omega (arith, ints, o, n));
+      }
 
   -- ---- leaps one after another
 

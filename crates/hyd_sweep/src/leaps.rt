@@ -4,7 +4,7 @@
 ghost use Rattle.std.specs.Prelude.{◌≡◌, ◌≢◌, ◌<◌, ◌↔◌, length, All, IsTrue, slice_set, if◌then◌else◌};
 ghost use Rattle.hyd_spec.specs.Assignment.{head_at};
 ghost use Rattle.hyd_spec_certificates.specs.Certificate.{IsInBox, IsBeyond};
-ghost use Rattle.hyd_spec_certificates.specs.Climbing.{IsStart, LiesBeyond};
+ghost use Rattle.hyd_spec_certificates.specs.Climbing.{IsStart, IsLeap, LiesBeyond};
 ghost use Rattle.hyd_graph.specs.GridOf.{grid_of};
 ghost use Rattle.hyd_graph.specs.Nets.{HasProblem};
 ghost use Rattle.hyd_sweep.specs.Sweeps.{HoldsInBox};
@@ -136,7 +136,8 @@ fn take_turns(
 
 /// Leaps to a proposed vector exactly where that is a leap: it lies in the box and not before u, and each junction that
 /// it moves isn't held, and fails where the junctions before it stand as proposed and the moved ones from it on one
-/// tick short of that. From a start this leads to a start. A vector is lent for it, of which nothing is kept.
+/// tick short of that. So it is where each junction that it moves fails at the proposed heads. From a start this leads
+/// to a start. A vector is lent for it, of which nothing is kept.
 pub fn leap(
     net: &Net,
     problem: Problem,
@@ -153,6 +154,7 @@ pub fn leap(
     requires pinned { HasProblem net.now problem }
     requires held_in_box { HoldsInBox held }
     ensures leaps { IsTrue result ↔ IsLeapInTurn held (grid_of net.now) problem side u.old to.now }
+    ensures every { IsLeap held (grid_of net.now) problem side u.old to.now → IsTrue result }
     ensures new { u.new ≡ (if result then to.now else u.old) }
     ensures start { IsTrue result → IsStart held (grid_of net.now) problem side u.old
         → IsStart held (grid_of net.now) problem side u.new }
