@@ -1,6 +1,6 @@
 -- What certificates tell of the heads of assignments, and of each other.
-use Rattle.std.proofs.Common.{◌≡◌, ℕ, zero, suc, ◌+◌, ◌<◌, ℤ, pos, ◌+ℤ◌, ◌-ℤ◌, ◌*ℤ◌, ◌≤ℤ◌, ◌<ℤ◌, refl, sym, ap, ◌∙◌, arith, List, [], ◌∷◌, ◌++◌, length}
-use Rattle.std.specs.Prelude.{map, slice_get, Some}
+use Rattle.std.proofs.Common.{◌≡◌, ℕ, suc, ◌+◌, ℤ, pos, ◌*ℤ◌, ap, ◌∙◌, arith, List, [], ◌∷◌, ◌++◌, length}
+use Rattle.std.specs.Prelude.{map}
 use Rattle.std.proofs.lemmas.Int.{ints}
 use Rattle.std.proofs.lemmas.Option.{slice_get_within, get_or_from_slice_get}
 use Rattle.hyd_num.proofs.Integers.{times_minus}
@@ -10,7 +10,7 @@ use Rattle.hyd_spec.specs.Lists.{map_from}
 use Rattle.hyd_spec.specs.Scale.{at_scale}
 use Rattle.hyd_spec.specs.Network.{tank_node, junction_count, reservoir_count}
 use Rattle.hyd_spec.specs.Quantity.{reservoir_head}
-use Rattle.hyd_spec.specs.Assignment.{Assignment, head_at, node_heads, tank_heads}
+use Rattle.hyd_spec.specs.Assignment.{head_at, node_heads, tank_heads}
 use Rattle.hyd_spec_certificates.specs.declared.Problem.{Problem}
 use Rattle.hyd_spec_certificates.specs.declared.Problem.TheVariants.{Main, Pinned}
 use Rattle.hyd_spec_certificates.specs.declared.Side.{Side}
@@ -18,9 +18,9 @@ use Rattle.hyd_spec_certificates.specs.declared.Side.TheVariants.{Upper, Lower}
 use Rattle.hyd_spec_certificates.specs.Interval.{Interval}
 use Rattle.hyd_spec_certificates.specs.Grid.{Grid, IsGrid, all_heads, tank_intervals, end_on, tank_side}
 use Rattle.hyd_spec_certificates.specs.Certificate.{IsCertificate}
-use Rattle.hyd_spec_laws.specs.Laws.{IsCompared, IsSteady}
+use Rattle.hyd_spec_laws.specs.Laws.{IsSteady}
 use Rattle.hyd_spec_laws.proofs.Comparison.{below_main, above_main, one_each}
-use Rattle.hyd_spec_laws.proofs.Pinning.{upper_within, lower_within, upper_ends, lower_ends}
+use Rattle.hyd_spec_laws.proofs.Pinning.{upper_within, lower_within}
 use Rattle.hyd_spec_nesting.proofs.TwoSides.{lower-below}
 use Rattle.hyd_check.specs.Comparing.{LiesAbove, LiesBelow, LiesAbovePinned, LiesBelowPinned, LiesAboveLower, LiesBelowUpper}
 

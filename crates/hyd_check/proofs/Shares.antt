@@ -1,11 +1,10 @@
 -- Shares of link ends.
-use Rattle.std.proofs.Common.{◌≡◌, ℕ, zero, suc, ◌<◌, ◌≤◌, ◌*◌, ◌^◌, ℤ, neg_ℤ, ◌-ℤ◌, refl, ap, ◌∙◌, arith, Bool, true, false, List, [], ◌∷◌, length}
-use Rattle.std.specs.Prelude.{slice_get, Some, unsigned_abs}
+use Rattle.std.proofs.Common.{◌≡◌, ℕ, zero, suc, ◌<◌, ℤ, neg_ℤ, ◌-ℤ◌, refl, ap, ◌∙◌, arith, true, false, List, [], ◌∷◌, length}
+use Rattle.std.specs.Prelude.{slice_get, Some}
 use Rattle.std.specs.Option.{IfSome}
 use Rattle.hyd_spec.specs.Law.{Law}
 use Rattle.hyd_spec.specs.Assignment.{head_at}
 use Rattle.hyd_spec_certificates.specs.Grid.{GridLink}
-use Rattle.hyd_law.specs.LinkLaws.{IsSoundLink, LinkAccepts}
 use Rattle.hyd_law.specs.declared.link_law.LinkLaw.{LinkLaw}
 use Rattle.hyd_graph.specs.declared.parts.Tie.{Tie}
 use Rattle.hyd_graph.specs.Settings.{Stands}

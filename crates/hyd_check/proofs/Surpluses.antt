@@ -24,7 +24,7 @@ upper-passes grid problem side u i h q m s is inside flows margin-is surplus = b
     by Upper e are = (
       (λ le junction at. (let f = are junction at in omega (arith, ints, le, f, margin-is, surplus))),
       (λ passes. (let at = junction-there grid.junctions i inside in let f = are at.0 at.1 in let p = passes at.0 at.1 in
-      omega (arith, ints, p, f, margin-is, surplus))),
+          omega (arith, ints, p, f, margin-is, surplus))),
     )
     by Lower e are = absurd (cc)
 
@@ -38,5 +38,5 @@ lower-passes grid problem side u i h q m s is inside flows margin-is surplus = b
     by Lower e are = (
       (λ le junction at. (let f = are junction at in omega (arith, ints, le, f, margin-is, surplus))),
       (λ passes. (let at = junction-there grid.junctions i inside in let f = are at.0 at.1 in let p = passes at.0 at.1 in
-      omega (arith, ints, p, f, margin-is, surplus))),
+          omega (arith, ints, p, f, margin-is, surplus))),
     )

@@ -20,15 +20,15 @@ use Rattle.hyd_spec_laws.specs.Laws.{IsCompared}
 
 -- at every scale, each head of every assignment whose tank levels lie in the intervals of the grid lies below u
 abbrev pub LiesAbove : Grid → List ℤ → Type 0
-LiesAbove grid u = (network : Project) (S time : ℕ) (intervals : List Interval) (levels : List ℤ) (tanks : List TankState)
-    (links : List LinkState) (assignment : Assignment)
+LiesAbove grid u = (network : Project) (S time : ℕ) (intervals : List Interval) (levels : List ℤ)
+    (tanks : List TankState) (links : List LinkState) (assignment : Assignment)
     → IsCompared network S time intervals levels tanks links assignment grid
     → Each assignment.heads (λ j h. h <ℤ at_scale S (head_at u j))
 
 -- each lies above u
 abbrev pub LiesBelow : Grid → List ℤ → Type 0
-LiesBelow grid u = (network : Project) (S time : ℕ) (intervals : List Interval) (levels : List ℤ) (tanks : List TankState)
-    (links : List LinkState) (assignment : Assignment)
+LiesBelow grid u = (network : Project) (S time : ℕ) (intervals : List Interval) (levels : List ℤ)
+    (tanks : List TankState) (links : List LinkState) (assignment : Assignment)
     → IsCompared network S time intervals levels tanks links assignment grid
     → Each assignment.heads (λ j h. at_scale S (head_at u j) <ℤ h)
 
@@ -43,8 +43,8 @@ LiesAbovePinned grid tank u = (network : Project) (S time : ℕ) (intervals : Li
     (tanks : List TankState) (links : List LinkState) (assignment : Assignment)
     → IsCompared network S time intervals levels tanks links assignment grid
     → Each assignment.heads (λ j h.
-        (h -ℤ head_at (node_heads network S time levels assignment.heads) (tank_node network tank))
-        <ℤ at_scale S (above_tank network grid Upper tank u j))
+    (h -ℤ head_at (node_heads network S time levels assignment.heads) (tank_node network tank))
+    <ℤ at_scale S (above_tank network grid Upper tank u j))
 
 -- each lies farther above it than in u
 abbrev pub LiesBelowPinned : Grid → ℕ → List ℤ → Type 0
@@ -52,8 +52,8 @@ LiesBelowPinned grid tank u = (network : Project) (S time : ℕ) (intervals : Li
     (tanks : List TankState) (links : List LinkState) (assignment : Assignment)
     → IsCompared network S time intervals levels tanks links assignment grid
     → Each assignment.heads (λ j h.
-        at_scale S (above_tank network grid Lower tank u j)
-        <ℤ (h -ℤ head_at (node_heads network S time levels assignment.heads) (tank_node network tank)))
+    at_scale S (above_tank network grid Lower tank u j)
+    <ℤ (h -ℤ head_at (node_heads network S time levels assignment.heads) (tank_node network tank)))
 
 -- ---- certificates of the other side
 

@@ -57,7 +57,8 @@ fn first_failing(net: &Net, problem: Problem, side: Side, u: &[i64]) -> Option<u
 }
 
 /// Decides whether heads u, one for each junction, are a certificate of a problem and side (supersolutions and
-/// subsolutions of Ortega and Rheinboldt 1970). Where they aren't, the answer names the junction at which they fail first.
+/// subsolutions of Ortega and Rheinboldt 1970). Where they aren't, the answer names the junction at which they fail
+/// first.
 pub fn check(net: &Net, problem: Problem, side: Side, u: &[i64]) -> Result<(), Fails>
     requires one_each { length u.now ≡ length net.now.junctions }
     requires pinned { HasProblem net.now problem }
@@ -82,7 +83,8 @@ pub fn check_super(net: &Net, problem: Problem, u: &[i64]) -> Result<(), Fails>
     ensures certificate { OnOk result (IsCertificate (grid_of net.now) problem Upper u.now) }
     ensures fails { IfErr result (λ e. FailsFirst None (grid_of net.now) problem Upper u.now e.junction) }
     ensures above { problem ≡ Main → OnOk result (LiesAbove (grid_of net.now) u.now) }
-    ensures above_pinned { (tank : ℕ) → problem ≡ Pinned tank → OnOk result (LiesAbovePinned (grid_of net.now) tank u.now) }
+    ensures above_pinned { (tank : ℕ) → problem ≡ Pinned tank
+        → OnOk result (LiesAbovePinned (grid_of net.now) tank u.now) }
     ensures above_lower { OnOk result (LiesAboveLower (grid_of net.now) problem u.now) }
 {
     let _junctions = net.junctions();
@@ -97,7 +99,8 @@ pub fn check_sub(net: &Net, problem: Problem, u: &[i64]) -> Result<(), Fails>
     ensures certificate { OnOk result (IsCertificate (grid_of net.now) problem Lower u.now) }
     ensures fails { IfErr result (λ e. FailsFirst None (grid_of net.now) problem Lower u.now e.junction) }
     ensures below { problem ≡ Main → OnOk result (LiesBelow (grid_of net.now) u.now) }
-    ensures below_pinned { (tank : ℕ) → problem ≡ Pinned tank → OnOk result (LiesBelowPinned (grid_of net.now) tank u.now) }
+    ensures below_pinned { (tank : ℕ) → problem ≡ Pinned tank
+        → OnOk result (LiesBelowPinned (grid_of net.now) tank u.now) }
     ensures below_upper { OnOk result (LiesBelowUpper (grid_of net.now) problem u.now) }
 {
     let _junctions = net.junctions();

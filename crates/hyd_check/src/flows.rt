@@ -50,15 +50,7 @@ fn flow(law: &LinkLaw, high: bool, d: i64) -> i128
 }
 
 // What a link end takes out of node i at a head, less what it brings.
-fn share(
-    net: &Net,
-    problem: Problem,
-    side: Side,
-    u: &[i64],
-    i: u32,
-    head: i64,
-    tie: Tie,
-) -> i128
+fn share(net: &Net, problem: Problem, side: Side, u: &[i64], i: u32, head: i64, tie: Tie) -> i128
     requires one_each { length u.now ≡ length net.now.junctions }
     requires in_box { All IsInBox u.now }
     requires head_in_box { IsInBox head }
@@ -78,8 +70,9 @@ fn share(
     -flow(law, is_upper(side), difference(there, head))
 }
 
-/// The flows of links out of node i at a head (head ticks), less those into it, in flow ticks: for UPPER at most, for LOWER at
-/// least. The other junctions have the heads u; `head` is in place of a junction's own, and is a reservoir's or tank's.
+/// The flows of links out of node i at a head (head ticks), less those into it, in flow ticks: for UPPER at most, for
+/// LOWER at least. The other junctions have the heads u; `head` is in place of a junction's own, and is a reservoir's
+/// or tank's.
 pub fn flows_out(net: &Net, problem: Problem, side: Side, u: &[i64], i: u32, head: i64) -> i128
     requires one_each { length u.now ≡ length net.now.junctions }
     requires in_box { All IsInBox u.now }
@@ -87,7 +80,8 @@ pub fn flows_out(net: &Net, problem: Problem, side: Side, u: &[i64], i: u32, hea
     requires node { i < node_count net.now }
     requires here { head ≡ head_at (all_heads (grid_of net.now) problem side (slice_set u.now i head)) i }
     requires pinned { HasProblem net.now problem }
-    ensures value { result ≡ flows_out side (all_heads (grid_of net.now) problem side (slice_set u.now i head)) i (grid_of net.now).links }
+    ensures value { result ≡ flows_out side (all_heads (grid_of net.now) problem side (slice_set u.now i head)) i
+        (grid_of net.now).links }
     ensures small { unsigned_abs result ≤ 964 * 10 ^ 24 }
 {
     let _links = net.links();

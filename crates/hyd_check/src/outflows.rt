@@ -48,11 +48,13 @@ fn emitter_flow(law: Option<&Quad>, high: bool, pressure: i64) -> i128
     law.low(pressure)
 }
 
-/// What leaves junction i at a head (head ticks) beside its links, in flow ticks: for UPPER at most, for LOWER at least.
+/// What leaves junction i at a head (head ticks) beside its links, in flow ticks: for UPPER at most, for LOWER at
+/// least.
 pub fn outflow(net: &Net, side: Side, i: u32, head: i64) -> i128
     requires inside { i < length net.now.junctions }
     requires in_box { IsInBox head }
-    ensures value { (junction : GridJunction) → slice_get (grid_of net.now).junctions i ≡ Some junction → result ≡ outflow side junction head }
+    ensures value { (junction : GridJunction) → slice_get (grid_of net.now).junctions i ≡ Some junction
+        → result ≡ outflow side junction head }
     ensures small { unsigned_abs result ≤ 2 ^ 66 }
 {
     let pressure = difference(head, net.elevation(i));

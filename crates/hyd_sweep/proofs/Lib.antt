@@ -1,2 +1,4 @@
+pub mod Ends
 pub mod Values
-pub mod Following
+pub mod Walking
+pub mod Turns

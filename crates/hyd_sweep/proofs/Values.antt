@@ -85,6 +85,26 @@ module _ (held : Option HeldJunction) (grid : Grid) (steady : IsSteady grid) (pr
       by None is = fails
       by (Some h) ne = by-test h.junction (h.junction == i) refl ne
 
+  pub fails-free : (v : List ℤ) (junction : GridJunction) → IsFree held i → Fails held grid problem side v i junction → Passes grid problem side v i junction → ⊥
+  fails-free v junction free fails passes = by held free fails
+    where
+      by-test : (a : ℕ) (b : Bool) → (a == i) ≡ b → a ≢ i → MatchBool b ⊥ (Passes grid problem side v i junction → ⊥) → ⊥
+      by-test a true e ne is = is
+      by-test a false e ne is = is passes
+
+      by : (some : Option HeldJunction) → IsFree some i → Fails some grid problem side v i junction → ⊥
+      by None free is = is passes
+      by (Some h) ne is = by-test h.junction (h.junction == i) refl ne is
+
+  -- a held junction never fails
+  pub held-stays : (h : ℤ) (v : List ℤ) (junction : GridJunction) → held ≡ Some (record { junction = i; head = h }) → Fails held grid problem side v i junction → ⊥
+  held-stays h v junction e =
+      subst (λ (some : Option HeldJunction). Fails some grid problem side v i junction → ⊥) (sym e) (by (i == i) (let t : (i == i) ≡ true = search arith in t))
+    where
+      by : (b : Bool) → b ≡ true → MatchBool b ⊥ (Passes grid problem side v i junction → ⊥) → ⊥
+      by true t is = is
+      by false t is = absurd (cc)
+
   pub suits-there : (h : ℤ) (v : List ℤ) (junction : GridJunction) → held ≡ Some (record { junction = i; head = h })
       → (head_at v i ≡ h → Suits held grid problem side v i junction) × (Suits held grid problem side v i junction → head_at v i ≡ h)
   suits-there h v junction e =

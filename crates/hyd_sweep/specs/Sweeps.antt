@@ -1,14 +1,14 @@
 -- What raises and sweeps give.
 -- Source: this program's; rounds in any order are chaotic iterations (Chazan and Miranker 1969).
-use Rattle.std.specs.Prelude.{◌≡◌, ◌≢◌, ℕ, ◌<◌, ℤ, pos, ◌+ℤ◌, ◌-ℤ◌, List, [], ◌∷◌, ◌++◌, length, take, All, slice_get, slice_set, slice_index_or, Option, Some, None, suc, zero, ⊤, ◌<ℤ◌, Bool, true, false, ◌⊎◌}
+use Rattle.std.specs.Prelude.{◌≡◌, ◌≢◌, ℕ, ◌<◌, ℤ, pos, neg_ℤ, ◌+ℤ◌, ◌-ℤ◌, List, [], ◌∷◌, ◌++◌, length, take, All, slice_get, slice_set, slice_index_or, Option, Some, None, suc, zero, ⊤, ◌<ℤ◌, Bool, true, false}
 use Rattle.hyd_spec.specs.Assignment.{head_at}
 use Rattle.hyd_spec_certificates.specs.declared.Problem.{Problem}
 use Rattle.hyd_spec_certificates.specs.declared.Side.{Side}
 use Rattle.hyd_spec_certificates.specs.declared.Side.TheVariants.{Upper, Lower}
 use Rattle.hyd_spec_certificates.specs.declared.HeldJunction.{HeldJunction}
 use Rattle.hyd_spec_certificates.specs.Grid.{Grid, GridJunction}
-use Rattle.hyd_spec_certificates.specs.Certificate.{IsInBox, IsBeyond, Suits, IsCertificateHolding, IsCandidateHolding, IsRaisedHolding, AreRoundsHolding, IsTightHolding}
-use Rattle.hyd_spec_certificates.specs.Climbing.{Climbs, Fails}
+use Rattle.hyd_spec_certificates.specs.Certificate.{box_limit, IsInBox, Suits, IsCertificateHolding, IsCandidateHolding, IsRaisedHolding, AreRoundsHolding, IsTightHolding}
+use Rattle.hyd_spec_certificates.specs.Climbing.{Climbs}
 use Rattle.hyd_spec_laws.specs.Sides.{along}
 use Rattle.hyd_sweep.specs.declared.answers.Raised.{Raised}
 use Rattle.hyd_sweep.specs.declared.answers.Raised.TheVariants.{Passed, Moved, NoValue}
@@ -30,6 +30,13 @@ IsHeldAt held i h = held ≡ Some (record { junction = i; head = h })
 abbrev pub HoldsInBox : Option HeldJunction → Type 0
 HoldsInBox None = ⊤
 HoldsInBox (Some held) = IsInBox held.head
+
+-- ---- the box
+
+-- the head at the near end of the box: the floor for UPPER, the ceiling for LOWER
+abbrev pub near_end : Side → ℤ
+near_end Upper = neg_ℤ (pos box_limit)
+near_end Lower = pos box_limit
 
 -- ---- one junction
 
@@ -62,13 +69,6 @@ RaiseGives held grid problem side i old new Passed =
 RaiseGives held grid problem side i old new Moved =
     (x : ℤ) × ((new ≡ slice_set old i x) × ((x ≢ head_at old i) × RaisesTo held grid problem side old i x))
 RaiseGives held grid problem side i old new NoValue = (new ≡ old) × HasNoValue held grid problem side old i
-
--- a junction that a leap from u to v may move as it does
-pub record MayMove (held : Option HeldJunction) (grid : Grid) (problem : Problem) (side : Side) (u v : List ℤ) (i : ℕ)
-    : Type 0 where
-  pub beyond : IsBeyond side (head_at u i) (head_at v i)
-  pub fails : (junction : GridJunction) → slice_get grid.junctions i ≡ Some junction
-      → (head_at v i ≡ head_at u i) ⊎ Fails held grid problem side v i junction
 
 -- ---- junctions in an order
 

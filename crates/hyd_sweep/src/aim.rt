@@ -87,7 +87,11 @@ impl Aim {
         let amount = surplus.unsigned_abs();
         let trials = self.trials.saturating_add(1);
         if surplus >= 0 {
-            let lacking = if self.passed { self.lacking / 2 } else { self.lacking };
+            let lacking = if self.passed {
+                self.lacking / 2
+            } else {
+                self.lacking
+            };
             return Aim {
                 trials,
                 lacking,
@@ -95,7 +99,11 @@ impl Aim {
                 passed: true,
             };
         }
-        let over = if self.passed { self.over } else { self.over / 2 };
+        let over = if self.passed {
+            self.over
+        } else {
+            self.over / 2
+        };
         Aim {
             trials,
             lacking: amount,

@@ -13,8 +13,8 @@ use crate::raising::raise;
 use hyd_graph::Net;
 use hyd_spec_certificates::{HeldJunction, Problem, Side};
 
-/// Raises the junctions of an order one after another, each from the heads that the ones before it left, up to the first
-/// that has no value.
+/// Raises the junctions of an order one after another, each from the heads that the ones before it left, up to the
+/// first that has no value.
 pub fn follow(
     net: &Net,
     problem: Problem,

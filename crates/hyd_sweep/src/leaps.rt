@@ -1,21 +1,20 @@
 //! Leaps: vectors that some other source proposes, accepted by one pass.
 #![tactic(auto)]
 
-ghost use Rattle.std.specs.Prelude.{◌≡◌, ◌<◌, ◌↔◌, [], length, All, IsTrue, if◌then◌else◌};
-ghost use Rattle.hyd_spec_certificates.specs.Certificate.{IsInBox};
-ghost use Rattle.hyd_spec_certificates.specs.Climbing.{IsLeap, Climbs};
+ghost use Rattle.std.specs.Prelude.{◌≡◌, ◌≢◌, ◌<◌, ◌↔◌, length, All, IsTrue, slice_set, if◌then◌else◌};
+ghost use Rattle.hyd_spec.specs.Assignment.{head_at};
+ghost use Rattle.hyd_spec_certificates.specs.Certificate.{IsInBox, IsBeyond};
+ghost use Rattle.hyd_spec_certificates.specs.Climbing.{IsStart, IsLeap, LiesBeyond};
 ghost use Rattle.hyd_graph.specs.GridOf.{grid_of};
 ghost use Rattle.hyd_graph.specs.Nets.{HasProblem};
-ghost use Rattle.hyd_sweep.specs.Sweeps.{HoldsInBox, MayMove};
+ghost use Rattle.hyd_sweep.specs.Sweeps.{HoldsInBox};
+ghost use Rattle.hyd_sweep.specs.Leaps.{nearer, IsTurn, MayMove, IsLeapInTurn};
 
 use crate::raising::held_head;
-use crate::ticks::{is_beyond, is_same};
-use hyd_check::{head_of, is_in_box, passes_with};
+use crate::ticks::{is_beyond, is_same, nearer};
+use hyd_check::{head_of, is_in_box, passes};
 use hyd_graph::Net;
 use hyd_spec_certificates::{HeldJunction, Problem, Side};
-
-// A leap is twice as far each time: the last of so many is less than 2^20 times as far as the round before it.
-const LEAPS: u32 = 20;
 
 // Whether every head lies in the box.
 fn are_in_box(net: &Net, u: &[i64]) -> bool
@@ -30,7 +29,52 @@ fn are_in_box(net: &Net, u: &[i64]) -> bool
     true
 }
 
-// Whether a junction may move as it does in a leap: outward, and only where it fails at the end.
+// Whether every head of a vector lies as far out as another's, or farther.
+fn lies_beyond(net: &Net, side: Side, u: &[i64], to: &[i64]) -> bool
+    requires one_each { length u.now ≡ length net.now.junctions }
+    requires other_each { length to.now ≡ length u.now }
+    ensures { IsTrue result ↔ LiesBeyond side u.now to.now }
+{
+    for i in 0..net.junctions() {
+        if !is_beyond(side, head_of(u, i), head_of(to, i)) {
+            return false;
+        }
+    }
+    true
+}
+
+// A head of a leap before its turn.
+fn before_turn(side: Side, from: i64, to: i64) -> i64
+    requires from_in_box { IsInBox from }
+    requires to_in_box { IsInBox to }
+    requires beyond { IsBeyond side from to }
+    ensures still { to ≡ from → result ≡ to }
+    ensures short { to ≢ from → result ≡ nearer side to }
+    ensures in_box { IsInBox result }
+{
+    if to == from {
+        return to;
+    }
+    nearer(side, to)
+}
+
+// Puts the heads of a leap as they are before the first turn.
+fn put_first_turn(net: &Net, side: Side, u: &[i64], to: &[i64], heads: &mut [i64])
+    requires one_each { length u.now ≡ length net.now.junctions }
+    requires to_each { length to.now ≡ length u.now }
+    requires heads_each { length heads.old ≡ length u.now }
+    requires in_box { All IsInBox u.now }
+    requires to_in_box { All IsInBox to.now }
+    requires beyond { LiesBeyond side u.now to.now }
+    ensures turn { IsTurn side u.now to.now heads.new 0 }
+    ensures in_box { All IsInBox heads.new }
+{
+    for i in 0..net.junctions() {
+        heads[i as usize] = before_turn(side, head_of(u, i), head_of(to, i));
+    }
+}
+
+// Whether a junction may move as it does in a leap: it fails when it is its turn.
 fn may_move(
     net: &Net,
     problem: Problem,
@@ -38,56 +82,62 @@ fn may_move(
     held: Option<HeldJunction>,
     u: &[i64],
     to: &[i64],
+    heads: &[i64],
     i: u32,
 ) -> bool
     requires one_each { length u.now ≡ length net.now.junctions }
-    requires other_each { length to.now ≡ length u.now }
-    requires in_box { All IsInBox to.now }
+    requires to_each { length to.now ≡ length u.now }
+    requires turn { IsTurn side u.now to.now heads.now i }
+    requires in_box { All IsInBox heads.now }
     requires pinned { HasProblem net.now problem }
     requires held_in_box { HoldsInBox held }
     requires inside { i < length u.now }
     ensures { IsTrue result ↔ MayMove held (grid_of net.now) problem side u.now to.now i }
 {
-    let from = head_of(u, i);
-    let head = head_of(to, i);
-    if is_same(head, from) {
+    let _junctions = net.junctions();
+    if is_same(head_of(to, i), head_of(u, i)) {
         return true;
-    }
-    if !is_beyond(side, from, head) {
-        return false;
     }
     match held_head(held, i) {
         Some(_) => false,
-        None => !passes_with(net, problem, side, to, i, head),
+        None => !passes(net, problem, side, heads, i),
     }
 }
 
-// Whether a vector in the box may be leapt to.
-fn may_leap(
+// Whether each junction may move as it does in a leap, one turn after another.
+fn take_turns(
     net: &Net,
     problem: Problem,
     side: Side,
     held: Option<HeldJunction>,
     u: &[i64],
     to: &[i64],
+    heads: &mut [i64],
 ) -> bool
     requires one_each { length u.now ≡ length net.now.junctions }
-    requires other_each { length to.now ≡ length u.now }
-    requires in_box { All IsInBox to.now }
+    requires to_each { length to.now ≡ length u.now }
+    requires turn { IsTurn side u.now to.now heads.old 0 }
+    requires in_box { All IsInBox heads.old }
+    requires to_in_box { All IsInBox to.now }
+    requires beyond { LiesBeyond side u.now to.now }
     requires pinned { HasProblem net.now problem }
     requires held_in_box { HoldsInBox held }
-    ensures { IsTrue result ↔ IsLeap held (grid_of net.now) problem side u.now to.now }
+    ensures leaps { IsTrue result ↔ IsLeapInTurn held (grid_of net.now) problem side u.now to.now }
+    ensures each { length heads.new ≡ length heads.old }
 {
     for i in 0..net.junctions() {
-        if !may_move(net, problem, side, held, u, to, i) {
+        if !may_move(net, problem, side, held, u, to, heads, i) {
             return false;
         }
+        heads[i as usize] = head_of(to, i);
     }
     true
 }
 
 /// Leaps to a proposed vector exactly where that is a leap: it lies in the box and not before u, and each junction that
-/// it moves fails there, and isn't held. Every certificate that lay beyond u then lies beyond it.
+/// it moves isn't held, and fails where the junctions before it stand as proposed and the moved ones from it on one
+/// tick short of that. So it is where each junction that it moves fails at the proposed heads. From a start this leads
+/// to a start. A vector is lent for it, of which nothing is kept.
 pub fn leap(
     net: &Net,
     problem: Problem,
@@ -95,55 +145,32 @@ pub fn leap(
     held: Option<HeldJunction>,
     u: &mut [i64],
     to: &[i64],
+    heads: &mut [i64],
 ) -> bool
     requires one_each { length u.old ≡ length net.now.junctions }
-    requires other_each { length to.now ≡ length u.old }
+    requires to_each { length to.now ≡ length u.old }
+    requires heads_each { length heads.old ≡ length u.old }
+    requires in_box { All IsInBox u.old }
     requires pinned { HasProblem net.now problem }
     requires held_in_box { HoldsInBox held }
-    ensures leaps { IsTrue result ↔ IsLeap held (grid_of net.now) problem side u.old to.now }
+    ensures leaps { IsTrue result ↔ IsLeapInTurn held (grid_of net.now) problem side u.old to.now }
+    ensures every { IsLeap held (grid_of net.now) problem side u.old to.now → IsTrue result }
     ensures new { u.new ≡ (if result then to.now else u.old) }
+    ensures start { IsTrue result → IsStart held (grid_of net.now) problem side u.old
+        → IsStart held (grid_of net.now) problem side u.new }
+    ensures each { length heads.new ≡ length heads.old }
 {
+    let _junctions = net.junctions();
     if !are_in_box(net, to) {
         return false;
     }
-    if !may_leap(net, problem, side, held, u, to) {
+    if !lies_beyond(net, side, u, to) {
+        return false;
+    }
+    put_first_turn(net, side, u, to, heads);
+    if !take_turns(net, problem, side, held, u, to, heads) {
         return false;
     }
     u.copy_from_slice(to);
     true
-}
-
-// The vector as far beyond u as u is beyond an earlier one.
-fn propose(u: &[i64], before: &[i64], to: &mut [i64])
-    requires before_each { length before.now ≡ length u.now }
-    requires to_each { length to.old ≡ length u.now }
-{
-    for i in 0..u.len() {
-        to[i] = u[i].saturating_mul(2).saturating_sub(before[i]);
-    }
-}
-
-/// Leaps on in the direction of a round's change, twice as far each time, as long as that is a leap.
-pub(crate) fn leap_on(
-    net: &Net,
-    problem: Problem,
-    side: Side,
-    held: Option<HeldJunction>,
-    u: &mut [i64],
-    before: &[i64],
-    to: &mut [i64],
-)
-    requires one_each { length u.old ≡ length net.now.junctions }
-    requires before_each { length before.now ≡ length u.old }
-    requires to_each { length to.old ≡ length u.old }
-    requires pinned { HasProblem net.now problem }
-    requires held_in_box { HoldsInBox held }
-    ensures { Climbs held (grid_of net.now) problem side [] u.old u.new }
-{
-    for _leaps in 0..LEAPS {
-        propose(u, before, to);
-        if !leap(net, problem, side, held, u, to) {
-            return;
-        }
-    }
 }

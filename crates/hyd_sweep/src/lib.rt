@@ -3,14 +3,17 @@
 
 mod aim;
 mod answers;
+mod beginning;
 mod following;
 mod leaps;
 mod raising;
 mod rounds;
-mod ticks;
+mod strides;
 mod sweeper;
+mod ticks;
 
 pub use answers::{Raised, Swept};
+pub use beginning::begin;
 pub use following::{follow, follow_sub, follow_super};
 pub use leaps::leap;
 pub use raising::{raise, raise_sub, raise_super};

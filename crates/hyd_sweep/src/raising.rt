@@ -1,7 +1,7 @@
 //! Raises of single junctions.
 #![tactic(auto)]
 
-ghost use Rattle.std.specs.Prelude.{◌≡◌, ◌<◌, ◌≤◌, ℕ, pos, ◌+◌, ◌-ℤ◌, length, All, MatchOption, None};
+ghost use Rattle.std.specs.Prelude.{◌≡◌, ◌<◌, ◌≤◌, ℕ, pos, ◌+◌, ◌-ℤ◌, ◌≤ℤ◌, ◌↔◌, length, All, IsTrue, MatchOption, None};
 ghost use Rattle.hyd_spec.specs.Assignment.{head_at};
 ghost use Rattle.hyd_spec_certificates.specs.declared.Side.TheVariants.{Upper, Lower};
 ghost use Rattle.hyd_spec_certificates.specs.Certificate.{box_limit, IsInBox};
@@ -19,6 +19,12 @@ use hyd_check::{head_of, surplus};
 use hyd_graph::Net;
 use hyd_spec_certificates::{HeldJunction, Problem, Side};
 
+fn is_enough(surplus: i128) -> bool
+    ensures { IsTrue result ↔ pos 0 ≤ℤ surplus }
+{
+    surplus >= 0
+}
+
 // The least number of ticks from its head at which the junction passes, or one more than the room where there is none.
 fn ticks_to_pass(net: &Net, problem: Problem, side: Side, u: &[i64], i: u32, room: u64) -> u64
     requires steady { IsSteady (grid_of net.now) }
@@ -29,8 +35,10 @@ fn ticks_to_pass(net: &Net, problem: Problem, side: Side, u: &[i64], i: u32, roo
     requires room { pos room ≡ pos box_limit -ℤ along side (head_at u.now i) }
     requires small { room ≤ 2000000000000000000 }
     ensures at_most { result ≤ room + 1 }
-    ensures before { (k : ℕ) → k < result → PassesWith (grid_of net.now) problem side u.now i (further side (head_at u.now i) k) → ⊥ }
-    ensures after { (k : ℕ) → result ≤ k → k ≤ room → PassesWith (grid_of net.now) problem side u.now i (further side (head_at u.now i) k) }
+    ensures before { (k : ℕ) → k < result
+        → PassesWith (grid_of net.now) problem side u.now i (further side (head_at u.now i) k) → ⊥ }
+    ensures after { (k : ℕ) → result ≤ k → k ≤ room
+        → PassesWith (grid_of net.now) problem side u.now i (further side (head_at u.now i) k) }
 {
     let here = head_of(u, i);
     let mut aim = Aim::new();
@@ -40,7 +48,7 @@ fn ticks_to_pass(net: &Net, problem: Problem, side: Side, u: &[i64], i: u32, roo
         let ticks = aim.next(low, high);
         let surplus = surplus(net, problem, side, u, i, further(side, here, ticks));
         aim = aim.after(surplus);
-        if surplus >= 0 {
+        if is_enough(surplus) {
             high = ticks;
         } else {
             low = ticks + 1;
@@ -64,7 +72,8 @@ fn free_value(
     requires inside { i < length u.now }
     requires in_box { All IsInBox u.now }
     requires free { IsFree held i }
-    ensures { MatchOption result (HasNoValue held (grid_of net.now) problem side u.now i) (λ x. RaisesTo held (grid_of net.now) problem side u.now i x) }
+    ensures { MatchOption result (HasNoValue held (grid_of net.now) problem side u.now i)
+        (λ x. RaisesTo held (grid_of net.now) problem side u.now i x) }
 {
     let here = head_of(u, i);
     let room = room(side, here);
@@ -107,7 +116,8 @@ fn value(
     requires inside { i < length u.now }
     requires in_box { All IsInBox u.now }
     requires held_in_box { HoldsInBox held }
-    ensures { MatchOption result (HasNoValue held (grid_of net.now) problem side u.now i) (λ x. RaisesTo held (grid_of net.now) problem side u.now i x) }
+    ensures { MatchOption result (HasNoValue held (grid_of net.now) problem side u.now i)
+        (λ x. RaisesTo held (grid_of net.now) problem side u.now i x) }
 {
     match held_head(held, i) {
         Some(head) => {

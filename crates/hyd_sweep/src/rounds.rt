@@ -12,7 +12,7 @@ ghost use Rattle.hyd_sweep.specs.Sweeps.{SuitsAt, RoundGives, SweepGives, HoldsI
 use crate::answers::{Raised, Swept};
 use crate::raising::{held_head, raise};
 use crate::ticks::is_same;
-use hyd_check::{head_of, passes_with};
+use hyd_check::{head_of, passes};
 use hyd_graph::Net;
 use hyd_spec_certificates::{HeldJunction, Problem, Side};
 
@@ -55,9 +55,10 @@ fn suits(
     requires held_in_box { HoldsInBox held }
     ensures { IsTrue result ↔ SuitsAt held (grid_of net.now) problem side u.now i }
 {
+    let _junctions = net.junctions();
     match held_head(held, i) {
         Some(head) => is_same(head_of(u, i), head),
-        None => passes_with(net, problem, side, u, i, head_of(u, i)),
+        None => passes(net, problem, side, u, i),
     }
 }
 

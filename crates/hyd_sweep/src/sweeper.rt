@@ -9,15 +9,15 @@ ghost use Rattle.hyd_graph.specs.Nets.{HasProblem};
 ghost use Rattle.hyd_sweep.specs.Sweeps.{SweepGives, HoldsInBox};
 
 use crate::answers::Swept;
-use crate::leaps::leap_on;
 use crate::rounds::{round, suits_everywhere};
+use crate::strides::{leap_on, put_ways};
 use hyd_graph::Net;
 use hyd_spec_certificates::{HeldJunction, Problem, Side};
 use std::alloc::{AllocError as OutOfMemory, Global};
 use std::marker::Model;
 
 /// At most so many rounds in file order toward the tight vector, from heads that every certificate lies beyond, with
-/// leaps after each. Two vectors are lent for them, of which nothing is kept.
+/// leaps after each. Three vectors are lent for them, of which nothing is kept.
 pub fn tighten_by_leaps(
     net: &Net,
     problem: Problem,
@@ -25,14 +25,16 @@ pub fn tighten_by_leaps(
     held: Option<HeldJunction>,
     u: &mut [i64],
     rounds: u32,
-    before: &mut [i64],
+    ways: &mut [i64],
     to: &mut [i64],
+    heads: &mut [i64],
 ) -> Swept
     requires start { IsStart held (grid_of net.now) problem side u.old }
     requires pinned { HasProblem net.now problem }
     requires held_in_box { HoldsInBox held }
-    requires before_each { length before.old ≡ length u.old }
+    requires ways_each { length ways.old ≡ length u.old }
     requires to_each { length to.old ≡ length u.old }
+    requires heads_each { length heads.old ≡ length u.old }
     ensures { SweepGives held (grid_of net.now) problem side rounds u.old u.new result }
 {
     let _junctions = net.junctions();
@@ -40,11 +42,12 @@ pub fn tighten_by_leaps(
         if suits_everywhere(net, problem, side, held, u) {
             return Swept::Least;
         }
-        before.copy_from_slice(u);
+        ways.copy_from_slice(u);
         if let Some(junction) = round(net, problem, side, held, u) {
             return Swept::NoCertificate { junction };
         }
-        leap_on(net, problem, side, held, u, before, to);
+        put_ways(u, ways);
+        leap_on(net, problem, side, held, u, ways, to, heads);
     }
     if suits_everywhere(net, problem, side, held, u) {
         Swept::Least
@@ -56,8 +59,9 @@ pub fn tighten_by_leaps(
 /// Room for the sweeps of a net, opened once. Contracts see the number of junctions that it is for.
 #[derive(Drop)]
 pub struct Sweeper {
-    before: Vec<i64>,
+    ways: Vec<i64>,
     to: Vec<i64>,
+    heads: Vec<i64>,
 }
 
 impl Model for Sweeper {
@@ -65,20 +69,20 @@ impl Model for Sweeper {
 
     ghost Value = { ℕ };
 
-    ghost view = { λ s. length s.before.items };
+    ghost view = { λ s. length s.ways.items };
 
-    ghost invariant = { λ s. length s.to.items ≡ length s.before.items };
+    ghost invariant = { λ s. (length s.to.items ≡ length s.ways.items) × (length s.heads.items ≡ length s.ways.items) };
 }
 
-// So many heads.
-fn heads(alloc: Global, count: u32) -> Result<Vec<i64>, OutOfMemory>
-    ensures { IfOk result (λ heads. length heads.items ≡ count) }
+// So many numbers.
+fn room(alloc: Global, count: u32) -> Result<Vec<i64>, OutOfMemory>
+    ensures { IfOk result (λ room. length room.items ≡ count) }
 {
-    let mut heads = Vec::new(alloc);
+    let mut room = Vec::new(alloc);
     for _ in 0..count {
-        heads.push(0)?;
+        room.push(0)?;
     }
-    Ok(heads)
+    Ok(room)
 }
 
 impl Sweeper {
@@ -86,13 +90,14 @@ impl Sweeper {
     pub fn open(alloc: Global, junctions: u32) -> Result<Sweeper, OutOfMemory>
         ensures { IfOk result (λ sweeper. sweeper ≡ junctions) }
     {
-        let before = heads(alloc, junctions)?;
-        let to = heads(alloc, junctions)?;
-        Ok(Sweeper { before, to })
+        let ways = room(alloc, junctions)?;
+        let to = room(alloc, junctions)?;
+        let heads = room(alloc, junctions)?;
+        Ok(Sweeper { ways, to, heads })
     }
 
-    /// At most so many rounds in file order toward the tight vector, from heads that every certificate lies beyond, with
-    /// leaps after each: where flows are small, plain rounds come nearer by single ticks.
+    /// At most so many rounds in file order toward the tight vector, from heads that every certificate lies beyond,
+    /// with leaps after each: where flows are small, plain rounds come nearer by single ticks.
     pub fn tighten(
         &mut self,
         net: &Net,
@@ -106,7 +111,7 @@ impl Sweeper {
         requires start { IsStart held (grid_of net.now) problem side u.old }
         requires pinned { HasProblem net.now problem }
         requires held_in_box { HoldsInBox held }
-        ensures { SweepGives held (grid_of net.now) problem side rounds u.old u.new result }
+        ensures sweep { SweepGives held (grid_of net.now) problem side rounds u.old u.new result }
         ensures keeps { self.new ≡ self.old }
     {
         tighten_by_leaps(
@@ -116,8 +121,9 @@ impl Sweeper {
             held,
             u,
             rounds,
-            &mut self.before,
+            &mut self.ways,
             &mut self.to,
+            &mut self.heads,
         )
     }
 

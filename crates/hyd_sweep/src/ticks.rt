@@ -5,11 +5,12 @@ ghost use Rattle.std.specs.Prelude.{◌≡◌, ◌≤◌, ◌-ℤ◌, ◌≤ℤ�
 ghost use Rattle.hyd_spec_certificates.specs.Certificate.{box_limit, IsInBox, IsBeyond};
 ghost use Rattle.hyd_spec_laws.specs.Sides.{along};
 ghost use Rattle.hyd_sweep.specs.Sweeps.{further};
+ghost use Rattle.hyd_sweep.specs.Leaps.{nearer};
 
 use hyd_spec_certificates::Side;
 
 // The end of the box in which heads are sought, either way, in head ticks.
-const BOX_LIMIT: i64 = 1_000_000_000_000_000_000;
+pub(crate) const BOX_LIMIT: i64 = 1_000_000_000_000_000_000;
 
 /// How far a head is from the far end of the box.
 pub(crate) fn room(side: Side, head: i64) -> u64
@@ -33,6 +34,17 @@ pub(crate) fn further(side: Side, head: i64, ticks: u64) -> i64
     match side {
         Side::Upper => head + (ticks as i64),
         Side::Lower => head - (ticks as i64),
+    }
+}
+
+/// The head one tick nearer.
+pub(crate) fn nearer(side: Side, head: i64) -> i64
+    requires { IsInBox head }
+    ensures { result ≡ nearer side head }
+{
+    match side {
+        Side::Upper => head - 1,
+        Side::Lower => head + 1,
     }
 }
 

@@ -15,4 +15,6 @@ mod outside;
 #[cfg(test)]
 mod sparse;
 #[cfg(test)]
+mod sweeps;
+#[cfg(test)]
 mod units;

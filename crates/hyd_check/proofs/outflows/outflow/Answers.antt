@@ -1,6 +1,6 @@
-use Rattle.std.proofs.Common.{◌≡◌, ◌∙◌, sym, subst, ap, w64, to_z, of_z, arith, ℤ, ◌+ℤ◌, ◌-ℤ◌, Some}
+use Rattle.std.proofs.Common.{◌≡◌, ◌∙◌, subst, w64, to_z, of_z, arith, ◌+ℤ◌, ◌-ℤ◌}
 use Rattle.std.specs.Int.{w128}
-use Rattle.std.specs.Prelude.{Option, slice_get}
+use Rattle.std.specs.Prelude.{Option}
 use Rattle.std.specs.Option.{IfSome, option_map, option_copied}
 use Rattle.std.proofs.lemmas.Int.{ints}
 use Rattle.hyd_spec_certificates.specs.Grid.{GridJunction}

@@ -1,5 +1,4 @@
-use Rattle.std.proofs.Common.{◌≡◌, ◌∙◌, subst, ap, w64, to_z, of_z, arith, ℤ, pos, neg_ℤ, ◌+ℤ◌, ◌-ℤ◌, ◌<◌, length}
-use Rattle.std.specs.Int.{w128}
+use Rattle.std.proofs.Common.{◌≡◌, ◌∙◌, subst, w64, to_z, of_z, arith, ℤ, length}
 use Rattle.std.proofs.lemmas.Int.{ints}
 use Rattle.hyd_graph.specs.GridOf.{grid_of}
 use Rattle.hyd_check.proofs.Surpluses.{IsNetOutflow, upper-passes, lower-passes}

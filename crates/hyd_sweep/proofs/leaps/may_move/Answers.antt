@@ -1,38 +1,72 @@
-use Rattle.std.proofs.Common.{◌≡◌, ◌<◌, ◌∙◌, sym, subst, ap, w64, to_z, of_z, arith, ℤ, pos, List, length, Bool, true, false, IsTrue, Some, inr}
-use Rattle.std.specs.Prelude.{slice_set, Option}
+use Rattle.std.proofs.Common.{◌≡◌, ◌<◌, ◌∙◌, sym, subst, w64, to_z, of_z, arith, List, ℤ, length, Bool, true, false, refl, Some, inl, inr}
+use Rattle.std.specs.Prelude.{IsTrue}
 use mathlib.Core.Bool.{not as not_bool}
 use Rattle.std.proofs.lemmas.Int.{ints}
 use Rattle.std.proofs.lemmas.Bool.{false≢true}
-use Rattle.std.proofs.lemmas.List.{set-get_or}
 use Rattle.hyd_spec.specs.Assignment.{head_at}
-use Rattle.hyd_spec_certificates.specs.Certificate.{Passes, IsInBox, IsBeyond}
+use Rattle.hyd_spec_certificates.specs.Certificate.{Passes}
+use Rattle.hyd_spec_certificates.specs.Climbing.{Fails}
 use Rattle.hyd_spec_certificates.specs.Grid.{GridJunction}
 use Rattle.hyd_graph.specs.GridOf.{grid_of}
-use Rattle.hyd_sweep.proofs.Values.{free-fails}
+use Rattle.hyd_check.proofs.Lookups.{junction-there}
+use Rattle.hyd_sweep.proofs.Values.{free-fails, fails-free, held-stays}
+use Rattle.hyd_sweep.proofs.Turns.{one-turn}
 use Rattle.hyd_sweep.proofs.leaps.may_move.Goals as goal
 
-pub returns-in-None : goal.returns-in-None
-returns-in-None c not =
+yes-not : (b : Bool) → IsTrue (not_bool b) → IsTrue b → ⊥
+yes-not true a e = false≢true a
+yes-not false a e = false≢true e
+
+not-yes : (b : Bool) → (IsTrue b → ⊥) → IsTrue (not_bool b)
+not-yes true missing = absurd (missing refl)
+not-yes false missing = refl
+
+one : (X : Type 0) (x y : X) → ◌≡◌ {A = Rattle.std.specs.Prelude.Option X} (Some x) (Some y) → x ≡ y
+one X x y e = cc
+
+pub returns-in-Some : goal.returns-in-Some
+returns-in-Some c =
     let held = c.args.held in
     let grid = grid_of c.args.net.now in
+    let steady = c.junctions-junctions.ensures.steady in
+    let i = c.args.i in
+    let head : to_z w64 (of_z w64 c.head_of.result) ≡ head_at c.args.to.now i = (let k : to_z w64 (of_z w64 c.head_of.result) ≡ c.head_of.result = omega (arith, ints) in k ∙ c.head_of.ensures) in
+    let from : to_z w64 (of_z w64 c.head_of-2.result) ≡ head_at c.args.u.now i = (let k : to_z w64 (of_z w64 c.head_of-2.result) ≡ c.head_of-2.result = omega (arith, ints) in k ∙ c.head_of-2.ensures) in
+    let within : i < length grid.junctions = (let a = c.requires.inside in let b = c.requires.one_each in let e = c.junctions-junctions.ensures.each in omega (arith, a, b, e)) in (
+      (λ e. absurd (false≢true e)),
+      (λ may. (
+          let at = junction-there grid.junctions i within in
+          absurd (elim (may at.0 at.1) [
+            | inl same ↦ false≢true (sym c.if-is_same.false ∙ c.is_same.ensures.1 (head ∙ (same ∙ sym from)))
+            | inr fails ↦ held-stays held grid steady c.args.problem c.args.side c.args.u.now i c.requires.inside c.in-Some.field-0 c.args.heads.now at.0 c.in-Some.ensures.0
+                (fails c.args.heads.now c.requires.turn)
+          ])
+          )),
+    )
+
+pub returns-in-None : goal.returns-in-None
+returns-in-None c =
+    let held = c.args.held in
+    let grid = grid_of c.args.net.now in
+    let steady = c.junctions-junctions.ensures.steady in
+    let problem = c.args.problem in
+    let side = c.args.side in
     let u = c.args.u.now in
     let v = c.args.to.now in
+    let heads = c.args.heads.now in
     let i = c.args.i in
-    let from : to_z w64 (of_z w64 c.head_of-from.result) ≡ head_at u i = (let k : to_z w64 (of_z w64 c.head_of-from.result) ≡ c.head_of-from.result = omega (arith, ints) in k ∙ c.head_of-from.ensures) in
-    let head : to_z w64 (of_z w64 c.head_of-head.result) ≡ head_at v i = (let k : to_z w64 (of_z w64 c.head_of-head.result) ≡ c.head_of-head.result = omega (arith, ints) in k ∙ c.head_of-head.ensures) in
-    let whole : slice_set v i (to_z w64 (of_z w64 c.head_of-head.result)) ≡ v = ap (slice_set v i) head ∙ set-get_or v i (pos 0) in
-    let inside : i < length v = (let a = c.requires.inside in let b = c.requires.other_each in omega (arith, a, b)) in
-    record {
-      in_box = subst IsInBox head (c.is_in_box.ensures.0 c.if-not-is_in_box.false);
-      beyond = subst (λ (x : ℤ). IsBeyond c.args.side x (head_at v i)) from (subst (λ (y : ℤ). IsBeyond c.args.side (to_z w64 (of_z w64 c.head_of-from.result)) y) head (c.is_beyond.ensures.0 c.if-not-is_beyond.false));
-      fails = λ junction at. inr (free-fails held grid c.requires.steady c.args.problem c.args.side v i inside v junction c.in-None.ensures (λ passes.
-          yes-not c.passes_with.result not (c.passes_with.ensures.1 (λ other there. subst (λ (w : List ℤ). Passes grid c.args.problem c.args.side w i other) (sym whole)
-          (subst (λ (j : GridJunction). Passes grid c.args.problem c.args.side v i j) (one GridJunction junction other (sym at ∙ there)) passes)))));
-    }
-  where
-    yes-not : (b : Bool) → IsTrue (not_bool b) → IsTrue b → ⊥
-    yes-not true a e = false≢true a
-    yes-not false a e = false≢true e
-
-    one : (X : Type 0) (x y : X) → ◌≡◌ {A = Option X} (Some x) (Some y) → x ≡ y
-    one X x y e = cc
+    let head : to_z w64 (of_z w64 c.head_of.result) ≡ head_at v i = (let k : to_z w64 (of_z w64 c.head_of.result) ≡ c.head_of.result = omega (arith, ints) in k ∙ c.head_of.ensures) in
+    let from : to_z w64 (of_z w64 c.head_of-2.result) ≡ head_at u i = (let k : to_z w64 (of_z w64 c.head_of-2.result) ≡ c.head_of-2.result = omega (arith, ints) in k ∙ c.head_of-2.ensures) in
+    let within : i < length grid.junctions = (let a = c.requires.inside in let b = c.requires.one_each in let e = c.junctions-junctions.ensures.each in omega (arith, a, b, e)) in (
+      (λ not junction at. inr (λ y turn. subst (λ (z : List ℤ). Fails held grid problem side z i junction) (one-turn side u v heads y i c.requires.turn turn)
+          (free-fails held grid steady problem side u i c.requires.inside heads junction c.in-None.ensures (λ passes.
+          yes-not c.passes.result not (c.passes.ensures.1 (λ other there.
+          subst (λ (j : GridJunction). Passes grid problem side heads i j) (one GridJunction junction other (sym at ∙ there)) passes)))))),
+      (λ may. not-yes c.passes.result (λ yes. (
+          let at = junction-there grid.junctions i within in
+          elim (may at.0 at.1) [
+            | inl same ↦ false≢true (sym c.if-is_same.false ∙ c.is_same.ensures.1 (head ∙ (same ∙ sym from)))
+            | inr fails ↦ fails-free held grid steady problem side u i c.requires.inside heads at.0 c.in-None.ensures (fails heads c.requires.turn) (c.passes.ensures.0 yes at.0 at.1)
+          ]
+          ))),
+    )

@@ -1,92 +1,62 @@
-use Rattle.std.proofs.Common.{◌≡◌, ◌≤◌, ◌∙◌, sym, subst, ap, w64, to_z, of_z, arith, ℤ}
+use Rattle.std.proofs.Common.{◌≡◌, ◌≤◌, ◌∙◌, sym, subst, ap, w64, to_z, of_z, arith, ℤ, pos, ◌≤ℤ◌, None}
+use Rattle.std.specs.Int.{w128}
 use Rattle.std.proofs.lemmas.Bool.{false≢true}
 use Rattle.std.proofs.lemmas.Int.{ints}
 use Rattle.hyd_spec.specs.Assignment.{head_at}
 use Rattle.hyd_graph.specs.GridOf.{grid_of}
-use Rattle.hyd_sweep.specs.Sweeps.{further, PassesWith}
+use Rattle.hyd_check.specs.Sides.{PassesWith}
+use Rattle.hyd_sweep.specs.Sweeps.{further}
 use Rattle.hyd_sweep.proofs.Values.{passes-later}
-use Rattle.std.proofs.Common.{None}
 use Rattle.hyd_sweep.proofs.raising.ticks_to_pass.Goals as goal
 
-pub loop-low-preserved-then-passes_with : goal.loop-low-preserved-then-passes_with
-loop-low-preserved-then-passes_with c =
-    let net = c.args.net.now in
+pub loop-low-preserved-then-is_enough : goal.loop-low-preserved-then-is_enough
+loop-low-preserved-then-is_enough c =
+    let grid = grid_of c.args.net.now in
     let side = c.args.side in
     let u = c.args.u.now in
     let i = c.args.i in
-    let middle = c.middle-middle.result in
+    let ticks = c.next-ticks.result in
     let inv = c.loop-low.invariant in
-    let floor = c.requires.in_box.above_floor in
-    let ceiling = c.requires.in_box.below_ceiling in
-    let here : to_z w64 (of_z w64 (head_at u i)) ≡ head_at u i = omega (arith, ints, floor, ceiling) in
+    let k1 : to_z w64 (of_z w64 c.head_of-here.result) ≡ c.head_of-here.result = omega (arith, ints) in
+    let here : to_z w64 (of_z w64 c.head_of-here.result) ≡ head_at u i = k1 ∙ c.head_of-here.ensures in
     let kept : to_z w64 (of_z w64 c.further.result) ≡ c.further.result = omega (arith, ints) in
-    let at : to_z w64 (of_z w64 c.further.result) ≡ further side (head_at u i) middle = kept ∙ (c.further.ensures.value ∙ ap (λ (h : ℤ). further side h middle) here) in
-    let from = c.middle-middle.ensures.from in
-    let below = c.middle-middle.ensures.below in
+    let at : to_z w64 (of_z w64 c.further.result) ≡ further side (head_at u i) ticks = kept ∙ (c.further.ensures.value ∙ ap (λ (h : ℤ). further side h ticks) here) in
+    let from = c.next-ticks.ensures.from in
+    let below = c.next-ticks.ensures.below in
     let most = inv.at_most in
-    let small = inv.small in
-    let passes : PassesWith (grid_of net) c.args.problem side u i (further side (head_at u i) middle) =
-    subst (λ (h : ℤ). PassesWith (grid_of net) c.args.problem side u i h) at (c.passes_with.ensures.0 c.if-passes_with.true) in
+    let kept-over : to_z w128 (of_z w128 c.surplus-surplus.result) ≡ c.surplus-surplus.result = omega (arith, ints) in
+    let over : pos 0 ≤ℤ c.surplus-surplus.result = subst (λ (s : ℤ). pos 0 ≤ℤ s) kept-over (c.is_enough.ensures.0 c.if-is_enough.true) in
+    let passes : PassesWith grid c.args.problem side u i (further side (head_at u i) ticks) =
+    subst (λ (h : ℤ). PassesWith grid c.args.problem side u i h) at (c.surplus-surplus.ensures.passes.0 over) in
     record {
       ordered = from;
       at_most = omega (arith, below, most);
-      small = small;
       before = inv.before;
-      after = λ k le within. passes-later None (grid_of net) c.requires.steady c.args.problem side u i c.requires.inside (head_at u i) middle k le passes;
-    }
-
-pub loop-low-preserved-then-step-room : goal.loop-low-preserved-then-step-room
-loop-low-preserved-then-step-room c =
-    let net = c.args.net.now in
-    let side = c.args.side in
-    let u = c.args.u.now in
-    let i = c.args.i in
-    let middle = c.middle-middle.result in
-    let inv = c.loop-low.invariant in
-    let floor = c.requires.in_box.above_floor in
-    let ceiling = c.requires.in_box.below_ceiling in
-    let here : to_z w64 (of_z w64 (head_at u i)) ≡ head_at u i = omega (arith, ints, floor, ceiling) in
-    let kept : to_z w64 (of_z w64 c.further.result) ≡ c.further.result = omega (arith, ints) in
-    let at : to_z w64 (of_z w64 c.further.result) ≡ further side (head_at u i) middle = kept ∙ (c.further.ensures.value ∙ ap (λ (h : ℤ). further side h middle) here) in
-    let from = c.middle-middle.ensures.from in
-    let below = c.middle-middle.ensures.below in
-    let most = inv.at_most in
-    let small = inv.small in
-    record {
-      ordered = omega (arith, below);
-      at_most = most;
-      small = (let t = c.if-step-room.true in let r = c.requires.small in omega (arith, t, r));
-      before = λ k lt passes.
-          let le : k ≤ middle = omega (arith, lt) in
-          false≢true (sym c.if-passes_with.false ∙ c.passes_with.ensures.1 (subst (λ (h : ℤ). PassesWith (grid_of net) c.args.problem side u i h) (sym at)
-          (passes-later None (grid_of net) c.requires.steady c.args.problem side u i c.requires.inside (head_at u i) k middle le passes)));
-      after = inv.after;
+      after = λ k le within. passes-later None grid c.requires.steady c.args.problem side u i c.requires.inside (head_at u i) ticks k le passes;
     }
 
 pub loop-low-preserved : goal.loop-low-preserved
 loop-low-preserved c =
-    let net = c.args.net.now in
+    let grid = grid_of c.args.net.now in
     let side = c.args.side in
     let u = c.args.u.now in
     let i = c.args.i in
-    let middle = c.middle-middle.result in
+    let ticks = c.next-ticks.result in
     let inv = c.loop-low.invariant in
-    let floor = c.requires.in_box.above_floor in
-    let ceiling = c.requires.in_box.below_ceiling in
-    let here : to_z w64 (of_z w64 (head_at u i)) ≡ head_at u i = omega (arith, ints, floor, ceiling) in
+    let k1 : to_z w64 (of_z w64 c.head_of-here.result) ≡ c.head_of-here.result = omega (arith, ints) in
+    let here : to_z w64 (of_z w64 c.head_of-here.result) ≡ head_at u i = k1 ∙ c.head_of-here.ensures in
     let kept : to_z w64 (of_z w64 c.further.result) ≡ c.further.result = omega (arith, ints) in
-    let at : to_z w64 (of_z w64 c.further.result) ≡ further side (head_at u i) middle = kept ∙ (c.further.ensures.value ∙ ap (λ (h : ℤ). further side h middle) here) in
-    let from = c.middle-middle.ensures.from in
-    let below = c.middle-middle.ensures.below in
+    let at : to_z w64 (of_z w64 c.further.result) ≡ further side (head_at u i) ticks = kept ∙ (c.further.ensures.value ∙ ap (λ (h : ℤ). further side h ticks) here) in
+    let below = c.next-ticks.ensures.below in
     let most = inv.at_most in
-    let small = inv.small in
+    let kept-over : to_z w128 (of_z w128 c.surplus-surplus.result) ≡ c.surplus-surplus.result = omega (arith, ints) in
     record {
       ordered = omega (arith, below);
       at_most = most;
-      small = small;
       before = λ k lt passes.
-          let le : k ≤ middle = omega (arith, lt) in
-          false≢true (sym c.if-passes_with.false ∙ c.passes_with.ensures.1 (subst (λ (h : ℤ). PassesWith (grid_of net) c.args.problem side u i h) (sym at)
-          (passes-later None (grid_of net) c.requires.steady c.args.problem side u i c.requires.inside (head_at u i) k middle le passes)));
+          let le : k ≤ ticks = omega (arith, lt) in
+          let over = c.surplus-surplus.ensures.passes.1 (subst (λ (h : ℤ). PassesWith grid c.args.problem side u i h) (sym at)
+          (passes-later None grid c.requires.steady c.args.problem side u i c.requires.inside (head_at u i) k ticks le passes)) in
+          false≢true (sym c.if-is_enough.false ∙ c.is_enough.ensures.1 (subst (λ (s : ℤ). pos 0 ≤ℤ s) (sym kept-over) over));
       after = inv.after;
     }

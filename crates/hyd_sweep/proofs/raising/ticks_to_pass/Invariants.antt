@@ -1,7 +1,8 @@
 use Rattle.std.proofs.Common.{ℕ, ◌-◌, ◌+◌, ◌<◌, ◌≤◌}
 use Rattle.hyd_spec.specs.Assignment.{head_at}
 use Rattle.hyd_graph.specs.GridOf.{grid_of}
-use Rattle.hyd_sweep.specs.Sweeps.{further, PassesWith}
+use Rattle.hyd_check.specs.Sides.{PassesWith}
+use Rattle.hyd_sweep.specs.Sweeps.{further}
 use Rattle.hyd_sweep.proofs.raising.ticks_to_pass.Given as goal
 
 -- none below `low` passes, all from `high` on pass
@@ -9,7 +10,6 @@ abbrev pub invariant-loop-low : goal.invariant-loop-low
 invariant-loop-low l = record {
   ordered : l.low ≤ l.high;
   at_most : l.high ≤ l.room + 1;
-  small : l.step ≤ 4000000000000000000;
   before : (k : ℕ) → k < l.low → PassesWith (grid_of l.net) l.problem l.side l.u l.i (further l.side (head_at l.u l.i) k) → ⊥;
   after : (k : ℕ) → l.high ≤ k → k ≤ l.room → PassesWith (grid_of l.net) l.problem l.side l.u l.i (further l.side (head_at l.u l.i) k);
 }

@@ -1,19 +1,19 @@
-use Rattle.std.proofs.Common.{◌≡◌, ◌+◌, ◌∙◌, sym, subst, arith, ℕ, [], length, suc}
+use Rattle.std.proofs.Common.{◌≡◌, ◌+◌, ◌∙◌, sym, subst, arith, ℕ, length, suc}
 use Rattle.std.proofs.lemmas.Bool.{false≢true}
 use Rattle.hyd_graph.specs.GridOf.{grid_of}
 use Rattle.hyd_spec_certificates.specs.Climbing.{HasRounds}
-use Rattle.hyd_spec_raises.proofs.Sweeping.{has-begins, climb-start, has-on, climb-on}
+use Rattle.hyd_spec_raises.proofs.Sweeping.{has-begins, climb-start, has-on}
 use Rattle.hyd_sweep.specs.Sweeps.{RoundGives, numbers}
 use Rattle.std.specs.Prelude.{Option}
-use Rattle.hyd_sweep.proofs.Following.{round-more, sweep-none, sweep-spent}
+use Rattle.hyd_sweep.proofs.Walking.{round-more, sweep-none, sweep-spent}
 use Rattle.hyd_sweep.proofs.sweeper.tighten_by_leaps.Goals as goal
 
 pub loop-spent-init : goal.loop-spent-init
-loop-spent-init c = record { start = c.requires.start; rounds = has-begins c.args.held (grid_of c.args.net.now) c.requires.steady c.args.problem c.args.side c.args.u.now c.requires.start.one_each }
+loop-spent-init c = record { start = c.requires.start; rounds = has-begins c.args.held (grid_of c.args.net.now) c.junctions-junctions.ensures.steady c.args.problem c.args.side c.args.u.now c.requires.start.one_each }
 
 pub returns-in-Some : goal.returns-in-Some
 returns-in-Some c =
-    sweep-none c.args.held (grid_of c.args.net.now) c.requires.steady c.args.problem c.args.side c.args.rounds c.args.u.now c.loop-spent.u c.round.new.u c.in-Some.junction c.loop-spent.invariant.start
+    sweep-none c.args.held (grid_of c.args.net.now) c.junctions-junctions.ensures.steady c.args.problem c.args.side c.args.rounds c.args.u.now c.loop-spent.u c.round.new.u c.in-Some.junction c.loop-spent.invariant.start
     (subst (λ (r : Option ℕ). RoundGives c.args.held (grid_of c.args.net.now) c.args.problem c.args.side c.loop-spent.u c.round.new.u r) c.in-Some.is c.round.ensures)
 
 pub loop-spent-preserved : goal.loop-spent-preserved
@@ -24,21 +24,27 @@ loop-spent-preserved c =
     let side = c.args.side in
     let start = c.loop-spent.invariant.start in
     let gives = subst (λ (r : Option ℕ). RoundGives held grid problem side c.loop-spent.u c.round.new.u r) c.in_default.is c.round.ensures in
-    let next = climb-start held grid c.requires.steady problem side (numbers (length grid.junctions)) c.loop-spent.u c.round.new.u gives start in
-    let rounds = round-more held grid c.requires.steady problem side c.loop-spent.spent c.args.u.now c.loop-spent.u c.round.new.u start.one_each c.loop-spent.invariant.rounds gives in
-    let leaps = c.leap_on.ensures in
+    let next = climb-start held grid c.junctions-junctions.ensures.steady problem side (numbers (length grid.junctions)) c.loop-spent.u c.round.new.u gives start in
+    let rounds = round-more held grid c.junctions-junctions.ensures.steady problem side c.loop-spent.spent c.args.u.now c.loop-spent.u c.round.new.u start.one_each c.loop-spent.invariant.rounds gives in
+    let leads = c.leap_on.ensures.leads in
     record {
-      start = climb-start held grid c.requires.steady problem side [] c.round.new.u c.leap_on.new.u leaps next;
+      start = leads.start next;
       rounds = subst (λ (n : ℕ). HasRounds held grid problem side n c.args.u.now c.leap_on.new.u) (let e : suc c.loop-spent.spent ≡ c.loop-spent.spent + 1 = omega arith in e)
-          (has-on held grid c.requires.steady problem side (suc c.loop-spent.spent) c.args.u.now c.round.new.u c.leap_on.new.u rounds
-          (climb-on held grid c.requires.steady problem side [] c.round.new.u c.leap_on.new.u leaps next.one_each).1 next.one_each);
+          (has-on held grid c.junctions-junctions.ensures.steady problem side (suc c.loop-spent.spent) c.args.u.now c.round.new.u c.leap_on.new.u rounds leads.beyond next.one_each);
     }
+
+pub leap_on-requires-clause-in_box : goal.leap_on-requires-clause-in_box
+leap_on-requires-clause-in_box c =
+    let held = c.args.held in
+    let grid = grid_of c.args.net.now in
+    let gives = subst (λ (r : Option ℕ). RoundGives held grid c.args.problem c.args.side c.loop-spent.u c.round.new.u r) c.in_default.is c.round.ensures in
+    (climb-start held grid c.junctions-junctions.ensures.steady c.args.problem c.args.side (numbers (length grid.junctions)) c.loop-spent.u c.round.new.u gives c.loop-spent.invariant.start).in_box
 
 pub returns-else-suits_everywhere-2 : goal.returns-else-suits_everywhere-2
 returns-else-suits_everywhere-2 c =
     let held = c.args.held in
     let grid = grid_of c.args.net.now in
     let all : c.loop-spent.spent ≡ c.args.rounds = (let a = c.loop-spent-test.false in let b = c.loop-spent.auto.spent-end in omega (arith, a, b)) in
-    sweep-spent held grid c.requires.steady c.args.problem c.args.side c.args.rounds c.args.u.now c.loop-spent.u c.loop-spent.invariant.start
+    sweep-spent held grid c.junctions-junctions.ensures.steady c.args.problem c.args.side c.args.rounds c.args.u.now c.loop-spent.u c.loop-spent.invariant.start
     (subst (λ (n : ℕ). HasRounds held grid c.args.problem c.args.side n c.args.u.now c.loop-spent.u) all c.loop-spent.invariant.rounds)
     (λ each. false≢true (sym c.if-suits_everywhere-2.false ∙ c.suits_everywhere-2.ensures.1 each))

@@ -1,7 +1,0 @@
-use Rattle.std.proofs.Common.{◌<◌, ℕ}
-use Rattle.hyd_graph.specs.GridOf.{grid_of}
-use Rattle.hyd_sweep.specs.Sweeps.{MayMove}
-use Rattle.hyd_sweep.proofs.leaps.may_leap.Given as goal
-
-abbrev pub invariant-loop-i : goal.invariant-loop-i
-invariant-loop-i l = (k : ℕ) → k < l.i → MayMove l.held (grid_of l.net) l.problem l.side l.u l.to k

@@ -1,0 +1,14 @@
+use Rattle.std.proofs.Common.{◌≡◌, ◌<◌, ℕ, length}
+use Rattle.std.specs.Prelude.{◌≢◌}
+use Rattle.hyd_spec.specs.Assignment.{head_at}
+use Rattle.hyd_spec_certificates.specs.Certificate.{IsInBox}
+use Rattle.hyd_sweep.specs.Leaps.{nearer}
+use Rattle.hyd_sweep.proofs.leaps.put_first_turn.Given as goal
+
+abbrev pub invariant-loop-i : goal.invariant-loop-i
+invariant-loop-i l = record {
+  each : length l.heads ≡ length l.initial.heads;
+  still : (k : ℕ) → k < l.i → head_at l.to k ≡ head_at l.u k → head_at l.heads k ≡ head_at l.to k;
+  short : (k : ℕ) → k < l.i → head_at l.to k ≢ head_at l.u k → head_at l.heads k ≡ nearer l.side (head_at l.to k);
+  in_box : (k : ℕ) → k < l.i → IsInBox (head_at l.heads k);
+}
