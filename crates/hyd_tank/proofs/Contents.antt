@@ -1,10 +1,10 @@
 -- Contents in parts of a tick: held within their bounds, and the bounds that go with them.
-use Rattle.std.proofs.Common.{◌≡◌, ℕ, ◌-◌, ◌*◌, ◌^◌, ◌<◌, ◌≤◌, ◌⊎◌, min, ℤ, pos, negsuc, ◌+ℤ◌, ◌-ℤ◌, ◌*ℤ◌, ◌≤ℤ◌, ◌<ℤ◌, unsigned_abs, inl, inr, refl, sym, ap, ◌∙◌, arith, to_z, of_z, w64, SFits}
+use Rattle.std.proofs.Common.{◌≡◌, ℕ, ◌-◌, ◌*◌, ◌^◌, ◌<◌, ◌≤◌, ◌⊎◌, min, ℤ, pos, negsuc, ◌+ℤ◌, ◌-ℤ◌, ◌*ℤ◌, ◌≤ℤ◌, ◌<ℤ◌, unsigned_abs, inl, inr, refl, sym, ap, subst, ◌∙◌, arith, to_z, of_z, w64, SFits}
 use Rattle.std.specs.Prelude.{if◌then◌else◌}
 use Rattle.std.specs.Int.{int_max, int_min, saturate_signed, w128}
 use Rattle.std.proofs.lemmas.Int.{ints, clamps, to_z-of_z, fits_signed_from_abs}
 use Rattle.std.proofs.lemmas.Bool.{cond_both, cases_lt}
-use Rattle.hyd_num.proofs.Integers.{times_plus, times_rises, times_reflects}
+use Rattle.hyd_num.proofs.Integers.{times_plus, times_one, times_rises, times_reflects}
 use Rattle.hyd_num.specs.Rational.{Rational, floor, ceiling}
 use Rattle.hyd_spec.specs.Tank.{Bounds, is_at_maximum, is_at_minimum}
 use Rattle.hyd_spec_certificates.specs.Stocks.{end_of}
@@ -12,7 +12,8 @@ use Rattle.hyd_lemmas.proofs.Integers.{floor_low, floor_greatest, ceiling_high, 
 use Rattle.hyd_spec_laws.proofs.Leading.{one-within}
 use Rattle.hyd_spec_laws.proofs.Placing.{above-yes, above-no, below-yes, below-no}
 use Rattle.hyd_net.specs.Ranges.{Lies}
-use Rattle.hyd_tank.specs.Contents.{in_ticks, IsBetween}
+use Rattle.hyd_tank.specs.Contents.{bounds_of, in_ticks, held_in, IsBetween}
+use Rattle.hyd_tank.specs.declared.content.Bounds.{Bounds as Limits}
 
 -- ---- parts
 
@@ -164,3 +165,45 @@ held_is b drive content inflow least most l m a k s r range ll lh ml mh cl ch fd
     ∙ ap (λ (z : ℤ). int_max (b *ℤ least) (int_min z (to_z w128 (of_z w128 m)))) s-is
     ∙ ap (λ (z : ℤ). int_max (b *ℤ least) (int_min (saturate_signed w128 ((b *ℤ content) +ℤ saturate_signed w128 (drive *ℤ inflow))) z)) m-is
     ∙ held (b *ℤ content) (drive *ℤ inflow) (b *ℤ least) (b *ℤ most) ar.at_least ar.at_most lr.at_least lr.at_most mr.at_least mr.at_most
+
+-- ---- ends of the content that is held
+
+module _ (b : ℤ) (bounds : Limits) (n : ℤ) (some : pos 1 ≤ℤ b) (apart : bounds.least <ℤ bounds.most) where
+  least-parts : b *ℤ bounds.least ≡ pos (unsigned_abs b) *ℤ bounds.least
+  least-parts = parts_are b bounds.least some
+
+  most-parts : b *ℤ bounds.most ≡ pos (unsigned_abs b) *ℤ bounds.most
+  most-parts = parts_are b bounds.most some
+
+  parts-apart : (pos (unsigned_abs b) *ℤ bounds.least) <ℤ (pos (unsigned_abs b) *ℤ bounds.most)
+  parts-apart =
+      let l = times_rises (unsigned_abs b) (bounds.least +ℤ pos 1) bounds.most (omega (arith, ints, apart)) in
+      let positive = some_parts b some in
+      omega (arith, ints, l, positive, times_plus (unsigned_abs b) bounds.least (pos 1), times_one (unsigned_abs b))
+
+  -- the held number has the bounds of the number, and is that number between them
+  held-end : (range : Bounds) (f : Rational → ℤ) → end_of (bounds_of bounds) range (in_ticks b (held_in b bounds n)) (f (in_ticks b (held_in b bounds n)))
+      ≡ end_of (bounds_of bounds) range (in_ticks b n) (f (in_ticks b n))
+  held-end range f =
+      let h = held_in b bounds n in
+      end-is (λ z. end_of (bounds_of bounds) range (in_ticks b h) (f (in_ticks b h)) ≡ z) (bounds_of bounds) range (in_ticks b n) (f (in_ticks b n))
+      (λ m. end-most (bounds_of bounds) range (in_ticks b h) (f (in_ticks b h)) (omega (arith, ints, clamps, m, least-parts, most-parts, parts-apart)))
+      (λ m l. end-least (bounds_of bounds) range (in_ticks b h) (f (in_ticks b h)) (omega (arith, ints, clamps, m, l, least-parts, most-parts, parts-apart))
+      (omega (arith, ints, clamps, m, l, least-parts, most-parts, parts-apart)))
+      (λ m l. let same : n ≡ h = omega (arith, ints, clamps, m, l, least-parts, most-parts) in
+      subst (λ (z : ℤ). end_of (bounds_of bounds) range (in_ticks b z) (f (in_ticks b z)) ≡ f (in_ticks b n)) same
+      (end-between (bounds_of bounds) range (in_ticks b n) (f (in_ticks b n)) (record { above_least = l; below_most = m })))
+
+pub held_end : (b : ℤ) (bounds : Limits) (n : ℤ) → pos 1 ≤ℤ b → bounds.least <ℤ bounds.most → (range : Bounds) (f : Rational → ℤ)
+    → end_of (bounds_of bounds) range (in_ticks b (held_in b bounds n)) (f (in_ticks b (held_in b bounds n)))
+    ≡ end_of (bounds_of bounds) range (in_ticks b n) (f (in_ticks b n))
+held_end b bounds n some apart = held-end b bounds n some apart
+
+-- the number that is held lies within the bounds
+pub held_within : (b : ℤ) (bounds : Limits) (n : ℤ) → pos 1 ≤ℤ b → bounds.least <ℤ bounds.most
+    → ((pos (unsigned_abs b) *ℤ bounds.least) ≤ℤ held_in b bounds n) × (held_in b bounds n ≤ℤ (pos (unsigned_abs b) *ℤ bounds.most))
+held_within b bounds n some apart =
+    let l = least-parts b bounds n some apart in
+    let m = most-parts b bounds n some apart in
+    let p = parts-apart b bounds n some apart in
+    (omega (arith, ints, clamps, l, m, p), omega (arith, ints, clamps, l, m, p))

@@ -1,1 +1,3 @@
 pub mod Contents
+pub mod Meeting
+pub mod Ends

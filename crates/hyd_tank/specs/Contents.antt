@@ -15,7 +15,7 @@ bounds_of limits = record { least = limits.least; most = limits.most }
 -- bounds of levels or volumes from 0 to 10^18 ticks
 pub record AreBounds (bounds : Limits) : Type 0 where
   pub from : pos 0 ≤ℤ bounds.least
-  pub ordered : bounds.least ≤ℤ bounds.most
+  pub apart : bounds.least <ℤ bounds.most
   pub up_to : bounds.most ≤ℤ pos (10 ^ 18)
 
 -- a motion whose products fit

@@ -7,7 +7,7 @@ ghost use Rattle.hyd_spec.specs.Tank.{level_bounds, has_reached};
 ghost use Rattle.hyd_spec_certificates.specs.Stocks.{contents_after, next_stocks, carried_levels};
 ghost use Rattle.hyd_spec_certificates.specs.FirstSeconds.{IsFirstSecond, IsEarliestSecond, IsLatestSecond};
 ghost use Rattle.hyd_spec_laws.specs.Laws.{IsWithin};
-ghost use Rattle.hyd_tank.specs.Contents.{bounds_of, AreBounds};
+ghost use Rattle.hyd_tank.specs.Contents.{bounds_of, AreBounds, IsMotion};
 ghost use Rattle.hyd_tank.specs.Spans.{levels_of, inflows_of, stocks_at, level_stock, cylinder, IsInflow, IsTankOfRange, IsCylinder};
 
 use crate::content::{Bounds, Motion, held_after, in_parts, lower_content, upper_content};
@@ -37,6 +37,28 @@ pub(crate) fn level_bounds(tank: &Tank) -> Bounds
     }
 }
 
+/// Parts of a head tick: a flow tick for a second is 10^15 of them.
+fn breadth_of(tank: &Tank) -> i128
+    requires { IsCylinder tank.now }
+    ensures value { result ≡ pos (86400 * unsigned_abs tank.now.area) }
+    ensures range { Lies (pos 1) (pos (9 * 10 ^ 19)) result }
+{
+    DAY * i128::from(tank.area)
+}
+
+fn motion_of(tank: &Tank, seconds: u32) -> Motion
+    requires tank { IsCylinder tank.now }
+    requires seconds { seconds ≤ 10 ^ 8 }
+    ensures breadth { result.breadth ≡ pos (86400 * unsigned_abs tank.now.area) }
+    ensures drive { result.drive ≡ pos (seconds * 10 ^ 15) }
+    ensures range { IsMotion result }
+{
+    Motion {
+        drive: i128::from(seconds) * RISE,
+        breadth: breadth_of(tank),
+    }
+}
+
 fn levels_after(tank: &Tank, level: LevelSpan, inflow: Span, seconds: u32, widening: i64) -> LevelSpan
     requires tank { IsCylinder tank.now }
     requires level { IsWithin (level_bounds tank.now) (levels_of level) }
@@ -45,10 +67,7 @@ fn levels_after(tank: &Tank, level: LevelSpan, inflow: Span, seconds: u32, widen
     ensures { levels_of result
         ≡ contents_after widening (cylinder tank.now) tank.now (stocks_at level) (inflows_of inflow) seconds }
 {
-    let motion = Motion {
-        drive: i128::from(seconds) * RISE,
-        breadth: DAY * i128::from(tank.area),
-    };
+    let motion = motion_of(tank, seconds);
     let bounds = level_bounds(tank);
     let least = held_after(motion, bounds, level.lo, inflow.lo);
     let greatest = held_after(motion, bounds, level.hi, inflow.hi);
@@ -94,7 +113,7 @@ fn first_from(tank: &Tank, level: i64, inflow: i128, target: i64, rising: bool, 
     requires target { unsigned_abs target ≤ 2 * 10 ^ 17 }
     ensures { IsFirstSecond (has_reached 1 (cylinder tank.now) tank.now (level_stock level) inflow rising target) cap result }
 {
-    let breadth = DAY * i128::from(tank.area);
+    let breadth = breadth_of(tank);
     if rising {
         first_meeting(in_parts(breadth, target - level), inflow.saturating_mul(RISE), cap)
     } else {
