@@ -75,13 +75,13 @@ ceiling_between bounds x some is = (
 
 -- ---- sums that stay at the ends of 128 bits
 
--- the nearest number of 128 bits
-data IsNearest (z r : ℤ) : Type 0 where
+-- the number of 128 bits that is nearest
+pub data IsNearest (z r : ℤ) : Type 0 where
   itself : r ≡ z → IsNearest z r
   above : pos (2 ^ 127 - 1) ≤ℤ z → r ≡ pos (2 ^ 127 - 1) → IsNearest z r
   below : z ≤ℤ negsuc (2 ^ 127 - 1) → r ≡ negsuc (2 ^ 127 - 1) → IsNearest z r
 
-nearest : (z : ℤ) → IsNearest z (saturate_signed w128 z)
+pub nearest : (z : ℤ) → IsNearest z (saturate_signed w128 z)
 nearest (pos n) = elim (cases_lt n (2 ^ 127)) [
   | inl lt ↦ itself (ap pos (omega arith))
   | inr le ↦ above (omega (arith, ints)) (ap pos (omega arith))

@@ -1,3 +1,5 @@
 pub mod Contents
 pub mod Meeting
 pub mod Ends
+pub mod Reaching
+pub mod Tanks
