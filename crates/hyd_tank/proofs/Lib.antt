@@ -3,3 +3,5 @@ pub mod Meeting
 pub mod Ends
 pub mod Reaching
 pub mod Tanks
+pub mod Filling
+pub mod Values
