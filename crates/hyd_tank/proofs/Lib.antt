@@ -5,3 +5,4 @@ pub mod Reaching
 pub mod Tanks
 pub mod Filling
 pub mod Values
+pub mod Walking

@@ -41,6 +41,8 @@ line_in scale first second x = let value = on_line scale first second x in recor
 pub record AreNeighbours (first second : Place) : Type 0 where
   pub apart : first.place <ℤ second.place
   pub rising : first.value ≤ℤ second.value
+  pub first_place : unsigned_abs first.place ≤ 10 ^ 18
+  pub second_place : unsigned_abs second.place ≤ 10 ^ 18
   pub whole : unsigned_abs first.value ≤ 10 ^ 18
   pub rise : unsigned_abs (second.value -ℤ first.value) ≤ 10 ^ 18
   pub small : unsigned_abs (second.place -ℤ first.place) * unsigned_abs (second.value -ℤ first.value) ≤ 2 * 10 ^ 35

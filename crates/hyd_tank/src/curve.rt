@@ -6,6 +6,7 @@ ghost use Rattle.hyd_num.specs.Rational.{floor, ceiling};
 ghost use Rattle.hyd_net.specs.Curves.{IsVolumeCurve};
 ghost use Rattle.hyd_tank.specs.Curve.{place_of, knot_by, knots_by, value_of, times_value, value_in, line_in, IsMixed, AreNeighbours, IsFrom, IsUpTo, IsOnCurve};
 
+use crate::content::in_parts;
 use hyd_net::VolumePoint;
 
 /// Which number of a point is known. The other one is its value.
@@ -33,24 +34,26 @@ pub(crate) struct Mixed {
 impl Mixed {
     /// The greatest whole number of at most `times` times the value.
     pub fn floor_of(self, times: u32) -> i128
+        requires some { 0 < times }
         requires times { times ≤ 864 }
         requires small { IsMixed times self }
         ensures value { result ≡ floor (times_value times self) }
         ensures small { unsigned_abs result ≤ 10 ^ 22 }
     {
         let fraction = u128::from(times) * self.part / self.of;
-        i128::from(times) * i128::from(self.whole) + fraction as i128
+        in_parts(i128::from(times), self.whole) + fraction as i128
     }
 
     /// The least whole number of at least `times` times the value.
     pub fn ceiling_of(self, times: u32) -> i128
+        requires some { 0 < times }
         requires times { times ≤ 864 }
         requires small { IsMixed times self }
         ensures value { result ≡ ceiling (times_value times self) }
         ensures small { unsigned_abs result ≤ 10 ^ 22 }
     {
         let fraction = (u128::from(times) * self.part).div_ceil(self.of);
-        i128::from(times) * i128::from(self.whole) + fraction as i128
+        in_parts(i128::from(times), self.whole) + fraction as i128
     }
 }
 
@@ -81,7 +84,7 @@ fn on_line(first: Knot, second: Knot, scale: u32, x: i128) -> Mixed
 {
     let width = second.place.abs_diff(first.place);
     let rise = second.value.abs_diff(first.value);
-    let beyond = x - i128::from(scale) * i128::from(first.place);
+    let beyond = x - in_parts(i128::from(scale), first.place);
     Mixed {
         whole: first.value,
         part: u128::from(rise) * beyond as u128,
@@ -101,7 +104,7 @@ pub(crate) fn value_at(points: &[VolumePoint], known: Known, scale: u32, x: i128
     let last = points.len() - 1;
     for i in 0..last - 1 {
         let next = knot_of(points[i + 1], known);
-        if x < i128::from(scale) * i128::from(next.place) {
+        if x < in_parts(i128::from(scale), next.place) {
             return on_line(knot_of(points[i], known), next, scale, x);
         }
     }
