@@ -193,3 +193,20 @@ value_last known scale points x i curve come h =
     ap (λ (r : Rational). (let v : Rational = record { num = r.num; den = r.den * scale } in v))
     (line-between scale (knot_by known (slice_index_or points i nothing)) (knot_by known (slice_index_or points (i + 1) nothing)) x n.apart
     ∙ sym (rw (e, f) at stop))
+
+pub neighbours_at : (known : Known) (points : List VolumePoint) (i j : ℕ) → IsVolumeCurve points → j ≡ i + 1 → j < length points
+    → AreNeighbours (knot_by known (slice_index_or points i nothing)) (knot_by known (slice_index_or points j nothing))
+neighbours_at known points i j curve e h =
+    subst (λ (k : ℕ). AreNeighbours (knot_by known (slice_index_or points i nothing)) (knot_by known (slice_index_or points k nothing))) (sym e)
+    (neighbours known points i curve (omega arith))
+
+pub value_at_last : (known : Known) (scale : ℕ) (points : List VolumePoint) (x : ℤ) (i j : ℕ) → IsVolumeCurve points → HasCome known scale points x i → j ≡ i + 1 → j + 1 ≡ length points
+    → line_in scale (knot_by known (slice_index_or points i nothing)) (knot_by known (slice_index_or points j nothing)) x ≡ value_in scale (knots_by known points) x
+value_at_last known scale points x i j curve come e h =
+    subst (λ (k : ℕ). line_in scale (knot_by known (slice_index_or points i nothing)) (knot_by known (slice_index_or points k nothing)) x ≡ value_in scale (knots_by known points) x) (sym e)
+    (value_last known scale points x i curve come (omega arith))
+
+-- the same line by equal knots and places
+pub line_along : (scale : ℕ) (p k q l : Knot) (x y : ℤ) → p ≡ k → q ≡ l → x ≡ y → line_in scale p q x ≡ line_in scale k l y
+line_along scale p k q l x y e f g =
+    ap (λ (m : Knot). line_in scale m q x) e ∙ ap (λ (m : Knot). line_in scale k m x) f ∙ ap (λ (z : ℤ). line_in scale k l z) g
