@@ -6,3 +6,4 @@ pub mod Tanks
 pub mod Filling
 pub mod Values
 pub mod Walking
+pub mod Basins

@@ -11,11 +11,11 @@ use Rattle.hyd_net.specs.Curves.{Knot as Place}
 use Rattle.hyd_net.specs.Ranges.{Lies}
 use Rattle.hyd_lemmas.proofs.Integers.{exchanged, floor_low, floor_greatest, ceiling_high, ceiling_least}
 use Rattle.hyd_tank.specs.declared.curve.Mixed.{Mixed}
-use Rattle.hyd_tank.specs.Curve.{value_of, times_value, line_in, AreNeighbours, IsMixed}
+use Rattle.hyd_tank.specs.Curve.{value_of, times_value, line_in, AreNeighbours, IsMixed, IsAtLeast, IsAtMost}
 
 -- ---- whole numbers at a mixed number
 
-floor-is : (den : ℕ) (n w r : ℤ) → 0 < den → n ≡ (pos den *ℤ w) +ℤ r → pos 0 ≤ℤ r → r <ℤ pos den → floor (record { num = n; den = den }) ≡ w
+pub floor-is : (den : ℕ) (n w r : ℤ) → 0 < den → n ≡ (pos den *ℤ w) +ℤ r → pos 0 ≤ℤ r → r <ℤ pos den → floor (record { num = n; den = den }) ≡ w
 floor-is den n w r some e low high =
     let x : Rational = record { num = n; den = den } in
     let least = floor_greatest x w some (omega (arith, ints, e, low)) in
@@ -27,7 +27,7 @@ floor-is den n w r some e low high =
     (λ ge. ge) in
     omega (arith, ints, least, most)
 
-ceiling-is : (den : ℕ) (n w r : ℤ) → 0 < den → (n +ℤ r) ≡ pos den *ℤ w → pos 0 ≤ℤ r → r <ℤ pos den → ceiling (record { num = n; den = den }) ≡ w
+pub ceiling-is : (den : ℕ) (n w r : ℤ) → 0 < den → (n +ℤ r) ≡ pos den *ℤ w → pos 0 ≤ℤ r → r <ℤ pos den → ceiling (record { num = n; den = den }) ≡ w
 ceiling-is den n w r some e low high =
     let x : Rational = record { num = n; den = den } in
     let most = ceiling_least x w some (omega (arith, ints, e, low)) in
@@ -67,35 +67,35 @@ ceiling_of_mixed times m some =
 
 -- ---- how large they are
 
-fraction-share : (times : ℕ) (m : Mixed) → times ≤ 864 → m.part ≤ 10 ^ 18 * m.of → times * m.part ≤ 864 * 10 ^ 18 * m.of
-fraction-share times m few share = let a = mul-le-mul few share in omega (arith, a)
+fraction-share : (times : ℕ) (m : Mixed) → m.part ≤ 10 ^ 18 * m.of → times * m.part ≤ times * 10 ^ 18 * m.of
+fraction-share times m share = let a = mul-le-mul_left times share in omega (arith, a)
 
-pub floor_fraction : (times : ℕ) (m : Mixed) → 0 < m.of → times ≤ 864 → m.part ≤ 10 ^ 18 * m.of → times * m.part / m.of ≤ 864 * 10 ^ 18
-floor_fraction times m some few share = elim (cases_lt (864 * 10 ^ 18) (times * m.part / m.of)) [
+pub floor_fraction : (times : ℕ) (m : Mixed) → 0 < m.of → m.part ≤ 10 ^ 18 * m.of → times * m.part / m.of ≤ times * 10 ^ 18
+floor_fraction times m some share = elim (cases_lt (times * 10 ^ 18) (times * m.part / m.of)) [
   | inl over ↦ absurd (
     let l = mul-le-mul_left m.of over in
-    let s = fraction-share times m few share in
+    let s = fraction-share times m share in
     omega (arith, l, s, some))
   | inr le ↦ le
 ]
 
-pub ceiling_fraction : (times : ℕ) (m : Mixed) → 0 < m.of → times ≤ 864 → m.part ≤ 10 ^ 18 * m.of → div_ceil (times * m.part) m.of ≤ 864 * 10 ^ 18
-ceiling_fraction times m some few share = elim (cases_lt (864 * 10 ^ 18) (div_ceil (times * m.part) m.of)) [
+pub ceiling_fraction : (times : ℕ) (m : Mixed) → 0 < m.of → m.part ≤ 10 ^ 18 * m.of → div_ceil (times * m.part) m.of ≤ times * 10 ^ 18
+ceiling_fraction times m some share = elim (cases_lt (times * 10 ^ 18) (div_ceil (times * m.part) m.of)) [
   | inl over ↦ absurd (
     let l = mul-le-mul_right m.of over in
-    let s = fraction-share times m few share in
+    let s = fraction-share times m share in
     let b = (div_ceil_times (times * m.part) m.of some).1 in
     omega (arith, l, s, b, some))
   | inr le ↦ le
 ]
 
-pub times_whole : (times : ℕ) (z : ℤ) → times ≤ 864 → unsigned_abs z ≤ 10 ^ 18 → unsigned_abs (pos times *ℤ z) ≤ 864 * 10 ^ 18
-times_whole times z few small =
+pub times_whole : (times : ℕ) (z : ℤ) → unsigned_abs z ≤ 10 ^ 18 → unsigned_abs (pos times *ℤ z) ≤ times * 10 ^ 18
+times_whole times z small =
     let h = times_rises times z (pos (10 ^ 18)) (omega (arith, ints, small)) in
     let l = times_rises times (pos 0 -ℤ pos (10 ^ 18)) z (omega (arith, ints, small)) in
     let n = times_minus times (pos 0) (pos (10 ^ 18)) in
     let zero : pos times *ℤ pos 0 ≡ pos 0 = omega (arith, ints) in
-    omega (arith, ints, h, l, n, zero, few)
+    omega (arith, ints, h, l, n, zero)
 
 -- ---- on the line of two knots
 
@@ -144,6 +144,24 @@ module _ (scale : ℕ) (first second : Place) (x : ℤ) (beyond : ℕ) (some : 0
         small = omega (arith, taken, bound);
       }
 
+-- the value lies between the values of the two knots
+pub line_from : (scale : ℕ) (first second : Place) (x : ℤ) (beyond : ℕ)
+    → IsAtLeast first.value (record { whole = first.value; part = unsigned_abs (second.value -ℤ first.value) * beyond; of = scale * unsigned_abs (second.place -ℤ first.place) })
+line_from scale first second x beyond = omega (arith, ints)
+
+pub line_to : (scale : ℕ) (first second : Place) (x : ℤ) (beyond : ℕ) → 0 < scale → scale ≤ 864 → AreNeighbours first second
+    → pos beyond ≡ x -ℤ (pos scale *ℤ first.place) → x ≤ℤ (pos scale *ℤ second.place)
+    → IsAtMost second.value (record { whole = first.value; part = unsigned_abs (second.value -ℤ first.value) * beyond; of = scale * unsigned_abs (second.place -ℤ first.place) })
+line_to scale first second x beyond some few n b to =
+    let D = unsigned_abs (second.value -ℤ first.value) in
+    let of = scale * unsigned_abs (second.place -ℤ first.place) in
+    let rising = n.rising in
+    let inner = mul-le-mul_left D (beyond_small scale first second x beyond some few n b to) in
+    let high : second.value ≡ first.value +ℤ pos D = omega (arith, ints, rising) in
+    let e = ap (λ (z : ℤ). pos of *ℤ z) high ∙ times_plus of first.value (pos D) in
+    let turned : D * of ≡ of * D = mul_comm D of in
+    omega (arith, ints, inner, e, turned)
+
 -- ---- the same of the code's numbers
 
 pub start_is : (scale : ℕ) (f r z : ℤ) → r ≡ to_z w128 (of_z w128 f) *ℤ to_z w64 (of_z w64 z) → f ≡ pos scale → scale ≤ 864 → unsigned_abs z ≤ 10 ^ 18 → r ≡ pos scale *ℤ z
@@ -156,16 +174,16 @@ start_is scale f r z e g few small =
 pub difference_small : (scale : ℕ) (first second : Place) (x : ℤ) → scale ≤ 864 → AreNeighbours first second → (pos scale *ℤ first.place) ≤ℤ x → x ≤ℤ (pos scale *ℤ second.place)
     → Lies (pos 0) (pos (10 ^ 22)) (x -ℤ (pos scale *ℤ first.place))
 difference_small scale first second x few n from to =
-    let a = times_whole scale first.place few n.first_place in
-    let b = times_whole scale second.place few n.second_place in
-    record { at_least = omega (arith, ints, from); at_most = omega (arith, ints, to, a, b) }
+    let a = times_whole scale first.place n.first_place in
+    let b = times_whole scale second.place n.second_place in
+    record { at_least = omega (arith, ints, from); at_most = omega (arith, ints, to, a, b, few) }
 
 pub place_small : (scale : ℕ) (first second : Place) (x : ℤ) → scale ≤ 864 → AreNeighbours first second → (pos scale *ℤ first.place) ≤ℤ x → x ≤ℤ (pos scale *ℤ second.place)
     → unsigned_abs x ≤ 10 ^ 22
 place_small scale first second x few n from to =
-    let a = times_whole scale first.place few n.first_place in
-    let b = times_whole scale second.place few n.second_place in
-    omega (arith, ints, from, to, a, b)
+    let a = times_whole scale first.place n.first_place in
+    let b = times_whole scale second.place n.second_place in
+    omega (arith, ints, from, to, a, b, few)
 
 pub same_mixed : (a b : ℤ) (p q r s : ℕ) → a ≡ b → p ≡ q → r ≡ s → (let m : Mixed = record { whole = a; part = p; of = r } in m) ≡ record { whole = b; part = q; of = s }
 same_mixed a b p q r s e f g = rw (e, f, g) refl

@@ -1,15 +1,19 @@
 -- Straight lines between knots at a scale, by the two knots at a place.
-use Rattle.std.proofs.Common.{◌≡◌, ℕ, ◌+◌, ◌-◌, ◌*◌, ◌^◌, ◌<◌, ◌≤◌, ℤ, pos, ◌+ℤ◌, ◌-ℤ◌, ◌*ℤ◌, ◌≤ℤ◌, ◌<ℤ◌, true, false, List, [], ◌∷◌, length, drop, slice_index_or, unsigned_abs, refl, sym, ap, subst, ◌∙◌, arith}
+use Rattle.std.proofs.Common.{◌≡◌, ℕ, ◌+◌, ◌-◌, ◌*◌, ◌^◌, ◌<◌, ◌≤◌, ℤ, pos, ◌+ℤ◌, ◌-ℤ◌, ◌*ℤ◌, ◌≤ℤ◌, ◌<ℤ◌, true, false, List, [], ◌∷◌, length, drop, slice_index_or, unsigned_abs, refl, sym, ap, subst, ◌∙◌, inl, inr, arith}
 use Rattle.std.specs.Prelude.{int_lt, map}
 use Rattle.std.proofs.Math.Nat.{mul-le-mul}
 use Rattle.std.proofs.lemmas.Int.{ints}
-use Rattle.std.proofs.lemmas.List.{drop_more, drop_all, get_or-map, length-map}
+use Rattle.std.proofs.lemmas.List.{drop_more, drop_all, get_or-map, get_or_default, length-map}
+use Rattle.std.specs.List.{HoldsAt}
+use Rattle.std.proofs.lemmas.Bool.{cases_lt}
+use Rattle.hyd_num.proofs.Integers.{times_rises}
 use Rattle.hyd_num.specs.Rational.{Rational}
 use Rattle.hyd_net.specs.Curves.{Knot, on_line, between, value_from, value_at, IsVolumeCurve}
 use Rattle.hyd_spec.specs.Types.{VolumePoint}
 use Rattle.hyd_tank.specs.declared.curve.Known.{Known}
+use Rattle.hyd_tank.specs.declared.curve.Mixed.{Mixed}
 use Rattle.hyd_tank.specs.declared.curve.Known.TheVariants.{Level, Volume}
-use Rattle.hyd_tank.specs.Curve.{knot_by, knots_by, value_in, line_in, AreNeighbours, IsFrom, IsOnCurve}
+use Rattle.hyd_tank.specs.Curve.{knot_by, knots_by, value_in, line_in, AreNeighbours, IsFrom, IsOnCurve, IsAtLeast, IsAtMost}
 
 -- ---- tests
 
@@ -210,3 +214,45 @@ value_at_last known scale points x i j curve come e h =
 pub line_along : (scale : ℕ) (p k q l : Knot) (x y : ℤ) → p ≡ k → q ≡ l → x ≡ y → line_in scale p q x ≡ line_in scale k l y
 line_along scale p k q l x y e f g =
     ap (λ (m : Knot). line_in scale m q x) e ∙ ap (λ (m : Knot). line_in scale k m x) f ∙ ap (λ (z : ℤ). line_in scale k l z) g
+
+-- ---- the first and the last value
+
+ordered : (known : Known) (points : List VolumePoint) (i j : ℕ) → IsVolumeCurve points → i < j → j < length points
+    → (knot_by known (slice_index_or points i nothing)).value ≤ℤ (knot_by known (slice_index_or points j nothing)).value
+ordered Level points i j curve below within =
+    let volumes = curve.volumes_rise i j (pos 0) below (let n = length-map points (λ (p : VolumePoint). p.volume) in omega (arith, n)) in
+    let a = get_or-map (λ (p : VolumePoint). p.volume) points i nothing (pos 0) (omega arith) in
+    let b = get_or-map (λ (p : VolumePoint). p.volume) points j nothing (pos 0) within in
+    omega (arith, ints, volumes, a, b)
+ordered Volume points i j curve below within =
+    let levels = curve.levels_rise i j (pos 0) below (let n = length-map points (λ (p : VolumePoint). p.level) in omega (arith, n)) in
+    let a = get_or-map (λ (p : VolumePoint). p.level) points i nothing (pos 0) (omega arith) in
+    let b = get_or-map (λ (p : VolumePoint). p.level) points j nothing (pos 0) within in
+    omega (arith, ints, levels, a, b)
+
+in_order : (known : Known) (points : List VolumePoint) (i j : ℕ) → IsVolumeCurve points → i ≤ j → j < length points
+    → (knot_by known (slice_index_or points i nothing)).value ≤ℤ (knot_by known (slice_index_or points j nothing)).value
+in_order known points i j curve upto within = elim (cases_lt i j) [
+  | inl below ↦ ordered known points i j curve below within
+  | inr from ↦ subst (λ (k : ℕ). (knot_by known (slice_index_or points i nothing)).value ≤ℤ (knot_by known (slice_index_or points k nothing)).value)
+      (let e : i ≡ j = omega (arith, upto, from) in e) (omega (arith, ints))
+]
+
+same-point : (points : List VolumePoint) (k : ℕ) (d : VolumePoint) → k < length points → slice_index_or points k d ≡ slice_index_or points k nothing
+same-point points k d h = get_or_default points k d nothing h
+
+pub from_first : (known : Known) (points : List VolumePoint) (i : ℕ) (v : ℤ) (m : Mixed) → IsVolumeCurve points → i < length points
+    → v ≡ (knot_by known (slice_index_or points i nothing)).value → IsAtLeast v m → HoldsAt (λ point. IsAtLeast (knot_by known point).value m) points 0
+from_first known points i v m curve within e at d =
+    let o = in_order known points 0 i curve (omega arith) within in
+    let f = ap (λ (p : VolumePoint). (knot_by known p).value) (same-point points 0 d (omega arith)) in
+    let l = times_rises m.of (knot_by known (slice_index_or points 0 d)).value v (omega (arith, ints, o, e, f)) in
+    omega (arith, ints, l, at)
+
+pub to_last : (known : Known) (points : List VolumePoint) (i : ℕ) (v : ℤ) (m : Mixed) → IsVolumeCurve points → i < length points
+    → v ≡ (knot_by known (slice_index_or points i nothing)).value → IsAtMost v m → HoldsAt (λ point. IsAtMost (knot_by known point).value m) points (length points - 1)
+to_last known points i v m curve within e at d =
+    let o = in_order known points i (length points - 1) curve (omega arith) (omega arith) in
+    let f = ap (λ (p : VolumePoint). (knot_by known p).value) (same-point points (length points - 1) d (omega arith)) in
+    let l = times_rises m.of v (knot_by known (slice_index_or points (length points - 1) d)).value (omega (arith, ints, o, e, f)) in
+    omega (arith, ints, l, at)

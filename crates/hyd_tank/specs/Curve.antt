@@ -54,6 +54,13 @@ pub record IsMixed (times : ℕ) (mixed : Mixed) : Type 0 where
   pub share : mixed.part ≤ 10 ^ 18 * mixed.of
   pub small : times * mixed.part ≤ 2 * 10 ^ 38
 
+-- the value is at least a number, or at most one
+abbrev pub IsAtLeast : ℤ → Mixed → Type 0
+IsAtLeast ticks mixed = (pos mixed.of *ℤ ticks) ≤ℤ (value_of mixed).num
+
+abbrev pub IsAtMost : ℤ → Mixed → Type 0
+IsAtMost ticks mixed = (value_of mixed).num ≤ℤ (pos mixed.of *ℤ ticks)
+
 -- x / scale lies from a knot on, or up to one
 abbrev pub IsFrom : ℕ → ℤ → Place → Type 0
 IsFrom scale x knot = (pos scale *ℤ knot.place) ≤ℤ x

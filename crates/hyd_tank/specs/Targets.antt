@@ -1,5 +1,6 @@
 -- Targets of a tank with a volume curve, as volumes.
-use Rattle.std.specs.Prelude.{◌≡◌, ◌⊎◌, ℕ, ◌*◌, ◌^◌, ◌≤◌, ℤ, pos, ◌+ℤ◌, ◌*ℤ◌, ◌≤ℤ◌, Bool, true, false, IsTrue, ◌↔◌, unsigned_abs, ⊤, List}
+use Rattle.std.specs.Prelude.{◌≡◌, ◌⊎◌, ℕ, ◌*◌, ◌^◌, ◌≤◌, ℤ, pos, ◌+ℤ◌, ◌*ℤ◌, ◌≤ℤ◌, Bool, true, false, IsTrue, ◌↔◌, unsigned_abs, ⊤, List, length, ◌-◌}
+use Rattle.std.specs.List.{HoldsAt}
 use Rattle.hyd_spec.specs.Types.{Tank, VolumePoint}
 use Rattle.hyd_spec.specs.Tank.{Stock, Curve, content_bounds, has_reached}
 use Rattle.hyd_spec.specs.Length.{IsLeast}
@@ -8,10 +9,12 @@ use Rattle.hyd_tank.specs.Contents.{bounds_of, AreBounds}
 use Rattle.hyd_tank.specs.declared.seconds.Target.{Target}
 use Rattle.hyd_tank.specs.declared.seconds.Target.TheVariants.{Always, Never, Parts}
 
--- the volumes at a tank's minimum and maximum
+-- the volumes at a tank's minimum and maximum, which lie on the curve
 pub record AreVolumes (tank : Tank) (points : List VolumePoint) (volumes : Limits) : Type 0 where
   pub value : bounds_of volumes ≡ content_bounds (Curve points) tank
   pub range : AreBounds volumes
+  pub from_first : HoldsAt (λ (p : VolumePoint). p.volume ≤ℤ volumes.least) points 0
+  pub to_last : HoldsAt (λ (p : VolumePoint). volumes.most ≤ℤ p.volume) points (length points - 1)
 
 -- ---- targets
 

@@ -2,7 +2,8 @@
 //! number of parts of a tick.
 #![tactic(auto)]
 
-ghost use Rattle.std.specs.Prelude.{◌≡◌, ◌*◌, ◌^◌, ◌≤◌, pos, ◌*ℤ◌, ◌≤ℤ◌, unsigned_abs, None, IfSome, ℤ};
+ghost use Rattle.std.specs.Prelude.{◌≡◌, ◌*◌, ◌^◌, ◌≤◌, pos, ◌+ℤ◌, ◌-ℤ◌, ◌*ℤ◌, ◌≤ℤ◌, unsigned_abs, None, IfSome, ℤ};
+ghost use Rattle.std.specs.Int.{int_max, int_min};
 ghost use Rattle.hyd_num.specs.Rational.{floor, ceiling};
 ghost use Rattle.hyd_net.specs.Ranges.{Lies};
 ghost use Rattle.hyd_spec_certificates.specs.Stocks.{end_of, lower_end, upper_end};
@@ -82,6 +83,35 @@ pub(crate) fn ceiling(parts: i128, breadth: i128) -> i128
     -(-parts).div_euclid(breadth)
 }
 
+/// A number held within bounds.
+pub(crate) fn held(number: i128, bounds: Bounds) -> i128
+    requires { AreBounds bounds }
+    ensures value { result ≡ int_max bounds.least (int_min number bounds.most) }
+    ensures within { Lies bounds.least bounds.most result }
+{
+    number.clamp(i128::from(bounds.least), i128::from(bounds.most))
+}
+
+/// A number within bounds, moved down by the widening, but not below them.
+pub(crate) fn moved_down(number: i128, bounds: Bounds, widening: i64) -> i64
+    requires bounds { AreBounds bounds }
+    requires number { Lies bounds.least bounds.most number }
+    requires widening { Lies (pos 0) (pos 10) widening }
+    ensures { result ≡ int_max bounds.least (number -ℤ widening) }
+{
+    i128::from(bounds.least).max(number - i128::from(widening)) as i64
+}
+
+/// A number within bounds, moved up by the widening, but not above them.
+pub(crate) fn moved_up(number: i128, bounds: Bounds, widening: i64) -> i64
+    requires bounds { AreBounds bounds }
+    requires number { Lies bounds.least bounds.most number }
+    requires widening { Lies (pos 0) (pos 10) widening }
+    ensures { result ≡ int_min bounds.most (number +ℤ widening) }
+{
+    i128::from(bounds.most).min(number + i128::from(widening)) as i64
+}
+
 /// The lower end that goes with a content: rounded down, moved down by the widening and held, or a bound.
 pub(crate) fn lower_content(parts: i128, breadth: i128, bounds: Bounds, widening: i64) -> i64
     requires breadth { Lies (pos 1) (pos (9 * 10 ^ 19)) breadth }
@@ -92,7 +122,7 @@ pub(crate) fn lower_content(parts: i128, breadth: i128, bounds: Bounds, widening
     if let Some(bound) = bound_at(parts, breadth, bounds, bounds) {
         return bound;
     }
-    i128::from(bounds.least).max(floor(parts, breadth) - i128::from(widening)) as i64
+    moved_down(floor(parts, breadth), bounds, widening)
 }
 
 /// The upper end that goes with a content.
@@ -105,5 +135,5 @@ pub(crate) fn upper_content(parts: i128, breadth: i128, bounds: Bounds, widening
     if let Some(bound) = bound_at(parts, breadth, bounds, bounds) {
         return bound;
     }
-    i128::from(bounds.most).min(ceiling(parts, breadth) + i128::from(widening)) as i64
+    moved_up(ceiling(parts, breadth), bounds, widening)
 }

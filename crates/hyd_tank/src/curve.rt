@@ -1,10 +1,11 @@
 //! A tank's volume curve, read by level or by volume.
 #![tactic(auto)]
 
-ghost use Rattle.std.specs.Prelude.{◌≡◌, ℕ, ◌*◌, ◌^◌, ◌<◌, ◌≤◌, unsigned_abs};
+ghost use Rattle.std.specs.Prelude.{◌≡◌, ℕ, ◌*◌, ◌-◌, ◌^◌, ◌<◌, ◌≤◌, unsigned_abs, length};
+ghost use Rattle.std.specs.List.{HoldsAt};
 ghost use Rattle.hyd_num.specs.Rational.{floor, ceiling};
 ghost use Rattle.hyd_net.specs.Curves.{IsVolumeCurve};
-ghost use Rattle.hyd_tank.specs.Curve.{place_of, knot_by, knots_by, value_of, times_value, value_in, line_in, IsMixed, AreNeighbours, IsFrom, IsUpTo, IsOnCurve};
+ghost use Rattle.hyd_tank.specs.Curve.{place_of, knot_by, knots_by, value_of, times_value, value_in, line_in, IsMixed, IsAtLeast, IsAtMost, AreNeighbours, IsFrom, IsUpTo, IsOnCurve};
 
 use crate::content::in_parts;
 use hyd_net::VolumePoint;
@@ -38,7 +39,7 @@ impl Mixed {
         requires times { times ≤ 864 }
         requires small { IsMixed times self }
         ensures value { result ≡ floor (times_value times self) }
-        ensures small { unsigned_abs result ≤ 10 ^ 22 }
+        ensures small { unsigned_abs result ≤ times * (2 * 10 ^ 18) }
     {
         let fraction = u128::from(times) * self.part / self.of;
         in_parts(i128::from(times), self.whole) + fraction as i128
@@ -50,7 +51,7 @@ impl Mixed {
         requires times { times ≤ 864 }
         requires small { IsMixed times self }
         ensures value { result ≡ ceiling (times_value times self) }
-        ensures small { unsigned_abs result ≤ 10 ^ 22 }
+        ensures small { unsigned_abs result ≤ times * (2 * 10 ^ 18) }
     {
         let fraction = (u128::from(times) * self.part).div_ceil(self.of);
         in_parts(i128::from(times), self.whole) + fraction as i128
@@ -80,6 +81,8 @@ fn on_line(first: Knot, second: Knot, scale: u32, x: i128) -> Mixed
     requires from_first { IsFrom scale x (place_of first) }
     requires to_second { IsUpTo scale x (place_of second) }
     ensures value { value_of result ≡ line_in scale (place_of first) (place_of second) x }
+    ensures at_least { IsAtLeast first.value result }
+    ensures at_most { IsAtMost second.value result }
     ensures small { (times : ℕ) → times * scale ≤ 864 → IsMixed times result }
 {
     let width = second.place.abs_diff(first.place);
@@ -99,6 +102,8 @@ pub(crate) fn value_at(points: &[VolumePoint], known: Known, scale: u32, x: i128
     requires scale_range { scale ≤ 864 }
     requires on_curve { IsOnCurve known scale points.now x }
     ensures value { value_of result ≡ value_in scale (knots_by known points.now) x }
+    ensures at_least { HoldsAt (λ point. IsAtLeast (knot_by known point).value result) points.now 0 }
+    ensures at_most { HoldsAt (λ point. IsAtMost (knot_by known point).value result) points.now (length points.now - 1) }
     ensures small { (times : ℕ) → times * scale ≤ 864 → IsMixed times result }
 {
     let last = points.len() - 1;

@@ -1,8 +1,9 @@
 //! Tanks with a volume curve: their volumes and levels after some seconds, and when these reach a target.
 #![tactic(auto)]
 
-ghost use Rattle.std.specs.Prelude.{◌≡◌, ◌*◌, ◌^◌, ◌<◌, ◌≤◌, pos, ◌+ℤ◌, ◌*ℤ◌, unsigned_abs, ℕ, true, false};
-ghost use Rattle.std.specs.Bool.{OnTrue, OnFalse};
+ghost use Rattle.std.specs.Prelude.{◌≡◌, ◌*◌, ◌^◌, ◌<◌, ◌≤◌, pos, ◌+ℤ◌, ◌*ℤ◌, unsigned_abs, ℕ, ◌-◌, length, true, false};
+ghost use Rattle.std.specs.List.{HoldsAt};
+ghost use Rattle.hyd_spec.specs.Types.{VolumePoint};
 ghost use Rattle.hyd_net.specs.Ranges.{Lies};
 ghost use Rattle.hyd_net.specs.Curves.{volume_knots, value_at, IsVolumeCurve};
 ghost use Rattle.hyd_net.specs.Sizes.{IsShapeOf};
@@ -12,11 +13,11 @@ ghost use Rattle.hyd_spec_certificates.specs.Stocks.{Stocks, lower_level, upper_
 ghost use Rattle.hyd_spec_certificates.specs.FirstSeconds.{IsFirstSecond, IsEarliestSecond, IsLatestSecond};
 ghost use Rattle.hyd_spec_laws.specs.Laws.{IsWithin};
 ghost use Rattle.hyd_tank.specs.Contents.{bounds_of, AreBounds, in_ticks, held_in, moved};
-ghost use Rattle.hyd_tank.specs.Curve.{value_of, IsMixed};
+ghost use Rattle.hyd_tank.specs.Curve.{value_of, IsMixed, IsAtLeast, IsAtMost};
 ghost use Rattle.hyd_tank.specs.Spans.{levels_of, volumes_of, inflows_of, stocks_of, IsInflow, IsBasin};
 ghost use Rattle.hyd_tank.specs.Targets.{AreVolumes, IsSmall, IsFirstMet, StandsFor};
 
-use crate::content::{Bounds, Motion, bound_at, held_after, in_parts, lower_content, upper_content};
+use crate::content::{Bounds, Motion, bound_at, held, held_after, in_parts, lower_content, moved_down, moved_up, upper_content};
 use crate::curve::{Known, Mixed, value_at};
 use crate::levels::{WIDENING, level_bounds};
 use crate::seconds::{Target, first_meeting};
@@ -27,23 +28,26 @@ use hyd_num::Span;
 /// Parts of a volume tick: a flow tick for a second is one of them.
 const PARTS: u32 = 864;
 
-fn volume_at(points: &[VolumePoint], tank: &Tank, level: i64) -> Mixed
+fn volume_at(tank: &Tank, points: &[VolumePoint], level: i64) -> Mixed
     requires tank { IsBasin tank.now points.now }
     requires level { Lies tank.now.minimum tank.now.maximum level }
     ensures value { value_of result ≡ value_at 1 (volume_knots points.now) level }
     ensures small { (times : ℕ) → times ≤ 864 → IsMixed times result }
+    ensures at_least { HoldsAt (λ (p : VolumePoint). IsAtLeast p.volume result) points.now 0 }
+    ensures at_most { HoldsAt (λ (p : VolumePoint). IsAtMost p.volume result) points.now (length points.now - 1) }
 {
     value_at(points, Known::Level, 1, i128::from(level))
 }
 
 fn volume_bounds(tank: &Tank, points: &[VolumePoint]) -> Bounds
     requires tank { IsBasin tank.now points.now }
-    ensures value { bounds_of result ≡ content_bounds (Curve points.now) tank.now }
-    ensures range { AreBounds result }
+    ensures { AreVolumes tank.now points.now result }
 {
+    let least = volume_at(tank, points, tank.minimum).floor_of(1);
+    let most = volume_at(tank, points, tank.maximum).floor_of(1);
     Bounds {
-        least: volume_at(points, tank, tank.minimum).floor_of(1) as i64,
-        most: volume_at(points, tank, tank.maximum).floor_of(1) as i64,
+        least: least as i64,
+        most: most as i64,
     }
 }
 
@@ -56,12 +60,12 @@ fn lower_level(tank: &Tank, points: &[VolumePoint], volumes: Bounds, scale: u32,
     requires widening { Lies (pos 0) (pos 10) widening }
     ensures { result ≡ lower_level (Curve points.now) tank.now (record { num = parts; den = scale }) widening }
 {
-    if let Some(bound) = bound_at(parts, i128::from(scale), volumes, level_bounds(tank)) {
+    let levels = level_bounds(tank);
+    if let Some(bound) = bound_at(parts, i128::from(scale), volumes, levels) {
         return bound;
     }
-    let level = value_at(points, Known::Volume, scale, parts).floor_of(1);
-    let level = level.clamp(i128::from(tank.minimum), i128::from(tank.maximum));
-    i128::from(tank.minimum).max(level - i128::from(widening)) as i64
+    let value = value_at(points, Known::Volume, scale, parts);
+    moved_down(held(value.floor_of(1), levels), levels, widening)
 }
 
 // Their upper end.
@@ -73,12 +77,12 @@ fn upper_level(tank: &Tank, points: &[VolumePoint], volumes: Bounds, scale: u32,
     requires widening { Lies (pos 0) (pos 10) widening }
     ensures { result ≡ upper_level (Curve points.now) tank.now (record { num = parts; den = scale }) widening }
 {
-    if let Some(bound) = bound_at(parts, i128::from(scale), volumes, level_bounds(tank)) {
+    let levels = level_bounds(tank);
+    if let Some(bound) = bound_at(parts, i128::from(scale), volumes, levels) {
         return bound;
     }
-    let level = value_at(points, Known::Volume, scale, parts).ceiling_of(1);
-    let level = level.clamp(i128::from(tank.minimum), i128::from(tank.maximum));
-    i128::from(tank.maximum).min(level + i128::from(widening)) as i64
+    let value = value_at(points, Known::Volume, scale, parts);
+    moved_up(held(value.ceiling_of(1), levels), levels, widening)
 }
 
 // The least and the greatest volume after some seconds, in parts, held within the bounds.
@@ -156,7 +160,7 @@ fn risen_target(tank: &Tank, points: &[VolumePoint], volumes: Bounds, level: i64
     if level > tank.maximum {
         return Target::Never;
     }
-    let parts = volume_at(points, tank, level).ceiling_of(PARTS);
+    let parts = volume_at(tank, points, level).ceiling_of(PARTS);
     Target::Parts(parts.min(in_parts(i128::from(PARTS), volumes.most)))
 }
 
@@ -176,7 +180,7 @@ fn fallen_target(tank: &Tank, points: &[VolumePoint], volumes: Bounds, level: i6
     if level == tank.minimum {
         return Target::Parts(in_parts(i128::from(PARTS), volumes.least));
     }
-    let parts = volume_at(points, tank, level).floor_of(PARTS);
+    let parts = volume_at(tank, points, level).floor_of(PARTS);
     Target::Parts(parts.min(in_parts(i128::from(PARTS), volumes.most) - 1))
 }
 

@@ -5,7 +5,7 @@ use Rattle.hyd_net.specs.Curves.{Knot}
 use Rattle.hyd_spec_laws.proofs.RisingLines.{lt-yes, lt-no}
 use Rattle.hyd_tank.specs.Curve.{place_of, knot_by}
 use Rattle.hyd_tank.proofs.Values.{start_is}
-use Rattle.hyd_tank.proofs.Walking.{nothing, neighbours, neighbours_at, come_on, value_here, value_at_last, line_along}
+use Rattle.hyd_tank.proofs.Walking.{nothing, neighbours, neighbours_at, come_on, value_here, value_at_last, line_along, from_first, to_last}
 use Rattle.hyd_tank.proofs.curve.value_at.Goals as goal
 
 pub on_line-requires-clause-neighbours : goal.on_line-requires-clause-neighbours
@@ -52,3 +52,23 @@ returns-clause-value c =
     ∙ line_along c.args.scale (place_of c.knot_of-2.result) (knot_by c.args.known (slice_index_or points (length points - 1 - 1) nothing)) (place_of c.knot_of-3.result)
     (knot_by c.args.known (slice_index_or points (length points - 1) nothing)) (to_z w128 (of_z w128 c.args.x)) c.args.x c.knot_of-2.ensures c.knot_of-3.ensures e
     ∙ value_at_last c.args.known c.args.scale points c.args.x (length points - 1 - 1) (length points - 1) c.requires.curve (rw (e, i) at c.loop-i.invariant) (omega arith) (omega arith)
+
+pub returns-then-x-in_parts-clause-at_least : goal.returns-then-x-in_parts-clause-at_least
+returns-then-x-in_parts-clause-at_least c =
+    from_first c.args.known c.args.points.now c.loop-i.i c.knot_of.result.value c.on_line.result c.requires.curve (omega arith)
+    (ap (λ (k : Knot). k.value) c.knot_of.ensures) c.on_line.ensures.at_least
+
+pub returns-then-x-in_parts-clause-at_most : goal.returns-then-x-in_parts-clause-at_most
+returns-then-x-in_parts-clause-at_most c =
+    to_last c.args.known c.args.points.now (c.loop-i.i + 1) c.knot_of-next.result.value c.on_line.result c.requires.curve (omega arith)
+    (ap (λ (k : Knot). k.value) c.knot_of-next.ensures) c.on_line.ensures.at_most
+
+pub returns-clause-at_least : goal.returns-clause-at_least
+returns-clause-at_least c =
+    from_first c.args.known c.args.points.now (length c.args.points.now - 1 - 1) c.knot_of-2.result.value c.on_line-2.result c.requires.curve (omega arith)
+    (ap (λ (k : Knot). k.value) c.knot_of-2.ensures) c.on_line-2.ensures.at_least
+
+pub returns-clause-at_most : goal.returns-clause-at_most
+returns-clause-at_most c =
+    to_last c.args.known c.args.points.now (length c.args.points.now - 1) c.knot_of-3.result.value c.on_line-2.result c.requires.curve (omega arith)
+    (ap (λ (k : Knot). k.value) c.knot_of-3.ensures) c.on_line-2.ensures.at_most

@@ -13,7 +13,7 @@ overflow_add-result c =
     let second : to_z w64 (of_z w64 m.whole) ≡ m.whole = omega (arith, ints, small.whole) in
     let whole : c.in_parts.result ≡ pos times *ℤ m.whole = c.in_parts.ensures.value ∙ ap (λ (z : ℤ). z *ℤ to_z w64 (of_z w64 m.whole)) first ∙ ap (λ (z : ℤ). pos times *ℤ z) second in
     let fraction : c.div_ceil-fraction.result ≡ div_ceil (times * m.part) m.of = c.div_ceil-fraction.ensures ∙ ap (λ (n : ℕ). div_ceil (n * m.part) m.of) c.from.ensures in
-    omega (arith, ints, whole, fraction, ceiling_fraction times m small.some c.requires.times small.share, times_whole times m.whole c.requires.times small.whole)
+    omega (arith, ints, whole, fraction, ceiling_fraction times m small.some small.share, times_whole times m.whole small.whole)
 
 pub returns-clause-small : goal.returns-clause-small
 returns-clause-small c =
@@ -24,7 +24,7 @@ returns-clause-small c =
     let second : to_z w64 (of_z w64 m.whole) ≡ m.whole = omega (arith, ints, small.whole) in
     let whole : c.in_parts.result ≡ pos times *ℤ m.whole = c.in_parts.ensures.value ∙ ap (λ (z : ℤ). z *ℤ to_z w64 (of_z w64 m.whole)) first ∙ ap (λ (z : ℤ). pos times *ℤ z) second in
     let fraction : c.div_ceil-fraction.result ≡ div_ceil (times * m.part) m.of = c.div_ceil-fraction.ensures ∙ ap (λ (n : ℕ). div_ceil (n * m.part) m.of) c.from.ensures in
-    omega (arith, ints, whole, fraction, ceiling_fraction times m small.some c.requires.times small.share, times_whole times m.whole c.requires.times small.whole)
+    omega (arith, ints, whole, fraction, ceiling_fraction times m small.some small.share, times_whole times m.whole small.whole)
 
 pub returns-clause-value : goal.returns-clause-value
 returns-clause-value c =
@@ -36,4 +36,4 @@ returns-clause-value c =
     let whole : c.in_parts.result ≡ pos times *ℤ m.whole = c.in_parts.ensures.value ∙ ap (λ (z : ℤ). z *ℤ to_z w64 (of_z w64 m.whole)) first ∙ ap (λ (z : ℤ). pos times *ℤ z) second in
     let fraction : c.div_ceil-fraction.result ≡ div_ceil (times * m.part) m.of = c.div_ceil-fraction.ensures ∙ ap (λ (n : ℕ). div_ceil (n * m.part) m.of) c.from.ensures in
     let exact = ceiling_of_mixed times m small.some in
-    omega (arith, ints, whole, fraction, exact, ceiling_fraction times m small.some c.requires.times small.share, times_whole times m.whole c.requires.times small.whole)
+    omega (arith, ints, whole, fraction, exact, ceiling_fraction times m small.some small.share, times_whole times m.whole small.whole)
