@@ -7,3 +7,4 @@ pub mod Filling
 pub mod Values
 pub mod Walking
 pub mod Basins
+pub mod Aims
