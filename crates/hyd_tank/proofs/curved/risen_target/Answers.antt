@@ -4,6 +4,7 @@ use Rattle.std.proofs.lemmas.Int.{ints, clamps, to_z-of_z}
 use Rattle.hyd_spec_laws.proofs.Outflows.{le-yes, le-no}
 use Rattle.hyd_spec_laws.proofs.RisingLines.{lt-yes, lt-no}
 use Rattle.hyd_net.specs.Curves.{value_at, volume_at, volume_knots}
+use Rattle.hyd_tank.proofs.Values.{start_is}
 use Rattle.hyd_tank.proofs.Aims.{risen_always, risen_never, risen_parts, risen_code, most_parts}
 use Rattle.hyd_tank.proofs.curved.risen_target.Goals as goal
 
@@ -23,7 +24,9 @@ pub ceiling_of-parts-requires-clause-small : goal.ceiling_of-parts-requires-clau
 ceiling_of-parts-requires-clause-small c = c.volume_at.ensures.small 864 (omega arith)
 
 pub returns-clause-small : goal.returns-clause-small
-returns-clause-small c = omega (arith, ints, clamps, c.min.ensures.value, c.ceiling_of-parts.ensures.small, c.in_parts.ensures.small)
+returns-clause-small c =
+    let k = start_is 864 c.from.result c.in_parts.result c.args.volumes.most c.in_parts.ensures.value c.from.ensures (omega arith) (omega (arith, ints)) in
+    omega (arith, ints, clamps, c.min.ensures.value, c.ceiling_of-parts.ensures.small, k)
 
 pub returns-clause-meets : goal.returns-clause-meets
 returns-clause-meets c =
