@@ -1,10 +1,10 @@
 -- What the spans and stocks of the calls stand for, and what is asked of them.
-use Rattle.std.specs.Prelude.{◌≡◌, ◌*◌, ◌^◌, ◌≤◌, ℕ, ℤ, pos, ◌<ℤ◌, ◌≤ℤ◌, unsigned_abs, None, List}
+use Rattle.std.specs.Prelude.{◌≡◌, ◌*◌, ◌^◌, ◌≤◌, ℕ, ℤ, pos, ◌<ℤ◌, ◌≤ℤ◌, unsigned_abs, None, List, ◌<◌, length, MatchOption}
 use Rattle.hyd_num.specs.declared.decimals.Span.{Span}
 use Rattle.hyd_net.specs.Ranges.{Lies}
 use Rattle.hyd_net.specs.Sizes.{IsShapeOf}
-use Rattle.hyd_spec.specs.Types.{Tank, VolumePoint}
-use Rattle.hyd_spec.specs.Tank.{Stock as OneStock, Walls, Cylinder, Bounds, level_bounds, kept_volume}
+use Rattle.hyd_spec.specs.Types.{Project, Tank, VolumePoint}
+use Rattle.hyd_spec.specs.Tank.{Stock as OneStock, Walls, Cylinder, Bounds, level_bounds, kept_volume, shape_points}
 use Rattle.hyd_spec_certificates.specs.Interval.{Interval, exactly}
 use Rattle.hyd_spec_certificates.specs.Stocks.{Stocks}
 use Rattle.hyd_spec_laws.specs.Laws.{IsWithin}
@@ -70,3 +70,8 @@ kept_bounds walls tank = record { least = kept_volume walls tank.minimum; most =
 pub record AreHeld (walls : Walls) (tank : Tank) (stocks : Stocks) : Type 0 where
   pub level : IsWithin (level_bounds tank) stocks.level
   pub volume : IsWithin (kept_bounds walls tank) stocks.volume
+
+-- a tank of a sound network: a cylinder, or one with one of the network's volume curves
+abbrev pub IsTankOf : Project → Tank → Type 0
+IsTankOf network tank =
+    MatchOption tank.shape (IsCylinder tank) (λ shape. (shape < length network.shapes.list) × IsBasin tank (shape_points network shape))
