@@ -13,10 +13,15 @@ use Rattle.hyd_net.specs.Ranges.{Lies, Numbers}
 use Rattle.hyd_net.specs.Sizes.{IsTank, IsShapeOf}
 use Rattle.hyd_net.specs.Sound.{Sound}
 use Rattle.hyd_spec.specs.Types.{Project, Tank, VolumePoint}
-use Rattle.hyd_spec.specs.Tank.{Walls, Curve, walls_of, shape_points}
+use Rattle.hyd_spec.specs.Tank.{Walls, Cylinder, Curve, walls_of, shape_points}
+use Rattle.hyd_spec_certificates.specs.Interval.{Interval}
+use Rattle.hyd_spec_certificates.specs.Stocks.{Stocks, next_stocks, carried_stocks, carried_levels}
+use Rattle.hyd_spec_certificates.specs.FirstSeconds.{IsEarliestSecond, IsLatestSecond}
+use Rattle.hyd_spec_laws.proofs.Levelling.{next_within, volumes_within}
 use Rattle.hyd_spec_laws.specs.Laws.{IsVessel}
 use Rattle.hyd_spec_laws.proofs.Vessels.{IsSoundTank, sound_tank, shape_of, vessels}
-use Rattle.hyd_tank.specs.Spans.{cylinder, IsTankOfRange, IsCylinder, IsBasin, IsTankOf}
+use Rattle.hyd_tank.specs.declared.spans.Stock.{Stock}
+use Rattle.hyd_tank.specs.Spans.{stocks_of, stocks_at, AreHeld, cylinder, IsTankOfRange, IsCylinder, IsBasin, IsTankOf}
 use Rattle.hyd_tank.proofs.Contents.{some_parts}
 
 pub cylinder_vessel : (tank : Tank) → IsCylinder tank → IsVessel (cylinder tank) tank
@@ -101,3 +106,32 @@ is_cylinder network tank e is = subst (λ (o : Option ℕ). MatchOption o (IsCyl
 
 pub is_basin : (network : Project) (tank : Tank) (n : ℕ) → tank.shape ≡ Some n → IsTankOf network tank → (n < length network.shapes.list) × IsBasin tank (shape_points network n)
 is_basin network tank n e is = subst (λ (o : Option ℕ). MatchOption o (IsCylinder tank) (λ s. (s < length network.shapes.list) × IsBasin tank (shape_points network s))) e is
+
+-- ---- stocks
+
+pub next_held : (walls : Walls) (tank : Tank) (stocks : Stocks) (inflow : Interval) (seconds : ℕ) → IsVessel walls tank → AreHeld walls tank (next_stocks walls tank stocks inflow seconds)
+next_held (Cylinder area) tank stocks inflow seconds vessel = record {
+  level = next_within (Cylinder area) tank stocks inflow seconds vessel;
+  volume = record { lo_above = omega (arith, ints); lo_below = omega (arith, ints); hi_above = omega (arith, ints); hi_below = omega (arith, ints) };
+}
+next_held (Curve points) tank stocks inflow seconds vessel = record {
+  level = next_within (Curve points) tank stocks inflow seconds vessel;
+  volume = volumes_within points tank stocks inflow seconds vessel;
+}
+
+pub carried_is : (walls : Walls) (tank : Tank) (stocks : Stocks) (inflow : Interval) (seconds : ℕ)
+    → (carried_stocks walls tank stocks inflow seconds).level ≡ carried_levels walls tank stocks inflow seconds
+carried_is (Cylinder area) tank stocks inflow seconds = refl
+carried_is (Curve points) tank stocks inflow seconds = refl
+
+-- a cylinder's volume plays no part
+module _ (tank : Tank) (stock : Stock) (inflow : Interval) (target : ℤ) (cap e : ℕ) where
+  pub earliest_without : (rising : Bool) → IsEarliestSecond (cylinder tank) tank (stocks_at stock.level) inflow target rising cap e
+      → IsEarliestSecond (cylinder tank) tank (stocks_of stock) inflow target rising cap e
+  earliest_without true first = first
+  earliest_without false first = first
+
+  pub latest_without : (rising : Bool) → IsLatestSecond (cylinder tank) tank (stocks_at stock.level) inflow target rising cap e
+      → IsLatestSecond (cylinder tank) tank (stocks_of stock) inflow target rising cap e
+  latest_without true first = first
+  latest_without false first = first
