@@ -179,8 +179,7 @@ module _ (tank : Tank) (points : List VolumePoint) (basin : IsBasin tank points)
       let v = value_at 1 (volume_knots points) t in
       let vs = value-some t in
       let C = ceiling (record { num = pos 864 *ℤ v.num; den = v.den }) in
-      let top = ceiling_high (record { num = pos 864 *ℤ v.num; den = v.den }) vs in
-      (
+      let top = ceiling_high (record { num = pos 864 *ℤ v.num; den = v.den }) vs in (
         (λ r. or-both (reaches 1 true (volume_at points tank.maximum) exact) (is_at_most (in_parts 1 v) exact) (z ≤ℤ parts) (sym (risen-is t over within) ∙ r)
             (λ f. let a = above-yes 1 (volume_at points tank.maximum) exact f in omega (arith, ints, clamps, e, a, one-within 864 (volume_at points tank.maximum)))
             (λ f. let a = le-yes ((pos 1 *ℤ v.num) *ℤ pos 864) (parts *ℤ pos v.den) f in
@@ -216,8 +215,7 @@ module _ (tank : Tank) (points : List VolumePoint) (basin : IsBasin tank points)
       let le = le-from tank.minimum tank.minimum (omega (arith, ints)) in
       let bound : is_same_number tank.minimum tank.minimum ≡ true = both-true (int_le tank.minimum tank.minimum) le in
       let is : has_reached 1 (Curve points) tank stock q false tank.minimum seconds ≡ reaches 1 false (volume_at points tank.minimum) exact =
-      ap (λ (c : Bool). if c then reaches 1 false (volume_at points tank.minimum) exact else reaches 1 false tank.minimum carried) bound in
-      (
+      ap (λ (c : Bool). if c then reaches 1 false (volume_at points tank.minimum) exact else reaches 1 false tank.minimum carried) bound in (
         (λ r. let b = below-yes 1 (volume_at points tank.minimum) exact (sym is ∙ r) in omega (arith, ints, b, one-within 864 (volume_at points tank.minimum))),
         (λ h. is ∙ below-from 1 (volume_at points tank.minimum) exact (omega (arith, ints, h, one-within 864 (volume_at points tank.minimum)))),
       )

@@ -18,13 +18,13 @@ at_once need rate cap met = record {
     | inl some ↦ inr (omega arith, subst (λ (s : ℕ). need ≤ℤ (pos s *ℤ rate)) (let e : 1 ≡ min cap 1 = omega arith in e) (omega (arith, ints, met, one-rate rate)))
     | inr none ↦ inl (omega arith)
   ];
-  least = λ k at. elim at [ | inl e ↦ omega arith | inr later ↦ omega (arith, later.0) ];
+  least = λ k at. elim at [ inl e ↦ omega arith | inr later ↦ omega (arith, later.0) ];
 }
 
 pub never : (need rate : ℤ) (cap : ℕ) → rate <ℤ need → rate ≤ℤ pos 0 → IsFirstMeeting need rate cap cap
 never need rate cap short back = record {
   holds = inl refl;
-  least = λ k at. elim at [ | inl e ↦ omega arith | inr later ↦ absurd (none k later.0 later.1) ];
+  least = λ k at. elim at [ inl e ↦ omega arith | inr later ↦ absurd (none k later.0 later.1) ];
 }
   where
     none : (k : ℕ) → 1 ≤ k → need ≤ℤ (pos k *ℤ rate) → ⊥
@@ -51,12 +51,12 @@ later-at need (pos R) ceil cap r short forward is e = record {
   holds = elim (cases_lt cap r) [
     | inl past ↦ absurd (omega (arith, ints, clamps, e))
     | inr within ↦ elim (cases_lt r cap) [
-        | inl inside ↦ inr (
+      | inl inside ↦ inr (
         (let a = above-none ceil R need (omega (arith, ints, short, forward)) reached in omega (arith, ints, clamps, e, a, inside)),
         subst (λ (z : ℤ). need ≤ℤ (z *ℤ pos R)) (let same : ceil ≡ pos r = omega (arith, ints, clamps, e, inside) in same) reached,
-        )
-        | inr full ↦ inl (omega (arith, within, full))
-      ]
+      )
+      | inr full ↦ inl (omega (arith, within, full))
+    ]
   ];
   least = λ k at. elim at [
     | inl same ↦ omega (arith, ints, clamps, e, same)
@@ -81,9 +81,9 @@ later need (negsuc n) ceil z cap short forward is e = absurd (omega (arith, ints
 pub first_like : (P Q : ℕ → Type 0) (cap e : ℕ) → ((s : ℕ) → 1 ≤ s → P s → Q s) → ((s : ℕ) → 1 ≤ s → Q s → P s)
     → IsLeast (λ s. (s ≡ cap) ⊎ ((1 ≤ s) × P s)) e → IsLeast (λ s. (s ≡ cap) ⊎ ((1 ≤ s) × Q s)) e
 first_like P Q cap e to back is = record {
-  holds = elim is.holds [ | inl at ↦ inl at | inr some ↦ inr (some.0, to e some.0 some.1) ];
+  holds = elim is.holds [ inl at ↦ inl at | inr some ↦ inr (some.0, to e some.0 some.1) ];
   least = λ k at. is.least k (turned k at);
 }
   where
     turned : (k : ℕ) → (k ≡ cap) ⊎ ((1 ≤ k) × Q k) → (k ≡ cap) ⊎ ((1 ≤ k) × P k)
-    turned k at = elim at [ | inl same ↦ inl same | inr some ↦ inr (some.0, back k some.0 some.1) ]
+    turned k at = elim at [ inl same ↦ inl same | inr some ↦ inr (some.0, back k some.0 some.1) ]

@@ -73,19 +73,19 @@ fraction-share times m share = let a = mul-le-mul_left times share in omega (ari
 pub floor_fraction : (times : ℕ) (m : Mixed) → 0 < m.of → m.part ≤ 10 ^ 18 * m.of → times * m.part / m.of ≤ times * 10 ^ 18
 floor_fraction times m some share = elim (cases_lt (times * 10 ^ 18) (times * m.part / m.of)) [
   | inl over ↦ absurd (
-    let l = mul-le-mul_left m.of over in
-    let s = fraction-share times m share in
-    omega (arith, l, s, some))
+      let l = mul-le-mul_left m.of over in
+      let s = fraction-share times m share in
+      omega (arith, l, s, some))
   | inr le ↦ le
 ]
 
 pub ceiling_fraction : (times : ℕ) (m : Mixed) → 0 < m.of → m.part ≤ 10 ^ 18 * m.of → div_ceil (times * m.part) m.of ≤ times * 10 ^ 18
 ceiling_fraction times m some share = elim (cases_lt (times * 10 ^ 18) (div_ceil (times * m.part) m.of)) [
   | inl over ↦ absurd (
-    let l = mul-le-mul_right m.of over in
-    let s = fraction-share times m share in
-    let b = (div_ceil_times (times * m.part) m.of some).1 in
-    omega (arith, l, s, b, some))
+      let l = mul-le-mul_right m.of over in
+      let s = fraction-share times m share in
+      let b = (div_ceil_times (times * m.part) m.of some).1 in
+      omega (arith, l, s, b, some))
   | inr le ↦ le
 ]
 
@@ -101,7 +101,6 @@ times_whole times z small =
 
 module _ (scale : ℕ) (first second : Place) (x : ℤ) (beyond : ℕ) (some : 0 < scale) (few : scale ≤ 864) (n : AreNeighbours first second)
     (b : pos beyond ≡ x -ℤ (pos scale *ℤ first.place)) (to : x ≤ℤ (pos scale *ℤ second.place)) where
-
   pub beyond_small : beyond ≤ scale * unsigned_abs (second.place -ℤ first.place)
   beyond_small =
       let apart = n.apart in

@@ -172,7 +172,6 @@ come_on known scale points x i come h from = record {
 line-between : (scale : ℕ) (p q : Knot) (x : ℤ) → p.place <ℤ q.place → on_line scale p q x ≡ between scale p q x
 line-between scale p q x apart = let t = less p.place q.place apart in sym (rw t refl)
 
-
 pub value_here : (known : Known) (scale : ℕ) (points : List VolumePoint) (x : ℤ) (i : ℕ) → IsVolumeCurve points → HasCome known scale points x i → i + 1 + 1 < length points
     → x <ℤ (pos scale *ℤ (knot_by known (slice_index_or points (i + 1) nothing)).place)
     → line_in scale (knot_by known (slice_index_or points i nothing)) (knot_by known (slice_index_or points (i + 1) nothing)) x ≡ value_in scale (knots_by known points) x

@@ -44,7 +44,9 @@ pub(crate) fn held_after(motion: Motion, bounds: Bounds, content: i64, inflow: i
     let change = motion.drive.saturating_mul(inflow);
     let least = in_parts(motion.breadth, bounds.least);
     let most = in_parts(motion.breadth, bounds.most);
-    in_parts(motion.breadth, content).saturating_add(change).clamp(least, most)
+    in_parts(motion.breadth, content)
+        .saturating_add(change)
+        .clamp(least, most)
 }
 
 /// Where a content is at or beyond a bound of its own, the same bound of a range.

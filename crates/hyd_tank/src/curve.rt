@@ -113,5 +113,10 @@ pub(crate) fn value_at(points: &[VolumePoint], known: Known, scale: u32, x: i128
             return on_line(knot_of(points[i], known), next, scale, x);
         }
     }
-    on_line(knot_of(points[last - 1], known), knot_of(points[last], known), scale, x)
+    on_line(
+        knot_of(points[last - 1], known),
+        knot_of(points[last], known),
+        scale,
+        x,
+    )
 }

@@ -17,7 +17,10 @@ ghost use Rattle.hyd_tank.specs.Curve.{value_of, IsMixed, IsAtLeast, IsAtMost};
 ghost use Rattle.hyd_tank.specs.Spans.{levels_of, volumes_of, inflows_of, stocks_of, IsInflow, IsBasin};
 ghost use Rattle.hyd_tank.specs.Targets.{AreVolumes, IsSmall, IsFirstMet, StandsFor};
 
-use crate::content::{Bounds, Motion, bound_at, held, held_after, in_parts, lower_content, moved_down, moved_up, upper_content};
+use crate::content::{
+    Bounds, Motion, bound_at, held, held_after, in_parts, lower_content, moved_down, moved_up,
+    upper_content,
+};
 use crate::curve::{Known, Mixed, value_at};
 use crate::levels::{WIDENING, level_bounds};
 use crate::seconds::{Target, first_meeting};
@@ -52,7 +55,14 @@ fn volume_bounds(tank: &Tank, points: &[VolumePoint]) -> Bounds
 }
 
 // The lower end of the levels that go with a volume of `parts / scale` ticks.
-fn lower_level(tank: &Tank, points: &[VolumePoint], volumes: Bounds, scale: u32, parts: i128, widening: i64) -> i64
+fn lower_level(
+    tank: &Tank,
+    points: &[VolumePoint],
+    volumes: Bounds,
+    scale: u32,
+    parts: i128,
+    widening: i64,
+) -> i64
     requires tank { IsBasin tank.now points.now }
     requires volumes { AreVolumes tank.now points.now volumes }
     requires scale { 0 < scale }
@@ -69,7 +79,14 @@ fn lower_level(tank: &Tank, points: &[VolumePoint], volumes: Bounds, scale: u32,
 }
 
 // Their upper end.
-fn upper_level(tank: &Tank, points: &[VolumePoint], volumes: Bounds, scale: u32, parts: i128, widening: i64) -> i64
+fn upper_level(
+    tank: &Tank,
+    points: &[VolumePoint],
+    volumes: Bounds,
+    scale: u32,
+    parts: i128,
+    widening: i64,
+) -> i64
     requires tank { IsBasin tank.now points.now }
     requires volumes { AreVolumes tank.now points.now volumes }
     requires scale { 0 < scale }
@@ -105,7 +122,13 @@ fn parts_after(volumes: Bounds, volume: VolumeSpan, inflow: Span, seconds: u32) 
 }
 
 /// The stock with which the next period begins.
-pub(crate) fn next_from(tank: &Tank, points: &[VolumePoint], stock: Stock, inflow: Span, seconds: u32) -> Stock
+pub(crate) fn next_from(
+    tank: &Tank,
+    points: &[VolumePoint],
+    stock: Stock,
+    inflow: Span,
+    seconds: u32,
+) -> Stock
     requires tank { IsBasin tank.now points.now }
     requires volume { IsWithin (content_bounds (Curve points.now) tank.now) (volumes_of stock.volume) }
     requires seconds { seconds ≤ 10 ^ 8 }
@@ -126,7 +149,13 @@ pub(crate) fn next_from(tank: &Tank, points: &[VolumePoint], stock: Stock, inflo
 }
 
 /// The stock carried to some seconds after the start.
-pub(crate) fn carried_from(tank: &Tank, points: &[VolumePoint], stock: Stock, inflow: Span, seconds: u32) -> Stock
+pub(crate) fn carried_from(
+    tank: &Tank,
+    points: &[VolumePoint],
+    stock: Stock,
+    inflow: Span,
+    seconds: u32,
+) -> Stock
     requires tank { IsBasin tank.now points.now }
     requires volume { IsWithin (content_bounds (Curve points.now) tank.now) (volumes_of stock.volume) }
     requires seconds { seconds ≤ 10 ^ 8 }

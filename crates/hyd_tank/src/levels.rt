@@ -59,7 +59,13 @@ fn motion_of(tank: &Tank, seconds: u32) -> Motion
     }
 }
 
-fn levels_after(tank: &Tank, level: LevelSpan, inflow: Span, seconds: u32, widening: i64) -> LevelSpan
+fn levels_after(
+    tank: &Tank,
+    level: LevelSpan,
+    inflow: Span,
+    seconds: u32,
+    widening: i64,
+) -> LevelSpan
     requires tank { IsCylinder tank.now }
     requires level { IsWithin (level_bounds tank.now) (levels_of level) }
     requires seconds { seconds ≤ 10 ^ 8 }
@@ -115,16 +121,31 @@ fn first_from(tank: &Tank, level: i64, inflow: i128, target: i64, rising: bool, 
 {
     let breadth = breadth_of(tank);
     if rising {
-        first_meeting(in_parts(breadth, target - level), inflow.saturating_mul(RISE), cap)
+        first_meeting(
+            in_parts(breadth, target - level),
+            inflow.saturating_mul(RISE),
+            cap,
+        )
     } else {
-        first_meeting(in_parts(breadth, level - target), (-inflow).saturating_mul(RISE), cap)
+        first_meeting(
+            in_parts(breadth, level - target),
+            (-inflow).saturating_mul(RISE),
+            cap,
+        )
     }
 }
 
 /// The earliest and the latest first second, from 1 on, at which a level of the interval has reached a target (head
 /// ticks): risen to it or fallen to it. Each is the cap where it is reached at no second up to the cap. The tank is one
 /// without a volume curve, of a sound project.
-pub fn first_second(tank: &Tank, level: LevelSpan, inflow: Span, target: i64, rising: bool, cap: u32) -> (u32, u32)
+pub fn first_second(
+    tank: &Tank,
+    level: LevelSpan,
+    inflow: Span,
+    target: i64,
+    rising: bool,
+    cap: u32,
+) -> (u32, u32)
     requires tank { IsCylinder tank.now }
     requires level { IsWithin (level_bounds tank.now) (levels_of level) }
     requires inflow { IsInflow inflow }

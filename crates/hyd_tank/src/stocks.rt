@@ -67,7 +67,15 @@ fn carried_of(project: &Project, tank: &Tank, stock: Stock, inflow: Span, second
     }
 }
 
-fn first_of(project: &Project, tank: &Tank, stock: Stock, inflow: Span, target: i64, rising: bool, cap: u32) -> (u32, u32)
+fn first_of(
+    project: &Project,
+    tank: &Tank,
+    stock: Stock,
+    inflow: Span,
+    target: i64,
+    rising: bool,
+    cap: u32,
+) -> (u32, u32)
     requires tank { IsTankOf project.now tank.now }
     requires held { AreHeld (walls_of project.now tank.now) tank.now (stocks_of stock) }
     requires inflow { IsInflow inflow }
@@ -77,7 +85,15 @@ fn first_of(project: &Project, tank: &Tank, stock: Stock, inflow: Span, target: 
 {
     match tank.shape {
         None => first_second(tank, stock.level, inflow, target, rising, cap),
-        Some(shape) => first_from(tank, points_of(project, shape), stock, inflow, target, rising, cap),
+        Some(shape) => first_from(
+            tank,
+            points_of(project, shape),
+            stock,
+            inflow,
+            target,
+            rising,
+            cap,
+        ),
     }
 }
 
@@ -138,7 +154,15 @@ pub fn stock_at(project: &Project, tank: u32, stock: Stock, inflow: Span, second
 /// tank's bottom): risen to it or fallen to it. Each is the cap where it is reached at no second up to the cap. A tank with
 /// a volume curve has reached a bound of its levels where its exact volume has reached that of the bound. The project is
 /// sound.
-pub fn first_stock(project: &Project, tank: u32, stock: Stock, inflow: Span, target: i64, rising: bool, cap: u32) -> (u32, u32)
+pub fn first_stock(
+    project: &Project,
+    tank: u32,
+    stock: Stock,
+    inflow: Span,
+    target: i64,
+    rising: bool,
+    cap: u32,
+) -> (u32, u32)
     requires sound { Sound project.now }
     requires tank { tank < length project.now.tanks.list }
     requires held { (each : Tank) → slice_get project.now.tanks.list tank ≡ Some each → AreHeld (walls_of project.now each) each (stocks_of stock) }
@@ -162,5 +186,13 @@ pub fn first_stock(project: &Project, tank: u32, stock: Stock, inflow: Span, tar
         → IsLatestSecond (walls_of project.now each) each wider more target rising cap later
         → (sooner ≤ result.0) × (result.1 ≤ later) }
 {
-    first_of(project, &tank_at(project, tank), stock, inflow, target, rising, cap)
+    first_of(
+        project,
+        &tank_at(project, tank),
+        stock,
+        inflow,
+        target,
+        rising,
+        cap,
+    )
 }

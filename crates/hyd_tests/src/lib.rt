@@ -20,4 +20,6 @@ mod rows;
 #[cfg(test)]
 mod sparse;
 #[cfg(test)]
+mod tank;
+#[cfg(test)]
 mod units;

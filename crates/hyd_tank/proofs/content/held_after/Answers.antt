@@ -12,8 +12,17 @@ clamp-requires c =
     let least = parts_from c.in_parts-least.result b c.args.bounds.least c.in_parts-least.ensures.value range (omega (arith, ints)) (omega (arith, ints)) in
     let most = parts_from c.in_parts-most.result b c.args.bounds.most c.in_parts-most.ensures.value range (omega (arith, ints)) (omega (arith, ints)) in
     let rises = times_rises (unsigned_abs b) c.args.bounds.least c.args.bounds.most (omega (arith, ints)) in
-    omega (arith, ints, least, most, rises, parts_are b c.args.bounds.least range.at_least, parts_are b c.args.bounds.most range.at_least,
-    c.in_parts-least.ensures.small, c.in_parts-most.ensures.small)
+    omega (
+      arith,
+      ints,
+      least,
+      most,
+      rises,
+      parts_are b c.args.bounds.least range.at_least,
+      parts_are b c.args.bounds.most range.at_least,
+      c.in_parts-least.ensures.small,
+      c.in_parts-most.ensures.small,
+    )
 
 pub returns : goal.returns
 returns c =
