@@ -16,5 +16,6 @@ mod outside;
 mod sparse;
 #[cfg(test)]
 mod sweeps;
+mod tank;
 #[cfg(test)]
 mod units;

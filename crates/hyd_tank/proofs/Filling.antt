@@ -1,0 +1,59 @@
+-- How full a tank is at a level, and at both ends of an interval.
+use Rattle.std.proofs.Common.{◌≡◌, ℤ, pos, ◌+ℤ◌, ◌-ℤ◌, ◌*ℤ◌, ◌≤ℤ◌, ◌<ℤ◌, Bool, false, refl, ap, ◌∙◌, arith, Some, None}
+use Rattle.std.specs.Prelude.{Option, int_le, if◌then◌else◌}
+use Rattle.std.proofs.lemmas.Int.{ints}
+use Rattle.hyd_spec.specs.Types.{Tank}
+use Rattle.hyd_spec.specs.Scale.{at_scale}
+use Rattle.hyd_spec.specs.Tank.{tank_state, state_band}
+use Rattle.hyd_spec.specs.declared.TankState.{TankState}
+use Rattle.hyd_spec.specs.declared.TankState.TheVariants.{Full, Between, Empty}
+use Rattle.hyd_spec_certificates.specs.Stocks.{shared_state}
+use Rattle.hyd_spec_laws.proofs.Leading.{one_times}
+use Rattle.hyd_spec_laws.proofs.Placing.{le-from}
+
+not-le : (a b : ℤ) → b <ℤ a → int_le a b ≡ false
+not-le a b h = grind (arith, ints)
+
+abbrev by-tests : Bool → Bool → TankState
+by-tests full empty = if full then Full else if empty then Empty else Between
+
+module _ (tank : Tank) (level : ℤ) where
+  pub full_is : (tank.maximum -ℤ state_band) ≤ℤ level → tank_state 1 tank level ≡ Full
+  full_is h = ap (λ (b : Bool). by-tests b (int_le level (at_scale 1 (tank.minimum +ℤ state_band))))
+      (le-from (pos 1 *ℤ (tank.maximum -ℤ state_band)) level (omega (arith, ints, h, one_times (tank.maximum -ℤ state_band))))
+
+  pub empty_is : level <ℤ (tank.maximum -ℤ state_band) → level ≤ℤ (tank.minimum +ℤ state_band) → tank_state 1 tank level ≡ Empty
+  empty_is s h =
+      ap (λ (b : Bool). by-tests b (int_le level (at_scale 1 (tank.minimum +ℤ state_band))))
+      (not-le (pos 1 *ℤ (tank.maximum -ℤ state_band)) level (omega (arith, ints, s, one_times (tank.maximum -ℤ state_band))))
+      ∙ ap (λ (b : Bool). by-tests false b) (le-from level (pos 1 *ℤ (tank.minimum +ℤ state_band)) (omega (arith, ints, h, one_times (tank.minimum +ℤ state_band))))
+
+  pub between_is : level <ℤ (tank.maximum -ℤ state_band) → (tank.minimum +ℤ state_band) <ℤ level → tank_state 1 tank level ≡ Between
+  between_is s h =
+      ap (λ (b : Bool). by-tests b (int_le level (at_scale 1 (tank.minimum +ℤ state_band))))
+      (not-le (pos 1 *ℤ (tank.maximum -ℤ state_band)) level (omega (arith, ints, s, one_times (tank.maximum -ℤ state_band))))
+      ∙ ap (λ (b : Bool). by-tests false b) (not-le level (pos 1 *ℤ (tank.minimum +ℤ state_band)) (omega (arith, ints, h, one_times (tank.minimum +ℤ state_band))))
+
+-- ---- both ends
+
+pub shared : (a b : TankState) → a ≡ b → Some a ≡ shared_state a b
+shared Full Full e = refl
+shared Full Between e = absurd (cc)
+shared Full Empty e = absurd (cc)
+shared Between Full e = absurd (cc)
+shared Between Between e = refl
+shared Between Empty e = absurd (cc)
+shared Empty Full e = absurd (cc)
+shared Empty Between e = absurd (cc)
+shared Empty Empty e = refl
+
+pub apart : (a b : TankState) → (a ≡ b → ⊥) → None ≡ shared_state a b
+apart Full Full e = absurd (e refl)
+apart Full Between e = refl
+apart Full Empty e = refl
+apart Between Full e = refl
+apart Between Between e = absurd (e refl)
+apart Between Empty e = refl
+apart Empty Full e = refl
+apart Empty Between e = refl
+apart Empty Empty e = absurd (e refl)

@@ -1,0 +1,4 @@
+pub mod Spans
+pub mod Contents
+pub mod Curve
+pub mod Targets

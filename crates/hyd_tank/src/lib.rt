@@ -1,0 +1,16 @@
+//! What becomes of a tank's stock of water under a constant inflow, and when its level reaches a target.
+#![tactic(auto)]
+
+mod content;
+mod curve;
+mod curved;
+mod levels;
+mod seconds;
+mod spans;
+mod states;
+mod stocks;
+
+pub use levels::{first_second, level_at, next_level};
+pub use spans::{LevelSpan, Stock, VolumeSpan};
+pub use states::state_of;
+pub use stocks::{first_stock, next_stock, stock_at};

@@ -1,0 +1,23 @@
+//! Intervals of a tank's level and volume.
+#![tactic(auto)]
+
+/// All levels from one to another, in head ticks above the tank's bottom.
+#[derive(Debug, Clone, Copy, PartialEq, Eq, Drop)]
+pub struct LevelSpan {
+    pub lo: i64,
+    pub hi: i64,
+}
+
+/// All volumes from one to another, in volume ticks of 10^-9 cubic metres.
+#[derive(Debug, Clone, Copy, PartialEq, Eq, Drop)]
+pub struct VolumeSpan {
+    pub lo: i64,
+    pub hi: i64,
+}
+
+/// What is known of a tank's content: its level and, where it has a volume curve, its volume, else 0 to 0.
+#[derive(Debug, Clone, Copy, PartialEq, Eq, Drop)]
+pub struct Stock {
+    pub level: LevelSpan,
+    pub volume: VolumeSpan,
+}
