@@ -1,17 +1,82 @@
 //! Rows of small texts that are wrong with the others, with what an independent reader says; counts above their limits.
 #![tactic(auto)]
 
+ghost use Rattle.std.specs.Prelude.{◌<◌, ◌^◌, length};
+ghost use Rattle.std.specs.List.{All};
+ghost use Rattle.hyd_lex.specs.Lines.{LiesIn};
+ghost use Rattle.hyd_lex.specs.declared.section.Section.TheVariants.{Patterns};
+ghost use Rattle.hyd_spec_input.specs.ByItself.{IsWrongByItself};
+ghost use Rattle.hyd_spec_input.specs.Faults.{NoneIs};
+ghost use Rattle.hyd_spec_input.specs.Tables.{rows_of};
+ghost use Rattle.hyd_tables.specs.Found.{rows_at};
+ghost use Rattle.hyd_tables.specs.Tables.{IsTable};
+
 use hyd_by_itself::first_by_itself;
 use hyd_judge::{
     judge_curves, judge_demands, judge_nodes, judge_patterns, last_option, unit_in_force,
 };
-use hyd_lex::Lines;
-use hyd_tables::{gather, least};
+use hyd_lex::{Line, Lines};
+use hyd_tables::{Found, Table, gather, least};
 use std::alloc::Global;
 use std::fmt::Write;
 use std::test::Fail;
 
 const GREATEST_TEXT: usize = 67_108_864;
+
+/// The first wrong row of junctions and demands.
+fn of_junctions_and_demands(
+    alloc: Global,
+    reader: &Lines<'_>,
+    lines: &[Line],
+    patterns: &Table,
+) -> Result<Option<Found>, Fail>
+    requires few { length lines.now < 2 ^ 31 }
+    requires lie { All (LiesIn reader.now.text) lines.now }
+    requires right { NoneIs (IsWrongByItself (rows_at reader.now.text lines.now)) }
+    requires patterns { IsTable reader.now.text (rows_of Patterns (rows_at reader.now.text lines.now)) patterns.now }
+{
+    let unit = unit_in_force(reader, lines);
+    let nodes = judge_nodes(alloc, reader, lines, patterns, unit)?;
+    let demands = judge_demands(reader, lines, &nodes.table, patterns, unit);
+    Ok(least(nodes.found, demands.found))
+}
+
+/// The first wrong row of patterns, junctions and demands.
+fn of_patterns_and_more(
+    alloc: Global,
+    reader: &Lines<'_>,
+    lines: &[Line],
+) -> Result<Option<Found>, Fail>
+    requires few { length lines.now < 2 ^ 31 }
+    requires lie { All (LiesIn reader.now.text) lines.now }
+    requires right { NoneIs (IsWrongByItself (rows_at reader.now.text lines.now)) }
+{
+    let patterns = judge_patterns(alloc, reader, lines)?;
+    let found = of_junctions_and_demands(alloc, reader, lines, &patterns.table)?;
+    Ok(least(patterns.found, found))
+}
+
+/// The first wrong row of curves.
+fn of_curves(alloc: Global, reader: &Lines<'_>, lines: &[Line]) -> Result<Option<Found>, Fail>
+    requires few { length lines.now < 2 ^ 31 }
+    requires lie { All (LiesIn reader.now.text) lines.now }
+{
+    let curves = judge_curves(alloc, reader, lines)?;
+    Ok(curves.found)
+}
+
+/// The first wrong row, by itself or with the others.
+fn first_wrong(alloc: Global, reader: &Lines<'_>, lines: &[Line]) -> Result<Option<Found>, Fail>
+    requires few { length lines.now < 2 ^ 31 }
+    requires lie { All (LiesIn reader.now.text) lines.now }
+{
+    if let Some(found) = first_by_itself(reader, lines) {
+        return Ok(Some(found));
+    }
+    let found = of_patterns_and_more(alloc, reader, lines)?;
+    let of_curves = of_curves(alloc, reader, lines)?;
+    Ok(least(found, of_curves))
+}
 
 /// The line and the cause of the first wrong row of a text, or else its unit of flows.
 fn judged(alloc: Global, text: &[u8]) -> Result<String, Fail> {
@@ -21,18 +86,9 @@ fn judged(alloc: Global, text: &[u8]) -> Result<String, Fail> {
     let gathered = gather(alloc, text)?;
     let reader = Lines::new(text);
     let lines = gathered.lines.as_slice();
-    if let Some(found) = first_by_itself(&reader, lines) {
-        return Ok(format!(in alloc; "{} {:?}", found.line, found.cause)?);
-    }
-    let unit = unit_in_force(&reader, lines);
-    let patterns = judge_patterns(alloc, &reader, lines)?;
-    let curves = judge_curves(alloc, &reader, lines)?;
-    let nodes = judge_nodes(alloc, &reader, lines, &patterns.table, unit)?;
-    let demands = judge_demands(&reader, lines, &nodes.table, &patterns.table, unit);
-    let counted = least(patterns.found, curves.found);
-    match least(counted, least(nodes.found, demands.found)) {
+    match first_wrong(alloc, &reader, lines)? {
         Some(found) => Ok(format!(in alloc; "{} {:?}", found.line, found.cause)?),
-        None => Ok(format!(in alloc; "none {unit:?}")?),
+        None => Ok(format!(in alloc; "none {:?}", unit_in_force(&reader, lines))?),
     }
 }
 

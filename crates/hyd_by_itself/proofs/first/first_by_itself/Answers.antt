@@ -16,10 +16,10 @@ returns-in-Some c =
     let text = c.args.text.now.text in
     let lines = c.args.lines.now in
     let found = wrong_here text lines c.loop-place.place nothing c.in-Some.cause c.loop-place-test.true
-        c.loop-place.invariant.none
-        (row_fault_is text lines c.loop-place.place nothing c.loop-place.stage c.row_fault.result
-        c.loop-place.invariant.stage c.row_fault.ensures
-        ∙ c.in-Some.is) in
+    c.loop-place.invariant.none
+    (row_fault_is text lines c.loop-place.place nothing c.loop-place.stage c.row_fault.result
+    c.loop-place.invariant.stage c.row_fault.ensures
+    ∙ c.in-Some.is) in
     record { first = first_of (rows_at text lines) (IsWrongByItself (rows_at text lines)) _ found; none = tt }
 
 pub loop-place-preserved : goal.loop-place-preserved
