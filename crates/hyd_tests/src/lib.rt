@@ -15,7 +15,4 @@ mod outside;
 #[cfg(test)]
 mod sparse;
 #[cfg(test)]
-mod sweeps;
-mod tank;
-#[cfg(test)]
 mod units;

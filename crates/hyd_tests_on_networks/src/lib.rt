@@ -8,3 +8,7 @@ mod demand;
 mod law;
 #[cfg(test)]
 mod network;
+#[cfg(test)]
+mod sweeps;
+#[cfg(test)]
+mod tank;

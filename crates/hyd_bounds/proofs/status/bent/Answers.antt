@@ -13,8 +13,9 @@ use Rattle.hyd_bounds.proofs.status.bent.Goals.{else-held-eq0-via-then-held-eq0+
 -- the curve passes something
 passes : (c : goal.After-by_drive) → is_nothing c.args.held.now.least c.args.held.now.most ≡ false
 passes c = elim c.else-held-eq0.branch [
-  else-held-eq0-via-then-held-eq0+else-held-eq0-2 w ↦ some-most c.args.held.now.least c.args.held.now.most (λ e. w.if-held-eq0-2.false (ap (of_z w64) e))
-  | else-held-eq0-via-else-held-eq0 w ↦ some-least c.args.held.now.least c.args.held.now.most (λ e. w.if-held-eq0.false (ap (of_z w64) e)) ]
+  | else-held-eq0-via-then-held-eq0+else-held-eq0-2 w ↦ some-most c.args.held.now.least c.args.held.now.most (λ e. w.if-held-eq0-2.false (ap (of_z w64) e))
+  | else-held-eq0-via-else-held-eq0 w ↦ some-least c.args.held.now.least c.args.held.now.most (λ e. w.if-held-eq0.false (ap (of_z w64) e))
+]
 
 pub returns : goal.returns
 returns c =

@@ -17,7 +17,11 @@ fn sweeps_begin_at_an_end_of_the_box(rt: HostRuntime) {
 
 #[test]
 fn the_box_has_its_ends(rt: HostRuntime) {
-    let heads = [-1000000000000000001, -1000000000000000000, 1000000000000000000];
+    let heads = [
+        -1000000000000000001,
+        -1000000000000000000,
+        1000000000000000000,
+    ];
     assert!(rt; !is_in_box(head_of(&heads, 0)));
     assert!(rt; is_in_box(head_of(&heads, 1)));
     assert!(rt; is_in_box(head_of(&heads, 2)));
