@@ -1,12 +1,11 @@
-//! The first row of small texts that is wrong by itself, with what an independent reader says; tables of IDs.
+//! The first row of small texts that is wrong by itself, with what an independent reader says.
 #![tactic(auto)]
 
 use hyd_by_itself::first_by_itself;
 use hyd_lex::Lines;
 use hyd_net::Cause;
-use hyd_tables::{Found, Table, gather, kept, least, own_id};
+use hyd_tables::{Found, gather, kept, least};
 use std::alloc::Global;
-use std::fmt::Write;
 use std::test::Fail;
 
 const GREATEST_TEXT: usize = 67_108_864;
@@ -100,34 +99,5 @@ fn faults_are_kept_and_compared(rt: HostRuntime) -> Result<(), Fail> {
     assert_eq!(rt; kept(None, 4, 9, None), None);
     assert_eq!(rt; least(Some(late), Some(early)), Some(early));
     assert_eq!(rt; least(None, Some(late)), Some(late));
-    Ok(())
-}
-
-/// The lines of the first rows with the IDs A, B and C.
-fn first_lines(alloc: Global, text: &[u8]) -> Result<String, Fail> {
-    if text.len() > GREATEST_TEXT {
-        return Ok(String::new(alloc));
-    }
-    let gathered = gather(alloc, text)?;
-    let lines = Lines::new(text);
-    let mut table = Table::new(alloc);
-    let mut out = String::new(alloc);
-    for line in gathered.lines.as_slice() {
-        let new = table.add(&lines, line)?;
-        write!(out, "{} {new};", own_id(&lines, line).len())?;
-    }
-    for name in [b"A", b"B", b"C"] {
-        match table.find(&lines, name.as_slice()) {
-            Some(line) => write!(out, "{} ", line.number)?,
-            None => out.push('-')?,
-        }
-    }
-    Ok(out)
-}
-
-#[test]
-fn tables_of_ids(rt: HostRuntime) -> Result<(), Fail> {
-    let found = first_lines(rt.alloc(), b"[PIPES]\nB 1\n\nAA 2\nA 3\n[VALVES]\nB 4\n")?;
-    assert_eq!(rt; found.as_str(), "1 true;2 true;1 true;1 false;5 2 -");
     Ok(())
 }
