@@ -71,10 +71,12 @@ fn options() -> Options
 }
 
 /// A junction of two categories, one of them by the default pattern, and a reservoir.
-fn network(alloc: Global) -> Result<Project, OutOfMemory>
+pub(crate) fn network(alloc: Global) -> Result<Project, OutOfMemory>
     ensures sound { IfOk result (λ project. Sound project) }
     ensures junctions { IfOk result (λ project. length project.junctions.list ≡ 1) }
     ensures reservoirs { IfOk result (λ project. length project.reservoirs.list ≡ 1) }
+    ensures tanks { IfOk result (λ project. length project.tanks.list ≡ 0) }
+    ensures links { IfOk result (λ project. length project.links.list ≡ 0) }
 {
     let halves = Pattern {
         multipliers: two(alloc, 1_000_000_000, 500_000_000)?,

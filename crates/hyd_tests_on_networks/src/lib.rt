@@ -9,6 +9,8 @@ mod law;
 #[cfg(test)]
 mod network;
 #[cfg(test)]
+mod periods;
+#[cfg(test)]
 mod sweeps;
 #[cfg(test)]
 mod tank;

@@ -137,7 +137,9 @@ fn a_tank_that_overflows_has_the_second_version(rt: HostRuntime) -> Result<(), F
     };
     let mut project = network(rt.alloc(), 1_000_000_000_000_000, wide, 0)?;
     assert_eq!(rt; version_of(&project), 1);
-    project.tanks.as_mut_slice()[0].overflow = true;
+    for tank in project.tanks.as_mut_slice() {
+        tank.overflow = true;
+    }
     assert_eq!(rt; version_of(&project), 2);
     Ok(())
 }
