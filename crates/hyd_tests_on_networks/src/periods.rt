@@ -31,7 +31,10 @@ fn demand_and_head(net: &Net) -> Option<(i128, i64)> {
     if net.junctions() != 1 || net.nodes() != 2 {
         return None;
     }
-    Some((net.demand_law(0).low(0), net.fixed(Problem::Main, Side::Upper, 1)))
+    Some((
+        net.demand_law(0).low(0),
+        net.fixed(Problem::Main, Side::Upper, 1),
+    ))
 }
 
 #[test]
@@ -57,7 +60,10 @@ fn what_flows_in_alone_passes_below(rt: HostRuntime) -> Result<(), Fail> {
     let mut net = Net::open(rt.alloc(), &project)?;
     assert_eq!(rt; set(&mut net, &project, 0), Ok(()));
     if net.junctions() == 1 {
-        assert_eq!(rt; check_super(&net, Problem::Main, &[0]), Err(Fails { junction: 0 }));
+        assert_eq!(rt;
+            check_super(&net, Problem::Main, &[0]),
+            Err(Fails { junction: 0 })
+        );
         assert_eq!(rt; check_sub(&net, Problem::Main, &[0]), Ok(()));
     }
     Ok(())
