@@ -14,7 +14,7 @@ use Rattle.hyd_spec.specs.Types.{Project, Tank, Junction, Decimal, Clause, What,
 use Rattle.hyd_spec.specs.Scale.{at_scale}
 use Rattle.hyd_spec.specs.Network.{nodes_before_tanks}
 use Rattle.hyd_spec_certificates.specs.Interval.{Interval}
-use Rattle.hyd_ctrl.specs.declared.levels.LevelSpan.{LevelSpan}
+use Rattle.hyd_spec_certificates.specs.declared.LevelSpan.{LevelSpan}
 use Rattle.hyd_ctrl.specs.Instants.{level_interval, flow_interval, IsMeasured}
 use Rattle.hyd_spec.specs.Rules.{Readings, level_of, bottom_of, elevation_of, in_ticks, measured, compares, holds_on, clause_holds}
 

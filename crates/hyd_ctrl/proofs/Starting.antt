@@ -4,7 +4,7 @@ use Rattle.std.proofs.lemmas.Option.{slice_get-get_or}
 use Rattle.std.proofs.lemmas.List.Quantifiers.{position-Some}
 use Rattle.hyd_spec.specs.Types.{Project, Control}
 use Rattle.hyd_spec_reports.specs.Stops.{is_open_control}
-use Rattle.hyd_ctrl.specs.declared.levels.LevelSpan.{LevelSpan}
+use Rattle.hyd_spec_certificates.specs.declared.LevelSpan.{LevelSpan}
 use Rattle.hyd_ctrl.specs.Instants.{level_interval}
 use Rattle.hyd_ctrl.specs.Starts.{IsLevelOf, IsFirstOpen}
 use Rattle.hyd_ctrl.proofs.Positions.{found_at}

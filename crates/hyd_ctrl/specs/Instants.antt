@@ -11,7 +11,7 @@ use Rattle.hyd_spec.specs.Rules.{Readings, level_of, measured}
 use Rattle.hyd_spec_certificates.specs.Interval.{Interval}
 use Rattle.hyd_spec_certificates.specs.Decided.{least_magnitude, greatest_magnitude, clause_between}
 use Rattle.hyd_spec_certificates.specs.Verdict.{Verdict}
-use Rattle.hyd_ctrl.specs.declared.levels.LevelSpan.{LevelSpan}
+use Rattle.hyd_spec_certificates.specs.declared.LevelSpan.{LevelSpan}
 use Rattle.hyd_ctrl.specs.declared.clauses.Instant.{Instant}
 use Rattle.hyd_ctrl.specs.declared.clauses.Ends.{Ends}
 

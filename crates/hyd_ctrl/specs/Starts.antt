@@ -4,7 +4,7 @@ use Rattle.std.specs.Prelude.{◌≡◌, ⊤, ℕ, ◌<◌, ℤ, Bool, List, len
 use Rattle.hyd_spec.specs.Types.{Project, LinkKind, PipeLink, CheckPipe, PumpLink, CurvePump, Tcv, Fcv, Gpv, LinkState, Control, When, AtLevel, AtTime, AtClock}
 use Rattle.hyd_spec.specs.Start.{control_acts}
 use Rattle.hyd_spec_reports.specs.Stops.{is_open_control}
-use Rattle.hyd_ctrl.specs.declared.levels.LevelSpan.{LevelSpan}
+use Rattle.hyd_spec_certificates.specs.declared.LevelSpan.{LevelSpan}
 use Rattle.hyd_ctrl.specs.declared.controls.LevelOpen.{LevelOpen}
 use Rattle.hyd_ctrl.specs.Instants.{level_interval}
 

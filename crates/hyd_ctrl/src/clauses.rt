@@ -13,10 +13,10 @@ ghost use Rattle.hyd_ctrl.specs.Verdicts.{verdict_of};
 ghost use Rattle.hyd_ctrl.specs.Instants.{flow_interval, IsBounded, IsInstant, AreLevelEnds, AreEnds, IsMeasured, verdict_there};
 
 use crate::clock::{DAY, clock_at};
-use crate::levels::LevelSpan;
 use crate::logic::{Verdict, at_both_ends};
 use hyd_net::{Clause, LinkState, Project, Relation, Value, What};
 use hyd_num::Span;
+use hyd_spec_certificates::LevelSpan;
 
 /// What rules look at, at an instant of a period: the heads of junctions and then of reservoirs from below and from
 /// above, the flows of links, the carried levels of tanks, and the commanded states.

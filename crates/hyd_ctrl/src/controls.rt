@@ -15,12 +15,12 @@ ghost use Rattle.hyd_ctrl.specs.Starts.{pattern_of, HasPatternThere, IsTankThere
 
 use crate::changes::Changes;
 use crate::clock::clock_at;
-use crate::levels::LevelSpan;
 use crate::logic::{Verdict, at_both_ends, is_unknown, is_yes};
 use crate::states::is_same_state;
 use hyd_demand::multiplier_at;
 use hyd_net::{Control, Link, LinkKind, LinkState, Project, When};
 use hyd_spec::{Change, Source};
+use hyd_spec_certificates::LevelSpan;
 
 /// The first level control that both ends of its tank's level interval disagree on. Controls are counted from 0.
 #[derive(Debug, Clone, Copy, PartialEq, Eq, Drop)]

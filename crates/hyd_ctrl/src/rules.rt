@@ -13,11 +13,10 @@ ghost use Rattle.hyd_ctrl.specs.Instants.{IsInstant, IsBounded, flow_interval, l
 ghost use Rattle.hyd_ctrl.specs.Premises.{IsSoundRule, is_open, rule_there, IsTruthThere, premise_of};
 
 use crate::clauses::{Instant, clause_verdict, ends_of};
-use crate::levels::LevelSpan;
 use crate::logic::{Verdict, both, either, is_unknown};
 use hyd_net::{Joined, LinkState, Project, Rule};
 use hyd_num::Span;
-use hyd_spec_certificates::Truth;
+use hyd_spec_certificates::{LevelSpan, Truth};
 
 // What is known of a premise up to some clause: of its groups before the last one, and of the last one.
 #[derive(Clone, Copy, Drop)]

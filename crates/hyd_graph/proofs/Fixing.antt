@@ -7,7 +7,7 @@ use Rattle.hyd_spec_certificates.specs.declared.Problem.{Problem}
 use Rattle.hyd_spec_certificates.specs.declared.Side.{Side}
 use Rattle.hyd_spec_certificates.specs.declared.Side.TheVariants.{Upper, Lower}
 use Rattle.hyd_spec_certificates.specs.Grid.{end_on, tank_side, all_heads, fixed_heads}
-use Rattle.hyd_graph.specs.declared.parts.LevelSpan.{LevelSpan}
+use Rattle.hyd_spec_certificates.specs.declared.LevelSpan.{LevelSpan}
 use Rattle.hyd_graph.specs.NetView.{NetView}
 use Rattle.hyd_graph.specs.GridOf.{grid_of, interval_of}
 use Rattle.hyd_graph.specs.Nets.{is_upper}

@@ -6,7 +6,7 @@ use Rattle.std.proofs.lemmas.Bool.{cases_eq}
 use Rattle.std.proofs.lemmas.List.{get_or-set_same, get_or-set_other, get_or_append_left, get_or_default, get_or_push}
 use Rattle.hyd_spec.specs.Types.{Tank}
 use Rattle.hyd_spec_certificates.specs.Grid.{tank_intervals}
-use Rattle.hyd_graph.specs.declared.parts.LevelSpan.{LevelSpan}
+use Rattle.hyd_spec_certificates.specs.declared.LevelSpan.{LevelSpan}
 use Rattle.hyd_graph.specs.GridOf.{interval_of}
 use Rattle.hyd_graph.specs.Periods.{HasHeads}
 

@@ -10,7 +10,7 @@ use Rattle.hyd_law.specs.declared.link_law.LinkLaw.{LinkLaw}
 use Rattle.hyd_law.specs.declared.outflows.OutLaw.{OutLaw}
 use Rattle.hyd_graph.specs.declared.parts.NetJunction.{NetJunction}
 use Rattle.hyd_graph.specs.declared.parts.Ends.{Ends}
-use Rattle.hyd_graph.specs.declared.parts.LevelSpan.{LevelSpan}
+use Rattle.hyd_spec_certificates.specs.declared.LevelSpan.{LevelSpan}
 use Rattle.hyd_graph.specs.declared.parts.Setting.{Setting}
 use Rattle.hyd_graph.specs.NetView.{NetView}
 use Rattle.hyd_graph.specs.Demands.{demand_of_law}

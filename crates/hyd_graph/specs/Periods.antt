@@ -8,7 +8,7 @@ use Rattle.hyd_spec.specs.LinkLaw.{own_law}
 use Rattle.hyd_law.specs.declared.outflows.OutLaw.{OutLaw}
 use Rattle.hyd_law.specs.declared.outflows.OutLaw.TheVariants.{Fixed}
 use Rattle.hyd_graph.specs.declared.parts.Ends.{Ends}
-use Rattle.hyd_graph.specs.declared.parts.LevelSpan.{LevelSpan}
+use Rattle.hyd_spec_certificates.specs.declared.LevelSpan.{LevelSpan}
 use Rattle.hyd_graph.specs.NetView.{NetView}
 use Rattle.hyd_graph.specs.Settings.{AreLaws, closed_setting}
 use Rattle.hyd_graph.specs.Demands.{IsNetJunction, AreHeld}

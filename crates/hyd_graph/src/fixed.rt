@@ -10,9 +10,9 @@ ghost use Rattle.hyd_graph.specs.GridOf.{interval_of};
 ghost use Rattle.hyd_graph.specs.Nets.{AreHeads};
 ghost use Rattle.hyd_graph.specs.Periods.{AreLevels, IsSpanOf, HasHeads};
 
-use crate::parts::LevelSpan;
 use hyd_demand::head_at;
 use hyd_net::{Project, Tank};
+use hyd_spec_certificates::LevelSpan;
 
 /// Writes the head of each reservoir at a time.
 pub(crate) fn set_reservoirs(project: &Project, time: u32, heads: &mut [i64])

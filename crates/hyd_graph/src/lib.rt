@@ -19,5 +19,5 @@ mod theorems;
 
 pub use fault::PeriodDemand;
 pub use net::Net;
-pub use parts::{Ends, LevelSpan, NetJunction, Setting, Tie};
+pub use parts::{Ends, NetJunction, Setting, Tie};
 pub use theorems::periods;

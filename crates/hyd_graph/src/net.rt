@@ -1,8 +1,9 @@
 //! The network of a period.
 #![tactic(auto)]
 
-use crate::parts::{Ends, LevelSpan, NetJunction, Setting, Tie};
+use crate::parts::{Ends, NetJunction, Setting, Tie};
 use hyd_law::{LinkLaw, OutLaw};
+use hyd_spec_certificates::LevelSpan;
 use smallvec::SmallVec;
 use std::marker::Model;
 

@@ -26,13 +26,6 @@ pub struct Tie {
     pub out: bool,
 }
 
-/// All heads or levels from one to another, in head ticks.
-#[derive(Debug, Clone, Copy, PartialEq, Eq, Drop)]
-pub struct LevelSpan {
-    pub lo: i64,
-    pub hi: i64,
-}
-
 /// The state of a link, and the ways that full and empty tanks at its ends forbid.
 #[derive(Clone, Copy, Drop)]
 pub struct Setting {

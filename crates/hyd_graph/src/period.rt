@@ -16,12 +16,13 @@ use crate::fault::PeriodDemand;
 use crate::fixed::{set_reservoirs, set_tanks};
 use crate::net::Net;
 use crate::opening::{all_ends, copies, net_junctions};
-use crate::parts::{LevelSpan, Setting};
+use crate::parts::Setting;
 use crate::rows::rows_of;
 use crate::settings::set_links;
 use hyd_law::{Fixed, OutLaw};
 use hyd_net::{LinkState, Project};
 use hyd_spec::TankState;
+use hyd_spec_certificates::LevelSpan;
 use std::alloc::{AllocError as OutOfMemory, Global};
 
 impl Net {
@@ -60,9 +61,10 @@ impl Net {
         })
     }
 
-    /// Puts the net into the period that begins at a time, with the links in these states, the tanks at these levels and
-    /// in these states. What hasn't changed isn't computed again, and no memory is taken. Fails with the first junction
-    /// whose demand is out of range, and then all is as before.
+    /// Puts the net into the period that begins at a time, in seconds, with the links in these states, the tanks at these
+    /// levels, in head ticks above their bottoms, and in these states. A law of a link is made anew only where its setting
+    /// changed, a capacity only where the demand did, and no memory is taken. Fails with the first junction whose demand is
+    /// out of range, and then all is as before.
     pub fn set_period(
         &mut self,
         project: &Project,
@@ -73,7 +75,6 @@ impl Net {
     ) -> Result<(), PeriodDemand>
         requires sound { Sound project.now }
         requires of { IsNetOf project.now self.old }
-        requires time { time ≤ 10 ^ 8 }
         requires states { AreStates project.now links.now }
         requires levels { AreLevels project.now levels.now }
         requires tanks { length tanks.now ≡ length project.now.tanks.list }

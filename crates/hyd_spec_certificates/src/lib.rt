@@ -31,6 +31,16 @@ pub struct HeldJunction {
     pub head: i64,
 }
 
+/// All heads or levels from one to another, both in head ticks of 10^-13 m: heads above the datum, levels above the
+/// bottom of their tank.
+#[derive(Debug, Clone, Copy, PartialEq, Eq, Drop)]
+pub struct LevelSpan {
+    /// The least of them.
+    pub lo: i64,
+    /// The greatest.
+    pub hi: i64,
+}
+
 /// What a period's intervals leave of a rule at an instant.
 #[derive(Debug, Clone, Copy, PartialEq, Eq, Drop)]
 pub enum Truth {

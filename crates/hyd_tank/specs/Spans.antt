@@ -8,7 +8,7 @@ use Rattle.hyd_spec.specs.Tank.{Stock as OneStock, Walls, Cylinder, Bounds, leve
 use Rattle.hyd_spec_certificates.specs.Interval.{Interval, exactly}
 use Rattle.hyd_spec_certificates.specs.Stocks.{Stocks}
 use Rattle.hyd_spec_laws.specs.Laws.{IsWithin}
-use Rattle.hyd_tank.specs.declared.spans.LevelSpan.{LevelSpan}
+use Rattle.hyd_spec_certificates.specs.declared.LevelSpan.{LevelSpan}
 use Rattle.hyd_tank.specs.declared.spans.VolumeSpan.{VolumeSpan}
 use Rattle.hyd_tank.specs.declared.spans.Stock.{Stock}
 

@@ -24,9 +24,10 @@ use crate::content::{
 use crate::curve::{Known, Mixed, value_at};
 use crate::levels::{WIDENING, level_bounds};
 use crate::seconds::{Target, first_meeting};
-use crate::spans::{LevelSpan, Stock, VolumeSpan};
+use crate::spans::{Stock, VolumeSpan};
 use hyd_net::{Tank, VolumePoint};
 use hyd_num::Span;
+use hyd_spec_certificates::LevelSpan;
 
 /// Parts of a volume tick: a flow tick for a second is one of them.
 const PARTS: u32 = 864;

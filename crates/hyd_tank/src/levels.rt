@@ -12,9 +12,9 @@ ghost use Rattle.hyd_tank.specs.Spans.{levels_of, inflows_of, stocks_at, level_s
 
 use crate::content::{Bounds, Motion, held_after, in_parts, lower_content, upper_content};
 use crate::seconds::first_meeting;
-use crate::spans::LevelSpan;
 use hyd_net::Tank;
 use hyd_num::Span;
+use hyd_spec_certificates::LevelSpan;
 
 /// The seconds of a day, which flows are measured by.
 const DAY: i128 = 86_400;

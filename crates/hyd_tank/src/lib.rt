@@ -11,6 +11,6 @@ mod states;
 mod stocks;
 
 pub use levels::{first_second, level_at, next_level};
-pub use spans::{LevelSpan, Stock, VolumeSpan};
+pub use spans::{Stock, VolumeSpan};
 pub use states::state_of;
 pub use stocks::{first_stock, next_stock, stock_at};

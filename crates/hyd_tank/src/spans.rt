@@ -1,12 +1,7 @@
 //! Intervals of a tank's level and volume.
 #![tactic(auto)]
 
-/// All levels from one to another, in head ticks above the tank's bottom.
-#[derive(Debug, Clone, Copy, PartialEq, Eq, Drop)]
-pub struct LevelSpan {
-    pub lo: i64,
-    pub hi: i64,
-}
+use hyd_spec_certificates::LevelSpan;
 
 /// All volumes from one to another, in volume ticks of 10^-9 cubic metres.
 #[derive(Debug, Clone, Copy, PartialEq, Eq, Drop)]

@@ -9,9 +9,9 @@ ghost use Rattle.hyd_spec_certificates.specs.Stocks.{state_of};
 ghost use Rattle.hyd_spec_laws.specs.Laws.{LiesIn, IsInside, IsWithin};
 ghost use Rattle.hyd_tank.specs.Spans.{levels_of, IsTankOfRange};
 
-use crate::spans::LevelSpan;
 use hyd_net::Tank;
 use hyd_spec::TankState;
+use hyd_spec_certificates::LevelSpan;
 
 /// How far below its maximum a tank counts as full, and above its minimum as empty, in head ticks: 0.0005 foot.
 const STATE_BAND: i64 = 1_524_000_000;

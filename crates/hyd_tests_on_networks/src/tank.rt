@@ -8,6 +8,7 @@ ghost use Rattle.hyd_tank.specs.Spans.{IsCylinder};
 use hyd_net::Tank;
 use hyd_num::{Decimal, Span};
 use hyd_spec::TankState;
+use hyd_spec_certificates::LevelSpan;
 use hyd_tank::*;
 
 /// A level that is known, what becomes of it under an inflow, and what it is carried to.

@@ -1,6 +1,6 @@
 use Rattle.std.proofs.Common.{pos, arith}
 use Rattle.std.proofs.lemmas.Int.{ints}
-use Rattle.hyd_ctrl.specs.declared.levels.LevelSpan.{LevelSpan}
+use Rattle.hyd_spec_certificates.specs.declared.LevelSpan.{LevelSpan}
 use Rattle.hyd_ctrl.proofs.Measuring.{low_level, high_level}
 use Rattle.hyd_ctrl.proofs.clauses.level_ends.Goals as goal
 

@@ -1,7 +1,7 @@
 use Rattle.std.proofs.Common.{◌<◌, ℕ, List, length, map, slice_index_or, pos, rules, subst, ap, ◌∙◌, arith}
 use Rattle.hyd_spec.specs.Types.{Tank}
 use Rattle.hyd_spec_certificates.specs.Grid.{tank_intervals}
-use Rattle.hyd_graph.specs.declared.parts.LevelSpan.{LevelSpan}
+use Rattle.hyd_spec_certificates.specs.declared.LevelSpan.{LevelSpan}
 use Rattle.hyd_graph.specs.GridOf.{interval_of}
 use Rattle.hyd_graph.specs.Nets.{AreHeads}
 use Rattle.hyd_graph.specs.Periods.{HasHeads}

@@ -1,6 +1,6 @@
 use Rattle.std.proofs.Common.{◌≡◌, ℕ, ◌<◌, length, slice_index_or}
 use Rattle.hyd_spec.specs.Types.{Tank}
-use Rattle.hyd_graph.specs.declared.parts.LevelSpan.{LevelSpan}
+use Rattle.hyd_spec_certificates.specs.declared.LevelSpan.{LevelSpan}
 use Rattle.hyd_graph.specs.Nets.{AreHeads}
 use Rattle.hyd_graph.specs.Periods.{HasHeads}
 use Rattle.hyd_graph.proofs.fixed.set_tanks.Given as goal
