@@ -14,10 +14,10 @@ use Rattle.hyd_tables.specs.Tables.{AreFirsts}
 use Rattle.hyd_tables.proofs.FoundLemmas.{filter_more, filter_same, found_skip, found_kept}
 use Rattle.hyd_tables.proofs.TableLemmas.{even}
 use Rattle.hyd_judge.specs.Curves.{AreCurves}
-use Rattle.hyd_judge.specs.Sections.{IsWrongIn}
+use Rattle.hyd_tables.specs.Sections.{IsWrongIn}
 use Rattle.hyd_judge.specs.declared.curves.Curves.{Curves}
 use Rattle.hyd_judge.proofs.DistinctLemmas.{distinct_more}
-use Rattle.hyd_judge.proofs.SectionLemmas.{verdict_without_capacity, other_section}
+use Rattle.hyd_tables.proofs.SectionLemmas.{verdict_without_capacity, other_section}
 
 fault_is : (section : Section) (rows : List Row) (k : ℕ) (row : Row) → (place section == 8) ≡ true
     → others.section_fault section rows k row ≡ others.curve rows k row

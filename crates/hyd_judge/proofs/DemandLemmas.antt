@@ -16,9 +16,9 @@ use Rattle.hyd_net.specs.declared.cause.Cause.{Cause}
 use Rattle.hyd_tables.specs.Found.{kept}
 use Rattle.hyd_tables.proofs.FoundLemmas.{filter_more, filter_same, found_skip, found_kept}
 use Rattle.hyd_judge.specs.Demands.{AreDemands, demand_fault}
-use Rattle.hyd_judge.specs.Sections.{IsWrongIn}
+use Rattle.hyd_tables.specs.Sections.{IsWrongIn}
 use Rattle.hyd_judge.specs.declared.demands.Demands.{Demands}
-use Rattle.hyd_judge.proofs.SectionLemmas.{none_of, verdict_without_capacity, other_section}
+use Rattle.hyd_tables.proofs.SectionLemmas.{none_of, verdict_without_capacity, other_section}
 
 by_itself : (section : Section) (earlier : List (List (List ℕ))) (words : List (List ℕ)) (later : List (List (List ℕ)))
     → (place section == 6) ≡ true → itself.section_fault section earlier words later ≡ row_form.demand words

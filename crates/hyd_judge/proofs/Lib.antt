@@ -1,4 +1,3 @@
-pub mod SectionLemmas
 pub mod DemandLemmas
 pub mod DistinctLemmas
 pub mod CurveLemmas

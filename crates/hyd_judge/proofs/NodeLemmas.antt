@@ -19,10 +19,10 @@ use Rattle.hyd_tables.specs.Found.{kept}
 use Rattle.hyd_tables.specs.Tables.{AreFirsts}
 use Rattle.hyd_tables.proofs.FoundLemmas.{filter_more, filter_same, found_skip, found_kept}
 use Rattle.hyd_judge.specs.Nodes.{AreNodes, junction_fault}
-use Rattle.hyd_judge.specs.Ranges.{head_fault, flow_fault}
-use Rattle.hyd_judge.specs.Sections.{IsWrongIn}
+use Rattle.hyd_tables.specs.Ranges.{head_fault, flow_fault}
+use Rattle.hyd_tables.specs.Sections.{IsWrongIn}
 use Rattle.hyd_judge.specs.declared.nodes.Nodes.{Nodes}
-use Rattle.hyd_judge.proofs.SectionLemmas.{none_of, verdict_without_capacity, other_section}
+use Rattle.hyd_tables.proofs.SectionLemmas.{none_of, verdict_without_capacity, other_section}
 
 -- ---- a junction that is right by itself
 

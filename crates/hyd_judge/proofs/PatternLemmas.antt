@@ -20,10 +20,10 @@ use Rattle.hyd_tables.specs.Tables.{AreFirsts}
 use Rattle.hyd_tables.proofs.FoundLemmas.{filter_more, filter_same, found_skip, found_kept}
 use Rattle.hyd_tables.proofs.TableLemmas.{even}
 use Rattle.hyd_judge.specs.Patterns.{ArePatterns, most_counted}
-use Rattle.hyd_judge.specs.Sections.{IsWrongIn}
+use Rattle.hyd_tables.specs.Sections.{IsWrongIn}
 use Rattle.hyd_judge.specs.declared.patterns.Patterns.{Patterns}
 use Rattle.hyd_judge.proofs.DistinctLemmas.{distinct_more}
-use Rattle.hyd_judge.proofs.SectionLemmas.{verdict_without_capacity, other_section}
+use Rattle.hyd_tables.proofs.SectionLemmas.{verdict_without_capacity, other_section}
 
 -- ---- counts up to one above the most that are allowed
 

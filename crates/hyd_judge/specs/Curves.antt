@@ -5,7 +5,7 @@ use Rattle.hyd_lex.specs.declared.section.Section.TheVariants.{Curves as InCurve
 use Rattle.hyd_spec_input.specs.Tables.{rows_of, distinct}
 use Rattle.hyd_tables.specs.Found.{HasFound}
 use Rattle.hyd_tables.specs.Tables.{IsTable}
-use Rattle.hyd_judge.specs.Sections.{IsWrongIn}
+use Rattle.hyd_tables.specs.Sections.{IsWrongIn}
 use Rattle.hyd_judge.specs.declared.curves.Curves.{Curves}
 
 pub record AreCurves (text : List ℕ) (rows : List Row) (k : ℕ) (curves : Curves) : Type 0 where

@@ -8,8 +8,8 @@ use Rattle.hyd_spec_input.specs.Tables.{rows_of}
 use Rattle.hyd_spec_input.specs.WithOthers.{passes, known_junction, known_pattern}
 use Rattle.hyd_net.specs.declared.cause.Cause.{Cause}
 use Rattle.hyd_tables.specs.Found.{HasFound}
-use Rattle.hyd_judge.specs.Ranges.{flow_fault}
-use Rattle.hyd_judge.specs.Sections.{IsWrongIn}
+use Rattle.hyd_tables.specs.Ranges.{flow_fault}
+use Rattle.hyd_tables.specs.Sections.{IsWrongIn}
 use Rattle.hyd_judge.specs.declared.demands.Demands.{Demands}
 
 -- what a row of demands is asked, by the unit and its count

@@ -10,8 +10,8 @@ use Rattle.hyd_net.specs.declared.cause.Cause.{Cause}
 use Rattle.hyd_net.specs.declared.cause.Cause.TheVariants.{DuplicateId}
 use Rattle.hyd_tables.specs.Found.{HasFound}
 use Rattle.hyd_tables.specs.Tables.{IsTable}
-use Rattle.hyd_judge.specs.Ranges.{junction_ranges}
-use Rattle.hyd_judge.specs.Sections.{IsWrongIn}
+use Rattle.hyd_tables.specs.Ranges.{junction_ranges}
+use Rattle.hyd_tables.specs.Sections.{IsWrongIn}
 use Rattle.hyd_judge.specs.declared.nodes.Nodes.{Nodes}
 
 -- what a junction is asked, by the unit, its count and whether its ID is new

@@ -6,7 +6,7 @@ use Rattle.hyd_spec_input.specs.Tables.{rows_of, distinct}
 use Rattle.hyd_spec_input.specs.WithOthers.{multiplier_count}
 use Rattle.hyd_tables.specs.Found.{HasFound}
 use Rattle.hyd_tables.specs.Tables.{IsTable}
-use Rattle.hyd_judge.specs.Sections.{IsWrongIn}
+use Rattle.hyd_tables.specs.Sections.{IsWrongIn}
 use Rattle.hyd_judge.specs.declared.patterns.Patterns.{Patterns}
 
 -- multipliers are counted up to one above the most that are allowed

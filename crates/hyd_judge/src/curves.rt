@@ -11,12 +11,11 @@ ghost use Rattle.hyd_spec_input.specs.WithOthers as others;
 ghost use Rattle.hyd_tables.specs.Found.{HasFound, rows_at};
 ghost use Rattle.hyd_tables.specs.Tables.{IsTable};
 ghost use Rattle.hyd_judge.specs.Curves.{AreCurves};
-ghost use Rattle.hyd_judge.specs.Sections.{IsWrongIn};
+ghost use Rattle.hyd_tables.specs.Sections.{IsWrongIn};
 
-use crate::limits::limit;
 use hyd_lex::{Line, Lines, Section};
 use hyd_net::{Cause, OutOfMemory};
-use hyd_tables::{Found, Table, kept};
+use hyd_tables::{Found, Table, kept, limit};
 use std::alloc::Global;
 
 const MOST_CURVES: usize = 1_000;

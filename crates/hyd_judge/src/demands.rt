@@ -14,16 +14,13 @@ ghost use Rattle.hyd_spec_input.specs.Tables.{place as section_place, rows_of, n
 ghost use Rattle.hyd_tables.specs.Found.{HasFound, rows_at};
 ghost use Rattle.hyd_tables.specs.Tables.{IsTable, IsEven};
 ghost use Rattle.hyd_judge.specs.Demands.{AreDemands, demand_fault as fault_of_demand};
-ghost use Rattle.hyd_judge.specs.Sections.{IsWrongIn};
+ghost use Rattle.hyd_tables.specs.Sections.{IsWrongIn};
 
-use crate::limits::limit;
-use crate::names::{unknown_junction, unknown_pattern};
-use crate::ranges::flow_fault;
 use hyd_lex::{Line, Lines, Section};
 use hyd_net::Cause;
 use hyd_num::FlowUnit;
 use hyd_rows::read_demand;
-use hyd_tables::{Found, Table, kept};
+use hyd_tables::{Found, Table, flow_fault, kept, limit, unknown_junction, unknown_pattern};
 
 const MOST_DEMANDS: usize = 100_000;
 

@@ -4,11 +4,8 @@
 
 mod curves;
 mod demands;
-mod limits;
-mod names;
 mod nodes;
 mod patterns;
-mod ranges;
 mod units;
 
 pub use curves::{Curves, judge_curves};

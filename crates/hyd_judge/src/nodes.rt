@@ -13,18 +13,17 @@ ghost use Rattle.hyd_spec_input.specs.NetworkRows as row;
 ghost use Rattle.hyd_spec_input.specs.Tables.{place as section_place, rows_of, node_rows};
 ghost use Rattle.hyd_tables.specs.Found.{HasFound, rows_at};
 ghost use Rattle.hyd_tables.specs.Tables.{IsTable, IsEven};
-ghost use Rattle.hyd_judge.specs.Ranges as range;
+ghost use Rattle.hyd_tables.specs.Ranges as range;
 ghost use Rattle.hyd_judge.specs.Nodes.{AreNodes, junction_fault as fault_of_junction};
-ghost use Rattle.hyd_judge.specs.Sections.{IsWrongIn};
+ghost use Rattle.hyd_tables.specs.Sections.{IsWrongIn};
 
-use crate::limits::limit;
-use crate::names::unknown_pattern;
-use crate::ranges::{flow_fault, head_fault};
 use hyd_lex::{Line, Lines, Section};
 use hyd_net::{Cause, OutOfMemory};
 use hyd_num::FlowUnit;
 use hyd_rows::{JunctionRow, read_junction};
-use hyd_tables::{Found, Table, kept};
+use hyd_tables::{
+    Found, Table, flow_fault, head_fault, is_junctions, kept, limit, unknown_pattern,
+};
 use std::alloc::Global;
 
 const MOST_JUNCTIONS: usize = 10_000;
@@ -47,16 +46,6 @@ fn is_node(section: Section) -> bool
         Section::Junctions => true,
         Section::Reservoirs => true,
         Section::Tanks => true,
-        _ => false,
-    }
-}
-
-/// Whether a section is [JUNCTIONS].
-pub(crate) fn is_junctions(section: Section) -> bool
-    ensures { result ≡ (section_place section == 0) }
-{
-    match section {
-        Section::Junctions => true,
         _ => false,
     }
 }

@@ -13,12 +13,11 @@ ghost use Rattle.hyd_spec_input.specs.WithOthers as others;
 ghost use Rattle.hyd_tables.specs.Found.{HasFound, rows_at};
 ghost use Rattle.hyd_tables.specs.Tables.{IsTable};
 ghost use Rattle.hyd_judge.specs.Patterns.{ArePatterns, most_counted};
-ghost use Rattle.hyd_judge.specs.Sections.{IsWrongIn};
+ghost use Rattle.hyd_tables.specs.Sections.{IsWrongIn};
 
-use crate::limits::{count_words, limit};
 use hyd_lex::{Line, Lines, Section};
 use hyd_net::{Cause, OutOfMemory};
-use hyd_tables::{Found, Table, kept};
+use hyd_tables::{Found, Table, count_words, kept, limit};
 use std::alloc::Global;
 
 const MOST_PATTERNS: usize = 1_000;

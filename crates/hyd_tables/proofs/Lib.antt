@@ -1,3 +1,4 @@
 pub mod FoundLemmas
 pub mod LeastLemmas
 pub mod TableLemmas
+pub mod SectionLemmas

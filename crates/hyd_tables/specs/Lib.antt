@@ -1,2 +1,4 @@
 pub mod Found
 pub mod Tables
+pub mod Sections
+pub mod Ranges

@@ -1,11 +1,19 @@
-//! What the passes over an input file share: its rows, gathered once; the first wrong row found so far; and tables of
-//! IDs.
+//! What the passes over an input file share: its rows, gathered once; the first wrong row found so far; tables of IDs;
+//! counts, names and quantities against their limits.
 #![tactic(auto)]
 
 mod found;
+mod limits;
+mod names;
+mod ranges;
 mod table;
 mod text;
 
 pub use found::{Found, kept, least};
+pub use limits::{count_words, limit};
+pub use names::{
+    has, is_junctions, unknown_curve, unknown_junction, unknown_node, unknown_pattern,
+};
+pub use ranges::{flow_fault, head_fault};
 pub use table::{Table, own_id};
 pub use text::{Gathered, gather};

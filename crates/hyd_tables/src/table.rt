@@ -31,6 +31,7 @@ impl Table {
     pub fn new(alloc: Global) -> Table
         ensures table { (text : List ℕ) → IsTable text [] result }
         ensures empty { result.names ≡ [] }
+        ensures even { IsEven result }
     {
         Table {
             names: Names::new(alloc),
@@ -49,6 +50,7 @@ impl Table {
             → IsTable text.now.text (rows ++ row_of text.now.text line.now ∷ []) self.new) }
         ensures count { IfOk result (λ new. length self.new.names
             ≡ (if new then length self.old.names + 1 else length self.old.names)) }
+        ensures even { IsEven self.old → IfOk result (λ _. IsEven self.new) }
         ensures longer { IfOk result (λ _. length self.new.names ≤ length self.old.names + 1) }
     {
         let new = self.names.add(own_id(text, line))?;

@@ -2,8 +2,8 @@ use Rattle.std.proofs.Common.{refl, arith, length, ap}
 use Rattle.hyd_lex.specs.declared.section.Section.TheVariants.{Curves}
 use Rattle.hyd_spec_input.specs.Tables.{is_of}
 use Rattle.hyd_tables.specs.Found.{rows_at}
-use Rattle.hyd_judge.specs.Sections.{IsWrongIn}
-use Rattle.hyd_judge.proofs.SectionLemmas.{table_of_all, found_fewer}
+use Rattle.hyd_tables.specs.Sections.{IsWrongIn}
+use Rattle.hyd_tables.proofs.SectionLemmas.{table_of_all, found_fewer}
 use Rattle.hyd_judge.proofs.curves.judge_curves.Goals as goal
 
 pub loop-place-init : goal.loop-place-init

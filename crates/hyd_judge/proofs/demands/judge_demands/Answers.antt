@@ -1,8 +1,8 @@
 use Rattle.std.proofs.Common.{length, refl, arith}
 use Rattle.hyd_lex.specs.declared.section.Section.TheVariants.{Demands}
 use Rattle.hyd_tables.specs.Found.{rows_at}
-use Rattle.hyd_judge.specs.Sections.{IsWrongIn}
-use Rattle.hyd_judge.proofs.SectionLemmas.{found_fewer}
+use Rattle.hyd_tables.specs.Sections.{IsWrongIn}
+use Rattle.hyd_tables.proofs.SectionLemmas.{found_fewer}
 use Rattle.hyd_judge.proofs.demands.judge_demands.Goals as goal
 
 pub loop-place-init : goal.loop-place-init

@@ -1,6 +1,6 @@
 use Rattle.std.proofs.Common.{sym, ap, ◌∙◌}
 use Rattle.hyd_tables.proofs.TableLemmas.{has_id-is, is_there}
-use Rattle.hyd_judge.proofs.names.has.Goals as goal
+use Rattle.hyd_tables.proofs.names.has.Goals as goal
 
 pub returns-in-Some : goal.returns-in-Some
 returns-in-Some c = λ rows table.

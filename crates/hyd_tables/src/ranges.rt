@@ -2,7 +2,7 @@
 #![tactic(auto)]
 
 ghost use Rattle.std.specs.Prelude.{◌≡◌};
-ghost use Rattle.hyd_judge.specs.Ranges as range;
+ghost use Rattle.hyd_tables.specs.Ranges as range;
 
 use hyd_net::Cause;
 use hyd_num::{Decimal, FlowUnit};
@@ -13,7 +13,7 @@ const GREATEST_HEAD: i128 = 100_000_000_000_000_000;
 const GREATEST_FLOW: i128 = 1_000_000_000_000_000;
 
 /// Range where a head is above 10^17 head ticks up or down.
-pub(crate) fn head_fault(head: Decimal, unit: FlowUnit) -> Option<Cause>
+pub fn head_fault(head: Decimal, unit: FlowUnit) -> Option<Cause>
     ensures { result ≡ range.head_fault unit head.nano }
 {
     let ticks = head_ticks(head, unit.is_us());
@@ -24,7 +24,7 @@ pub(crate) fn head_fault(head: Decimal, unit: FlowUnit) -> Option<Cause>
 }
 
 /// Range where a flow is above 10^15 flow ticks either way, after the cut.
-pub(crate) fn flow_fault(flow: Decimal, unit: FlowUnit) -> Option<Cause>
+pub fn flow_fault(flow: Decimal, unit: FlowUnit) -> Option<Cause>
     ensures { result ≡ range.flow_fault unit flow.nano }
 {
     let ticks = flow_ticks(flow, unit);

@@ -1,6 +1,6 @@
 use Rattle.std.proofs.Common.{◌≡◌, ◌+◌, ◌≤◌, length}
 use Rattle.hyd_lex.specs.Bytes.{words_in}
-use Rattle.hyd_judge.proofs.limits.count_words.Given as goal
+use Rattle.hyd_tables.proofs.limits.count_words.Given as goal
 
 abbrev pub invariant-loop-behind : goal.invariant-loop-behind
 invariant-loop-behind l = record {

@@ -11,7 +11,7 @@ use Rattle.hyd_net.specs.declared.cause.Cause.{Cause}
 use Rattle.hyd_tables.specs.Found.{HasFound, IsVerdict, rows_at}
 use Rattle.hyd_tables.specs.Tables.{AreFirsts}
 use Rattle.hyd_tables.specs.declared.found.Found.{Found}
-use Rattle.hyd_judge.specs.Sections.{IsWrongIn}
+use Rattle.hyd_tables.specs.Sections.{IsWrongIn}
 
 -- no cause is the fault
 pub none_of : (fault : Option Cause) → ((cause : Cause) → fault ≡ Some cause → ⊥) → fault ≡ None

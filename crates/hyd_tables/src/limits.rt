@@ -9,7 +9,7 @@ use hyd_lex::split_word;
 use hyd_net::Cause;
 
 /// Limit of a number where a count is above the most that is allowed.
-pub(crate) fn limit(most: usize, number: u8, count: usize) -> Option<Cause>
+pub fn limit(most: usize, number: u8, count: usize) -> Option<Cause>
     ensures { result ≡ others.passes most number count }
 {
     if count > most {
@@ -19,7 +19,7 @@ pub(crate) fn limit(most: usize, number: u8, count: usize) -> Option<Cause>
 }
 
 /// How many words a body has, or a greatest count that is passed or reached.
-pub(crate) fn count_words(body: &[u8], greatest: usize) -> usize
+pub fn count_words(body: &[u8], greatest: usize) -> usize
     ensures { result ≡ min (length (words_in body.now)) greatest }
 {
     let mut rest = body;
