@@ -1,4 +1,5 @@
 pub mod DemandLemmas
+pub mod EmitterLemmas
 pub mod DistinctLemmas
 pub mod CurveLemmas
 pub mod NodeLemmas

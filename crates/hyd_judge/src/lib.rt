@@ -4,12 +4,14 @@
 
 mod curves;
 mod demands;
+mod emitters;
 mod nodes;
 mod patterns;
 mod units;
 
 pub use curves::{Curves, judge_curves};
 pub use demands::{Demands, judge_demands};
+pub use emitters::judge_emitters;
 pub use nodes::{Nodes, judge_nodes};
 pub use patterns::{Patterns, judge_patterns};
 pub use units::{last_option, unit_in_force};
