@@ -40,7 +40,7 @@ fn capacity_fault(coefficient: Decimal, unit: FlowUnit) -> Option<Cause>
     requires at_most { coefficient.nano ≤ℤ pos (10 ^ 6 * 10 ^ 9) }
     ensures { IsCapacityFault (IsRefusedEmitter coefficient.nano unit) result }
 {
-    if coefficient.nano == 0 {
+    if coefficient.nano <= 0 {
         return None;
     }
     match emitter_capacity(coefficient, unit) {
