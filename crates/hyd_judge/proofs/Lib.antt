@@ -1,3 +1,4 @@
+pub mod BoundLemmas
 pub mod DemandLemmas
 pub mod EmitterLemmas
 pub mod DistinctLemmas

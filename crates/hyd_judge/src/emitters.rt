@@ -50,12 +50,7 @@ fn capacity_fault(coefficient: Decimal, unit: FlowUnit) -> Option<Cause>
 }
 
 // What is wrong with a row.
-fn emitter_fault(
-    text: &Lines<'_>,
-    line: &Line,
-    nodes: &Table,
-    unit: FlowUnit,
-) -> Option<Cause>
+fn emitter_fault(text: &Lines<'_>, line: &Line, nodes: &Table, unit: FlowUnit) -> Option<Cause>
     requires lies { LiesIn text.now.text line.now }
     requires even { IsEven nodes.now }
     requires right { row.emitter (words_at text.now line.now) ≡ None }

@@ -13,9 +13,12 @@ returns-in-Ok c = λ refused.
     c.in-Ok.ensures.accepted (subst P same refused.refused)
 
 pub returns-in-Err : goal.returns-in-Err
-returns-in-Err c = (record {
-  above = omega (arith, ints, c.if-coefficient-le0.false);
-  c = c.args.coefficient;
-  c_is = refl;
-  refused = c.in-Err.ensures.refused;
-}, refl)
+returns-in-Err c = (
+  record {
+    above = omega (arith, ints, c.if-coefficient-le0.false);
+    c = c.args.coefficient;
+    c_is = refl;
+    refused = c.in-Err.ensures.refused;
+  },
+  refl,
+)
