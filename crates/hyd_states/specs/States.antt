@@ -1,5 +1,5 @@
 -- Links whose states are asked for.
-use Rattle.std.specs.Prelude.{◌≡◌, ℕ, ◌^◌, Bool, true, false, ◌&&◌, ◌||◌, List, [], ◌∷◌, Option, Some, None, ℤ, pos, ◌≤ℤ◌, if◌then◌else◌}
+use Rattle.std.specs.Prelude.{◌≡◌, ℕ, ◌^◌, Bool, true, false, ◌&&◌, not, List, [], ◌∷◌, Option, Some, None, ℤ, pos, ◌≤ℤ◌, if◌then◌else◌}
 use lib.Signed.{le_z}
 use Rattle.hyd_num.specs.declared.decimals.Decimal.{Decimal}
 use Rattle.hyd_num.specs.declared.units.FlowUnit.{FlowUnit}
@@ -13,7 +13,7 @@ use Rattle.hyd_spec_input.specs.Capacities.{IsRefusedSetting}
 use Rattle.hyd_spec_input.specs.Columns.{or_else, first, unless, units}
 use Rattle.hyd_spec_input.specs.InForce as force
 use Rattle.hyd_spec_input.specs.NetworkRows.{has_check_valve, is_throttle, is_general}
-use Rattle.hyd_spec_input.specs.Tables.{is_of, is_link}
+use Rattle.hyd_spec_input.specs.Tables.{is_link}
 use Rattle.hyd_spec_input.specs.WithOthers.{set_link, is_speed}
 use Rattle.hyd_net.specs.declared.cause.Cause.{Cause}
 use Rattle.hyd_net.specs.declared.cause.Cause.TheVariants.{Syntax, Range, Unsupported}
@@ -30,12 +30,12 @@ pub record IsRightLink (row : Row) : Type 0 where
 
 -- what the row of a link is
 abbrev pub IsType : Row → LinkType → Type 0
-IsType row Pipe = (is_of Pipes row ≡ true) × (has_check_valve row.words ≡ false)
-IsType row CheckPipe = (is_of Pipes row ≡ true) × (has_check_valve row.words ≡ true)
-IsType row Pump = is_of Pumps row ≡ true
-IsType row Tcv = (is_of Valves row ≡ true) × (is_general row.words ≡ false) × (is_throttle row.words ≡ true)
-IsType row Fcv = (is_of Valves row ≡ true) × (is_general row.words ≡ false) × (is_throttle row.words ≡ false)
-IsType row Gpv = (is_of Valves row ≡ true) × (is_general row.words ≡ true)
+IsType row Pipe = (row.section ≡ Pipes) × (has_check_valve row.words ≡ false)
+IsType row CheckPipe = (row.section ≡ Pipes) × (has_check_valve row.words ≡ true)
+IsType row Pump = row.section ≡ Pumps
+IsType row Tcv = (row.section ≡ Valves) × (is_general row.words ≡ false) × (is_throttle row.words ≡ true)
+IsType row Fcv = (row.section ≡ Valves) × (is_general row.words ≡ false) × (is_throttle row.words ≡ false)
+IsType row Gpv = (row.section ≡ Valves) × (is_general row.words ≡ true)
 
 -- ---- what is asked of them
 
@@ -76,7 +76,7 @@ is_check_pipe _ = false
 abbrev pub type_fault : FlowUnit → LinkType → Asked → Option Cause → Option Cause
 type_fault unit link asked between =
     first (unless (takes link asked) Syntax ∷ between
-    ∷ unless (if is_check_pipe link then false else true) (Unsupported 11) ∷ range_fault unit link asked ∷ [])
+    ∷ unless (not (is_check_pipe link)) (Unsupported 11) ∷ range_fault unit link asked ∷ [])
 
 -- ---- right states
 
