@@ -1,5 +1,5 @@
 -- The points of curves, by the numbers that the curves' names have in a table.
-use Rattle.std.specs.Prelude.{◌≡◌, ℕ, List, [], map, Option, Some, None, slice_index_or}
+use Rattle.std.specs.Prelude.{◌≡◌, ℕ, List, [], ◌∷◌, ◌++◌, map, length, take, Option, Some, None, slice_index_or}
 use Rattle.hyd_lex.specs.Lines.{Row}
 use Rattle.hyd_net.specs.ListView.{ListView}
 use Rattle.hyd_spec_input.specs.Network.{number_in}
@@ -26,3 +26,21 @@ list_of lists (Some number) = slice_index_or lists number []
 -- for each name, the list of its number in a table has the points of its curve, and there are none without a number
 pub record ArePoints (rows : List Row) (names : List (List ℕ)) (points : Points) : Type 0 where
   pub named : (name : List ℕ) → list_of (each points.lists.items) (number_in names name) ≡ curve_named rows name
+
+-- ---- one row after another
+
+-- so many lists, all without points
+pub record AreEmpty (lists : List (ListView CurvePoint)) (count : ℕ) : Type 0 where
+  pub count_is : length lists ≡ count
+  pub none : (number : ℕ) → slice_index_or (each lists) number [] ≡ []
+
+-- one list has one more point, the others are as before
+pub record HasOneMore (before after : List (List Point)) (number : ℕ) (point : Point) : Type 0 where
+  pub even : length after ≡ length before
+  pub here : slice_index_or after number [] ≡ slice_index_or before number [] ++ point ∷ []
+  pub others : (k : ℕ) → (k ≡ number → ⊥) → slice_index_or after k [] ≡ slice_index_or before k []
+
+-- a list for each name, with the points of the first k rows
+pub record AreGathered (rows : List Row) (k : ℕ) (names : List (List ℕ)) (points : Points) : Type 0 where
+  pub even : length points.lists.items ≡ length names
+  pub points_are : ArePoints (take k rows) names points
