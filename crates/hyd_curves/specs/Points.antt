@@ -1,5 +1,5 @@
 -- The points of curves, by the numbers that the curves' names have in a table.
-use Rattle.std.specs.Prelude.{◌≡◌, ℕ, List, [], ◌∷◌, ◌++◌, map, length, take, Option, Some, None, slice_index_or}
+use Rattle.std.specs.Prelude.{◌≡◌, ℕ, All, List, [], ◌∷◌, ◌++◌, map, length, take, Option, Some, None, slice_index_or}
 use Rattle.hyd_lex.specs.Lines.{Row}
 use Rattle.hyd_net.specs.ListView.{ListView}
 use Rattle.hyd_spec_input.specs.Network.{number_in}
@@ -32,7 +32,7 @@ pub record ArePoints (rows : List Row) (names : List (List ℕ)) (points : Point
 -- so many lists, all without points
 pub record AreEmpty (lists : List (ListView CurvePoint)) (count : ℕ) : Type 0 where
   pub count_is : length lists ≡ count
-  pub none : (number : ℕ) → slice_index_or (each lists) number [] ≡ []
+  pub none : All (λ (list : ListView CurvePoint). list.list ≡ []) lists
 
 -- one list has one more point, the others are as before
 pub record HasOneMore (before after : List (List Point)) (number : ℕ) (point : Point) : Type 0 where

@@ -118,7 +118,8 @@ impl Points {
             &mut self.lists,
             number as usize,
             CurvePoint { x: row.x, y: row.y },
-        )
+        )?;
+        Ok(())
     }
 
     /// The points of the curve of a name, none where no row has it.
