@@ -1,4 +1,6 @@
+pub mod BoundLemmas
 pub mod DemandLemmas
+pub mod EmitterLemmas
 pub mod DistinctLemmas
 pub mod CurveLemmas
 pub mod NodeLemmas

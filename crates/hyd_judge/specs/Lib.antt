@@ -3,3 +3,4 @@ pub mod Curves
 pub mod InForce
 pub mod Nodes
 pub mod Demands
+pub mod Options

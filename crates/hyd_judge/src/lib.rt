@@ -4,12 +4,16 @@
 
 mod curves;
 mod demands;
+mod emitters;
 mod nodes;
+mod options;
 mod patterns;
 mod units;
 
 pub use curves::{Curves, judge_curves};
 pub use demands::{Demands, judge_demands};
+pub use emitters::judge_emitters;
 pub use nodes::{Nodes, judge_nodes};
+pub use options::{Pressures, judge_options, last_option_of, pressures_in_force};
 pub use patterns::{Patterns, judge_patterns};
 pub use units::{last_option, unit_in_force};
