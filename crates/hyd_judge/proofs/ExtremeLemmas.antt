@@ -18,7 +18,7 @@ use lib.Signed.{le_z, lt_z}
 use Rattle.hyd_lex.specs.Lines.{Row}
 use Rattle.hyd_lex.specs.declared.line.Line.{Line}
 use Rattle.hyd_lex.specs.declared.section.Section.{Section}
-use Rattle.hyd_lex.specs.declared.section.Section.TheVariants.{Patterns}
+use Rattle.hyd_lex.specs.declared.section.Section.TheVariants.{Patterns as InPatterns}
 use Rattle.hyd_net.specs.declared.cause.Cause.{Cause}
 use Rattle.hyd_spec_input.specs.ByItself as itself
 use Rattle.hyd_spec_input.specs.ByItself.{IsWrongByItself}
@@ -29,6 +29,7 @@ use Rattle.hyd_spec_input.specs.DataRows.{multipliers}
 use Rattle.hyd_spec_input.specs.Faults.{NoneIs}
 use Rattle.hyd_spec_input.specs.Network.{number_in}
 use Rattle.hyd_spec_input.specs.Tables.{place, is_of, rows_of, rows_with, own_id, pattern_named, row_multipliers, row_with, has_id}
+use Rattle.hyd_spec_input.specs.WithOthers.{multipliers_of}
 use Rattle.hyd_spec_networks.proofs.Faultless.{all_none}
 use Rattle.hyd_tables.specs.Tables.{AreFirsts}
 use Rattle.hyd_tables.proofs.FoundLemmas.{filter_more, filter_same}
@@ -36,7 +37,9 @@ use Rattle.hyd_tables.proofs.SectionLemmas.{none_of, all_rows}
 use Rattle.hyd_tables.specs.Found.{rows_at}
 use Rattle.hyd_tables.proofs.TableLemmas.{not_found, has_id-is, even}
 use Rattle.hyd_judge.specs.Extremes.{Bounds, bounds, Enclose, AreExtremes, pass, is_between, widened, all_widened, bounds_of, AreNone, AreWidened}
+use Rattle.hyd_judge.specs.Patterns.{ArePatterns}
 use Rattle.hyd_judge.specs.declared.extremes.Extremes.{Extremes}
+use Rattle.hyd_judge.specs.declared.patterns.Patterns.{Patterns}
 
 -- ---- the extremes of numbers
 
@@ -176,27 +179,27 @@ all_widened_more o [] ys = refl
 all_widened_more o (x ∷ xs) ys = all_widened_more (widened o x) xs ys
 
 more_here : (rows : List Row) (k : ℕ) (row : Row) (name : List ℕ) → slice_get rows k ≡ Some row
-    → is_of Patterns row ≡ true → bytes_eq name (own_id row) ≡ true
+    → is_of InPatterns row ≡ true → bytes_eq name (own_id row) ≡ true
     → pattern_named (take (k + 1) rows) name ≡ pattern_named (take k rows) name ++ multipliers row.words
 more_here rows k row name is member same =
-    let before = rows_of Patterns (take k rows) in
+    let before = rows_of InPatterns (take k rows) in
     let kept : rows_with name (before ++ row ∷ []) ≡ rows_with name before ++ row ∷ [] =
     filter-append (λ (r : Row). bytes_eq name (own_id r)) before (row ∷ []) ∙ rw same refl in
     let all : pattern_named (take (k + 1) rows) name ≡ flat_map row_multipliers (rows_with name (before ++ row ∷ [])) =
-    ap (λ (rs : List Row). flat_map row_multipliers (rows_with name rs)) (filter_more (is_of Patterns) rows k row is member) in
+    ap (λ (rs : List Row). flat_map row_multipliers (rows_with name rs)) (filter_more (is_of InPatterns) rows k row is member) in
     all ∙ ap (flat_map row_multipliers) kept ∙ flat_map-append row_multipliers (rows_with name before) (row ∷ [])
     ∙ ap (λ ms. pattern_named (take k rows) name ++ ms) (append-nil (multipliers row.words))
 
 none_here : (rows : List Row) (k : ℕ) (row : Row) (name : List ℕ) → slice_get rows k ≡ Some row
-    → is_of Patterns row ≡ true → bytes_eq name (own_id row) ≡ false
+    → is_of InPatterns row ≡ true → bytes_eq name (own_id row) ≡ false
     → pattern_named (take (k + 1) rows) name ≡ pattern_named (take k rows) name
 none_here rows k row name is member other =
-    let before = rows_of Patterns (take k rows) in
+    let before = rows_of InPatterns (take k rows) in
     let kept : rows_with name (before ++ row ∷ []) ≡ rows_with name before =
     filter-append (λ (r : Row). bytes_eq name (own_id r)) before (row ∷ [])
     ∙ rw other (append-nil (rows_with name before)) in
     let all : pattern_named (take (k + 1) rows) name ≡ flat_map row_multipliers (rows_with name (before ++ row ∷ [])) =
-    ap (λ (rs : List Row). flat_map row_multipliers (rows_with name rs)) (filter_more (is_of Patterns) rows k row is member) in
+    ap (λ (rs : List Row). flat_map row_multipliers (rows_with name rs)) (filter_more (is_of InPatterns) rows k row is member) in
     all ∙ ap (flat_map row_multipliers) kept
 
 not_named : (name : List ℕ) (row : Row) → bytes_eq name (own_id row) ≡ true → name ≡ own_id row
@@ -212,7 +215,7 @@ one_name names a b k p q =
 
 -- the bounds of a number that a name may have
 bounds_more : (rows : List Row) (k : ℕ) (row : Row) (names : List (List ℕ)) (each : List (Option Extremes))
-    (number : ℕ) (value : Option Extremes) (name : List ℕ) → slice_get rows k ≡ Some row → is_of Patterns row ≡ true
+    (number : ℕ) (value : Option Extremes) (name : List ℕ) → slice_get rows k ≡ Some row → is_of InPatterns row ≡ true
     → position (bytes_eq (own_id row)) names ≡ Some number → number < length each
     → bounds value ≡ all_widened (bounds (get_or each number None)) (multipliers row.words)
     → (found : Option ℕ) → found ≡ number_in names name
@@ -243,7 +246,7 @@ bounds_more rows k row names each number value name is member there l v (Some fo
 
 pub add_row : (rows : List Row) (k : ℕ) (row : Row) (names : List (List ℕ)) (each : List (Option Extremes))
     (number : ℕ) (old value : Option Extremes) → AreWidened rows k names each → slice_get rows k ≡ Some row
-    → is_of Patterns row ≡ true → position (bytes_eq (own_id row)) names ≡ Some number → number < length each
+    → is_of InPatterns row ≡ true → position (bytes_eq (own_id row)) names ≡ Some number → number < length each
     → old ≡ get_or each number old → bounds value ≡ all_widened (bounds old) (multipliers row.words)
     → AreWidened rows (k + 1) names (slice_set each number value)
 add_row rows k row names each number old value before is member there l o v = record {
@@ -257,11 +260,11 @@ add_row rows k row names each number old value before is member there l o v = re
     same_read xs i d l = sym (get_or_from_slice_get xs i (get_or xs i d) None (slice_get-get_or xs i d l))
 
 pub skip_row : (rows : List Row) (k : ℕ) (row : Row) (names : List (List ℕ)) (each : List (Option Extremes))
-    → AreWidened rows k names each → slice_get rows k ≡ Some row → is_of Patterns row ≡ false
+    → AreWidened rows k names each → slice_get rows k ≡ Some row → is_of InPatterns row ≡ false
     → AreWidened rows (k + 1) names each
 skip_row rows k row names each before is other =
-    let same : rows_of Patterns (take (k + 1) rows) ≡ rows_of Patterns (take k rows) =
-    filter_same (is_of Patterns) rows k row is other in
+    let same : rows_of InPatterns (take (k + 1) rows) ≡ rows_of InPatterns (take k rows) =
+    filter_same (is_of InPatterns) rows k row is other in
     record {
       even = before.even;
       named = λ name. before.named name
@@ -288,10 +291,10 @@ none_of_names each none None = refl
 none_of_names each none (Some k) = none_at each k none
 
 pub before_rows : (text : List ℕ) (rows : List Row) (names : List (List ℕ)) (firsts : List Line)
-    (each : List (Option Extremes)) → AreFirsts text (rows_of Patterns rows) names firsts → AreNone each (length firsts)
+    (each : List (Option Extremes)) → AreFirsts text (rows_of InPatterns rows) names firsts → AreNone each (length firsts)
     → AreWidened rows 0 names each
 before_rows text rows names firsts each table none = record {
-  even = none.count_is ∙ sym (even text (rows_of Patterns rows) names firsts table);
+  even = none.count_is ∙ sym (even text (rows_of InPatterns rows) names firsts table);
   named = λ name. none_of_names each none.none (number_in names name);
 }
 
@@ -311,12 +314,12 @@ after_rows text lines k names each widened l =
 
 by_itself : (section : Section) (earlier : List (List (List ℕ))) (words : List (List ℕ)) (later : List (List (List ℕ)))
     → (place section == 9) ≡ true → itself.section_fault section earlier words later ≡ row_form.pattern words
-by_itself Patterns earlier words later h = refl
+by_itself InPatterns earlier words later h = refl
 by_itself _ earlier words later h = absurd (true≢false (sym h))
 
 -- it is right by itself
 pub pattern_is_right : (rows : List Row) (k : ℕ) (row : Row) → NoneIs (IsWrongByItself rows)
-    → slice_get rows k ≡ Some row → is_of Patterns row ≡ true → row_form.pattern row.words ≡ None
+    → slice_get rows k ≡ Some row → is_of InPatterns row ≡ true → row_form.pattern row.words ≡ None
 pattern_is_right rows k row right is member =
     sym (by_itself row.section _ row.words _ member)
     ∙ none_of (itself.row_fault rows k row) (λ cause f. right k cause (record { row = row; row_is = is; fault = f }))
@@ -348,12 +351,40 @@ has_more p rows k row is member =
 
 -- its ID is in the table
 pub number_is_there : (text : List ℕ) (rows : List Row) (k : ℕ) (row : Row) (names : List (List ℕ))
-    (firsts : List Line) → AreFirsts text (rows_of Patterns rows) names firsts → slice_get rows k ≡ Some row
-    → is_of Patterns row ≡ true → position (bytes_eq (own_id row)) names ≡ None → ⊥
+    (firsts : List Line) → AreFirsts text (rows_of InPatterns rows) names firsts → slice_get rows k ≡ Some row
+    → is_of InPatterns row ≡ true → position (bytes_eq (own_id row)) names ≡ None → ⊥
 number_is_there text rows k row names firsts table is member none =
-    let no : row_with (own_id row) (rows_of Patterns rows) ≡ None =
-    not_found text (rows_of Patterns rows) names firsts (own_id row) table none in
-    let there : has_id (own_id row) (rows_of Patterns rows) ≡ true = has_more (is_of Patterns) rows k row is member in
-    let gone : has_id (own_id row) (rows_of Patterns rows) ≡ false =
-    has_id-is (own_id row) (rows_of Patterns rows) ∙ rw no refl in
+    let no : row_with (own_id row) (rows_of InPatterns rows) ≡ None =
+    not_found text (rows_of InPatterns rows) names firsts (own_id row) table none in
+    let there : has_id (own_id row) (rows_of InPatterns rows) ≡ true = has_more (is_of InPatterns) rows k row is member in
+    let gone : has_id (own_id row) (rows_of InPatterns rows) ≡ false =
+    has_id-is (own_id row) (rows_of InPatterns rows) ∙ rw no refl in
     true≢false (sym there ∙ gone)
+
+-- ---- the patterns of a file
+
+pub patterns_of : (text : List ℕ) (rows : List Row) (count : ℕ) (patterns : Patterns) → rows ≡ take count rows
+    → AreFirsts text (rows_of InPatterns rows) patterns.table.names patterns.table.firsts.items
+    → AreWidened rows count patterns.table.names patterns.extremes.items → ArePatterns text rows patterns
+patterns_of text rows count patterns all table widened = record {
+  table = table;
+  extremes = λ name.
+      let e : bounds_of patterns.extremes.items (number_in patterns.table.names name)
+      ≡ all_widened None (pattern_named rows name) =
+      widened.named name ∙ ap (λ (rs : List Row). all_widened None (pattern_named rs name)) (sym all) in
+      subst (AreExtremes (pattern_named rows name)) (sym e) (are_extremes (pattern_named rows name));
+}
+
+pub named_extremes : (text : List ℕ) (rows : List Row) (patterns : Patterns) (name : List ℕ) (number : Option ℕ)
+    (o : Option Bounds) → number ≡ number_in patterns.table.names name → o ≡ bounds_of patterns.extremes.items number
+    → ArePatterns text rows patterns → AreExtremes (multipliers_of rows (Some name)) o
+named_extremes text rows patterns name number o n e are =
+    subst (AreExtremes (pattern_named rows name)) (sym (e ∙ ap (bounds_of patterns.extremes.items) n)) (are.extremes name)
+
+pub named_between : (text : List ℕ) (rows : List Row) (patterns : Patterns) (name : List ℕ) (number : Option ℕ)
+    (o : Option Bounds) → number ≡ number_in patterns.table.names name → o ≡ bounds_of patterns.extremes.items number
+    → ArePatterns text rows patterns → (low high : ℤ)
+    → list_all (is_between low high) (multipliers_of rows (Some name)) ≡ pass (is_between low high) o
+named_between text rows patterns name number o n e are low high =
+    test_of_all (is_between low high) (between_is_convex low high) (multipliers_of rows (Some name)) o
+    (named_extremes text rows patterns name number o n e are)
