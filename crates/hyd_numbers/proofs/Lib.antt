@@ -1,2 +1,4 @@
 pub mod NameLemmas
 pub mod RightRows
+pub mod LastLines
+pub mod LinesInForce
