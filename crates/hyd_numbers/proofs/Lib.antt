@@ -2,3 +2,4 @@ pub mod NameLemmas
 pub mod RightRows
 pub mod LastLines
 pub mod LinesInForce
+pub mod PatternLemmas

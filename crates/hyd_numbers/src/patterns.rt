@@ -97,7 +97,8 @@ fn add_row(
         return Ok(());
     };
     open(alloc, patterns, number as usize)?;
-    fill(patterns, number as usize, row.multipliers)
+    fill(patterns, number as usize, row.multipliers)?;
+    Ok(())
 }
 
 // Patterns as a list.
@@ -128,5 +129,6 @@ pub fn read_patterns(
     for place in 0..lines.len() {
         add_row(alloc, &mut patterns, text, lines, place, ids)?;
     }
-    listed(alloc, patterns)
+    let list = listed(alloc, patterns)?;
+    Ok(list)
 }
