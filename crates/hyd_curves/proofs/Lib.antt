@@ -1,1 +1,3 @@
 pub mod PointLemmas
+pub mod TurnLemmas
+pub mod ShapeLemmas

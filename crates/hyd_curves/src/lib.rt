@@ -5,6 +5,7 @@
 mod judged;
 mod points;
 mod tanks;
+mod ticks;
 
 pub use judged::{Verdict, Verdicts, judge_curves};
 pub use points::{CurvePoint, Points, gather_points};
