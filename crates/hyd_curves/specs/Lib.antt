@@ -3,3 +3,4 @@ pub mod Asked
 pub mod Judged
 pub mod Turns
 pub mod Shapes
+pub mod Lines
