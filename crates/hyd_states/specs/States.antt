@@ -7,16 +7,19 @@ use Rattle.hyd_lex.specs.Lines.{Row}
 use Rattle.hyd_lex.specs.declared.section.Section.TheVariants.{Pipes, Pumps, Valves}
 use Rattle.hyd_opts.specs.Meanings.{IsAsked}
 use Rattle.hyd_opts.specs.declared.controls.Asked.{Asked}
-use Rattle.hyd_opts.specs.declared.controls.Asked.TheVariants.{Open, Closed, Number}
+use Rattle.hyd_opts.specs.declared.controls.Asked.TheVariants.{Number}
 use Rattle.hyd_spec_input.specs.ByItself.{section_fault}
 use Rattle.hyd_spec_input.specs.Capacities.{IsRefusedSetting}
 use Rattle.hyd_spec_input.specs.Columns.{or_else, first, unless, units}
 use Rattle.hyd_spec_input.specs.InForce as force
 use Rattle.hyd_spec_input.specs.NetworkRows.{has_check_valve, is_throttle, is_general}
+use Rattle.hyd_spec_input.specs.Project.{IsOpenValve}
 use Rattle.hyd_spec_input.specs.Tables.{is_link}
 use Rattle.hyd_spec_input.specs.WithOthers.{set_link, is_speed}
 use Rattle.hyd_net.specs.declared.cause.Cause.{Cause}
 use Rattle.hyd_net.specs.declared.cause.Cause.TheVariants.{Syntax, Range, Unsupported}
+use Rattle.hyd_net.specs.declared.links.LinkState.{LinkState}
+use Rattle.hyd_net.specs.declared.links.LinkState.TheVariants.{Open, Speed, Throttle}
 use Rattle.hyd_tables.specs.Ranges.{flow_fault}
 use Rattle.hyd_states.specs.declared.types.LinkType.{LinkType}
 use Rattle.hyd_states.specs.declared.types.LinkType.TheVariants.{Pipe, CheckPipe, Pump, Tcv, Fcv, Gpv}
@@ -84,6 +87,16 @@ type_fault unit link asked between =
 pub record IsThrottleCoefficient (number : Decimal) : Type 0 where
   pub not_negative : pos 0 ≤ℤ number.nano
   pub at_most : number.nano ≤ℤ units (10 ^ 6)
+
+-- OPEN: of a pump, speed 1
+abbrev pub open_state : LinkType → LinkState
+open_state Pump = Speed (units 1)
+open_state _ = Open
+
+-- a throttle control valve of a diameter, throttled to a coefficient, both in billionths
+abbrev pub IsThrottled : Bool → ℤ → ℤ → LinkState → Type 0
+IsThrottled us diameter nano (Throttle coefficient law) = (coefficient ≡ nano) × IsOpenValve us diameter nano law
+IsThrottled us diameter nano _ = ⊥
 
 -- a word of a file with this unit asks this of a link, and nothing is wrong with it, its capacity aside
 pub record IsAllowed (unit : FlowUnit) (link : Row) (asked : Asked) : Type 0 where
