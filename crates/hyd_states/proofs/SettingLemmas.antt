@@ -1,5 +1,5 @@
 -- Settings of throttle control valves, and the states that words ask for.
-use Rattle.std.proofs.Common.{◌≡◌, ◌↔◌, ℕ, Bool, true, false, List, Option, Some, None, refl, sym, ap, ◌∙◌, subst, true≢false, codes}
+use Rattle.std.proofs.Common.{◌≡◌, ◌↔◌, ℕ, Bool, true, false, List, Some, refl, sym, ◌∙◌, subst, codes}
 use Rattle.std.specs.Prelude.{ℤ, pos, ◌<ℤ◌, ◌&&◌, not}
 use Rattle.hyd_num.specs.Quantity.{is_us_unit}
 use Rattle.hyd_num.specs.Numeral.{nano_of}
@@ -11,10 +11,8 @@ use Rattle.hyd_lex.specs.Bytes.{is_keyword}
 use Rattle.hyd_lex.specs.Lines.{Row}
 use Rattle.hyd_lex.specs.declared.section.Section.TheVariants.{Valves}
 use Rattle.hyd_net.proofs.Equal.{Decimal-equal}
-use Rattle.hyd_net.specs.declared.cause.Cause.{Cause}
 use Rattle.hyd_opts.specs.Meanings.{IsAsked}
-use Rattle.hyd_opts.specs.declared.controls.Asked.{Asked}
-use Rattle.hyd_opts.specs.declared.controls.Asked.TheVariants.{Open, Closed, Number}
+use Rattle.hyd_opts.specs.declared.controls.Asked.TheVariants.{Number}
 use Rattle.hyd_spec_input.specs.Capacities.{IsRefusedSetting, IsRefusedValve}
 use Rattle.hyd_spec_input.specs.Columns.{amount}
 use Rattle.hyd_spec_input.specs.InForce as force
@@ -23,9 +21,8 @@ use Rattle.hyd_spec_input.specs.Tables.{is_of}
 use Rattle.hyd_spec_input.specs.WithOthers as others
 use Rattle.hyd_spec_networks.proofs.InForce.{keyword_same}
 use Rattle.hyd_states.specs.States.{IsType}
-use Rattle.hyd_states.specs.declared.types.LinkType.{LinkType}
-use Rattle.hyd_states.specs.declared.types.LinkType.TheVariants.{Pipe, CheckPipe, Pump, Tcv, Fcv, Gpv}
-use Rattle.hyd_states.proofs.StateLemmas.{asks_status, status_is, type_fault_is}
+use Rattle.hyd_states.specs.declared.types.LinkType.TheVariants.{Tcv}
+use Rattle.hyd_states.proofs.StateLemmas.{status_is}
 
 -- ---- capacities
 
@@ -61,21 +58,7 @@ setting_refused rows row word unit number d result is u a across refused =
     let same : IsRefusedValve d number.nano (is_us_unit unit)
     ≡ IsRefusedValve (amount 3 row.words) (nano_of word) (others.us rows) = rw (across, a.1, u) refl in
     let of_throttle : (is_of Valves row && (is_throttle row.words && not (others.is_status word))) ≡ true =
-    rw (is.0, is.2, status_is word (Number number) a) refl in
-    (
+    rw (is.0, is.2, status_is word (Number number) a) refl in (
       λ e. (of_throttle, subst (λ (P : Type 0). P) same (refused.0 e)),
       λ is_refused. refused.1 (subst (λ (P : Type 0). P) (sym same) is_refused.1),
     )
-
--- a number that is asked of a link that isn't a throttle control valve, and nothing is wrong with it
-pub no_setting : (rows : List Row) (row : Row) (word : List ℕ) (asked : Asked) → IsAsked word asked
-    → asks_status asked ≡ true → IsRefusedSetting rows (Some row) word → ⊥
-no_setting rows row word asked is status refused =
-    let none : (is_of Valves row && (is_throttle row.words && not (others.is_status word))) ≡ false =
-    rw (status_is word asked is, status) (no_and (is_of Valves row) (is_throttle row.words)) in
-    true≢false (sym refused.0 ∙ none)
-  where
-    no_and : (a b : Bool) → (a && (b && false)) ≡ false
-    no_and true true = refl
-    no_and true false = refl
-    no_and false b = refl

@@ -1,5 +1,5 @@
 -- What is asked of a link, by its type.
-use Rattle.std.proofs.Common.{◌≡◌, ℕ, Bool, true, false, if◌then◌else◌, List, Option, Some, None, refl, codes}
+use Rattle.std.proofs.Common.{◌≡◌, ℕ, Bool, true, false, if◌then◌else◌, List, Option, Some, refl, codes}
 use Rattle.hyd_num.specs.declared.units.FlowUnit.{FlowUnit}
 use Rattle.hyd_lex.specs.Bytes.{is_keyword}
 use Rattle.hyd_lex.specs.Lines.{Row}

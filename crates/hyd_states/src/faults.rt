@@ -78,12 +78,7 @@ fn range_fault(link: LinkType, asked: Asked, unit: FlowUnit) -> Option<Cause>
 }
 
 // What is wrong with a state that is asked of a link of a type.
-fn type_fault(
-    link: LinkType,
-    asked: Asked,
-    between: Option<Cause>,
-    unit: FlowUnit,
-) -> Option<Cause>
+fn type_fault(link: LinkType, asked: Asked, between: Option<Cause>, unit: FlowUnit) -> Option<Cause>
     ensures { result ≡ states.type_fault unit link asked between }
 {
     if !takes(link, asked) {

@@ -1,4 +1,4 @@
-use Rattle.std.proofs.Common.{◌≡◌, ◌↔◌, true, sym, subst}
+use Rattle.std.proofs.Common.{◌≡◌, ◌↔◌, true, subst}
 use Rattle.std.specs.Prelude.{Bool}
 use Rattle.hyd_num.specs.Quantity.{is_us_unit}
 use Rattle.hyd_lex.specs.Lines.{row_of}
@@ -6,7 +6,6 @@ use Rattle.hyd_opts.specs.Meanings.{IsAsked}
 use Rattle.hyd_opts.specs.declared.controls.Asked.TheVariants.{Number}
 use Rattle.hyd_spec_input.specs.Capacities.{IsRefusedValve}
 use Rattle.hyd_states.specs.States.{IsType}
-use Rattle.hyd_states.specs.declared.types.LinkType.{LinkType}
 use Rattle.hyd_states.specs.declared.types.LinkType.TheVariants.{Tcv}
 use Rattle.hyd_states.proofs.SettingLemmas.{setting_refused}
 use Rattle.hyd_states.proofs.settings.is_refused.Goals as goal

@@ -6,9 +6,17 @@ use Rattle.hyd_states.proofs.settings.valve_law.Goals as goal
 
 pub returns-in-Ok : goal.returns-in-Ok
 returns-in-Ok c =
-    let above : pos 0 <ℤ c.args.coefficient.nano = omega (arith, ints) in
-    (above, record { made = c.in-Ok.ensures.made; d = c.args.diameter; d_is = refl; k = c.args.coefficient; k_is = refl;
-      origin = c.in-Ok.ensures.origin; })
+    let above : pos 0 <ℤ c.args.coefficient.nano = omega (arith, ints) in (
+      above,
+      record {
+        made = c.in-Ok.ensures.made;
+        d = c.args.diameter;
+        d_is = refl;
+        k = c.args.coefficient;
+        k_is = refl;
+        origin = c.in-Ok.ensures.origin;
+      },
+    )
 
 pub returns-in-Err : goal.returns-in-Err
 returns-in-Err c =
