@@ -42,7 +42,8 @@ fn push_last_digits(text: &mut Text, places: usize, number: u64)
 
 /// A number.
 pub(crate) fn number(number: u64) -> Text
-    ensures { result ≡ decimal number }
+    ensures text { result ≡ decimal number }
+    ensures short { length result ≤ 20 }
 {
     let mut text = Text::new();
     push_number(&mut text, number);
