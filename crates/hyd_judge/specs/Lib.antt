@@ -4,3 +4,4 @@ pub mod InForce
 pub mod Nodes
 pub mod Demands
 pub mod Options
+pub mod Extremes

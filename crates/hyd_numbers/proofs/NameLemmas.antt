@@ -1,5 +1,5 @@
 -- New names, one name more, and names that occur once.
-use Rattle.std.proofs.Common.{◌≡◌, ◌+◌, ◌≤◌, ℕ, Bool, true, false, ◌||◌, List, [], ◌∷◌, ◌++◌, map, length, filter, take, slice_get, Option, Some, None, Contains, refl, sym, ap, ◌∙◌, subst, arith, inl, inr, true≢false, append-nil, append_assoc}
+use Rattle.std.proofs.Common.{◌≡◌, ◌+◌, ◌≤◌, ℕ, Bool, true, false, ◌||◌, List, [], ◌∷◌, ◌++◌, map, length, take, slice_get, Some, Contains, refl, sym, ap, ◌∙◌, subst, arith, inl, inr, true≢false, append_assoc}
 use Rattle.std.specs.Prelude.{◌↔◌, if◌then◌else◌}
 use Rattle.std.specs.List.{list_any}
 use Rattle.std.specs.Str.{bytes_eq}
@@ -13,7 +13,7 @@ use Rattle.hyd_lex.specs.declared.section.Section.TheVariants.{Junctions, Reserv
 use Rattle.hyd_spec_input.specs.Network.{is_among, new_names, node_ids, tank_ids, link_ids}
 use Rattle.hyd_spec_input.specs.Tables.{is_of, rows_of, own_id}
 use Rattle.hyd_tables.proofs.FoundLemmas.{filter_more, filter_same}
-use Rattle.hyd_spec_networks.proofs.Occurs.{same_name, itself, when, occurs, occurs_append, Once}
+use Rattle.hyd_spec_networks.proofs.Occurs.{itself, when, occurs, occurs_append, Once}
 use Rattle.hyd_spec_networks.proofs.Faultless.{AreRight}
 use Rattle.hyd_spec_networks.proofs.Names.{own_ids, node_ids_are, link_ids_are, tank_ids_are, nodes_once, links_once}
 
@@ -34,7 +34,7 @@ turned true false c = refl
 turned false true c = refl
 turned false false c = refl
 
-one_more : (name : List ℕ) (seen names : List (List ℕ))
+pub one_more : (name : List ℕ) (seen names : List (List ℕ))
     → new_names seen (names ++ name ∷ []) ≡ with_name (is_among name seen || is_among name (new_names seen names)) (new_names seen names) name
 one_more name seen [] = elim (cases_Bool (is_among name seen)) [
   | inl t ↦ rw t refl
