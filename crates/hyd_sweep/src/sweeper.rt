@@ -7,6 +7,7 @@ ghost use Rattle.hyd_spec_certificates.specs.Climbing.{IsStart};
 ghost use Rattle.hyd_graph.specs.GridOf.{grid_of};
 ghost use Rattle.hyd_graph.specs.Nets.{HasProblem};
 ghost use Rattle.hyd_sweep.specs.Sweeps.{SweepGives, HoldsInBox};
+ghost use Rattle.hyd_sweep.specs.Strides.{SweepGoes};
 
 use crate::answers::Swept;
 use crate::rounds::{round, suits_everywhere};
@@ -35,7 +36,8 @@ pub fn tighten_by_leaps(
     requires ways_each { length ways.old ≡ length u.old }
     requires to_each { length to.old ≡ length u.old }
     requires heads_each { length heads.old ≡ length u.old }
-    ensures { SweepGives held (grid_of net.now) problem side rounds u.old u.new result }
+    ensures sweep { SweepGives held (grid_of net.now) problem side rounds u.old u.new result }
+    ensures goes { SweepGoes held (grid_of net.now) problem side rounds u.old u.new result }
 {
     let _junctions = net.junctions();
     for spent in 0..rounds {
@@ -46,7 +48,7 @@ pub fn tighten_by_leaps(
         if let Some(junction) = round(net, problem, side, held, u) {
             return Swept::NoCertificate { junction };
         }
-        put_ways(u, ways);
+        put_ways(net, u, ways);
         leap_on(net, problem, side, held, u, ways, to, heads);
     }
     if suits_everywhere(net, problem, side, held, u) {
@@ -112,6 +114,7 @@ impl Sweeper {
         requires pinned { HasProblem net.now problem }
         requires held_in_box { HoldsInBox held }
         ensures sweep { SweepGives held (grid_of net.now) problem side rounds u.old u.new result }
+        ensures goes { SweepGoes held (grid_of net.now) problem side rounds u.old u.new result }
         ensures keeps { self.new ≡ self.old }
     {
         tighten_by_leaps(
@@ -140,6 +143,7 @@ impl Sweeper {
         requires start { IsStart None (grid_of net.now) problem Upper u.old }
         requires pinned { HasProblem net.now problem }
         ensures sweep { SweepGives None (grid_of net.now) problem Upper rounds u.old u.new result }
+        ensures goes { SweepGoes None (grid_of net.now) problem Upper rounds u.old u.new result }
         ensures keeps { self.new ≡ self.old }
     {
         self.tighten(net, problem, Side::Upper, None, u, rounds)
@@ -152,6 +156,7 @@ impl Sweeper {
         requires start { IsStart None (grid_of net.now) problem Lower u.old }
         requires pinned { HasProblem net.now problem }
         ensures sweep { SweepGives None (grid_of net.now) problem Lower rounds u.old u.new result }
+        ensures goes { SweepGoes None (grid_of net.now) problem Lower rounds u.old u.new result }
         ensures keeps { self.new ≡ self.old }
     {
         self.tighten(net, problem, Side::Lower, None, u, rounds)
