@@ -12,7 +12,6 @@ ghost use Rattle.hyd_sweep.specs.Leaps.{LeadsOn};
 ghost use Rattle.hyd_sweep.specs.Strides.{IsStride, reach, LiesWithin};
 
 use crate::leaps::leap;
-use crate::ticks::{further, room};
 use hyd_check::head_of;
 use hyd_graph::Net;
 use hyd_spec_certificates::{HeldJunction, Problem, Side};
@@ -25,6 +24,9 @@ const LONGEST: u64 = 1 << 18;
 
 // The shortest stride is an eighth of the round's way.
 const PARTS: u64 = 8;
+
+// Farther than from one end of the box to the other, in head ticks.
+const PAST_BOX: u128 = 3_000_000_000_000_000_000;
 
 /// How far the next leap goes: so many parts of the way that a round went.
 #[derive(Clone, Copy, Drop)]
@@ -84,14 +86,14 @@ impl Stride {
         self.shorter()
     }
 
-    // So far on from a head whose way is given, in ticks, and no farther than there is room.
-    fn ticks(self, way: u64, room: u64) -> u64
+    // So far on along a way, in ticks, or past the box in any case.
+    fn ticks(self, way: u64) -> u64
         requires { IsStride self }
-        ensures within { result ≤ room }
+        ensures within { result ≤ 3 * 10 ^ 18 }
         ensures most { result ≤ self.times * way }
     {
         let ticks = u128::from(self.times) * u128::from(way) / u128::from(self.parts);
-        ticks.min(u128::from(room)) as u64
+        ticks.min(PAST_BOX) as u64
     }
 
     // A head so far on.
@@ -100,7 +102,11 @@ impl Stride {
         requires in_box { IsInBox from }
         ensures { (along side result -ℤ along side from) ≤ℤ pos (self.times * unsigned_abs way) }
     {
-        further(side, from, self.ticks(way.unsigned_abs(), room(side, from)))
+        let ticks = self.ticks(way.unsigned_abs()) as i64;
+        match side {
+            Side::Upper => from + ticks,
+            Side::Lower => from - ticks,
+        }
     }
 }
 

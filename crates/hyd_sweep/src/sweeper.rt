@@ -18,7 +18,8 @@ use std::alloc::{AllocError as OutOfMemory, Global};
 use std::marker::Model;
 
 /// At most so many rounds in file order toward the tight vector, from heads that every certificate lies beyond, with
-/// leaps after each. Three vectors are lent for them, of which nothing is kept.
+/// leaps after each: all of these together move each head less than 2^20 times as far as the round did. Three vectors
+/// are lent for them, of which nothing is kept.
 pub fn tighten_by_leaps(
     net: &Net,
     problem: Problem,
