@@ -5,3 +5,5 @@ pub mod Nodes
 pub mod Demands
 pub mod Options
 pub mod Extremes
+pub mod Pending
+pub mod JudgedNodes
