@@ -11,7 +11,7 @@ use Rattle.hyd_net.specs.declared.cause.Cause.{Cause}
 use Rattle.hyd_tables.specs.Found.{HasFound, IsVerdict, rows_at}
 use Rattle.hyd_tables.specs.Tables.{AreFirsts}
 use Rattle.hyd_tables.specs.declared.found.Found.{Found}
-use Rattle.hyd_tables.specs.Sections.{IsWrongIn}
+use Rattle.hyd_tables.specs.Sections.{IsWrongIn, IsFaultThen}
 
 -- no cause is the fault
 pub none_of : (fault : Option Cause) → ((cause : Cause) → fault ≡ Some cause → ⊥) → fault ≡ None
@@ -30,6 +30,41 @@ verdict_without_capacity section rows k row None is member free e = λ cause w.
       | inl f ↦ (let g : row_fault rows k row ≡ Some cause = rw (← same) f in absurd (let x : ⊥ = cc in x))
       | inr r ↦ (let refused : IsRefusedRow rows (take k rows) row = rw (← same) r.1 in free refused)
     ]
+
+-- a fault comes before the capacity
+verdict_with_fault : (section : Section) (rows : List Row) (k : ℕ) (row : Row) (fault : Cause) (cause : Option Cause)
+    → slice_get rows k ≡ Some row → is_of section row ≡ true → Some fault ≡ row_fault rows k row
+    → cause ≡ Some fault → IsVerdict (IsWrongIn section rows k) cause
+verdict_with_fault section rows k row fault cause is member e c =
+    rw c (record {
+      row = row;
+      row_is = is;
+      member = member;
+      wrong = record { row = row; row_is = is; fault = inl (sym e) };
+    })
+
+-- the verdict on a row whose capacity comes last
+pub verdict_with_capacity : (section : Section) (rows : List Row) (k : ℕ) (row : Row) (fault cause : Option Cause)
+    → slice_get rows k ≡ Some row → is_of section row ≡ true → fault ≡ row_fault rows k row
+    → IsFaultThen fault (IsRefusedRow rows (take k rows) row) cause → IsVerdict (IsWrongIn section rows k) cause
+verdict_with_capacity section rows k row (Some fault) cause is member e then =
+    verdict_with_fault section rows k row fault cause is member e then
+verdict_with_capacity section rows k row None (Some cause) is member e then =
+    record {
+      row = row;
+      row_is = is;
+      member = member;
+      wrong = record { row = row; row_is = is; fault = inr (sym e, then.0, then.1) };
+    }
+verdict_with_capacity section rows k row None None is member e then =
+    verdict_without_capacity section rows k row None is member then e
+
+-- a capacity said in two ways
+pub fault_then_alike : (fault : Option Cause) (One Other : Type 0) (cause : Option Cause) → (One → Other)
+    → (Other → One) → IsFaultThen fault One cause → IsFaultThen fault Other cause
+fault_then_alike (Some fault) One Other cause to from then = then
+fault_then_alike None One Other (Some cause) to from then = (to then.0, then.1)
+fault_then_alike None One Other None to from then = λ refused. then (from refused)
 
 -- a row of another section isn't wrong in this one
 pub other_section : (section : Section) (rows : List Row) (k : ℕ) (row : Row) → slice_get rows k ≡ Some row
