@@ -1,0 +1,11 @@
+//! The states that the words of an input file ask of links (EPANET 2.2 User Manual, [STATUS], [CONTROLS], [RULES]). A
+//! link comes as the line of its row, which is right by itself.
+#![tactic(auto)]
+
+mod faults;
+mod settings;
+mod types;
+
+pub use faults::state_fault;
+pub use settings::{is_refused, link_state};
+pub use types::{LinkType, link_type};
