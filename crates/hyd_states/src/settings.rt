@@ -55,8 +55,8 @@ fn is_refused_valve(diameter: Decimal, coefficient: Decimal, us: bool) -> bool
     }
 }
 
-// The law of a valve with a loss coefficient.
-fn valve_law(diameter: Decimal, coefficient: Decimal, us: bool) -> OpenValve
+/// The law of a valve with a loss coefficient: linear at 0.
+pub fn valve_law(diameter: Decimal, coefficient: Decimal, us: bool) -> OpenValve
     requires diameter { IsDiameter diameter }
     requires coefficient { IsThrottleCoefficient coefficient }
     requires free { ¬ IsRefusedValve diameter.nano coefficient.nano us }
@@ -89,8 +89,8 @@ pub fn is_refused(text: &Lines<'_>, link: &Line, asked: Asked, unit: FlowUnit) -
     }
 }
 
-// A speed; speed 0 is closed.
-fn speed_state(number: Decimal) -> LinkState
+/// A speed as the state of a pump; speed 0 is closed.
+pub fn speed_state(number: Decimal) -> LinkState
     requires { states.speed_fault number.nano ≡ None }
     ensures { result ≡ project.speed_state number.nano }
 {
@@ -100,8 +100,8 @@ fn speed_state(number: Decimal) -> LinkState
     LinkState::Speed(number.nano as i64)
 }
 
-// A greatest flow.
-fn limit_state(number: Decimal, unit: FlowUnit) -> LinkState
+/// A greatest flow as the state of a flow control valve.
+pub fn limit_state(number: Decimal, unit: FlowUnit) -> LinkState
     requires { states.limit_fault unit number.nano ≡ None }
     ensures { result ≡ LinkState.Limit number.nano (quantity.flow_ticks unit number.nano) }
 {
@@ -121,8 +121,8 @@ fn open_state(link: LinkType) -> LinkState
     }
 }
 
-// The state of a throttle control valve.
-fn throttle_state(text: &Lines<'_>, link: &Line, number: Decimal, us: bool) -> LinkState
+/// A loss coefficient as the state of a throttle control valve.
+pub fn throttle_state(text: &Lines<'_>, link: &Line, number: Decimal, us: bool) -> LinkState
     requires lies { LiesIn text.now.text link.now }
     requires right { row.valve (words_at text.now link.now) ≡ None }
     requires coefficient { IsThrottleCoefficient number }
