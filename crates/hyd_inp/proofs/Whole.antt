@@ -107,7 +107,8 @@ has_first : (x : Row) (xs : List Row) → has_some (x ∷ xs) ≡ true
 has_first x xs = le-leb 1 (length (x ∷ xs)) (omega arith)
 
 pub some_sources : (text : List ℕ) (lines : List Line)
-    → list_any is_source lines ≡ (has_some (rows_of Reservoirs (rows_at text lines)) || has_some (rows_of Tanks (rows_at text lines)))
+    → list_any is_source lines ≡ (has_some (rows_of Reservoirs (rows_at text lines)) || has_some (rows_of Tanks
+        (rows_at text lines)))
 some_sources text [] = refl
 some_sources text (line ∷ lines) =
     let row = row_of text line in
@@ -136,7 +137,8 @@ lacks_nothing rows named some = rw (named, some) refl
 
 -- what the whole reader knows of the reader of lines
 pub fault_read : (text t : List ℕ) (found : Option InpFault) (fault : InpFault) → t ≡ text → length text ≤ 2 ^ 26
-    → found ≡ Some fault → IfSome found (λ f. IsFaultOf (items_of t) f.line f.cause) → IsFault text fault.line fault.cause
+    → found ≡ Some fault → IfSome found (λ f. IsFaultOf (items_of t) f.line f.cause)
+        → IsFault text fault.line fault.cause
 fault_read text t found fault e short is faulty =
     let P : Option InpFault → Type 0 = λ o. IfSome o (λ f. IsFaultOf (items_of t) f.line f.cause) in
     let here : IsFaultOf (items_of t) fault.line fault.cause = subst P is faulty in
