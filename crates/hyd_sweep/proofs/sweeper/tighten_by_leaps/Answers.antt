@@ -1,11 +1,11 @@
-use Rattle.std.proofs.Common.{◌≡◌, ◌+◌, ◌∙◌, sym, subst, arith, ℕ, length, suc}
+use Rattle.std.proofs.Common.{◌≡◌, ◌+◌, ◌∙◌, sym, subst, arith, ℕ, suc}
 use Rattle.std.proofs.lemmas.Bool.{false≢true}
 use Rattle.hyd_graph.specs.GridOf.{grid_of}
 use Rattle.hyd_spec_certificates.specs.Climbing.{HasRounds}
-use Rattle.hyd_spec_raises.proofs.Sweeping.{has-begins, climb-start, has-on}
-use Rattle.hyd_sweep.specs.Sweeps.{RoundGives, numbers}
+use Rattle.hyd_spec_raises.proofs.Sweeping.{has-begins, has-on}
+use Rattle.hyd_sweep.specs.Sweeps.{RoundGives}
 use Rattle.std.specs.Prelude.{Option}
-use Rattle.hyd_sweep.proofs.Walking.{round-more, sweep-none, sweep-spent}
+use Rattle.hyd_sweep.proofs.Walking.{round-more, round-start, sweep-none, sweep-spent}
 use Rattle.hyd_sweep.proofs.sweeper.tighten_by_leaps.Goals as goal
 
 pub loop-spent-init : goal.loop-spent-init
@@ -24,7 +24,7 @@ loop-spent-preserved c =
     let side = c.args.side in
     let start = c.loop-spent.invariant.start in
     let gives = subst (λ (r : Option ℕ). RoundGives held grid problem side c.loop-spent.u c.round.new.u r) c.in_default.is c.round.ensures in
-    let next = climb-start held grid c.junctions-junctions.ensures.steady problem side (numbers (length grid.junctions)) c.loop-spent.u c.round.new.u gives start in
+    let next = round-start held grid c.junctions-junctions.ensures.steady problem side c.loop-spent.u c.round.new.u gives start in
     let rounds = round-more held grid c.junctions-junctions.ensures.steady problem side c.loop-spent.spent c.args.u.now c.loop-spent.u c.round.new.u start.one_each c.loop-spent.invariant.rounds gives in
     let leads = c.leap_on.ensures.leads in
     record {
@@ -38,7 +38,7 @@ leap_on-requires-clause-in_box c =
     let held = c.args.held in
     let grid = grid_of c.args.net.now in
     let gives = subst (λ (r : Option ℕ). RoundGives held grid c.args.problem c.args.side c.loop-spent.u c.round.new.u r) c.in_default.is c.round.ensures in
-    (climb-start held grid c.junctions-junctions.ensures.steady c.args.problem c.args.side (numbers (length grid.junctions)) c.loop-spent.u c.round.new.u gives c.loop-spent.invariant.start).in_box
+    (round-start held grid c.junctions-junctions.ensures.steady c.args.problem c.args.side c.loop-spent.u c.round.new.u gives c.loop-spent.invariant.start).in_box
 
 pub returns-else-suits_everywhere-2 : goal.returns-else-suits_everywhere-2
 returns-else-suits_everywhere-2 c =

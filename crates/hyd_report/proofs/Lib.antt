@@ -1,0 +1,4 @@
+pub mod Joining
+pub mod LineLemmas
+pub mod PrintLemmas
+pub mod PutLemmas
