@@ -2,8 +2,10 @@
 //! appendix C).
 #![tactic(auto)]
 
+mod controls;
 mod names;
 mod states;
 mod status;
 
+pub use controls::judge_controls;
 pub use status::judge_status;
