@@ -15,6 +15,15 @@ use Rattle.hyd_report.specs.Lines.{texts, junction_between}
 use Rattle.hyd_report.specs.declared.printed.Ends.{Ends}
 use Rattle.hyd_report.specs.declared.printed.Quantity.TheVariants.{Head, Pressure, Flow}
 
+-- ---- items
+
+-- the item that is there
+pub there : {X : Type 0} (xs : List X) (i : ℕ) (Q : X → Type 0) → i < length xs → IfSome (slice_get xs i) Q
+    → (x : X) × ((slice_get xs i ≡ Some x) × Q x)
+there [] i Q within q = absurd (omega arith)
+there (x ∷ xs) zero Q within q = (x, (refl, q))
+there (x ∷ xs) (suc i) Q within q = there xs i Q (omega arith) q
+
 -- ---- lines one after another
 
 module _ {X : Type 0} (network : Project) (f : ℕ → X → ReportLine) where
@@ -58,6 +67,12 @@ module _ {X : Type 0} (network : Project) (f : ℕ → X → ReportLine) where
   unfolding lines_rest
   lines_split xs i x at = ap (λ t. t ++ (rest_from 0 xs (i + 1)).0) (lines_more xs i x at) ∙ (rest_from 0 xs (i + 1)).1
 
+-- ---- boxes
+
+-- an interval by its ends
+pub span_is : (span : Span) (box : Interval) → IsSpan span box → record { lo = span.lo; hi = span.hi } ≡ box
+span_is span box is = ap (λ (z : ℤ). record { lo = z; hi = span.hi }) is.lo_is ∙ ap (λ (z : ℤ). record { lo = box.lo; hi = z }) is.hi_is
+
 -- ---- junctions
 
 pub junction_put : (o : Option GridJunction) (network : Project) (P : List ℕ → Type 0) (j : ℕ) (lower upper elevation : ℤ) (flow : Span)
@@ -75,4 +90,4 @@ junction_put (Some here) network P j lower upper elevation flow head pressure ou
     (subst (λ (z : Interval). ArePrinted (printed (quantity_in network Flow) z) outflow) same o)
   where
     same : record { lo = flow.lo; hi = flow.hi } ≡ out_box here lower upper
-    same = cc (box.lo_is, box.hi_is)
+    same = span_is flow (out_box here lower upper) box
