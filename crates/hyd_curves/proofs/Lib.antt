@@ -1,1 +1,4 @@
 pub mod PointLemmas
+pub mod TurnLemmas
+pub mod LineLemmas
+pub mod ShapeLemmas

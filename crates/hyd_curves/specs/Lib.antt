@@ -1,3 +1,6 @@
 pub mod Points
 pub mod Asked
 pub mod Judged
+pub mod Turns
+pub mod Shapes
+pub mod Lines

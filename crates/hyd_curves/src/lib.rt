@@ -3,8 +3,11 @@
 #![tactic(auto)]
 
 mod judged;
+mod lines;
 mod points;
 mod tanks;
+mod ticks;
+mod volumes;
 
 pub use judged::{Verdict, Verdicts, judge_curves};
 pub use points::{CurvePoint, Points, gather_points};

@@ -4,3 +4,6 @@ pub mod InForce
 pub mod Nodes
 pub mod Demands
 pub mod Options
+pub mod Extremes
+pub mod Pending
+pub mod JudgedNodes

@@ -3,5 +3,12 @@
 #![tactic(auto)]
 
 mod ids;
+mod in_force;
+mod options;
+mod patterns;
+mod times;
 
 pub use ids::{link_ids, node_ids, pattern_ids, tank_ids};
+pub use options::read_options;
+pub use patterns::read_patterns;
+pub use times::read_times;

@@ -1,0 +1,10 @@
+//! The reader of input files (EPANET 2.2 User Manual, appendix C): the network that a text describes, or its fault.
+#![tactic(auto)]
+
+mod fault;
+mod lack;
+mod project;
+mod with_others;
+
+pub use fault::{InpFault, InpRefused};
+pub use project::read_project;
