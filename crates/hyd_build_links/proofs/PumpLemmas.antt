@@ -1,5 +1,5 @@
 -- The laws of pumps with curves of one point or three.
-use Rattle.std.proofs.Common.{◌≡◌, ℕ, ◌≤◌, ◌<◌, Bool, List, [], ◌∷◌, length, get_or, refl, sym, subst, arith, ◌&&◌}
+use Rattle.std.proofs.Common.{◌≡◌, ℕ, ◌≤◌, ◌<◌, false, List, Option, Some, [], ◌∷◌, length, get_or, refl, sym, subst, arith, ◌&&◌}
 use Rattle.std.specs.Prelude.{pos, ◌<ℤ◌, ◌-ℤ◌, ◌*ℤ◌}
 use Rattle.std.specs.Ordering.{int_eq}
 use Rattle.std.proofs.lemmas.Bool.{and_parts}
@@ -9,17 +9,24 @@ use Rattle.hyd_num.specs.Chain.{IsMade}
 use Rattle.hyd_num.specs.Quantity.{is_us_unit, head_ticks}
 use Rattle.hyd_num.specs.Refusal.{IsRefused}
 use Rattle.hyd_num.specs.declared.capacities.Capacity.{Capacity}
-use Rattle.hyd_num.specs.declared.capacities.Origin.TheVariants.{Pump}
+use Rattle.hyd_num.specs.declared.capacities.Origin.TheVariants.{Pump as PumpOrigin}
 use Rattle.hyd_num.specs.declared.decimals.Decimal.{Decimal}
 use Rattle.hyd_num.specs.declared.decimals.Span.{Span}
 use Rattle.hyd_num.specs.declared.units.FlowUnit.{FlowUnit}
 use Rattle.hyd_net.specs.Made.{IsRounded, IsExactly}
 use Rattle.hyd_net.specs.declared.links.ShutoffHead.TheVariants.{FourThirds, Given}
-use Rattle.hyd_spec_input.specs.Curves.{square}
-use Rattle.hyd_spec_input.specs.Tables.{Point}
+use Rattle.hyd_lex.specs.Lines.{Row}
+use Rattle.hyd_net.specs.declared.links.LinkKind.TheVariants.{Pump}
+use Rattle.hyd_spec_input.specs.Curves.{square, is_bent}
+use Rattle.hyd_spec_input.specs.InForce as force
+use Rattle.hyd_spec_input.specs.Network.{pattern_number}
+use Rattle.hyd_spec_input.specs.NetworkRows.{pump_curve, pump_pattern}
+use Rattle.hyd_spec_input.specs.Project.{IsPumpKind}
+use Rattle.hyd_spec_input.specs.Tables.{curve_named}
 use Rattle.hyd_spec_networks.proofs.Faultless.{below}
 use Rattle.hyd_build_links.specs.Pumps.{ArePumpPoints, IsPumpLaw}
 use Rattle.hyd_build_links.specs.Stub.{point_in, points_in}
+use Rattle.hyd_build_links.specs.declared.laws.PumpLaw.{PumpLaw}
 use Rattle.hyd_build_links.specs.declared.stub.CurvePoint.{CurvePoint}
 
 -- ---- one point
@@ -31,14 +38,14 @@ one_point (p ∷ []) a l m e = rw e refl
 one_point (p ∷ q ∷ ps) a l m e = absurd (omega (arith, m))
 
 pub free_one : (unit : FlowUnit) (ps : List CurvePoint) (a : CurvePoint) → ps ≡ a ∷ []
-    → ArePumpPoints unit (points_in ps) → IsRefused (Pump a.x a.y 3 unit) → ⊥
+    → ArePumpPoints unit (points_in ps) → IsRefused (PumpOrigin a.x a.y 3 unit) → ⊥
 free_one unit ps a e right refused =
     let P : List CurvePoint → Type 0 = λ qs. ArePumpPoints unit (points_in qs) in
     let at = subst P e right in
     at.free (record { q = a.x; q_is = refl; h = a.y; h_is = refl; refused = refused })
 
 pub law_one : (unit : FlowUnit) (ps : List CurvePoint) (a : CurvePoint) (cap : Capacity) (shutoff : Span)
-    → ps ≡ a ∷ [] → IsMade cap → cap.origin ≡ Pump a.x a.y 3 unit
+    → ps ≡ a ∷ [] → IsMade cap → cap.origin ≡ PumpOrigin a.x a.y 3 unit
     → IsRounded (pos 4 *ℤ head_ticks (is_us_unit unit) a.y.nano) 3 shutoff
     → IsPumpLaw unit (points_in ps) (record { cap = cap; shutoff = shutoff; head = FourThirds a.y })
 law_one unit ps a cap shutoff e made origin rounded =
@@ -82,7 +89,7 @@ pub drop_above : (a b d : Decimal) → b.nano <ℤ a.nano → d.nano ≡ a.nano 
 drop_above a b d l e = rw e (omega (arith, ints, l))
 
 pub free_three : (unit : FlowUnit) (ps : List CurvePoint) (a b : CurvePoint) (d : Decimal) → AreThree ps a b
-    → ArePumpPoints unit (points_in ps) → d.nano ≡ a.y.nano -ℤ b.y.nano → IsRefused (Pump b.x d 1 unit) → ⊥
+    → ArePumpPoints unit (points_in ps) → d.nano ≡ a.y.nano -ℤ b.y.nano → IsRefused (PumpOrigin b.x d 1 unit) → ⊥
 free_three unit ps a b d three right e refused =
     let P : List CurvePoint → Type 0 = λ qs. ArePumpPoints unit (points_in qs) in
     let at = subst P three.is right in
@@ -90,7 +97,7 @@ free_three unit ps a b d three right e refused =
 
 pub law_three : (unit : FlowUnit) (ps : List CurvePoint) (a b : CurvePoint) (d : Decimal) (cap : Capacity)
     (shutoff : Span) → AreThree ps a b → d.nano ≡ a.y.nano -ℤ b.y.nano → IsMade cap
-    → cap.origin ≡ Pump b.x d 1 unit → IsExactly (head_ticks (is_us_unit unit) a.y.nano) shutoff
+    → cap.origin ≡ PumpOrigin b.x d 1 unit → IsExactly (head_ticks (is_us_unit unit) a.y.nano) shutoff
     → IsPumpLaw unit (points_in ps) (record { cap = cap; shutoff = shutoff; head = Given a.y })
 law_three unit ps a b d cap shutoff three e made origin exactly =
     let P : List CurvePoint → Type 0 = λ qs. IsPumpLaw unit (points_in qs)
@@ -100,3 +107,14 @@ law_three unit ps a b d cap shutoff three e made origin exactly =
       head = refl;
       shutoff = exactly;
     })
+
+-- ---- a pump's row
+
+pub pump_made : (rows : List Row) (row : Row) (unit : FlowUnit) (ps : List CurvePoint) (name : List ℕ) (law : PumpLaw)
+    (pattern : Option ℕ) → pump_curve row.words ≡ Some name → points_in ps ≡ curve_named rows name
+    → is_bent (curve_named rows name) ≡ false → unit ≡ force.unit rows → IsPumpLaw unit (points_in ps) law
+    → pattern ≡ pattern_number rows (pump_pattern row.words)
+    → IsPumpKind rows row (Pump law.cap law.shutoff law.head pattern)
+pump_made rows row unit ps name law pattern c e bent u is p =
+    let own : IsPumpLaw (force.unit rows) (curve_named rows name) law = rw (← e, ← u) is in
+    rw c (bent, own.capacity, own.head, own.shutoff, p)

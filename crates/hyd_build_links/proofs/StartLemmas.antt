@@ -1,5 +1,5 @@
 -- The states in which links start.
-use Rattle.std.proofs.Common.{◌≡◌, ℕ, Bool, true, false, List, [], take, Option, Some, None, slice_get, refl, sym, ap, ◌∙◌, subst, inl, inr, codes, if◌then◌else◌, ◌==◌}
+use Rattle.std.proofs.Common.{◌≡◌, ℕ, Bool, true, false, List, length, take, Option, Some, None, slice_get, refl, sym, ap, ◌∙◌, subst, inl, inr, codes, if◌then◌else◌, arith}
 use Rattle.std.specs.Prelude.{ℤ, pos}
 use Rattle.std.specs.Str.{bytes_eq}
 use Rattle.std.proofs.lemmas.Bool.{cases_Bool}
@@ -21,10 +21,10 @@ use Rattle.hyd_spec_input.specs.Capacities.{IsRefusedSetting}
 use Rattle.hyd_spec_input.specs.Columns.{word, amount, is_option_keyword}
 use Rattle.hyd_spec_input.specs.DataRows as data_row
 use Rattle.hyd_spec_input.specs.InForce as force
-use Rattle.hyd_spec_input.specs.Network.{status_of}
+use Rattle.hyd_spec_input.specs.Network.{status_of, last_naming}
 use Rattle.hyd_spec_input.specs.NetworkRows as alone
 use Rattle.hyd_spec_input.specs.Project.{IsOpenValve, IsNumberState, Where}
-use Rattle.hyd_spec_input.specs.Tables.{place, is_of, is_link, link_rows, link_named, own_id}
+use Rattle.hyd_spec_input.specs.Tables.{is_of, is_link, link_named, rows_of, own_id}
 use Rattle.hyd_spec_input.specs.WithOthers as others
 use Rattle.hyd_spec_networks.proofs.Faultless.{AreRight, right_alone, right_among, all_none}
 use Rattle.hyd_spec_networks.proofs.InForce.{keyword_same, in_force}
@@ -33,6 +33,7 @@ use Rattle.hyd_spec_networks.proofs.LinkStates.{valve_range}
 use Rattle.hyd_spec_networks.proofs.Names.{row_named, link_new}
 use Rattle.hyd_spec_networks.proofs.Occurs.{same_name}
 use Rattle.hyd_states.specs.States.{IsRightLink, IsSettable, IsThrottled, limit_fault}
+use Rattle.hyd_tables.proofs.SectionLemmas.{all_rows}
 use Rattle.hyd_states.proofs.RightLinks.{right_link}
 use Rattle.hyd_build_links.specs.Sources.{IsRightSource, IsRowOf, rows_from}
 use Rattle.hyd_build_links.specs.declared.source.LinkSource.{LinkSource}
@@ -148,3 +149,13 @@ settable text from line status at e asked is =
       right = facts.set;
       free = facts.free;
     }
+
+-- the last row that names a link, among all rows
+pub last_is : (text : List ℕ) (from : LinkSource) (line : Line) (id : List ℕ) (last : Option Row)
+    → id ≡ own_id (row_of text line)
+    → last ≡ last_naming id (rows_of Status (take (length from.lines.now) (rows_from text from)))
+    → status_of (rows_from text from) (row_of text line) ≡ last
+last_is text from line id last e l =
+    sym (l ∙ ap (λ (rs : List Row). last_naming id (rows_of Status rs))
+    (all_rows text from.lines.now (length from.lines.now) (omega arith))
+    ∙ ap (λ (name : List ℕ). last_naming name (rows_of Status (rows_from text from))) e)

@@ -13,5 +13,5 @@ mod statuses;
 mod stub;
 mod valves;
 
-// pub use links::build_links;
+pub use links::build_links;
 pub use source::LinkSource;

@@ -1,7 +1,7 @@
 //! All links.
 #![tactic(auto)]
 
-ghost use Rattle.std.specs.Prelude.{◌≡◌, ◌<◌, ◌+◌, List, true, length, IfOk, OnOk};
+ghost use Rattle.std.specs.Prelude.{◌≡◌, ◌<◌, ◌+◌, ◌++◌, List, true, length, IfOk, OnOk};
 ghost use Rattle.hyd_lex.specs.Lines.{Row, row_of};
 ghost use Rattle.hyd_spec_input.specs.Project.{IsKind, IsLink, Match, numbered_links};
 ghost use Rattle.hyd_spec_input.specs.Tables.{place as section_place, is_link, rows_of};
@@ -97,5 +97,48 @@ fn add(
     if number_of(line.section) != number_of(section) {
         return Ok(());
     }
-    links.push(link_of(text, line, source, last))
+    links.push(link_of(text, line, source, last))?;
+    Ok(())
+}
+
+// Appends the links of a section, in the order of their rows.
+fn add_section(
+    links: &mut hyd_net::List<Link>,
+    text: &Lines<'_>,
+    section: Section,
+    source: &LinkSource<'_>,
+    last: &[Option<Line>],
+) -> Result<(), OutOfMemory>
+    requires right { IsRightSource text.now.text source.now }
+    requires section { is_link_section section ≡ true }
+    requires statuses { AreStatuses text.now.text (rows_from text.now.text source.now) (length source.now.lines.now)
+        source.now.links.now.names last.now }
+    ensures { (before : List Row) → Match (IsLink (rows_from text.now.text source.now)) before links.old.list
+        → OnOk result (Match (IsLink (rows_from text.now.text source.now))
+        (before ++ rows_of section (rows_from text.now.text source.now)) links.new.list) }
+{
+    for place in 0..source.lines.len() {
+        add(links, text, section, place, source, last)?;
+    }
+    Ok(())
+}
+
+/// The links of a file whose rows are right by themselves and with the others: pipes, then pumps, then valves, each in
+/// the order of its rows. A link starts in the state of the last row of [STATUS] that names it, else in that of its own
+/// row.
+pub fn build_links(
+    alloc: Global,
+    text: &Lines<'_>,
+    source: &LinkSource<'_>,
+) -> Result<hyd_net::List<Link>, OutOfMemory>
+    requires { IsRightSource text.now.text source.now }
+    ensures { IfOk result (λ links. Match (IsLink (rows_from text.now.text source.now))
+        (numbered_links (rows_from text.now.text source.now)) links.list) }
+{
+    let last = gather_statuses(alloc, text, source.lines, source.links)?;
+    let mut links = hyd_net::List::new(alloc);
+    add_section(&mut links, text, Section::Pipes, source, last.as_slice())?;
+    add_section(&mut links, text, Section::Pumps, source, last.as_slice())?;
+    add_section(&mut links, text, Section::Valves, source, last.as_slice())?;
+    Ok(links)
 }
