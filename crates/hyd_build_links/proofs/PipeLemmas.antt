@@ -17,21 +17,6 @@ use Rattle.hyd_spec_input.specs.NetworkRows.{has_check_valve, is_closed_pipe, pi
 use Rattle.hyd_spec_input.specs.Project.{IsPipeOf}
 use Rattle.hyd_spec_input.specs.WithOthers as others
 
--- numbers are told by their billionths
-pub refused_pipe : (l d n k : Decimal) (us : Bool) → IsRefused (Pipe l d n k us)
-    → IsRefusedPipe l.nano d.nano n.nano k.nano us
-refused_pipe l d n k us refused = record {
-  l = l;
-  l_is = refl;
-  d = d;
-  d_is = refl;
-  n = n;
-  n_is = refl;
-  k = k;
-  k_is = refl;
-  refused = refused;
-}
-
 pub pipe_made : (rows : List Row) (row : Row) (us : Bool) (pipe : PipeRow) (cap : Capacity) → us ≡ others.us rows
     → IsPipeRow row.words pipe → IsMade cap
     → cap.origin ≡ Pipe pipe.length pipe.diameter pipe.roughness pipe.minor us

@@ -25,7 +25,7 @@ use Rattle.hyd_spec_input.specs.WithOthers as others
 use Rattle.hyd_spec_networks.proofs.Faultless.{AreRight, right_alone, needed_none, within}
 use Rattle.hyd_spec_networks.proofs.InForce.{keyword_same}
 use Rattle.hyd_spec_networks.proofs.LinkKinds.{PipeNumbers, pipe_numbers, ValveNumbers, valve_numbers, CurveRight, straight_range, pump_right}
-use Rattle.hyd_states.specs.States.{IsThrottleCoefficient}
+use Rattle.hyd_states.proofs.RangeLemmas.{throttle_alone, coefficient_right}
 use Rattle.hyd_build_links.specs.Pumps.{ArePumpPoints}
 use Rattle.hyd_build_links.specs.Sources.{IsRightSource, IsRowOf, rows_from}
 use Rattle.hyd_build_links.specs.Stub.{points_in}
@@ -36,21 +36,6 @@ use Rattle.hyd_build_links.proofs.SourceLemmas.{right_source, free_row}
 -- a row that is right has no fault
 pub no_fault : (fault : Option Cause) (cause : Cause) → fault ≡ None → fault ≡ Some cause → ⊥
 no_fault fault cause none some = let x : ⊥ = cc in x
-
--- ---- numbers
-
-pub positive_up_to : (most : ℕ) (d : Decimal) (nano : ℤ) → d.nano ≡ nano → Lies (pos 1) (units most) nano
-    → IsPositiveUpTo most d
-positive_up_to most d nano e l = record {
-  positive = rw e (let b = l.at_least in omega (arith, ints, b));
-  at_most = rw e l.at_most;
-}
-
-pub minor_up_to : (d : Decimal) (nano : ℤ) → d.nano ≡ nano → IsUpTo (10 ^ 6) nano → IsMinorCoefficient d
-minor_up_to d nano e l = record { not_negative = rw e l.at_least; at_most = rw e l.at_most }
-
-pub coefficient_up_to : (d : Decimal) (nano : ℤ) → d.nano ≡ nano → IsUpTo (10 ^ 6) nano → IsThrottleCoefficient d
-coefficient_up_to d nano e l = record { not_negative = rw e l.at_least; at_most = rw e l.at_most }
 
 -- ---- pipes
 
@@ -77,18 +62,6 @@ pipe_facts text from line at =
 
 -- ---- valves
 
-other_type : is_keyword (codes "GPV") (codes "TCV") ≡ false
-unfolding is_keyword
-other_type = refl
-
-not_both : (o : Option (List ℕ)) → is_option_keyword (codes "TCV") o ≡ true → is_option_keyword (codes "GPV") o ≡ false
-not_both None e = refl
-not_both (Some w) e = keyword_same (codes "TCV") (codes "GPV") w e ∙ other_type
-
--- a throttle control valve is no general purpose valve
-pub throttle_alone : (words : List (List ℕ)) → alone.is_throttle words ≡ true → alone.is_general words ≡ false
-throttle_alone words e = not_both (slice_get words 4) e
-
 pub record ValveFacts (text : List ℕ) (from : LinkSource) (line : Line) : Type 0 where
   pub own : alone.valve (row_of text line).words ≡ None
   pub numbers : ValveNumbers (row_of text line).words
@@ -110,11 +83,7 @@ valve_facts text from line at =
     record {
       own = own;
       numbers = valve_numbers row.words own;
-      coefficient = λ t.
-          let setting = (needed_none (alone.valve_setting row.words) 5 row.words
-          (valve_numbers row.words own).setting).right in
-          let right : up_to (10 ^ 6) (word 5 row.words) ≡ None = rw t at setting in
-          within (pos 0) (units (10 ^ 6)) (word 5 row.words) right;
+      coefficient = coefficient_right row.words own;
       fully = λ valve us is u g refused.
           free (g, inl (let e : us ≡ others.us rows = u ∙ ap is_us_unit at.right.unit_is in
           rw (← is.diameter, ← is.minor, ← e) refused));

@@ -57,9 +57,3 @@ free_row text from k row section right is of refused =
       row_is = is;
       fault = inr ((right_source text from right).with_others k row is, own, refl);
     })
-
--- ---- numbers
-
--- a number of at least 0 that may be missing
-pub minor_up_to : (d : Decimal) (nano : ℤ) → d.nano ≡ nano → IsUpTo (10 ^ 6) nano → IsMinorCoefficient d
-minor_up_to d nano e l = record { not_negative = rw e l.at_least; at_most = rw e l.at_most }

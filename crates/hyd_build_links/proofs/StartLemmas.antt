@@ -37,7 +37,7 @@ use Rattle.hyd_tables.proofs.SectionLemmas.{all_rows}
 use Rattle.hyd_states.proofs.RightLinks.{right_link}
 use Rattle.hyd_build_links.specs.Sources.{IsRightSource, IsRowOf, rows_from}
 use Rattle.hyd_build_links.specs.declared.source.LinkSource.{LinkSource}
-use Rattle.hyd_build_links.proofs.RowLemmas.{throttle_alone}
+use Rattle.hyd_states.proofs.RangeLemmas.{throttle_alone}
 use Rattle.hyd_build_links.proofs.SourceLemmas.{right_source, free_row}
 
 -- ---- pipes
