@@ -1,33 +1,29 @@
 -- What a right source says of its pipes, pumps and valves.
-use Rattle.std.proofs.Common.{◌≡◌, ◌^◌, ◌<◌, ◌≤◌, ℕ, Bool, true, false, List, [], ◌∷◌, length, Option, Some, None, slice_get, refl, sym, ap, ◌∙◌, subst, arith, inl, inr, codes}
-use Rattle.std.specs.Prelude.{ℤ, pos, nat_le}
+use Rattle.std.proofs.Common.{◌≡◌, ◌^◌, ◌<◌, ◌≤◌, ℕ, Bool, true, false, List, length, Option, Some, None, sym, ap, ◌∙◌, subst, arith, inl, inr}
+use Rattle.std.specs.Prelude.{nat_le}
 use Rattle.std.proofs.lemmas.Bool.{cases_Bool, leb-true, leb-false}
-use Rattle.std.proofs.lemmas.Int.{ints}
 use Rattle.std.proofs.lemmas.List.{length-map}
 use Rattle.hyd_num.specs.Quantity.{is_us_unit}
 use Rattle.hyd_num.specs.declared.decimals.Decimal.{Decimal}
-use Rattle.hyd_lex.specs.Bytes.{is_keyword}
-use Rattle.hyd_lex.specs.Lines.{Row, row_of}
+use Rattle.hyd_lex.specs.Lines.{row_of}
 use Rattle.hyd_lex.specs.declared.line.Line.{Line}
 use Rattle.hyd_lex.specs.declared.section.Section.TheVariants.{Pipes, Pumps, Valves}
-use Rattle.hyd_net.specs.Ranges.{Lies, IsUpTo}
+use Rattle.hyd_net.specs.Ranges.{IsUpTo}
 use Rattle.hyd_net.specs.declared.cause.Cause.{Cause}
-use Rattle.hyd_resist.specs.Ranges.{IsPositiveUpTo, IsMinorCoefficient}
 use Rattle.hyd_rows.specs.Rows.{IsPipeRow, IsValveRow}
 use Rattle.hyd_rows.specs.declared.pipes.PipeRow.{PipeRow}
 use Rattle.hyd_rows.specs.declared.valves.ValveRow.{ValveRow}
-use Rattle.hyd_spec_input.specs.Capacities.{IsRefusedPipe, IsRefusedValve, IsRefusedCurve, IsRefusedPump}
-use Rattle.hyd_spec_input.specs.Columns.{up_to, word, or_empty, amount, units, is_option_keyword}
-use Rattle.hyd_spec_input.specs.Curves.{drop_of, is_bent}
+use Rattle.hyd_spec_input.specs.Capacities.{IsRefusedPipe, IsRefusedValve}
+use Rattle.hyd_spec_input.specs.Columns.{or_empty, amount}
+use Rattle.hyd_spec_input.specs.Curves.{is_bent}
 use Rattle.hyd_spec_input.specs.NetworkRows as alone
 use Rattle.hyd_spec_input.specs.Tables.{Point, is_of, curve_named}
 use Rattle.hyd_spec_input.specs.WithOthers as others
-use Rattle.hyd_spec_networks.proofs.Faultless.{AreRight, right_alone, needed_none, within}
-use Rattle.hyd_spec_networks.proofs.InForce.{keyword_same}
+use Rattle.hyd_spec_networks.proofs.Faultless.{right_alone}
 use Rattle.hyd_spec_networks.proofs.LinkKinds.{PipeNumbers, pipe_numbers, ValveNumbers, valve_numbers, CurveRight, straight_range, pump_right}
 use Rattle.hyd_states.proofs.RangeLemmas.{throttle_alone, coefficient_right}
 use Rattle.hyd_build_links.specs.Pumps.{ArePumpPoints}
-use Rattle.hyd_build_links.specs.Sources.{IsRightSource, IsRowOf, rows_from}
+use Rattle.hyd_build_links.specs.Sources.{IsRowOf, rows_from}
 use Rattle.hyd_build_links.specs.Stub.{points_in}
 use Rattle.hyd_build_links.specs.declared.source.LinkSource.{LinkSource}
 use Rattle.hyd_build_links.specs.declared.stub.CurvePoint.{CurvePoint}
@@ -85,11 +81,20 @@ valve_facts text from line at =
       numbers = valve_numbers row.words own;
       coefficient = coefficient_right row.words own;
       fully = λ valve us is u g refused.
-          free (g, inl (let e : us ≡ others.us rows = u ∙ ap is_us_unit at.right.unit_is in
-          rw (← is.diameter, ← is.minor, ← e) refused));
+          free (
+            g,
+            inl (let e : us ≡ others.us rows = u ∙ ap is_us_unit at.right.unit_is in
+                rw (← is.diameter, ← is.minor, ← e) refused),
+          );
       throttled = λ coefficient us is u t refused.
-          free (throttle_alone row.words t, inr (t, let e : us ≡ others.us rows = u ∙ ap is_us_unit at.right.unit_is in
-          rw (← is, ← e) refused));
+          free (
+            throttle_alone row.words t,
+            inr (
+              t,
+              let e : us ≡ others.us rows = u ∙ ap is_us_unit at.right.unit_is in
+                  rw (← is, ← e) refused,
+            ),
+          );
     }
 
 -- ---- pumps
