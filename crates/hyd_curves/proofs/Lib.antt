@@ -1,4 +1,5 @@
 pub mod PointLemmas
 pub mod TurnLemmas
 pub mod LineLemmas
+pub mod PumpLemmas
 pub mod ShapeLemmas

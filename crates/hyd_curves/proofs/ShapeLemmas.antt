@@ -20,7 +20,7 @@ use Rattle.hyd_curves.specs.Turns.{all_in_turn, goes_on}
 use Rattle.hyd_curves.specs.declared.points.CurvePoint.{CurvePoint}
 use Rattle.hyd_curves.specs.declared.ticks.Ticks.{Ticks}
 use Rattle.hyd_curves.proofs.LineLemmas.{one_times, apart, together, floor_whole}
-use Rattle.hyd_curves.proofs.TurnLemmas.{no_items}
+use Rattle.hyd_curves.proofs.TurnLemmas.{no_items, le_true}
 
 -- a point as a volume point
 abbrev pub shape_point : Bool → CurvePoint → VolumePoint
@@ -250,9 +250,6 @@ pub all_but_room : (two turns ends cover room : Bool) → two ≡ true → turns
 all_but_room two turns ends cover room a b c =
     let both = and_parts ends cover c in
     rw (a, b, both.0, both.1) refl
-
-le_true : (a b : ℕ) → a ≤ b → nat_le a b ≡ true
-le_true a b l = grind (arith, nat_tests)
 
 pub two_points : (us : Bool) (points : List CurvePoint) → 2 ≤ length points
     → nat_le 2 (length (shape us points)) ≡ true
