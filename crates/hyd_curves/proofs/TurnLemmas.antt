@@ -1,7 +1,9 @@
 -- Items in turn, one after another, and the items at both ends.
-use Rattle.std.proofs.Common.{◌≡◌, ◌≤◌, ℕ, nat_le, Bool, true, List, [], ◌∷◌, map, length, refl, sym, ◌∙◌, arith}
+use Rattle.std.proofs.Common.{◌≡◌, ◌≤◌, ◌++◌, ℕ, nat_le, Bool, true, false, true≢false, inl, inr, List, [], ◌∷◌, map, length, refl, sym, ◌∙◌, arith}
 use Rattle.std.specs.Prelude.{◌&&◌}
-use Rattle.std.proofs.lemmas.Bool.{and_parts}
+use Rattle.std.proofs.lemmas.Bool.{and_parts, cases_Bool}
+use Rattle.std.specs.List.{list_all}
+use Rattle.hyd_spec_input.specs.Curves.{at_end}
 use Rattle.hyd_spec_input.specs.Tables.{Point}
 use Rattle.hyd_curves.specs.Points.{points_in, point_in}
 use Rattle.hyd_curves.specs.Turns.{goes_on, all_in_turn}
@@ -38,3 +40,35 @@ pub turned : {A : Type 0} (passes : A → Bool) (test : A → A → Bool) (made 
     → all_in_turn passes test (map made (points_in rest)) ≡ all_in_turn passes test (map made (points_in all))
 turned passes test made all left rest point e h before =
     sym (turn_on passes test (made (point_in point)) (map made (points_in rest)) h) ∙ rw e at before
+
+and_false : (b : Bool) → (b && false) ≡ false
+and_false true = refl
+and_false false = refl
+
+-- an item that doesn't pass ends it
+turn_off : {A : Type 0} (passes : A → Bool) (test : A → A → Bool) (a : A) (items : List A)
+    → false ≡ (passes a && goes_on test a items) → false ≡ all_in_turn passes test (a ∷ items)
+turn_off passes test a [] e = elim (cases_Bool (passes a)) [
+  | inl t ↦ absurd (true≢false (sym (rw t at e)))
+  | inr f ↦ rw f refl
+]
+turn_off passes test a (b ∷ items) e = elim (cases_Bool (passes a)) [
+  | inl t ↦ (let g : false ≡ test a b = rw t at e in
+      rw (t, ← g) (sym (and_false (passes b && list_all passes items))))
+  | inr f ↦ rw f refl
+]
+
+pub stopped : {A : Type 0} (passes : A → Bool) (test : A → A → Bool) (made : Point → A)
+    (all left rest : List CurvePoint) (point : CurvePoint) → left ≡ point ∷ rest
+    → false ≡ (passes (made (point_in point)) && goes_on test (made (point_in point)) (map made (points_in rest)))
+    → all_in_turn passes test (map made (points_in left)) ≡ all_in_turn passes test (map made (points_in all))
+    → false ≡ all_in_turn passes test (map made (points_in all))
+stopped passes test made all left rest point e h before =
+    turn_off passes test (made (point_in point)) (map made (points_in rest)) h ∙ rw e at before
+
+-- the last item
+pub last_is : {A : Type 0} (test : A → Bool) (made : Point → A) (front : List CurvePoint) (last : CurvePoint)
+    → at_end test (map made (points_in (front ++ last ∷ []))) ≡ test (made (point_in last))
+last_is test made [] last = refl
+last_is test made (a ∷ []) last = refl
+last_is test made (a ∷ b ∷ front) last = last_is test made (b ∷ front) last

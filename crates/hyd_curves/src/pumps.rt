@@ -193,6 +193,16 @@ fn begins_low(first: Ticks, second: Ticks) -> bool
     on_line(first, second, 0) <= GREATEST_SHUTOFF * (second.place - first.place)
 }
 
+// Whether a first point has a flow and a last point a head of at least 0.
+fn are_ends(first: Ticks, last: Ticks) -> bool
+    ensures { result ≡ (le_z (pos 0) first.place && le_z (pos 0) last.value) }
+{
+    if first.place < 0 {
+        return false;
+    }
+    last.value >= 0
+}
+
 // Whether the first flow and the last head are at least 0.
 fn is_forward(points: &[CurvePoint], unit: FlowUnit) -> bool
     ensures { result ≡ begins_and_ends (curve.head_points unit (is_us_unit unit) (points_in points.now)) }
@@ -203,10 +213,7 @@ fn is_forward(points: &[CurvePoint], unit: FlowUnit) -> bool
     let Some((last, _)) = points.split_last() else {
         return false;
     };
-    if head_point(*first, unit).place < 0 {
-        return false;
-    }
-    head_point(*last, unit).value >= 0
+    are_ends(head_point(*first, unit), head_point(*last, unit))
 }
 
 // Whether points are a pump's curve by straight lines.
