@@ -1,0 +1,3 @@
+pub mod RightLemmas
+pub mod ReservoirLemmas
+pub mod TankLemmas
