@@ -1,3 +1,5 @@
 pub mod RightLemmas
 pub mod ReservoirLemmas
 pub mod TankLemmas
+pub mod GatherLemmas
+pub mod DemandLemmas

@@ -2,6 +2,7 @@
 //! order of their rows.
 #![tactic(auto)]
 
+mod demands;
 mod quantities;
 mod reservoirs;
 mod tanks;

@@ -9,7 +9,7 @@ ghost use Rattle.hyd_build_nodes.specs.Built.{number_of};
 
 use hyd_net::Names;
 use hyd_num::{Decimal, FlowUnit};
-use hyd_units::head_ticks;
+use hyd_units::{flow_ticks, head_ticks};
 
 /// A head or a level in head ticks.
 pub(crate) fn head_of(head: Decimal, unit: FlowUnit) -> i64
@@ -27,4 +27,12 @@ pub(crate) fn number_named(names: &Names, name: Option<&[u8]>) -> Option<u32>
         Some(name) => names.number(name),
         None => None,
     }
+}
+
+/// A flow in flow ticks, cut.
+pub(crate) fn flow_of(flow: Decimal, unit: FlowUnit) -> i64
+    requires { unsigned_abs (quantity.flow_ticks unit flow.nano) ≤ 10 ^ 15 }
+    ensures { result ≡ quantity.flow_ticks unit flow.nano }
+{
+    flow_ticks(flow, unit) as i64
 }
