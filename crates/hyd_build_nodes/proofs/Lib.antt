@@ -3,3 +3,4 @@ pub mod ReservoirLemmas
 pub mod TankLemmas
 pub mod GatherLemmas
 pub mod DemandLemmas
+pub mod EmitterLemmas

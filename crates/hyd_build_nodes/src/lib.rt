@@ -3,6 +3,7 @@
 #![tactic(auto)]
 
 mod demands;
+mod emitters;
 mod quantities;
 mod reservoirs;
 mod tanks;
