@@ -1,0 +1,239 @@
+-- The points of curves, one row further.
+use Rattle.std.proofs.Common.{◌≡◌, All, ◌+◌, ◌<◌, ◌≤◌, ◌++◌, ℕ, Bool, true, false, List, [], ◌∷◌, map, filter, length, take, drop, position, Option, Some, None, slice_get, refl, sym, ap, ◌∙◌, subst, arith, ◌==◌, true≢false, get_or, inl, inr, append-nil, append_assoc, length-append, nat_lt, ltb-true, ltb-false}
+use Rattle.std.specs.Prelude.{slice_set, slice_index_or}
+use Rattle.std.specs.Str.{bytes_eq}
+use Rattle.std.specs.Cmp.Lexicographic.{bytes_decides}
+use Rattle.std.proofs.lemmas.Bool.{cases_Bool}
+use Rattle.std.proofs.lemmas.List.{map-set, map-append, length-map, get_or-set_same, get_or-set_other, length-set, get_or-map, take-append-drop}
+use Rattle.std.proofs.lemmas.List.Elements.{filter-append, All-push}
+use Rattle.std.proofs.Math.ListN.{get_or-eq_default}
+use Rattle.std.proofs.lemmas.List.Quantifiers.{position-Some}
+use Rattle.hyd_lex.specs.Lines.{Row}
+use Rattle.hyd_lex.specs.declared.line.Line.{Line}
+use Rattle.hyd_lex.specs.declared.section.Section.{Section}
+use Rattle.hyd_lex.specs.declared.section.Section.TheVariants.{Curves}
+use Rattle.hyd_net.specs.ListView.{ListView}
+use Rattle.hyd_net.specs.declared.cause.Cause.{Cause}
+use Rattle.hyd_spec_input.specs.ByItself as itself
+use Rattle.hyd_spec_input.specs.ByItself.{IsWrongByItself}
+use Rattle.hyd_spec_input.specs.DataRows as row_form
+use Rattle.hyd_spec_input.specs.Faults.{NoneIs}
+use Rattle.hyd_spec_input.specs.Network.{number_in}
+use Rattle.hyd_spec_input.specs.Tables.{Point, place, is_of, rows_of, rows_with, own_id, point_of, curve_named, row_with, has_id}
+use Rattle.hyd_spec_input.specs.Columns.{word, or_empty}
+use Rattle.hyd_rows.specs.Rows.{IsCurveRow}
+use Rattle.hyd_rows.specs.declared.data.CurveRow.{CurveRow}
+use Rattle.hyd_tables.specs.Tables.{AreFirsts}
+use Rattle.hyd_tables.proofs.FoundLemmas.{filter_more, filter_same}
+use Rattle.hyd_tables.proofs.SectionLemmas.{none_of, all_rows}
+use Rattle.hyd_tables.specs.Found.{rows_at}
+use Rattle.hyd_tables.proofs.TableLemmas.{not_found, has_id-is, even}
+use Rattle.hyd_curves.specs.Points.{points_in, point_in, each, list_of, ArePoints, AreEmpty, AreGathered, HasOneMore}
+use Rattle.hyd_curves.specs.declared.points.CurvePoint.{CurvePoint}
+use Rattle.hyd_curves.specs.declared.points.Points.{Points}
+
+-- ---- lists
+
+abbrev points_of : ListView CurvePoint → List Point
+points_of list = points_in list.list
+
+pub one_more : (lists : List (ListView CurvePoint)) (number : ℕ) (was now : ListView CurvePoint) (point : CurvePoint)
+    → number < length lists → was ≡ get_or lists number was → now.list ≡ was.list ++ point ∷ []
+    → HasOneMore (each lists) (each (slice_set lists number now)) number (point_in point)
+one_more lists number was now point l w n =
+    let e : each (slice_set lists number now) ≡ slice_set (each lists) number (points_of now) =
+    map-set points_of lists number now in
+    let m : length (each lists) ≡ length lists = length-map lists points_of in
+    let old : get_or (each lists) number [] ≡ points_of was =
+    get_or-map points_of lists number was [] l ∙ ap points_of (sym w) in
+    let new : points_of now ≡ points_of was ++ point_in point ∷ [] =
+    ap points_in n ∙ map-append point_in was.list (point ∷ []) in
+    record {
+      even = rw e (length-set (each lists) number (points_of now));
+      here = rw (e, old) (get_or-set_same (each lists) number (points_of now) [] (omega (arith, m, l)) ∙ new);
+      others = λ k apart. rw e (get_or-set_other (each lists) number k (points_of now) [] apart);
+    }
+
+-- a list without points more
+pub empty_more : (lists : List (ListView CurvePoint)) (k : ℕ) (list : ListView CurvePoint) → AreEmpty lists k
+    → list.list ≡ [] → AreEmpty (lists ++ list ∷ []) (k + 1)
+empty_more lists k list before none = record {
+  count_is = length-append lists (list ∷ []) ∙ ap (λ n. n + 1) before.count_is;
+  none = All-push (λ (list : ListView CurvePoint). list.list ≡ []) lists list before.none none;
+}
+
+no_points : (lists : List (ListView CurvePoint)) (k : ℕ) → All (λ (list : ListView CurvePoint). list.list ≡ []) lists
+    → get_or (each lists) k [] ≡ []
+no_points lists k none =
+    let d : ListView CurvePoint = record { list = []; spare = 0 } in
+    elim (cases_Bool (nat_lt k (length lists))) [
+      | inl t ↦ (let l : k < length lists = ltb-true k (length lists) t in
+          get_or-map points_of lists k d [] l ∙ ap points_in (none k d l))
+      | inr f ↦ get_or-eq_default (each lists) [] (omega (arith, length-map lists points_of, ltb-false k (length lists) f))
+    ]
+
+none_listed : (lists : List (ListView CurvePoint)) (count : ℕ) → AreEmpty lists count → (found : Option ℕ)
+    → list_of (each lists) found ≡ []
+none_listed lists count empty None = refl
+none_listed lists count empty (Some k) = no_points lists k empty.none
+
+-- before the first row
+pub before_rows : (text : List ℕ) (rows : List Row) (names : List (List ℕ)) (firsts : List Line) (points : Points)
+    → AreFirsts text (rows_of Curves rows) names firsts → AreEmpty points.lists.items (length firsts)
+    → AreGathered rows 0 names points
+before_rows text rows names firsts points table empty = record {
+  even = empty.count_is ∙ sym (even text (rows_of Curves rows) names firsts table);
+  points_are = record { named = λ name. none_listed points.lists.items (length firsts) empty (number_in names name) };
+}
+
+-- ---- names
+
+-- another name than the row's
+not_named : (name : List ℕ) (row : Row) → bytes_eq name (own_id row) ≡ true → name ≡ own_id row
+not_named name row t = (bytes_decides name (own_id row)).0 t
+
+-- two names with one number are the same
+one_name : (names : List (List ℕ)) (a b : List ℕ) (k : ℕ) → position (bytes_eq a) names ≡ Some k
+    → position (bytes_eq b) names ≡ Some k → a ≡ b
+one_name names a b k p q =
+    let x : a ≡ get_or names k [] = (bytes_decides a (get_or names k [])).0 (position-Some (bytes_eq a) names k [] p).1 in
+    let y : b ≡ get_or names k [] = (bytes_decides b (get_or names k [])).0 (position-Some (bytes_eq b) names k [] q).1 in
+    x ∙ sym y
+
+-- ---- the points of a curve, one row further
+
+more_here : (rows : List Row) (k : ℕ) (row : Row) (name : List ℕ) → slice_get rows k ≡ Some row
+    → is_of Curves row ≡ true → bytes_eq name (own_id row) ≡ true
+    → curve_named (take (k + 1) rows) name ≡ curve_named (take k rows) name ++ point_of row ∷ []
+more_here rows k row name is member same =
+    ap (λ (rs : List Row). map point_of (rows_with name rs)) (filter_more (is_of Curves) rows k row is member)
+    ∙ ap (map point_of) (filter-append (λ (r : Row). bytes_eq name (own_id r)) (rows_of Curves (take k rows)) (row ∷ [])
+    ∙ rw same refl)
+    ∙ map-append point_of (rows_with name (rows_of Curves (take k rows))) (row ∷ [])
+
+none_here : (rows : List Row) (k : ℕ) (row : Row) (name : List ℕ) → slice_get rows k ≡ Some row
+    → is_of Curves row ≡ true → bytes_eq name (own_id row) ≡ false
+    → curve_named (take (k + 1) rows) name ≡ curve_named (take k rows) name
+none_here rows k row name is member other =
+    ap (λ (rs : List Row). map point_of (rows_with name rs)) (filter_more (is_of Curves) rows k row is member)
+    ∙ ap (map point_of) (filter-append (λ (r : Row). bytes_eq name (own_id r)) (rows_of Curves (take k rows)) (row ∷ [])
+    ∙ rw other (append-nil (rows_with name (rows_of Curves (take k rows)))))
+
+-- the list of a number that a name may have
+list_more : (rows : List Row) (k : ℕ) (row : Row) (names : List (List ℕ)) (before after : List (List Point))
+    (number : ℕ) (point : Point) (name : List ℕ) → slice_get rows k ≡ Some row → is_of Curves row ≡ true
+    → position (bytes_eq (own_id row)) names ≡ Some number → point ≡ point_of row
+    → HasOneMore before after number point → (found : Option ℕ) → found ≡ number_in names name
+    → list_of before found ≡ curve_named (take k rows) name
+    → list_of after found ≡ curve_named (take (k + 1) rows) name
+list_more rows k row names before after number point name is member there p more None f was =
+    elim (cases_Bool (bytes_eq name (own_id row))) [
+      | inl t ↦ (let e : name ≡ own_id row = not_named name row t in
+          let g : None ≡ Some number = f ∙ rw e there in
+          absurd (let x : ⊥ = cc in x))
+      | inr o ↦ was ∙ sym (none_here rows k row name is member o)
+    ]
+list_more rows k row names before after number point name is member there p more (Some found) f was =
+    elim (cases_Bool (bytes_eq name (own_id row))) [
+      | inl t ↦ (let e : name ≡ own_id row = not_named name row t in
+          let g : Some found ≡ Some number = f ∙ rw e there in
+          let n : found ≡ number = cc in
+          rw n (more.here ∙ ap (λ (ps : List Point). ps ++ point ∷ []) (rw n at was)
+          ∙ ap (λ (q : Point). curve_named (take k rows) name ++ q ∷ []) p ∙ sym (more_here rows k row name is member t)))
+      | inr o ↦ more.others found (λ n.
+          let e : name ≡ own_id row = one_name names name (own_id row) found (sym f) (there ∙ ap Some (sym n)) in
+          true≢false (sym ((bytes_decides name (own_id row)).1 e) ∙ o))
+          ∙ was ∙ sym (none_here rows k row name is member o)
+    ]
+
+pub add_row : (rows : List Row) (k : ℕ) (row : Row) (names : List (List ℕ)) (points next : Points) (number : ℕ)
+    (point : Point) → AreGathered rows k names points → slice_get rows k ≡ Some row → is_of Curves row ≡ true
+    → position (bytes_eq (own_id row)) names ≡ Some number → point ≡ point_of row
+    → HasOneMore (each points.lists.items) (each next.lists.items) number point → AreGathered rows (k + 1) names next
+add_row rows k row names points next number point before is member there p more =
+    let a : length (each next.lists.items) ≡ length next.lists.items = length-map next.lists.items points_of in
+    let b : length (each points.lists.items) ≡ length points.lists.items = length-map points.lists.items points_of in
+    record {
+      even = omega (arith, a, b, more.even, before.even);
+      points_are = record {
+        named = λ name.
+            list_more rows k row names (each points.lists.items) (each next.lists.items) number point name is member there
+            p more (number_in names name) refl (before.points_are.named name);
+      };
+    }
+
+pub skip_row : (rows : List Row) (k : ℕ) (row : Row) (names : List (List ℕ)) (points : Points)
+    → AreGathered rows k names points → slice_get rows k ≡ Some row → is_of Curves row ≡ false
+    → AreGathered rows (k + 1) names points
+skip_row rows k row names points before is other =
+    let same : rows_of Curves (take (k + 1) rows) ≡ rows_of Curves (take k rows) =
+    filter_same (is_of Curves) rows k row is other in
+    record {
+      even = before.even;
+      points_are = record {
+        named = λ name. before.points_are.named name
+            ∙ sym (ap (λ (rs : List Row). map point_of (rows_with name rs)) same);
+      };
+    }
+
+-- ---- a row of curves
+
+by_itself : (section : Section) (earlier : List (List (List ℕ))) (words : List (List ℕ)) (later : List (List (List ℕ)))
+    → (place section == 8) ≡ true → itself.section_fault section earlier words later ≡ row_form.curve words
+by_itself Curves earlier words later h = refl
+by_itself _ earlier words later h = absurd (true≢false (sym h))
+
+-- it is right by itself
+pub curve_is_right : (rows : List Row) (k : ℕ) (row : Row) → NoneIs (IsWrongByItself rows)
+    → slice_get rows k ≡ Some row → is_of Curves row ≡ true → row_form.curve row.words ≡ None
+curve_is_right rows k row right is member =
+    sym (by_itself row.section _ row.words _ member)
+    ∙ none_of (itself.row_fault rows k row) (λ cause f. right k cause (record { row = row; row_is = is; fault = f }))
+
+has_between : (name : List ℕ) (xs ys : List Row) (row : Row) → bytes_eq name (own_id row) ≡ true
+    → has_id name (xs ++ row ∷ ys) ≡ true
+has_between name [] ys row t = rw t refl
+has_between name (x ∷ xs) ys row t = elim (cases_Bool (bytes_eq name (own_id x))) [
+  | inl here ↦ rw here refl
+  | inr other ↦ rw other (has_between name xs ys row t)
+]
+
+-- its ID stands among the rows that pass
+has_more : (p : Row → Bool) (rows : List Row) (k : ℕ) (row : Row) → slice_get rows k ≡ Some row → p row ≡ true
+    → has_id (own_id row) (filter p rows) ≡ true
+has_more p rows k row is member =
+    let parts : filter p rows ≡ filter p (take k rows) ++ row ∷ filter p (drop (k + 1) rows) =
+    ap (filter p) (sym (take-append-drop (k + 1) rows))
+    ∙ filter-append p (take (k + 1) rows) (drop (k + 1) rows)
+    ∙ ap (λ (rs : List Row). rs ++ filter p (drop (k + 1) rows)) (filter_more p rows k row is member)
+    ∙ simp append_assoc in
+    rw parts (has_between (own_id row) (filter p (take k rows)) (filter p (drop (k + 1) rows)) row
+    ((bytes_decides (own_id row) (own_id row)).1 refl))
+
+-- its ID is in the table
+pub number_is_there : (text : List ℕ) (rows : List Row) (k : ℕ) (row : Row) (names : List (List ℕ))
+    (firsts : List Line) → AreFirsts text (rows_of Curves rows) names firsts → slice_get rows k ≡ Some row
+    → is_of Curves row ≡ true → position (bytes_eq (own_id row)) names ≡ None → ⊥
+number_is_there text rows k row names firsts table is member none =
+    let no : row_with (own_id row) (rows_of Curves rows) ≡ None =
+    not_found text (rows_of Curves rows) names firsts (own_id row) table none in
+    let there : has_id (own_id row) (rows_of Curves rows) ≡ true = has_more (is_of Curves) rows k row is member in
+    let gone : has_id (own_id row) (rows_of Curves rows) ≡ false = has_id-is (own_id row) (rows_of Curves rows) ∙ rw no refl in
+    true≢false (sym there ∙ gone)
+
+-- ---- all rows
+
+pub after_rows : (text : List ℕ) (lines : List Line) (k : ℕ) (names : List (List ℕ)) (points : Points)
+    → AreGathered (rows_at text lines) k names points → length lines ≤ k → ArePoints (rows_at text lines) names points
+after_rows text lines k names points gathered l =
+    let P : List Row → Type 0 = λ rs. ArePoints rs names points in
+    subst P (all_rows text lines k l) gathered.points_are
+
+-- ---- what a row says
+
+pub id_is : (words : List (List ℕ)) (row : CurveRow) → IsCurveRow words row → word 0 words ≡ row.id.now
+id_is words row is = ap or_empty is.id
+
+pub point_is : (words : List (List ℕ)) (row : CurveRow) (r : Row) → words ≡ r.words → IsCurveRow words row
+    → point_in (record { x = row.x; y = row.y }) ≡ point_of r
+point_is words row r e is = rw (is.x, is.y, e) refl

@@ -1,0 +1,16 @@
+//! The curves of an input file: their points, gathered once, and what pumps, general purpose valves and tanks ask of
+//! theirs (EPANET 2.2 User Manual, [CURVES]).
+#![tactic(auto)]
+
+mod judged;
+mod lines;
+mod points;
+mod pumps;
+mod tanks;
+mod ticks;
+mod valves;
+mod volumes;
+
+pub use judged::{Verdict, Verdicts, judge_curves};
+pub use points::{CurvePoint, Points, gather_points};
+pub use tanks::tank_curve_fault;
