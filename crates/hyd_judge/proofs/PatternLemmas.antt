@@ -19,9 +19,9 @@ use Rattle.hyd_tables.specs.Found.{kept}
 use Rattle.hyd_tables.specs.Tables.{AreFirsts}
 use Rattle.hyd_tables.proofs.FoundLemmas.{filter_more, filter_same, found_skip, found_kept}
 use Rattle.hyd_tables.proofs.TableLemmas.{even}
-use Rattle.hyd_judge.specs.Patterns.{ArePatterns, most_counted}
+use Rattle.hyd_judge.specs.Patterns.{AreCounted, most_counted}
 use Rattle.hyd_tables.specs.Sections.{IsWrongIn}
-use Rattle.hyd_judge.specs.declared.patterns.Patterns.{Patterns}
+use Rattle.hyd_judge.specs.declared.patterns.Counted.{Counted}
 use Rattle.hyd_judge.proofs.DistinctLemmas.{distinct_more}
 use Rattle.hyd_tables.proofs.SectionLemmas.{verdict_without_capacity, other_section}
 
@@ -59,9 +59,9 @@ no_capacity : (section : Section) (rows : List Row) (acting : Bool) (row : Row) 
 no_capacity InPatterns rows acting row h refused = refused
 no_capacity _ rows acting row h refused = absurd (true≢false (sym h))
 
-pub skip_row : (text : List ℕ) (rows : List Row) (k : ℕ) (row : Row) (patterns : Patterns)
-    → ArePatterns text rows k patterns → slice_get rows k ≡ Some row → is_of InPatterns row ≡ false
-    → ArePatterns text rows (k + 1) patterns
+pub skip_row : (text : List ℕ) (rows : List Row) (k : ℕ) (row : Row) (patterns : Counted)
+    → AreCounted text rows k patterns → slice_get rows k ≡ Some row → is_of InPatterns row ≡ false
+    → AreCounted text rows (k + 1) patterns
 skip_row text rows k row patterns before is other =
     let same : rows_of InPatterns (take (k + 1) rows) ≡ rows_of InPatterns (take k rows) =
     filter_same (is_of InPatterns) rows k row is other in
@@ -75,8 +75,8 @@ skip_row text rows k row patterns before is other =
           (other_section InPatterns rows k row is other);
     }
 
-pub add_row : (text : List ℕ) (rows : List Row) (k : ℕ) (row : Row) (patterns next : Patterns) (new : Bool)
-    (more : ℕ) (fault : Option Cause) → ArePatterns text rows k patterns → slice_get rows k ≡ Some row
+pub add_row : (text : List ℕ) (rows : List Row) (k : ℕ) (row : Row) (patterns next : Counted) (new : Bool)
+    (more : ℕ) (fault : Option Cause) → AreCounted text rows k patterns → slice_get rows k ≡ Some row
     → is_of InPatterns row ≡ true
     → AreFirsts text (rows_of InPatterns (take k rows) ++ row ∷ []) next.table.names next.table.firsts.items
     → new ≡ not (has_id (own_id row) (rows_of InPatterns (take k rows)))
@@ -84,7 +84,7 @@ pub add_row : (text : List ℕ) (rows : List Row) (k : ℕ) (row : Row) (pattern
     → length next.table.names ≤ length patterns.table.names + 1
     → more ≡ min (length (multipliers row.words)) most_counted → next.count ≡ min (patterns.count + more) most_counted
     → fault ≡ first (passes 1000 8 (length next.table.firsts.items) ∷ passes 1000000 8 next.count ∷ [])
-    → next.found ≡ kept patterns.found k row.number fault → ArePatterns text rows (k + 1) next
+    → next.found ≡ kept patterns.found k row.number fault → AreCounted text rows (k + 1) next
 add_row text rows k row patterns next new more fault before is member table e names longer m n f found =
     let all : rows_of InPatterns (take (k + 1) rows) ≡ rows_of InPatterns (take k rows) ++ row ∷ [] =
     filter_more (is_of InPatterns) rows k row is member in

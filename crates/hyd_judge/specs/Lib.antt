@@ -3,3 +3,7 @@ pub mod Curves
 pub mod InForce
 pub mod Nodes
 pub mod Demands
+pub mod Options
+pub mod Extremes
+pub mod Pending
+pub mod JudgedNodes

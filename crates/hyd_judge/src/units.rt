@@ -1,4 +1,4 @@
-//! The unit of flows that a file has in force.
+//! The options that a file has in force.
 #![tactic(auto)]
 
 ghost use Rattle.std.specs.Prelude.{◌≡◌, ◌==◌, IfSome};
@@ -13,7 +13,7 @@ use hyd_lex::{Line, Lines, Section};
 use hyd_num::FlowUnit;
 use hyd_opts::{flow_unit, or_empty, word_is};
 
-fn is_options(section: Section) -> bool
+pub(crate) fn is_options(section: Section) -> bool
     ensures { result ≡ (section_place section == 13) }
 {
     match section {

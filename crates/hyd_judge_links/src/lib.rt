@@ -6,6 +6,5 @@ mod ends;
 mod links;
 mod pipes;
 mod pumps;
-mod stub;
 mod tables;
 mod valves;

@@ -22,8 +22,8 @@ ghost use Rattle.hyd_judge_links.specs.Links as links;
 ghost use Rattle.hyd_judge_links.specs.Links.{AreEven, IsRefusedValveOf};
 
 use crate::ends::ends_fault;
-use hyd_curves::Verdicts;
 use crate::tables::LinkTables;
+use hyd_curves::Verdicts;
 use hyd_lex::{Line, Lines};
 use hyd_net::Cause;
 use hyd_num::{Decimal, FlowUnit};

@@ -7,7 +7,7 @@ use Rattle.hyd_spec_input.specs.WithOthers.{passes}
 use Rattle.hyd_tables.specs.Found.{rows_at}
 use Rattle.hyd_tables.proofs.FoundLemmas.{row_at}
 use Rattle.hyd_judge.proofs.PatternLemmas.{skip_row, add_row}
-use Rattle.hyd_judge.proofs.patterns.Patterns.add.Goals as goal
+use Rattle.hyd_judge.proofs.patterns.Counted.add.Goals as goal
 
 nothing : Line
 nothing = record { number = 0; section = Junctions; from = 0; to = 0 }
@@ -30,8 +30,8 @@ returns c =
     add_row text rows c.args.place _ c.args.self.now _ _ c.multipliers.result c.fault-cause.result c.requires.judged
     (row_at text lines c.args.place nothing c.requires.within) (sym c.is_patterns.ensures ∙ c.if-not-is_patterns.false)
     (c.in_ok-add.ensures.table done c.requires.judged.table) (c.in_ok-add.ensures.new done c.requires.judged.table)
-    c.in_ok-add.ensures.count c.in_ok-add.ensures.longer c.multipliers.ensures c.counted-self.ensures
+    c.in_ok-add.ensures.count c.in_ok-add.ensures.longer c.multipliers.ensures c.sum_counted-self.ensures
     (c.fault-cause.ensures
-    ∙ ap (λ (xs : List Line). first (passes 1000 8 (length xs) ∷ passes 1000000 8 c.counted-self.result ∷ []))
+    ∙ ap (λ (xs : List Line). first (passes 1000 8 (length xs) ∷ passes 1000000 8 c.sum_counted-self.result ∷ []))
     c.as_slice.ensures.value)
     c.kept-self.ensures
