@@ -8,3 +8,6 @@ mod pipes;
 mod pumps;
 mod tables;
 mod valves;
+
+pub use links::{Links, judge_links};
+pub use tables::LinkTables;
