@@ -26,7 +26,7 @@ use Rattle.hyd_tables.proofs.FoundLemmas.{filter_more, filter_same, found_skip, 
 use Rattle.hyd_tables.proofs.SectionLemmas.{none_of, verdict_without_capacity}
 use Rattle.hyd_judge.specs.Extremes.{Bounds, AreExtremes}
 use Rattle.hyd_judge.specs.Nodes.{junction_fault, is_head_times, times_fault, heads_fault, reservoir_fault, apart_fault, tank_fault}
-use Rattle.hyd_judge.specs.Pending.{tank_curve_fault}
+use Rattle.hyd_curves.specs.Asked.{tank_curve_fault}
 use Rattle.hyd_judge.specs.JudgedNodes.{IsWrongNode, counted, node_alone, fault_among, AreCounts, AreNodes}
 use Rattle.hyd_judge.specs.declared.nodes.Counts.{Counts}
 use Rattle.hyd_judge.specs.declared.nodes.Nodes.{Nodes}
@@ -152,7 +152,13 @@ among_nodes rows k row (Some cause) is member verdict =
     record { row = verdict.row; row_is = verdict.row_is; member = rw same member; wrong = verdict.wrong }
 among_nodes rows k row None is member verdict = λ cause w.
     let same : w.row ≡ row = cc in
-    verdict cause (record { row = w.row; row_is = w.row_is; member = rw same (own_section row.section); wrong = w.wrong })
+    verdict cause (record {
+      row = w.row;
+      row_is = w.row_is;
+      member = rw same
+          (own_section row.section);
+      wrong = w.wrong;
+    })
 
 node_verdict : (rows : List Row) (k : ℕ) (row : Row) (unit : FlowUnit) (counts : Counts) (new : Bool)
     (cause : Option Cause) → slice_get rows k ≡ Some row → is_node row ≡ true → unit ≡ force.unit rows
