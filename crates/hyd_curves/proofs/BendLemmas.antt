@@ -1,5 +1,5 @@
 -- Curves by straight lines.
-use Rattle.std.proofs.Common.{◌≡◌, ◌≤◌, ◌++◌, ◌^◌, Bool, true, false, List, [], ◌∷◌, length, nat_le, None, get_or, unsigned_abs, ℤ, pos, neg_ℤ, ◌<ℤ◌, ◌≤ℤ◌, ◌*ℤ◌, refl, sym, ap, ◌∙◌, arith}
+use Rattle.std.proofs.Common.{◌≡◌, ◌≤◌, ◌++◌, ◌^◌, Bool, true, false, List, [], ◌∷◌, length, nat_le, None, get_or, unsigned_abs, pos, neg_ℤ, ◌<ℤ◌, ◌≤ℤ◌, ◌*ℤ◌, refl, sym, ap, ◌∙◌, arith}
 use Rattle.std.specs.Prelude.{◌&&◌}
 use Rattle.std.specs.List.{list_all}
 use Rattle.std.proofs.lemmas.List.{length-map}
@@ -9,7 +9,7 @@ use lib.Signed.{le_z, lt_z}
 use Rattle.hyd_num.specs.Quantity.{is_us_unit, head_ticks, flow_ticks}
 use Rattle.hyd_num.specs.Rational.{Rational, whole, is_at_most}
 use Rattle.hyd_num.specs.declared.units.FlowUnit.{FlowUnit}
-use Rattle.hyd_net.specs.Curves.{Knot, on_line, value_at, head_knots}
+use Rattle.hyd_net.specs.Curves.{on_line, value_at, head_knots}
 use Rattle.hyd_net.specs.declared.curves.HeadPoint.{HeadPoint}
 use Rattle.hyd_spec_input.specs.Curves.{in_turn, at_start, at_end, has_flow, is_slower, is_faster, is_pump_bend, begins_at_0, head_point, head_points}
 use Rattle.hyd_curves.specs.Bends.{IsPumpPoint, begins_and_ends, loss_passes}
@@ -95,8 +95,14 @@ begins a b c points x y p q turns ends =
     let most : a.flow ≤ℤ pos (10 ^ 15) = at_most a.flow (pos (10 ^ 15)) near.1 in
     let more : b.flow ≤ℤ pos (10 ^ 15) = at_most b.flow (pos (10 ^ 15)) far.1 in
     let line : value_at 1 (head_knots all) (pos 0) ≡ on_line 1 (knot_of x) (knot_of y) (pos 0) =
-    rw (p.place, p.value, q.place, q.value, apart (pos 0) (pos 1 *ℤ b.flow) (omega (arith, ints, one_times b.flow, start, rise)),
-    apart a.flow b.flow rise) refl in
+    rw (
+      p.place,
+      p.value,
+      q.place,
+      q.value,
+      apart (pos 0) (pos 1 *ℤ b.flow) (omega (arith, ints, one_times b.flow, start, rise)),
+      apart a.flow b.flow rise,
+    ) refl in
     record {
       first = record {
         forward = omega (arith, ints, p.place, start);
