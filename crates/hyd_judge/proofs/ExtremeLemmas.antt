@@ -1,7 +1,7 @@
 -- The extremes of multipliers, one row further.
-use Rattle.std.proofs.Common.{◌≡◌, ◌+◌, ◌*◌, ◌^◌, ◌<◌, ◌≤◌, ◌++◌, ◌⊎◌, ℕ, Bool, true, false, ◌&&◌, List, [], ◌∷◌, map, filter, length, take, drop, position, Option, Some, None, slice_get, refl, sym, ap, ◌∙◌, subst, arith, ◌==◌, true≢false, get_or, inl, inr, append-nil, append_assoc, length-append, nat_lt, ltb-true, ltb-false}
-use Rattle.std.specs.Prelude.{slice_set, slice_index_or, ℤ, pos, neg_ℤ, ◌≤ℤ◌, ◌*ℤ◌, unsigned_abs, Contains, flat_map}
-use Rattle.std.specs.List.{All, list_all, AllPass}
+use Rattle.std.proofs.Common.{◌≡◌, ◌+◌, ◌*◌, ◌^◌, ◌<◌, ◌≤◌, ◌++◌, ◌⊎◌, ℕ, Bool, true, false, ◌&&◌, List, [], ◌∷◌, filter, length, take, drop, position, Option, Some, None, slice_get, refl, sym, ap, ◌∙◌, subst, arith, ◌==◌, true≢false, get_or, inl, inr, append-nil, append_assoc, length-append, nat_lt, ltb-true, ltb-false}
+use Rattle.std.specs.Prelude.{slice_set, ℤ, pos, neg_ℤ, ◌≤ℤ◌, ◌*ℤ◌, unsigned_abs, flat_map}
+use Rattle.std.specs.List.{All, list_all}
 use Rattle.std.specs.Str.{bytes_eq}
 use Rattle.std.specs.Cmp.Lexicographic.{bytes_decides}
 use Rattle.std.proofs.lemmas.Bool.{cases_Bool, and_parts}
@@ -19,10 +19,9 @@ use Rattle.hyd_lex.specs.Lines.{Row}
 use Rattle.hyd_lex.specs.declared.line.Line.{Line}
 use Rattle.hyd_lex.specs.declared.section.Section.{Section}
 use Rattle.hyd_lex.specs.declared.section.Section.TheVariants.{Patterns as InPatterns}
-use Rattle.hyd_net.specs.declared.cause.Cause.{Cause}
 use Rattle.hyd_spec_input.specs.ByItself as itself
 use Rattle.hyd_spec_input.specs.ByItself.{IsWrongByItself}
-use Rattle.hyd_spec_input.specs.Columns.{first, needed, any, id, within}
+use Rattle.hyd_spec_input.specs.Columns.{needed, any, id, within}
 use Rattle.hyd_spec_input.specs.Curves.{is_within}
 use Rattle.hyd_spec_input.specs.DataRows as row_form
 use Rattle.hyd_spec_input.specs.DataRows.{multipliers}
