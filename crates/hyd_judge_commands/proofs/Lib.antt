@@ -1,3 +1,4 @@
 pub mod CommandLemmas
 pub mod ControlLemmas
+pub mod PartLemmas
 pub mod StatusLemmas

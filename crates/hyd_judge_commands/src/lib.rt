@@ -4,6 +4,7 @@
 
 mod controls;
 mod names;
+mod parts;
 mod states;
 mod status;
 
