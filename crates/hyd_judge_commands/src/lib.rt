@@ -5,8 +5,10 @@
 mod controls;
 mod names;
 mod parts;
+mod rules;
 mod states;
 mod status;
 
 pub use controls::judge_controls;
+pub use rules::judge_rules;
 pub use status::judge_status;
