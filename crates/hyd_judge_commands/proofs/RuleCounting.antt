@@ -1,5 +1,5 @@
 -- Rules, clauses and actions counted, one row further.
-use Rattle.std.proofs.Common.{◌≡◌, ◌+◌, ◌≤◌, ◌++◌, ◌↔◌, ℕ, Bool, true, false, not, if◌then◌else◌, List, [], ◌∷◌, length, filter, take, slice_get, Option, Some, None, Contains, refl, sym, ap, ◌∙◌, subst, arith, inl, inr, true≢false, length-append, append-nil}
+use Rattle.std.proofs.Common.{◌≡◌, ◌+◌, ◌≤◌, ◌++◌, ◌↔◌, ℕ, Bool, true, false, not, if◌then◌else◌, List, [], ◌∷◌, length, filter, take, slice_get, Option, Some, None, Contains, refl, sym, ap, ◌∙◌, arith, inl, inr, true≢false, length-append, append-nil}
 use Rattle.std.specs.Prelude.{◌||◌}
 use Rattle.std.specs.List.{list_any}
 use Rattle.std.specs.Str.{bytes_eq}
@@ -99,6 +99,7 @@ named_more q name rows row ids next false n same e l =
     not_false : (b : Bool) → false ≡ not b → b ≡ true
     not_false true e = refl
     not_false false e = absurd (true≢false (sym e))
+
     or_false : (b : Bool) → (b || false) ≡ b
     or_false true = refl
     or_false false = refl

@@ -1,5 +1,5 @@
 -- Lines of rules among all rows.
-use Rattle.std.proofs.Common.{◌≡◌, ◌+◌, ℕ, Bool, true, false, not, List, [], ◌∷◌, length, take, drop, slice_get, Option, Some, None, refl, sym, ap, ◌∙◌, subst, true≢false}
+use Rattle.std.proofs.Common.{◌≡◌, ◌+◌, ℕ, Bool, true, false, not, map, List, length, take, drop, slice_get, Option, Some, None, refl, sym, ap, ◌∙◌, subst, true≢false}
 use Rattle.hyd_lex.specs.Lines.{Row}
 use Rattle.hyd_lex.specs.declared.section.Section.{Section}
 use Rattle.hyd_lex.specs.declared.section.Section.TheVariants.{Rules as InRules}
@@ -12,17 +12,22 @@ use Rattle.hyd_spec_input.specs.Columns.{or_else, unless, word}
 use Rattle.hyd_spec_input.specs.Faults.{NoneIs}
 use Rattle.hyd_spec_input.specs.RuleRows as form
 use Rattle.hyd_spec_input.specs.RuleRows.{begins_with, is_rule, is_acting, stage_after, in_order, line_words, words_about, gets_then}
-use Rattle.hyd_spec_input.specs.Tables.{is_of, words_of, link_named}
+use Rattle.hyd_spec_input.specs.Tables.{is_of, words_of, words_of_row, link_named}
 use Rattle.hyd_spec_input.specs.WithOthers as others
 use Rattle.hyd_spec_input.specs.WithOthers.{is_part_word, is_action_word, holds_action, rules_in, parts_in}
 use Rattle.hyd_spec_input.specs.declared.RuleWord.{RuleWord}
 use Rattle.hyd_spec_input.specs.declared.RuleWord.TheVariants.{Rule, If, And, Or, Then, Else, Priority}
 use Rattle.hyd_spec_networks.proofs.Faultless.{or_none, section_is}
-use Rattle.hyd_tables.specs.Found.{IsVerdict}
+use Rattle.hyd_tables.specs.Found.{IsVerdict, kept}
 use Rattle.hyd_tables.specs.Sections.{IsWrongIn, IsFaultThen}
-use Rattle.hyd_tables.proofs.SectionLemmas.{none_of, verdict_with_capacity}
+use Rattle.hyd_tables.proofs.SectionLemmas.{none_of, verdict_with_capacity, other_section}
+use Rattle.hyd_tables.proofs.FoundLemmas.{filter_same, found_skip, found_kept}
+use Rattle.hyd_by_itself.specs.Stages.{stage_with}
+use Rattle.hyd_by_itself.proofs.StageLemmas.{next_stage}
 use Rattle.hyd_judge_commands.proofs.CommandLemmas.{last_fault}
-use Rattle.hyd_judge_commands.specs.Rules.{IsRuleFault, acting_at}
+use Rattle.hyd_judge_commands.proofs.RuleCounting.{counted_elsewhere}
+use Rattle.hyd_judge_commands.specs.Rules.{AreCounted, AreRules, IsRuleFault, acting_at}
+use Rattle.hyd_judge_commands.specs.declared.rules.Rules.{Rules}
 
 -- ---- a line of a rule that is right by itself
 
@@ -92,8 +97,13 @@ pub rule_fault_is : (rows : List Row) (k : ℕ) (row : Row) (count : ℕ) (new :
     → cause ≡ or_else (others.passes 10000 12 count) (unless new DuplicateId) → IsRuleFault rows k row cause
 rule_fault_is rows k row count new cause rule n fresh e =
     let fault : cause ≡ others.rule_line rows k row =
-    e ∙ rw (rule, n, fresh, last_fault (unless (not (others.has_rule (word 1 row.words) (rules_in (take k rows))))
-    DuplicateId)) refl in
+    e ∙ rw (
+      rule,
+      n,
+      fresh,
+      last_fault (unless (not (others.has_rule (word 1 row.words) (rules_in (take k rows))))
+          DuplicateId),
+    ) refl in
     without_capacity (others.rule_line rows k row) _ cause fault
     (λ refused. true≢false (sym refused.0 ∙ rule_is_no_action (begins_with row.words) (acting_at rows k) rule))
 
@@ -154,3 +164,25 @@ verdict_is rows k row cause is member then =
     let P : Section → Type 0 = λ s. IsFaultThen (others.section_fault s rows k row) (IsRefusedIn s rows acting row) cause in
     verdict_with_capacity InRules rows k row (others.row_fault rows k row) cause is member refl
     (subst P (sym (section_is InRules row member)) then)
+
+-- ---- one row further
+
+pub rules_elsewhere : (rows : List Row) (k : ℕ) (row : Row) (rules : Rules) → AreRules rows k rules
+    → slice_get rows k ≡ Some row → is_of InRules row ≡ false → AreRules rows (k + 1) rules
+rules_elsewhere rows k row rules before is other = record {
+  counts = counted_elsewhere rows k row rules.counts before.counts is other;
+  stage = before.stage ∙ sym (ap (λ rs. stage_after (map words_of_row rs)) (filter_same (is_of InRules) rows k row is other));
+  found = found_skip rows (IsWrongIn InRules rows) k rules.found before.found (other_section InRules rows k row is other);
+}
+
+pub rules_further : (rows : List Row) (k : ℕ) (row : Row) (rules next : Rules) (cause : Option Cause)
+    → AreRules rows k rules → slice_get rows k ≡ Some row → is_of InRules row ≡ true
+    → AreCounted rows (k + 1) next.counts → IsRuleFault rows k row cause
+    → next.found ≡ kept rules.found k row.number cause → next.stage ≡ stage_with rules.stage row
+    → AreRules rows (k + 1) next
+rules_further rows k row rules next cause before is member counted fault found stage = record {
+  counts = counted;
+  stage = next_stage rows k row rules.stage next.stage is before.stage stage;
+  found = rw found (found_kept rows (IsWrongIn InRules rows) k row rules.found cause before.found is
+      (verdict_is rows k row cause is member fault));
+}

@@ -1,10 +1,10 @@
-use Rattle.std.proofs.Common.{◌≡◌, get_or, ap, refl, sym, ◌∙◌, subst, not}
+use Rattle.std.proofs.Common.{◌≡◌, get_or, ap, refl, ◌∙◌, subst, not}
 use Rattle.hyd_lex.specs.Lines.{Row, row_of}
 use Rattle.hyd_lex.specs.declared.line.Line.{Line}
 use Rattle.hyd_lex.specs.declared.section.Section.TheVariants.{Junctions}
 use Rattle.hyd_spec_input.specs.Columns.{word}
 use Rattle.hyd_spec_input.specs.WithOthers.{has_rule, rules_in}
-use Rattle.std.specs.Prelude.{take, Bool}
+use Rattle.std.specs.Prelude.{take}
 use Rattle.hyd_tables.specs.Found.{rows_at}
 use Rattle.hyd_tables.proofs.FoundLemmas.{row_at}
 use Rattle.hyd_judge_commands.specs.Rules.{IsPart, acting_at}
