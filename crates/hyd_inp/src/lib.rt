@@ -3,7 +3,9 @@
 
 mod fault;
 mod lack;
+mod numbers;
 mod project;
+mod tables;
 mod with_others;
 
 pub use fault::{InpFault, InpRefused};

@@ -82,7 +82,7 @@ fn build(alloc: Global, text: &Lines<'_>, lines: &[Line]) -> Result<Project, Out
 /// what the whole file lacks (line 0).
 pub fn read_project(alloc: Global, text: &[u8]) -> Result<Project, InpRefused>
     ensures fault { IfErr result (λ refused. IfFault refused (λ f. IsFault text.now f.line f.cause)) }
-    ensures without { IfOk result (λ _. HasNoFault text.now) }
+    ensures no_fault { IfOk result (λ _. HasNoFault text.now) }
     ensures project { IfOk result (IsProject (rows_in (items_of text.now))) }
     ensures sound { IfOk result Sound }
 {
