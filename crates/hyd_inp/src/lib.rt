@@ -4,6 +4,7 @@
 mod fault;
 mod lack;
 mod numbers;
+mod parts;
 mod project;
 mod tables;
 mod with_others;
