@@ -1,2 +1,4 @@
 pub mod CommandLemmas
+pub mod ControlLemmas
+pub mod PartLemmas
 pub mod StatusLemmas
