@@ -15,7 +15,7 @@ use Rattle.hyd_spec_input.specs.Columns.{needed, optional, ends, one_of, up_to, 
 use Rattle.hyd_spec_input.specs.NetworkRows as alone
 use Rattle.hyd_spec_networks.proofs.InForce.{keyword_same}
 use Rattle.hyd_spec_networks.proofs.LinkKinds.{valve_numbers}
-use Rattle.hyd_spec_networks.proofs.Faultless.{all_none, needed_none, optional_none, within, amount_or_is}
+use Rattle.hyd_spec_networks.proofs.Faultless.{needed_none, within}
 
 -- ---- numbers
 
@@ -30,38 +30,7 @@ positive_up_to most d nano e l = record {
 pub minor_up_to : (d : Decimal) (nano : ℤ) → d.nano ≡ nano → IsUpTo (10 ^ 6) nano → IsMinorCoefficient d
 minor_up_to d nano e l = record { not_negative = rw e l.at_least; at_most = rw e l.at_most }
 
-no_minor : IsUpTo (10 ^ 6) (pos 0)
-no_minor = record { at_least = omega (arith, ints); at_most = omega (arith, ints) }
-
 -- ---- pipes
-
-pub record PipeNumbers (words : List (List ℕ)) : Type 0 where
-  pub long : Lies (pos 1) (units (10 ^ 6)) (amount 3 words)
-  pub across : Lies (pos 1) (units (10 ^ 4)) (amount 4 words)
-  pub rough : Lies (pos 1) (units 10) (amount 5 words)
-  pub fittings : IsUpTo (10 ^ 6) (alone.pipe_minor words)
-
-minor_right : (words : List (List ℕ)) → optional (alone.minor_or_status words) 6 words ≡ None
-    → IsUpTo (10 ^ 6) (alone.pipe_minor words)
-minor_right words e = elim (cases_Bool (alone.has_status_alone words)) [
-  | inl t ↦ rw t no_minor
-  | inr f ↦ rw f (amount_or_is (IsUpTo (10 ^ 6)) (pos 0) 6 words no_minor (λ w is.
-      let right : up_to (10 ^ 6) w ≡ None = rw f at (optional_none (alone.minor_or_status words) 6 words w e is) in
-      within (pos 0) (units (10 ^ 6)) w right))
-]
-
-pub pipe_numbers : (words : List (List ℕ)) → alone.pipe words ≡ None → PipeNumbers words
-pipe_numbers words e =
-    let each = all_none (alone.link_ends words ∷ needed (above_0_to (10 ^ 6)) 3 words ∷ needed (above_0_to (10 ^ 4)) 4
-    words
-    ∷ needed (above_0_to 10) 5 words ∷ optional (alone.minor_or_status words) 6 words
-    ∷ optional (one_of alone.pipe_statuses) 7 words ∷ ends 8 words ∷ []) e in
-    record {
-      long = within _ _ (word 3 words) (needed_none (above_0_to (10 ^ 6)) 3 words each.1.0).right;
-      across = within _ _ (word 4 words) (needed_none (above_0_to (10 ^ 4)) 4 words each.1.1.0).right;
-      rough = within _ _ (word 5 words) (needed_none (above_0_to 10) 5 words each.1.1.1.0).right;
-      fittings = minor_right words each.1.1.1.1.0;
-    }
 
 -- a pipe that numbers make is refused where the pipe of these decimals is
 pub pipe_refused : (l d n k : Decimal) (us : Bool) → IsRefusedPipe l.nano d.nano n.nano k.nano us

@@ -1,0 +1,5 @@
+pub mod Stub
+pub mod Sources
+pub mod Pumps
+pub mod Statuses
+pub mod Built
