@@ -1,4 +1,6 @@
 pub mod PointLemmas
 pub mod TurnLemmas
+pub mod BendLemmas
 pub mod LineLemmas
+pub mod PumpLemmas
 pub mod ShapeLemmas

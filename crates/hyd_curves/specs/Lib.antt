@@ -4,3 +4,4 @@ pub mod Judged
 pub mod Turns
 pub mod Shapes
 pub mod Lines
+pub mod Bends

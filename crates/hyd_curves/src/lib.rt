@@ -5,8 +5,10 @@
 mod judged;
 mod lines;
 mod points;
+mod pumps;
 mod tanks;
 mod ticks;
+mod valves;
 mod volumes;
 
 pub use judged::{Verdict, Verdicts, judge_curves};
