@@ -26,7 +26,7 @@ use Rattle.hyd_tables.proofs.FoundLemmas.{filter_more, filter_same, found_skip, 
 use Rattle.hyd_tables.proofs.SectionLemmas.{none_of, verdict_without_capacity}
 use Rattle.hyd_judge.specs.Extremes.{Bounds, AreExtremes}
 use Rattle.hyd_judge.specs.Nodes.{junction_fault, is_head_times, times_fault, heads_fault, reservoir_fault, apart_fault, tank_fault}
-use Rattle.hyd_judge.specs.Pending.{tank_curve_fault}
+use Rattle.hyd_curves.specs.Asked.{tank_curve_fault}
 use Rattle.hyd_judge.specs.JudgedNodes.{IsWrongNode, counted, node_alone, fault_among, AreCounts, AreNodes}
 use Rattle.hyd_judge.specs.declared.nodes.Counts.{Counts}
 use Rattle.hyd_judge.specs.declared.nodes.Nodes.{Nodes}

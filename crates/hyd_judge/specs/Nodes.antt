@@ -13,7 +13,7 @@ use Rattle.hyd_net.specs.declared.cause.Cause.{Cause}
 use Rattle.hyd_net.specs.declared.cause.Cause.TheVariants.{DuplicateId, Range}
 use Rattle.hyd_tables.specs.Ranges.{head_fault, junction_ranges}
 use Rattle.hyd_judge.specs.Extremes.{Bounds, pass}
-use Rattle.hyd_judge.specs.Pending.{tank_curve_fault}
+use Rattle.hyd_curves.specs.Asked.{tank_curve_fault}
 
 -- what a junction is asked, by the unit, its count and whether its ID is new
 abbrev pub junction_fault : List Row → FlowUnit → ℕ → Bool → List (List ℕ) → Option Cause

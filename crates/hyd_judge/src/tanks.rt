@@ -16,10 +16,10 @@ ghost use Rattle.hyd_spec_input.specs.Tables.{rows_of};
 ghost use Rattle.hyd_tables.specs.Ranges as range;
 ghost use Rattle.hyd_tables.specs.Tables.{IsTable, IsEven};
 ghost use Rattle.hyd_judge.specs.Nodes as node;
-ghost use Rattle.hyd_judge.specs.Pending.{ArePoints};
+ghost use Rattle.hyd_curves.specs.Points.{ArePoints};
 
 use crate::node_tables::NodeTables;
-use crate::pending::{Points, tank_curve_fault};
+use hyd_curves::{Points, tank_curve_fault};
 use hyd_lex::{Line, Lines};
 use hyd_net::Cause;
 use hyd_num::{Decimal, FlowUnit};

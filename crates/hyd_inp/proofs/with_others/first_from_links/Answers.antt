@@ -6,4 +6,4 @@ use Rattle.hyd_inp.proofs.with_others.first_from_links.Goals as goal
 pub returns : goal.returns
 returns c =
     found_next c.args.text.now.text c.args.lines.now is_link commands c.in_ok-links.links.found
-    c.first_of_commands-commands.result c.least.result c.least.ensures c.in_ok-links.ensures.found c.first_of_commands-commands.ensures
+    c.in_ok-commands.commands c.least.result c.least.ensures c.in_ok-links.ensures.found c.in_ok-commands.ensures

@@ -10,5 +10,5 @@ returns c =
     let lines = c.args.lines.now in
     found_next text lines (is_of Status) (Both (is_of Controls) (is_of Rules)) c.judge_status-status.result
     c.least.result c.least-2.result c.least-2.ensures c.judge_status-status.ensures
-    (found_next text lines (is_of Controls) (is_of Rules) c.judge_controls-controls.result c.judge_rules-rules.result
-    c.least.result c.least.ensures c.judge_controls-controls.ensures c.judge_rules-rules.ensures)
+    (found_next text lines (is_of Controls) (is_of Rules) c.judge_controls-controls.result c.in_ok-rules.rules
+    c.least.result c.least.ensures c.judge_controls-controls.ensures c.in_ok-rules.ensures)
