@@ -1,18 +1,37 @@
-//! The tables of links and of curves, for building.
+//! Tables of IDs, for building.
 #![tactic(auto)]
 
-ghost use Rattle.std.specs.Prelude.{◌≡◌, ◌≤◌, ◌^◌, ◌==◌, ◌||◌, length, IfOk};
+ghost use Rattle.std.specs.Prelude.{◌≡◌, ◌≤◌, ◌^◌, ◌==◌, ◌||◌, length, filter, IfOk};
 ghost use Rattle.std.specs.List.{All};
-ghost use Rattle.hyd_lex.specs.Lines.{LiesIn};
-ghost use Rattle.hyd_lex.specs.declared.section.Section.TheVariants.{Curves};
-ghost use Rattle.hyd_spec_input.specs.Tables.{place, link_rows, rows_of};
+ghost use Rattle.hyd_lex.specs.Lines.{LiesIn, row_of};
+ghost use Rattle.hyd_spec_input.specs.Tables.{place};
 ghost use Rattle.hyd_tables.specs.Found.{rows_at};
 ghost use Rattle.hyd_tables.specs.Tables.{IsTable};
+ghost use Rattle.hyd_inp.specs.Kinds.{is_kind};
 
 use hyd_lex::{Line, Lines, Section};
 use hyd_net::OutOfMemory;
 use hyd_tables::Table;
 use std::alloc::Global;
+
+/// The rows that share a table of IDs.
+#[derive(Debug, Clone, Copy, PartialEq, Eq, Drop)]
+pub(crate) enum Kind {
+    Nodes,
+    Links,
+    Curves,
+}
+
+fn is_node(section: Section) -> bool
+    ensures { result ≡ ((place section == 0) || ((place section == 1) || (place section == 2))) }
+{
+    match section {
+        Section::Junctions => true,
+        Section::Reservoirs => true,
+        Section::Tanks => true,
+        _ => false,
+    }
+}
 
 fn is_link(section: Section) -> bool
     ensures { result ≡ ((place section == 3) || ((place section == 4) || (place section == 5))) }
@@ -25,7 +44,7 @@ fn is_link(section: Section) -> bool
     }
 }
 
-fn is_curves(section: Section) -> bool
+fn is_curve(section: Section) -> bool
     ensures { result ≡ (place section == 8) }
 {
     match section {
@@ -34,39 +53,31 @@ fn is_curves(section: Section) -> bool
     }
 }
 
-/// The IDs of pipes, pumps and valves, each with the first line that has it.
-pub(crate) fn link_table(
-    alloc: Global,
-    text: &Lines<'_>,
-    lines: &[Line],
-) -> Result<Table, OutOfMemory>
-    requires few { length lines.now ≤ 2 ^ 26 }
-    requires lie { All (LiesIn text.now.text) lines.now }
-    ensures { IfOk result (IsTable text.now.text (link_rows (rows_at text.now.text lines.now))) }
+// Whether a row is of a kind.
+fn has(kind: Kind, text: &Lines<'_>, line: &Line) -> bool
+    ensures { result ≡ is_kind kind (row_of text.now.text line.now) }
 {
-    let mut table = Table::new(alloc);
-    for line in lines {
-        if !is_link(line.section) {
-            continue;
-        }
-        table.add(text, line)?;
+    match kind {
+        Kind::Nodes => is_node(line.section),
+        Kind::Links => is_link(line.section),
+        Kind::Curves => is_curve(line.section),
     }
-    Ok(table)
 }
 
-/// The IDs of curves, each with the first line that has it.
-pub(crate) fn curve_table(
+/// The IDs of the rows of a kind, each with the first line that has it.
+pub(crate) fn table_of(
     alloc: Global,
     text: &Lines<'_>,
     lines: &[Line],
+    kind: Kind,
 ) -> Result<Table, OutOfMemory>
     requires few { length lines.now ≤ 2 ^ 26 }
     requires lie { All (LiesIn text.now.text) lines.now }
-    ensures { IfOk result (IsTable text.now.text (rows_of Curves (rows_at text.now.text lines.now))) }
+    ensures { IfOk result (IsTable text.now.text (filter (is_kind kind) (rows_at text.now.text lines.now))) }
 {
     let mut table = Table::new(alloc);
     for line in lines {
-        if !is_curves(line.section) {
+        if !has(kind, text, line) {
             continue;
         }
         table.add(text, line)?;
