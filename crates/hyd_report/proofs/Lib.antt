@@ -1,4 +1,5 @@
 pub mod Joining
 pub mod LineLemmas
+pub mod LoopLemmas
 pub mod PrintLemmas
 pub mod PutLemmas

@@ -2,18 +2,35 @@
 use Rattle.std.proofs.Common.{◌≡◌, ℕ, zero, suc, ◌+◌, ◌<◌, ◌≤◌, ℤ, pos, ◌+ℤ◌, ◌-ℤ◌, ◌≤ℤ◌, List, [], ◌∷◌, ◌++◌, length, map, take, drop, Option, Some, None, refl, sym, ap, subst, ◌∙◌, append_assoc, append-nil, arith}
 use Rattle.std.specs.Prelude.{slice_get, slice_index_or, IfSome}
 use Rattle.std.proofs.lemmas.Int.{ints}
+use Rattle.std.proofs.lemmas.Option.{slice_get-get_or, get_or_from_slice_get}
 use Rattle.hyd_num.specs.declared.decimals.Span.{Span}
-use Rattle.hyd_spec.specs.Types.{Project}
+use Rattle.hyd_spec.specs.Types.{Project, Tank, Link, LinkState}
+use Rattle.hyd_spec.specs.declared.TankState.{TankState}
+use Rattle.hyd_spec.specs.Assignment.{head_at}
+use Rattle.hyd_spec.specs.Quantity.{is_us}
+use Rattle.hyd_spec.specs.Rules.{state_of_link}
 use Rattle.hyd_spec.specs.Lists.{joined, map_from}
-use Rattle.hyd_spec_certificates.specs.Interval.{Interval}
-use Rattle.hyd_spec_certificates.specs.Grid.{GridJunction}
-use Rattle.hyd_spec_certificates.specs.Boxes.{out_box}
-use Rattle.hyd_spec_reports.specs.ReportLine.{ReportLine, JunctionLine, line_text}
+use Rattle.hyd_spec_certificates.specs.Interval.{Interval, shifted}
+use Rattle.hyd_spec_certificates.specs.Grid.{Grid, GridLink, GridJunction}
+use Rattle.hyd_spec_certificates.specs.Boxes.{difference, flow_box, out_box}
+use Rattle.hyd_spec_reports.specs.ReportLine.{ReportLine, JunctionLine, ReservoirLine, TankLine, LinkLine, line_text}
+use Rattle.hyd_spec_reports.specs.Report.{status_of}
+use Rattle.hyd_spec_reports.specs.declared.StatusWord.{StatusWord}
+use Rattle.hyd_facts.specs.OfPeriod.{flows_of}
 use Rattle.hyd_bounds.specs.Bounds.{IsSpan}
 use Rattle.hyd_report.specs.Printing.{printed, quantity_in, ArePrinted}
-use Rattle.hyd_report.specs.Lines.{texts, junction_between}
+use Rattle.hyd_report.specs.Lines.{texts, junction_between, reservoir_line, tank_at, no_link, link_line}
 use Rattle.hyd_report.specs.declared.printed.Ends.{Ends}
 use Rattle.hyd_report.specs.declared.printed.Quantity.TheVariants.{Head, Pressure, Flow}
+
+-- ---- items
+
+-- the item that is there
+pub there : {X : Type 0} (xs : List X) (i : ℕ) (Q : X → Type 0) → i < length xs → IfSome (slice_get xs i) Q
+    → (x : X) × ((slice_get xs i ≡ Some x) × Q x)
+there [] i Q within q = absurd (omega arith)
+there (x ∷ xs) zero Q within q = (x, (refl, q))
+there (x ∷ xs) (suc i) Q within q = there xs i Q (omega arith) q
 
 -- ---- lines one after another
 
@@ -58,6 +75,12 @@ module _ {X : Type 0} (network : Project) (f : ℕ → X → ReportLine) where
   unfolding lines_rest
   lines_split xs i x at = ap (λ t. t ++ (rest_from 0 xs (i + 1)).0) (lines_more xs i x at) ∙ (rest_from 0 xs (i + 1)).1
 
+-- ---- boxes
+
+-- an interval by its ends
+pub span_is : (span : Span) (box : Interval) → IsSpan span box → record { lo = span.lo; hi = span.hi } ≡ box
+span_is span box is = ap (λ (z : ℤ). record { lo = z; hi = span.hi }) is.lo_is ∙ ap (λ (z : ℤ). record { lo = box.lo; hi = z }) is.hi_is
+
 -- ---- junctions
 
 pub junction_put : (o : Option GridJunction) (network : Project) (P : List ℕ → Type 0) (j : ℕ) (lower upper elevation : ℤ) (flow : Span)
@@ -75,4 +98,74 @@ junction_put (Some here) network P j lower upper elevation flow head pressure ou
     (subst (λ (z : Interval). ArePrinted (printed (quantity_in network Flow) z) outflow) same o)
   where
     same : record { lo = flow.lo; hi = flow.hi } ≡ out_box here lower upper
-    same = cc (box.lo_is, box.hi_is)
+    same = span_is flow (out_box here lower upper) box
+
+-- ---- reservoirs
+
+-- a head behind those of a vector
+pub head_behind : (u rest : List ℤ) (n r : ℕ) → length u ≡ n → head_at (u ++ rest) (n + r) ≡ head_at rest r
+head_behind [] rest n r is = let m : n + r ≡ r = omega (arith, is) in ap (head_at rest) m
+head_behind (h ∷ u) rest n r is =
+    let m : n + r ≡ suc (length u + r) = omega (arith, is) in
+    ap (head_at (h ∷ (u ++ rest))) m ∙ head_behind u rest (length u) r refl
+
+-- a head in front of others
+pub head_before : (u rest : List ℤ) (r : ℕ) → r < length u → head_at (u ++ rest) r ≡ head_at u r
+head_before [] rest r within = absurd (omega arith)
+head_before (h ∷ u) rest zero within = refl
+head_before (h ∷ u) rest (suc r) within = head_before u rest r (omega arith)
+
+-- so many heads
+pub heads_of : {X : Type 0} → List X → List ℤ
+heads_of xs = map (λ _. pos 0) xs
+
+pub heads_of-length : {X : Type 0} (xs : List X) → length (heads_of xs) ≡ length xs
+unfolding heads_of
+heads_of-length [] = refl
+heads_of-length (x ∷ xs) = ap suc (heads_of-length xs)
+
+pub reservoir_put : (reservoirs : List ℤ) (network : Project) (P : List ℕ → Type 0) (r : ℕ) (height : ℤ) (head : Ends)
+    → r < length reservoirs → height ≡ head_at reservoirs r
+    → ArePrinted (printed (quantity_in network Head) (record { lo = height; hi = height })) head
+    → ((h : Interval) → ArePrinted h head → P (line_text network (ReservoirLine r h)))
+    → IfSome (slice_get reservoirs r) (λ here. P (line_text network (reservoir_line network r here)))
+reservoir_put [] network P r height head within is h puts = absurd (omega arith)
+reservoir_put reservoirs network P r height head within is h puts =
+    let at : slice_get reservoirs r ≡ Some (head_at reservoirs r) = slice_get-get_or reservoirs r (pos 0) within in
+    subst (λ (o : Option ℤ). IfSome o (λ here. P (line_text network (reservoir_line network r here)))) (sym at)
+    (puts _ (subst (λ (z : ℤ). ArePrinted (printed (quantity_in network Head) (record { lo = z; hi = z })) head) is h))
+
+-- ---- tanks
+
+pub tank_put : (o : Option Tank) (network : Project) (P : List ℕ → Type 0) (k : ℕ) (levels inflow : Interval) (state : TankState)
+    (bottom : ℤ) (head level flow : Ends)
+    → IfSome o (λ t. bottom ≡ t.bottom)
+    → ArePrinted (printed (quantity_in network Head) (shifted bottom levels)) head
+    → ArePrinted (printed (quantity_in network Head) levels) level
+    → ArePrinted (printed (quantity_in network Flow) inflow) flow
+    → ((h l i : Interval) → ArePrinted h head → ArePrinted l level → ArePrinted i flow → P (line_text network (TankLine k h l i state)))
+    → IfSome o (λ here. P (line_text network (tank_at network k here levels inflow state)))
+tank_put None network P k levels inflow state bottom head level flow at h l i puts = tt
+tank_put (Some here) network P k levels inflow state bottom head level flow at h l i puts =
+    puts _ _ _ (subst (λ (z : ℤ). ArePrinted (printed (quantity_in network Head) (shifted z levels)) head) at h) l i
+
+-- ---- links
+
+pub link_put : (o : Option Link) (network : Project) (grid : Grid) (below above : List ℤ) (states : List LinkState)
+    (P : List ℕ → Type 0) (l : ℕ) (flow : Span) (ends : Ends) (status : StatusWord) (place : GridLink)
+    → slice_get grid.links l ≡ Some place
+    → IfSome (slice_get grid.links l) (λ g. IsSpan flow (flow_box g below above))
+    → IfSome o (λ here. status ≡ status_of (is_us network) network.bends.list here.kind (state_of_link states l) (difference place below above))
+    → ArePrinted (printed (quantity_in network Flow) (flows_of flow)) ends
+    → ((f : Interval) → ArePrinted f ends → P (line_text network (LinkLine l f status)))
+    → IfSome o (λ here. P (line_text network (link_line network grid below above states l here)))
+link_put None network grid below above states P l flow ends status place at box word printed_is puts = tt
+link_put (Some here) network grid below above states P l flow ends status place at box word printed_is puts =
+    let is : slice_index_or grid.links l no_link ≡ place = get_or_from_slice_get grid.links l place no_link at in
+    let boxed : IsSpan flow (flow_box place below above) = subst (λ (o : Option GridLink). IfSome o (λ g. IsSpan flow (flow_box g below above))) at box in
+    let text : (s : StatusWord) → s ≡ status → P (line_text network (LinkLine l (printed (quantity_in network Flow) (flow_box place below above)) s)) =
+    λ s same. subst (λ (t : StatusWord). P (line_text network (LinkLine l (printed (quantity_in network Flow) (flow_box place below above)) t))) (sym same)
+    (puts _ (subst (λ (z : Interval). ArePrinted (printed (quantity_in network Flow) z) ends) (span_is flow (flow_box place below above) boxed) printed_is)) in
+    subst (λ (g : GridLink). P (line_text network (LinkLine l (printed (quantity_in network Flow) (flow_box g below above))
+    (status_of (is_us network) network.bends.list here.kind (state_of_link states l) (difference g below above))))) (sym is)
+    (text _ (sym word))

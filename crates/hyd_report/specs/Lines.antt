@@ -1,5 +1,5 @@
 -- The lines of a period, as the program makes them from a net's grid, from vectors below and above and from facts.
-use Rattle.std.specs.Prelude.{ℕ, ℤ, ◌-ℤ◌, List, [], ◌∷◌, ◌++◌, map, slice_index_or}
+use Rattle.std.specs.Prelude.{ℕ, ℤ, pos, ◌-ℤ◌, List, [], ◌∷◌, ◌++◌, map, slice_index_or}
 use Rattle.hyd_spec.specs.Types.{Project, Tank, Link, LinkState}
 use Rattle.hyd_spec.specs.Law.{Shut}
 use Rattle.hyd_spec.specs.Lists.{joined}
@@ -7,6 +7,10 @@ use Rattle.hyd_spec.specs.Quantity.{is_us}
 use Rattle.hyd_spec.specs.Assignment.{head_at}
 use Rattle.hyd_spec.specs.Rules.{state_of_link}
 use Rattle.hyd_spec.specs.declared.TankState.{TankState}
+use Rattle.hyd_spec.specs.declared.TankState.TheVariants.{Between}
+use Rattle.hyd_spec_certificates.specs.declared.LevelSpan.{LevelSpan}
+use Rattle.hyd_num.specs.declared.decimals.Span.{Span}
+use Rattle.hyd_facts.specs.OfPeriod.{levels_of, flows_of}
 use Rattle.hyd_spec_certificates.specs.Interval.{Interval, exactly, shifted}
 use Rattle.hyd_spec_certificates.specs.Grid.{Grid, GridLink, GridJunction}
 use Rattle.hyd_spec_certificates.specs.Boxes.{difference, flow_box, out_box}
@@ -39,6 +43,19 @@ abbrev pub tank_at : Project → ℕ → Tank → Interval → Interval → Tank
 tank_at network k tank level inflow state =
     TankLine k (printed (quantity_in network Head) (shifted tank.bottom level)) (printed (quantity_in network Head) level)
     (printed (quantity_in network Flow) inflow) state
+
+-- No levels, and no flows, of a tank that isn't there.
+abbrev pub no_levels : LevelSpan
+no_levels = record { lo = pos 0; hi = pos 0 }
+
+abbrev pub no_flows : Span
+no_flows = record { lo = pos 0; hi = pos 0 }
+
+-- The line of tank number k by the levels, the inflows and the states of all tanks.
+abbrev pub tank_line : Project → List LevelSpan → List Span → List TankState → ℕ → Tank → ReportLine
+tank_line network levels inflows states k tank =
+    tank_at network k tank (levels_of (slice_index_or levels k no_levels)) (flows_of (slice_index_or inflows k no_flows))
+    (slice_index_or states k Between)
 
 -- A link that isn't there is shut.
 abbrev pub no_link : GridLink
