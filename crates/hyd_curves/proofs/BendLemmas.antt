@@ -95,8 +95,14 @@ begins a b c points x y p q turns ends =
     let most : a.flow ≤ℤ pos (10 ^ 15) = at_most a.flow (pos (10 ^ 15)) near.1 in
     let more : b.flow ≤ℤ pos (10 ^ 15) = at_most b.flow (pos (10 ^ 15)) far.1 in
     let line : value_at 1 (head_knots all) (pos 0) ≡ on_line 1 (knot_of x) (knot_of y) (pos 0) =
-    rw (p.place, p.value, q.place, q.value, apart (pos 0) (pos 1 *ℤ b.flow) (omega (arith, ints, one_times b.flow, start, rise)),
-    apart a.flow b.flow rise) refl in
+    rw (
+      p.place,
+      p.value,
+      q.place,
+      q.value,
+      apart (pos 0) (pos 1 *ℤ b.flow) (omega (arith, ints, one_times b.flow, start, rise)),
+      apart a.flow b.flow rise,
+    ) refl in
     record {
       first = record {
         forward = omega (arith, ints, p.place, start);

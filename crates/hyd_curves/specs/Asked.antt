@@ -1,10 +1,11 @@
 -- What tanks, pumps and general purpose valves ask of a curve, by its points.
-use Rattle.std.specs.Prelude.{ℕ, Bool, ◌&&◌, List, Option, Some, None, if◌then◌else◌, ℤ}
+use Rattle.std.specs.Prelude.{◌≡◌, ℕ, Bool, false, ◌&&◌, List, Option, Some, None, if◌then◌else◌, ℤ}
 use Rattle.hyd_num.specs.Quantity.{is_us_unit, head_ticks}
 use Rattle.hyd_num.specs.declared.units.FlowUnit.{FlowUnit}
 use Rattle.hyd_lex.specs.Lines.{Row}
 use Rattle.hyd_spec_input.specs.Columns.{or_else, unless}
-use Rattle.hyd_spec_input.specs.Curves.{is_volume_curve, volume_points, is_bent, is_pump_curve, are_flows, has_shutoff, is_pump_bend, begins_at_0, is_valve_bend, head_points}
+use Rattle.hyd_spec_input.specs.Curves.{is_volume_curve, volume_points, is_bent, is_pump_curve, are_flows, has_shutoff, is_pump_bend, begins_at_0, is_valve_bend, head_points, drop_of}
+use Rattle.hyd_spec_input.specs.Capacities.{IsRefusedPump}
 use Rattle.hyd_spec_input.specs.Tables.{Point, curve_named}
 use Rattle.hyd_net.specs.declared.cause.Cause.{Cause}
 use Rattle.hyd_net.specs.declared.cause.Cause.TheVariants.{Range, Unsupported}
@@ -36,3 +37,7 @@ pump_fault unit points =
 abbrev pub valve_fault : FlowUnit → List Point → Option Cause
 valve_fault unit points =
     unless (begins_at_0 points && is_valve_bend (head_points unit (is_us_unit unit) points)) Range
+
+-- points that a pump can have, of one point or three, make a capacity out of range
+abbrev pub IsRefusedPoints : FlowUnit → List Point → Type 0
+IsRefusedPoints unit points = (is_bent points ≡ false) × IsRefusedPump (drop_of points) unit

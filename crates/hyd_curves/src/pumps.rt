@@ -81,12 +81,7 @@ fn is_parabola(a: CurvePoint, b: CurvePoint, c: CurvePoint) -> bool
     if !fall_from_0(a, b, c) {
         return false;
     }
-    are_squares_alike(
-        a.y.nano - c.y.nano,
-        b.x.nano,
-        a.y.nano - b.y.nano,
-        c.x.nano,
-    )
+    are_squares_alike(a.y.nano - c.y.nano, b.x.nano, a.y.nano - b.y.nano, c.x.nano)
 }
 
 // Whether a pump can have a curve of so many points, ranges aside.

@@ -21,8 +21,12 @@ returns c =
     omega (arith, ints, c.requires.first.forward, c.requires.first.flow, c.requires.second.forward, c.requires.second.flow) in
     let product : FitsSigned w128 (pos (10 ^ 16) *ℤ (c.args.second.place -ℤ c.args.first.place)) =
     omega (arith, ints, c.requires.first.forward, c.requires.first.flow, c.requires.second.forward, c.requires.second.flow) in
-    rw (to_z-of_z w128 c.on_line.result line, to_z-of_z w128 c.args.first.place near, to_z-of_z w128 c.args.second.place far,
-    to_z-of_z w128 (c.args.second.place -ℤ c.args.first.place) width,
-    to_z-of_z w128 (pos (10 ^ 16) *ℤ (c.args.second.place -ℤ c.args.first.place)) product)
+    rw (
+      to_z-of_z w128 c.on_line.result line,
+      to_z-of_z w128 c.args.first.place near,
+      to_z-of_z w128 c.args.second.place far,
+      to_z-of_z w128 (c.args.second.place -ℤ c.args.first.place) width,
+      to_z-of_z w128 (pos (10 ^ 16) *ℤ (c.args.second.place -ℤ c.args.first.place)) product,
+    )
     (low_is (knot_of c.args.first) (knot_of c.args.second) (pos (10 ^ 16)) c.on_line.result
     (c.args.second.place -ℤ c.args.first.place) c.requires.rises c.on_line.ensures.value refl)

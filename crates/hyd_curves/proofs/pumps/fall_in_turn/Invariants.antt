@@ -6,7 +6,7 @@ use Rattle.hyd_curves.specs.Turns.{all_in_turn}
 use Rattle.hyd_curves.proofs.pumps.fall_in_turn.Given as goal
 
 abbrev pub invariant-loop-point : goal.invariant-loop-point
-invariant-loop-point l = 
+invariant-loop-point l =
     all_in_turn has_flow is_slower (head_points l.unit (is_us_unit l.unit) (points_in l.left))
     ≡ all_in_turn has_flow is_slower (head_points l.unit (is_us_unit l.unit) (points_in l.points))
 

@@ -7,7 +7,7 @@ use Rattle.hyd_curves.specs.Turns.{all_in_turn}
 use Rattle.hyd_curves.proofs.valves.rise_in_turn.Given as goal
 
 abbrev pub invariant-loop-point : goal.invariant-loop-point
-invariant-loop-point l = 
+invariant-loop-point l =
     all_in_turn loss_passes is_faster (head_points l.unit (is_us_unit l.unit) (points_in l.left))
     ≡ all_in_turn loss_passes is_faster (head_points l.unit (is_us_unit l.unit) (points_in l.points))
 
