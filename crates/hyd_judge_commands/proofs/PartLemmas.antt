@@ -1,5 +1,5 @@
 -- Clauses and actions of rules.
-use Rattle.std.proofs.Common.{◌≡◌, ℕ, Bool, true, false, List, [], ◌∷◌, Option, Some, None, refl, codes, inl, inr}
+use Rattle.std.proofs.Common.{◌≡◌, ℕ, List, [], ◌∷◌, Option, Some, None, refl, codes, inl, inr}
 use Rattle.std.proofs.lemmas.Bool.{cases_Bool}
 use Rattle.hyd_lex.specs.Headings.{is_one_of}
 use Rattle.hyd_lex.specs.Lines.{Row}
