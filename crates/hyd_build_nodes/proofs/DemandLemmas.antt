@@ -39,7 +39,7 @@ use Rattle.hyd_build_nodes.proofs.GatherLemmas.{set_named, default_at, known_the
 
 -- ---- lists
 
-abbrev demands_in : ListView Demand → List Demand
+abbrev pub demands_in : ListView Demand → List Demand
 demands_in list = list.list
 
 pub one_more : (lists : List (ListView Demand)) (number : ℕ) (was now : ListView Demand) (demand : Demand)

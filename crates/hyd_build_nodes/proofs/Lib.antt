@@ -4,3 +4,4 @@ pub mod TankLemmas
 pub mod GatherLemmas
 pub mod DemandLemmas
 pub mod EmitterLemmas
+pub mod JunctionLemmas

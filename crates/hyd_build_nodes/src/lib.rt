@@ -4,9 +4,11 @@
 
 mod demands;
 mod emitters;
+mod junctions;
 mod quantities;
 mod reservoirs;
 mod tanks;
 
+pub use junctions::build_junctions;
 pub use reservoirs::build_reservoirs;
 pub use tanks::build_tanks;

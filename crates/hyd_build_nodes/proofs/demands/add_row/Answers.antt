@@ -57,8 +57,12 @@ demand_by-demand-requires c =
 pub push_at-requires : goal.push_at-requires
 push_at-requires c =
     let there = sym c.number.ensures.value ∙ c.in-Some.is in
-    omega (arith, number_inside c.args.nodes.now.names c.in-Ok.row.junction.now c.in-Some.number there,
-    c.requires.gathered.even, length-map c.args.lists.now.items (λ (list : ListView Demand). list.list))
+    omega (
+      arith,
+      number_inside c.args.nodes.now.names c.in-Ok.row.junction.now c.in-Some.number there,
+      c.requires.gathered.even,
+      length-map c.args.lists.now.items (λ (list : ListView Demand). list.list),
+    )
 
 pub returns : goal.returns
 unfolding nothing
