@@ -1,5 +1,5 @@
 -- Links, one row further.
-use Rattle.std.proofs.Common.{◌≡◌, ◌+◌, ◌≤◌, ◌++◌, ℕ, Bool, true, true≢false, false, List, [], ◌∷◌, take, length, slice_get, Some, refl, sym, ap, ◌∙◌, subst, arith, append_assoc, append-nil, ◌==◌}
+use Rattle.std.proofs.Common.{◌≡◌, ◌+◌, ◌≤◌, ◌++◌, ℕ, true, true≢false, false, List, [], ◌∷◌, take, length, slice_get, Some, refl, sym, ap, ◌∙◌, subst, append_assoc, append-nil, ◌==◌}
 use Rattle.std.proofs.lemmas.Bool.{eqb-true, false_from_ne_true, or_left, or_right}
 use Rattle.hyd_lex.specs.Lines.{Row}
 use Rattle.hyd_lex.specs.declared.line.Line.{Line}

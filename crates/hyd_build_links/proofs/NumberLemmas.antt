@@ -1,5 +1,5 @@
 -- Names that have numbers.
-use Rattle.std.proofs.Common.{◌≡◌, ℕ, ◌+◌, ◌≤◌, zero, suc, Bool, true, false, List, [], ◌∷◌, ◌++◌, map, Option, Some, None, slice_get, refl, sym, ap, ◌∙◌, subst, arith, inl, inr, true≢false}
+use Rattle.std.proofs.Common.{◌≡◌, ℕ, ◌+◌, ◌≤◌, zero, suc, Bool, true, false, List, [], ◌∷◌, ◌++◌, map, Option, Some, None, slice_get, refl, sym, ap, ◌∙◌, arith, inl, inr, true≢false}
 use Rattle.std.specs.Prelude.{filter}
 use Rattle.std.specs.List.{flat_map}
 use Rattle.std.specs.Option.{option_map}
@@ -7,13 +7,11 @@ use Rattle.std.specs.Str.{bytes_eq}
 use Rattle.std.proofs.lemmas.Bool.{cases_Bool, or_left, or_right}
 use Rattle.std.proofs.lemmas.List.{map-append}
 use Rattle.std.proofs.lemmas.Option.{slice_get-map}
-use Rattle.hyd_lex.specs.Lines.{Row, row_of}
+use Rattle.hyd_lex.specs.Lines.{Row}
 use Rattle.hyd_lex.specs.declared.line.Line.{Line}
 use Rattle.hyd_lex.specs.declared.section.Section.TheVariants.{Junctions, Reservoirs, Tanks, Pumps, Valves}
-use Rattle.hyd_net.specs.declared.cause.Cause.TheVariants.{UnknownName}
-use Rattle.hyd_spec_input.specs.Columns.{or_empty, word}
 use Rattle.hyd_spec_input.specs.NetworkRows.{pump_curve, valve_curve}
-use Rattle.hyd_spec_input.specs.Network.{node_ids, number_in, is_among, new_names, as_list, bent_name, bend_names}
+use Rattle.hyd_spec_input.specs.Network.{node_ids, number_in, is_among, as_list, bent_name, bend_names}
 use Rattle.hyd_spec_input.specs.Curves.{is_bent}
 use Rattle.hyd_spec_input.specs.Tables.{is_of, is_node, is_link, rows_of, node_rows, link_rows, node_named, row_with, own_id, curve_named}
 use Rattle.hyd_spec_input.specs.WithOthers.{known_as, known_node}

@@ -1,36 +1,18 @@
 -- What a pipe is made of.
-use Rattle.std.proofs.Common.{◌≡◌, ℕ, Bool, true, false, List, refl, sym, ◌∙◌, inl, inr, if◌then◌else◌}
+use Rattle.std.proofs.Common.{◌≡◌, ℕ, Bool, true, false, List, sym, ◌∙◌, inl, inr, if◌then◌else◌}
 use Rattle.std.proofs.lemmas.Bool.{cases_Bool}
 use Rattle.hyd_num.specs.Chain.{IsMade}
-use Rattle.hyd_num.specs.Refusal.{IsRefused}
 use Rattle.hyd_num.specs.declared.capacities.Capacity.{Capacity}
 use Rattle.hyd_num.specs.declared.capacities.Origin.TheVariants.{Pipe}
-use Rattle.hyd_num.specs.declared.decimals.Decimal.{Decimal}
 use Rattle.hyd_lex.specs.Lines.{Row}
 use Rattle.hyd_rows.specs.Rows.{IsPipeRow, pipe_status}
 use Rattle.hyd_rows.specs.declared.pipes.PipeRow.{PipeRow}
 use Rattle.hyd_rows.specs.declared.pipes.PipeStatus.{PipeStatus}
 use Rattle.hyd_rows.specs.declared.pipes.PipeStatus.TheVariants.{Open, Closed, CheckValve}
-use Rattle.hyd_spec_input.specs.Capacities.{IsRefusedPipe}
 use Rattle.hyd_spec_input.specs.Columns.{amount}
 use Rattle.hyd_spec_input.specs.NetworkRows.{has_check_valve, is_closed_pipe, pipe_minor}
 use Rattle.hyd_spec_input.specs.Project.{IsPipeOf}
 use Rattle.hyd_spec_input.specs.WithOthers as others
-
--- numbers are told by their billionths
-pub refused_pipe : (l d n k : Decimal) (us : Bool) → IsRefused (Pipe l d n k us)
-    → IsRefusedPipe l.nano d.nano n.nano k.nano us
-refused_pipe l d n k us refused = record {
-  l = l;
-  l_is = refl;
-  d = d;
-  d_is = refl;
-  n = n;
-  n_is = refl;
-  k = k;
-  k_is = refl;
-  refused = refused;
-}
 
 pub pipe_made : (rows : List Row) (row : Row) (us : Bool) (pipe : PipeRow) (cap : Capacity) → us ≡ others.us rows
     → IsPipeRow row.words pipe → IsMade cap

@@ -25,7 +25,7 @@ use Rattle.hyd_spec_input.specs.Project.{IsPumpKind}
 use Rattle.hyd_spec_input.specs.Tables.{curve_named}
 use Rattle.hyd_spec_networks.proofs.Faultless.{below}
 use Rattle.hyd_build_links.specs.Pumps.{ArePumpPoints, IsPumpLaw}
-use Rattle.hyd_build_links.specs.Stub.{point_in, points_in}
+use Rattle.hyd_build_links.specs.Stub.{points_in}
 use Rattle.hyd_build_links.specs.declared.laws.PumpLaw.{PumpLaw}
 use Rattle.hyd_build_links.specs.declared.stub.CurvePoint.{CurvePoint}
 

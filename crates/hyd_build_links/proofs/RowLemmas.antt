@@ -1,33 +1,29 @@
 -- What a right source says of its pipes, pumps and valves.
-use Rattle.std.proofs.Common.{◌≡◌, ◌^◌, ◌<◌, ◌≤◌, ℕ, Bool, true, false, List, [], ◌∷◌, length, Option, Some, None, slice_get, refl, sym, ap, ◌∙◌, subst, arith, inl, inr, codes}
-use Rattle.std.specs.Prelude.{ℤ, pos, nat_le}
+use Rattle.std.proofs.Common.{◌≡◌, ◌^◌, ◌<◌, ◌≤◌, ℕ, Bool, true, false, List, length, Option, Some, None, sym, ap, ◌∙◌, subst, arith, inl, inr}
+use Rattle.std.specs.Prelude.{nat_le}
 use Rattle.std.proofs.lemmas.Bool.{cases_Bool, leb-true, leb-false}
-use Rattle.std.proofs.lemmas.Int.{ints}
 use Rattle.std.proofs.lemmas.List.{length-map}
 use Rattle.hyd_num.specs.Quantity.{is_us_unit}
 use Rattle.hyd_num.specs.declared.decimals.Decimal.{Decimal}
-use Rattle.hyd_lex.specs.Bytes.{is_keyword}
-use Rattle.hyd_lex.specs.Lines.{Row, row_of}
+use Rattle.hyd_lex.specs.Lines.{row_of}
 use Rattle.hyd_lex.specs.declared.line.Line.{Line}
 use Rattle.hyd_lex.specs.declared.section.Section.TheVariants.{Pipes, Pumps, Valves}
-use Rattle.hyd_net.specs.Ranges.{Lies, IsUpTo}
+use Rattle.hyd_net.specs.Ranges.{IsUpTo}
 use Rattle.hyd_net.specs.declared.cause.Cause.{Cause}
-use Rattle.hyd_resist.specs.Ranges.{IsPositiveUpTo, IsMinorCoefficient}
 use Rattle.hyd_rows.specs.Rows.{IsPipeRow, IsValveRow}
 use Rattle.hyd_rows.specs.declared.pipes.PipeRow.{PipeRow}
 use Rattle.hyd_rows.specs.declared.valves.ValveRow.{ValveRow}
-use Rattle.hyd_spec_input.specs.Capacities.{IsRefusedPipe, IsRefusedValve, IsRefusedCurve, IsRefusedPump}
-use Rattle.hyd_spec_input.specs.Columns.{up_to, word, or_empty, amount, units, is_option_keyword}
-use Rattle.hyd_spec_input.specs.Curves.{drop_of, is_bent}
+use Rattle.hyd_spec_input.specs.Capacities.{IsRefusedPipe, IsRefusedValve}
+use Rattle.hyd_spec_input.specs.Columns.{or_empty, amount}
+use Rattle.hyd_spec_input.specs.Curves.{is_bent}
 use Rattle.hyd_spec_input.specs.NetworkRows as alone
 use Rattle.hyd_spec_input.specs.Tables.{Point, is_of, curve_named}
 use Rattle.hyd_spec_input.specs.WithOthers as others
-use Rattle.hyd_spec_networks.proofs.Faultless.{AreRight, right_alone, needed_none, within}
-use Rattle.hyd_spec_networks.proofs.InForce.{keyword_same}
+use Rattle.hyd_spec_networks.proofs.Faultless.{right_alone}
 use Rattle.hyd_spec_networks.proofs.LinkKinds.{PipeNumbers, pipe_numbers, ValveNumbers, valve_numbers, CurveRight, straight_range, pump_right}
-use Rattle.hyd_states.specs.States.{IsThrottleCoefficient}
+use Rattle.hyd_states.proofs.RangeLemmas.{throttle_alone, coefficient_right}
 use Rattle.hyd_build_links.specs.Pumps.{ArePumpPoints}
-use Rattle.hyd_build_links.specs.Sources.{IsRightSource, IsRowOf, rows_from}
+use Rattle.hyd_build_links.specs.Sources.{IsRowOf, rows_from}
 use Rattle.hyd_build_links.specs.Stub.{points_in}
 use Rattle.hyd_build_links.specs.declared.source.LinkSource.{LinkSource}
 use Rattle.hyd_build_links.specs.declared.stub.CurvePoint.{CurvePoint}
@@ -36,21 +32,6 @@ use Rattle.hyd_build_links.proofs.SourceLemmas.{right_source, free_row}
 -- a row that is right has no fault
 pub no_fault : (fault : Option Cause) (cause : Cause) → fault ≡ None → fault ≡ Some cause → ⊥
 no_fault fault cause none some = let x : ⊥ = cc in x
-
--- ---- numbers
-
-pub positive_up_to : (most : ℕ) (d : Decimal) (nano : ℤ) → d.nano ≡ nano → Lies (pos 1) (units most) nano
-    → IsPositiveUpTo most d
-positive_up_to most d nano e l = record {
-  positive = rw e (let b = l.at_least in omega (arith, ints, b));
-  at_most = rw e l.at_most;
-}
-
-pub minor_up_to : (d : Decimal) (nano : ℤ) → d.nano ≡ nano → IsUpTo (10 ^ 6) nano → IsMinorCoefficient d
-minor_up_to d nano e l = record { not_negative = rw e l.at_least; at_most = rw e l.at_most }
-
-pub coefficient_up_to : (d : Decimal) (nano : ℤ) → d.nano ≡ nano → IsUpTo (10 ^ 6) nano → IsThrottleCoefficient d
-coefficient_up_to d nano e l = record { not_negative = rw e l.at_least; at_most = rw e l.at_most }
 
 -- ---- pipes
 
@@ -77,18 +58,6 @@ pipe_facts text from line at =
 
 -- ---- valves
 
-other_type : is_keyword (codes "GPV") (codes "TCV") ≡ false
-unfolding is_keyword
-other_type = refl
-
-not_both : (o : Option (List ℕ)) → is_option_keyword (codes "TCV") o ≡ true → is_option_keyword (codes "GPV") o ≡ false
-not_both None e = refl
-not_both (Some w) e = keyword_same (codes "TCV") (codes "GPV") w e ∙ other_type
-
--- a throttle control valve is no general purpose valve
-pub throttle_alone : (words : List (List ℕ)) → alone.is_throttle words ≡ true → alone.is_general words ≡ false
-throttle_alone words e = not_both (slice_get words 4) e
-
 pub record ValveFacts (text : List ℕ) (from : LinkSource) (line : Line) : Type 0 where
   pub own : alone.valve (row_of text line).words ≡ None
   pub numbers : ValveNumbers (row_of text line).words
@@ -110,17 +79,22 @@ valve_facts text from line at =
     record {
       own = own;
       numbers = valve_numbers row.words own;
-      coefficient = λ t.
-          let setting = (needed_none (alone.valve_setting row.words) 5 row.words
-          (valve_numbers row.words own).setting).right in
-          let right : up_to (10 ^ 6) (word 5 row.words) ≡ None = rw t at setting in
-          within (pos 0) (units (10 ^ 6)) (word 5 row.words) right;
+      coefficient = coefficient_right row.words own;
       fully = λ valve us is u g refused.
-          free (g, inl (let e : us ≡ others.us rows = u ∙ ap is_us_unit at.right.unit_is in
-          rw (← is.diameter, ← is.minor, ← e) refused));
+          free (
+            g,
+            inl (let e : us ≡ others.us rows = u ∙ ap is_us_unit at.right.unit_is in
+                rw (← is.diameter, ← is.minor, ← e) refused),
+          );
       throttled = λ coefficient us is u t refused.
-          free (throttle_alone row.words t, inr (t, let e : us ≡ others.us rows = u ∙ ap is_us_unit at.right.unit_is in
-          rw (← is, ← e) refused));
+          free (
+            throttle_alone row.words t,
+            inr (
+              t,
+              let e : us ≡ others.us rows = u ∙ ap is_us_unit at.right.unit_is in
+                  rw (← is, ← e) refused,
+            ),
+          );
     }
 
 -- ---- pumps

@@ -1,27 +1,20 @@
 -- A row of a source whose rows are right.
-use Rattle.std.proofs.Common.{◌≡◌, ◌^◌, ℕ, ◌≤◌, Bool, true, List, [], length, take, Option, Some, None, slice_get, refl, sym, subst, arith, inl, inr, nat_le}
-use Rattle.std.specs.Prelude.{ℤ, pos}
+use Rattle.std.proofs.Common.{◌≡◌, ℕ, ◌≤◌, true, List, length, take, Some, slice_get, refl, sym, subst, inl, inr, nat_le}
 use Rattle.std.specs.List.{All, slice_split}
 use Rattle.std.proofs.lemmas.Bool.{leb-true}
-use Rattle.std.proofs.lemmas.Int.{ints}
 use Rattle.std.proofs.lemmas.List.Elements.{filter_passes}
-use Rattle.hyd_num.specs.declared.decimals.Decimal.{Decimal}
 use Rattle.hyd_lex.specs.Bytes.{words_in, is_blank}
 use Rattle.hyd_lex.specs.Lines.{Row, row_of}
 use Rattle.hyd_lex.specs.declared.section.Section.{Section}
-use Rattle.hyd_lex.specs.declared.section.Section.TheVariants.{Pipes, Pumps, Valves, Status}
-use Rattle.hyd_net.specs.Ranges.{IsUpTo}
 use Rattle.hyd_net.specs.declared.cause.Cause.TheVariants.{Limit}
-use Rattle.hyd_resist.specs.Ranges.{IsMinorCoefficient}
 use Rattle.hyd_spec_input.specs.ByItself as itself
 use Rattle.hyd_spec_input.specs.Capacities.{IsRefusedIn, IsRefusedRow}
-use Rattle.hyd_spec_input.specs.NetworkRows as alone
 use Rattle.hyd_spec_input.specs.Tables.{is_of}
 use Rattle.hyd_spec_input.specs.WithOthers as others
-use Rattle.hyd_spec_networks.proofs.Faultless.{AreRight, right_alone, section_is}
+use Rattle.hyd_spec_networks.proofs.Faultless.{AreRight, section_is}
 use Rattle.hyd_spec_networks.proofs.Places.{source}
 use Rattle.hyd_tables.proofs.SectionLemmas.{none_of}
-use Rattle.hyd_build_links.specs.Sources.{IsRightSource, IsAmong, IsRowOf, rows_from}
+use Rattle.hyd_build_links.specs.Sources.{IsRightSource, rows_from}
 use Rattle.hyd_build_links.specs.declared.source.LinkSource.{LinkSource}
 
 -- no word of a line is empty
@@ -57,9 +50,3 @@ free_row text from k row section right is of refused =
       row_is = is;
       fault = inr ((right_source text from right).with_others k row is, own, refl);
     })
-
--- ---- numbers
-
--- a number of at least 0 that may be missing
-pub minor_up_to : (d : Decimal) (nano : ℤ) → d.nano ≡ nano → IsUpTo (10 ^ 6) nano → IsMinorCoefficient d
-minor_up_to d nano e l = record { not_negative = rw e l.at_least; at_most = rw e l.at_most }

@@ -1,6 +1,5 @@
 -- The states in which links start.
-use Rattle.std.proofs.Common.{◌≡◌, ℕ, Bool, true, false, List, length, take, Option, Some, None, slice_get, refl, sym, ap, ◌∙◌, subst, inl, inr, codes, if◌then◌else◌, arith}
-use Rattle.std.specs.Prelude.{ℤ, pos}
+use Rattle.std.proofs.Common.{◌≡◌, ℕ, Bool, true, false, List, length, take, Option, Some, None, slice_get, refl, sym, ap, ◌∙◌, inl, inr, codes, if◌then◌else◌, arith}
 use Rattle.std.specs.Str.{bytes_eq}
 use Rattle.std.proofs.lemmas.Bool.{cases_Bool}
 use Rattle.hyd_num.specs.Quantity.{is_us_unit}
@@ -16,17 +15,17 @@ use Rattle.hyd_opts.specs.Meanings.{IsAsked}
 use Rattle.hyd_opts.specs.declared.controls.Asked.{Asked}
 use Rattle.hyd_rows.specs.Rows.{pipe_status}
 use Rattle.hyd_rows.specs.declared.pipes.PipeStatus.{PipeStatus}
-use Rattle.hyd_rows.specs.declared.pipes.PipeStatus.TheVariants.{Open, Closed, CheckValve}
+use Rattle.hyd_rows.specs.declared.pipes.PipeStatus.TheVariants.{Closed}
 use Rattle.hyd_spec_input.specs.Capacities.{IsRefusedSetting}
 use Rattle.hyd_spec_input.specs.Columns.{word, amount, is_option_keyword}
 use Rattle.hyd_spec_input.specs.DataRows as data_row
 use Rattle.hyd_spec_input.specs.InForce as force
 use Rattle.hyd_spec_input.specs.Network.{status_of, last_naming}
 use Rattle.hyd_spec_input.specs.NetworkRows as alone
-use Rattle.hyd_spec_input.specs.Project.{IsOpenValve, IsNumberState, Where}
+use Rattle.hyd_spec_input.specs.Project.{IsNumberState, Where}
 use Rattle.hyd_spec_input.specs.Tables.{is_of, is_link, link_named, rows_of, own_id}
 use Rattle.hyd_spec_input.specs.WithOthers as others
-use Rattle.hyd_spec_networks.proofs.Faultless.{AreRight, right_alone, right_among, all_none}
+use Rattle.hyd_spec_networks.proofs.Faultless.{right_alone, right_among, all_none}
 use Rattle.hyd_spec_networks.proofs.InForce.{keyword_same, in_force}
 use Rattle.hyd_spec_networks.proofs.LinkKinds.{not_of}
 use Rattle.hyd_spec_networks.proofs.LinkStates.{valve_range}
@@ -35,9 +34,9 @@ use Rattle.hyd_spec_networks.proofs.Occurs.{same_name}
 use Rattle.hyd_states.specs.States.{IsRightLink, IsSettable, IsThrottled, limit_fault}
 use Rattle.hyd_tables.proofs.SectionLemmas.{all_rows}
 use Rattle.hyd_states.proofs.RightLinks.{right_link}
-use Rattle.hyd_build_links.specs.Sources.{IsRightSource, IsRowOf, rows_from}
+use Rattle.hyd_build_links.specs.Sources.{IsRowOf, rows_from}
 use Rattle.hyd_build_links.specs.declared.source.LinkSource.{LinkSource}
-use Rattle.hyd_build_links.proofs.RowLemmas.{throttle_alone}
+use Rattle.hyd_states.proofs.RangeLemmas.{throttle_alone}
 use Rattle.hyd_build_links.proofs.SourceLemmas.{right_source, free_row}
 
 -- ---- pipes

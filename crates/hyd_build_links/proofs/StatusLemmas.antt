@@ -1,6 +1,6 @@
 -- The last rows of [STATUS] that name each link, one row further.
-use Rattle.std.proofs.Common.{◌≡◌, ◌+◌, ◌<◌, ◌≤◌, ◌++◌, ℕ, Bool, true, false, List, [], ◌∷◌, length, take, Option, Some, None, slice_get, refl, sym, ap, ◌∙◌, subst, arith, inl, inr, true≢false, get_or, length-append, nat_lt, ltb-true, ltb-false}
-use Rattle.std.specs.Prelude.{slice_set, slice_index_or, IfSome}
+use Rattle.std.proofs.Common.{◌≡◌, ◌+◌, ◌<◌, ◌≤◌, ◌++◌, ℕ, Bool, true, false, List, [], ◌∷◌, length, take, Option, Some, None, slice_get, refl, sym, ap, ◌∙◌, arith, inl, inr, true≢false, get_or, nat_lt, ltb-true, ltb-false}
+use Rattle.std.specs.Prelude.{slice_set, IfSome}
 use Rattle.std.specs.List.{All}
 use Rattle.std.specs.Str.{bytes_eq}
 use Rattle.std.proofs.lemmas.Bool.{cases_Bool}
@@ -35,7 +35,6 @@ last_more p [] row = none_last (where_passes p row)
 last_more p (next ∷ rows) row =
     ap (λ o. or_earlier o (where_passes p next)) (last_more p rows row)
     ∙ or_earlier_in_turn (where_passes p row) (last_where p rows) (where_passes p next)
-
 
 last_here : (name : List ℕ) (rows : List Row) (k : ℕ) (row : Row) → slice_get rows k ≡ Some row
     → is_of Status row ≡ true → bytes_eq name (own_id row) ≡ true

@@ -1,5 +1,5 @@
 -- Links as they are built.
-use Rattle.std.specs.Prelude.{◌≡◌, ℕ, Bool, true, false, List, ◌++◌, take}
+use Rattle.std.specs.Prelude.{ℕ, Bool, true, false, List, ◌++◌, take}
 use Rattle.hyd_lex.specs.Lines.{Row}
 use Rattle.hyd_lex.specs.declared.section.Section.{Section}
 use Rattle.hyd_lex.specs.declared.section.Section.TheVariants.{Pipes, Pumps, Valves}

@@ -1,5 +1,5 @@
 -- The laws of pumps with curves of one point or three.
-use Rattle.std.specs.Prelude.{◌≡◌, ℕ, true, false, List}
+use Rattle.std.specs.Prelude.{◌≡◌, true, false, List}
 use Rattle.hyd_num.specs.Quantity.{is_us_unit}
 use Rattle.hyd_num.specs.declared.units.FlowUnit.{FlowUnit}
 use Rattle.hyd_net.specs.Made.{IsShutoffMade}

@@ -1,4 +1,4 @@
-use Rattle.std.specs.Prelude.{◌≡◌, ℕ, List, [], ◌∷◌, ◌++◌, map, length, take, Option, Some, None, slice_index_or}
+use Rattle.std.specs.Prelude.{◌≡◌, ℕ, List, [], map, Option, Some, None, slice_index_or}
 use Rattle.hyd_lex.specs.Lines.{Row}
 use Rattle.hyd_net.specs.ListView.{ListView}
 use Rattle.hyd_spec_input.specs.Network.{number_in}

@@ -34,12 +34,7 @@ fn kind_of(text: &Lines<'_>, line: &Line, source: &LinkSource<'_>) -> LinkKind
 }
 
 // The link of a row.
-fn link_of(
-    text: &Lines<'_>,
-    line: &Line,
-    source: &LinkSource<'_>,
-    last: &[Option<Line>],
-) -> Link
+fn link_of(text: &Lines<'_>, line: &Line, source: &LinkSource<'_>, last: &[Option<Line>]) -> Link
     requires row { IsRowOf is_link text.now.text source.now line.now }
     requires statuses { AreStatuses text.now.text (rows_from text.now.text source.now) (length source.now.lines.now)
         source.now.links.now.names last.now }

@@ -89,12 +89,7 @@ fn own_state(text: &Lines<'_>, line: &Line, source: &LinkSource<'_>) -> LinkStat
 }
 
 // The state that a row of [STATUS] asks of a link.
-fn asked_state(
-    text: &Lines<'_>,
-    line: &Line,
-    source: &LinkSource<'_>,
-    status: &Line,
-) -> LinkState
+fn asked_state(text: &Lines<'_>, line: &Line, source: &LinkSource<'_>, status: &Line) -> LinkState
     requires row { IsRowOf is_link text.now.text source.now line.now }
     requires lies { LiesIn text.now.text status.now }
     requires status { status_of (rows_from text.now.text source.now) (row_of text.now.text line.now)

@@ -38,13 +38,7 @@ fn none_each(alloc: Global, count: usize) -> Result<Vec<Option<Line>>, OutOfMemo
 }
 
 // The next row.
-fn note(
-    last: &mut Vec<Option<Line>>,
-    text: &Lines<'_>,
-    lines: &[Line],
-    place: usize,
-    links: &Table,
-)
+fn note(last: &mut Vec<Option<Line>>, text: &Lines<'_>, lines: &[Line], place: usize, links: &Table)
     requires within { place < length lines.now }
     requires lie { All (LiesIn text.now.text) lines.now }
     requires noted { AreStatuses text.now.text (rows_at text.now.text lines.now) place links.now.names last.old.items }

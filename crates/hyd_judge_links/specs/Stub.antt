@@ -1,5 +1,11 @@
-use Rattle.std.specs.Prelude.{◌≡◌, ℕ, false, List, Option, Some, None, slice_index_or}
+use Rattle.std.specs.Prelude.{◌≡◌, ℕ, ℤ, Bool, true, false, ◌&&◌, List, Option, Some, None, slice_index_or}
 use Rattle.std.specs.Bool.{OnTrue, OnFalse}
+use Rattle.std.specs.Option.{option_map}
+use lib.Signed.{le_z}
+use Rattle.hyd_tables.specs.Tables.{IsTable}
+use Rattle.hyd_spec_input.specs.Tables.{rows_of}
+use Rattle.hyd_lex.specs.declared.section.Section.TheVariants.{Patterns as InPatterns}
+use Rattle.hyd_judge_links.specs.declared.stub.Patterns.{Patterns}
 use Rattle.hyd_lex.specs.Lines.{Row}
 use Rattle.hyd_net.specs.declared.cause.Cause.TheVariants.{Range, Unsupported}
 use Rattle.hyd_spec_input.specs.Capacities.{IsRefusedCurve}
@@ -26,5 +32,19 @@ pub record IsVerdictOn (rows : List Row) (name : List ℕ) (verdict : Verdict) :
 pub record AreVerdicts (rows : List Row) (names : List (List ℕ)) (verdicts : Verdicts) : Type 0 where
   pub named : (name : List ℕ) → IsVerdictOn rows name (verdict_of verdicts.each.items (number_in names name))
 
-pub record AreExtremes (rows : List Row) (names : List (List ℕ)) (extremes : Extremes) : Type 0 where
-  pub named : names ≡ names
+pub record ArePatterns (text : List ℕ) (rows : List Row) (patterns : Patterns) : Type 0 where
+  pub table : IsTable text (rows_of InPatterns rows) patterns.table
+
+pub record Bounds : Type 0 where
+  pub least : ℤ
+  pub greatest : ℤ
+
+abbrev pub bounds : Option Extremes → Option Bounds
+bounds extremes = option_map (λ (e : Extremes). record { least = e.least.nano; greatest = e.greatest.nano }) extremes
+
+abbrev pub pass : (ℤ → Bool) → Option Bounds → Bool
+pass test None = true
+pass test (Some b) = test b.least && test b.greatest
+
+abbrev pub is_between : ℤ → ℤ → ℤ → Bool
+is_between low high z = le_z low z && le_z z high
