@@ -13,13 +13,14 @@ ghost use Rattle.hyd_spec_input.specs.Tables.{node_rows, rows_of};
 ghost use Rattle.hyd_spec_input.specs.WithOthers as others;
 ghost use Rattle.hyd_tables.specs.Sections.{IsFaultThen};
 ghost use Rattle.hyd_tables.specs.Tables.{IsTable, IsEven};
-ghost use Rattle.hyd_judge_links.specs.Stub.{AreVerdicts, ArePatterns};
+ghost use Rattle.hyd_curves.specs.Judged.{AreVerdicts};
+ghost use Rattle.hyd_judge.specs.Patterns.{ArePatterns};
 ghost use Rattle.hyd_judge_links.specs.Links as links;
 ghost use Rattle.hyd_judge_links.specs.Links.{AreEven};
 
 use crate::ends::ends_fault;
-use crate::stub::Patterns;
 use crate::tables::LinkTables;
+use hyd_judge::Patterns;
 use hyd_lex::{Line, Lines};
 use hyd_net::Cause;
 use hyd_num::Decimal;

@@ -1,7 +1,8 @@
 //! What rows of links are judged against.
 #![tactic(auto)]
 
-use crate::stub::{Patterns, Verdicts};
+use hyd_curves::Verdicts;
+use hyd_judge::Patterns;
 use hyd_num::FlowUnit;
 use hyd_tables::Table;
 

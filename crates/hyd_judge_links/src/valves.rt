@@ -17,13 +17,13 @@ ghost use Rattle.hyd_states.specs.States.{IsThrottleCoefficient};
 ghost use Rattle.hyd_tables.specs.Ranges as range;
 ghost use Rattle.hyd_tables.specs.Sections.{IsCapacityFault, IsFaultThen};
 ghost use Rattle.hyd_tables.specs.Tables.{IsTable, IsEven};
-ghost use Rattle.hyd_judge_links.specs.Stub.{AreVerdicts};
+ghost use Rattle.hyd_curves.specs.Judged.{AreVerdicts};
 ghost use Rattle.hyd_judge_links.specs.Links as links;
 ghost use Rattle.hyd_judge_links.specs.Links.{AreEven, IsRefusedValveOf};
 
 use crate::ends::ends_fault;
-use crate::stub::Verdicts;
 use crate::tables::LinkTables;
+use hyd_curves::Verdicts;
 use hyd_lex::{Line, Lines};
 use hyd_net::Cause;
 use hyd_num::{Decimal, FlowUnit};
