@@ -1,7 +1,6 @@
 -- Capacities of pumps by their curves.
-use Rattle.std.proofs.Common.{◌≡◌, ◌^◌, Bool, true, false, List, [], ◌∷◌, length, get_or, Option, Some, None, ℕ, pos, neg_ℤ, ◌<ℤ◌, ◌≤ℤ◌, ◌-ℤ◌, ◌*ℤ◌, refl, sym, subst, arith}
+use Rattle.std.proofs.Common.{◌≡◌, ◌^◌, Bool, true, false, List, [], ◌∷◌, length, get_or, None, ℕ, pos, neg_ℤ, ◌<ℤ◌, ◌≤ℤ◌, ◌-ℤ◌, ◌*ℤ◌, refl, sym, subst, arith}
 use Rattle.std.specs.Prelude.{◌&&◌}
-use Rattle.std.specs.List.{list_all}
 use Rattle.std.specs.Ordering.{int_eq}
 use Rattle.std.proofs.lemmas.Bool.{and_parts}
 use lib.Signed.{le_z, lt_z}
@@ -9,7 +8,6 @@ use Rattle.hyd_num.specs.Quantity.{is_us_unit, flow_ticks, head_ticks}
 use Rattle.hyd_num.specs.Refusal.{IsRefused}
 use Rattle.hyd_num.specs.declared.decimals.Decimal.{Decimal}
 use Rattle.hyd_num.specs.declared.units.FlowUnit.{FlowUnit}
-use Rattle.hyd_num.specs.declared.capacities.Origin.{Origin}
 use Rattle.hyd_num.specs.declared.capacities.Origin.TheVariants.{Pump}
 use Rattle.hyd_net.proofs.Equal.{Decimal-equal}
 use Rattle.hyd_net.specs.declared.cause.Cause.{Cause}
@@ -20,7 +18,7 @@ use Rattle.hyd_spec_input.specs.Curves as curve
 use Rattle.hyd_spec_input.specs.Curves.{Drop, drop_of, is_bent, is_flow, is_within, square}
 use Rattle.hyd_spec_input.specs.Tables.{Point}
 use Rattle.hyd_curves.specs.Asked.{pump_fault, IsRefusedPoints}
-use Rattle.hyd_curves.specs.Points.{points_in, point_in}
+use Rattle.hyd_curves.specs.Points.{points_in}
 use Rattle.hyd_curves.specs.declared.points.CurvePoint.{CurvePoint}
 use Rattle.hyd_curves.proofs.ShapeLemmas.{below, at_most}
 

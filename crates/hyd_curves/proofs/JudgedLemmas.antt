@@ -1,7 +1,6 @@
 -- Verdicts on curves, one after another.
-use Rattle.std.proofs.Common.{◌≡◌, ◌≤◌, ◌+◌, ◌<◌, ◌++◌, ℕ, zero, suc, Bool, true, false, List, [], ◌∷◌, map, length, take, get_or, Option, Some, None, refl, sym, ap, ◌∙◌, subst, arith, inl, inr, if◌then◌else◌}
-use Rattle.std.specs.Prelude.{◌&&◌, slice_index_or}
-use Rattle.std.specs.Bool.{OnTrue, OnFalse}
+use Rattle.std.proofs.Common.{◌≡◌, ◌≤◌, ◌+◌, ◌<◌, ◌++◌, ℕ, zero, suc, Bool, true, false, List, [], ◌∷◌, length, take, get_or, Option, Some, None, refl, sym, ap, ◌∙◌, subst, if◌then◌else◌}
+use Rattle.std.specs.Prelude.{◌&&◌}
 use Rattle.std.proofs.lemmas.List.{take_more, take_all, map-append}
 use Rattle.hyd_num.specs.declared.units.FlowUnit.{FlowUnit}
 use Rattle.hyd_lex.specs.Lines.{Row}
@@ -15,7 +14,7 @@ use Rattle.hyd_spec_input.specs.Network.{number_in}
 use Rattle.hyd_spec_input.specs.Project.{Match}
 use Rattle.hyd_spec_input.specs.Tables.{Point, curve_named}
 use Rattle.hyd_spec_input.specs.WithOthers as others
-use Rattle.hyd_curves.specs.Asked.{pump_fault, valve_fault, IsRefusedPoints, is_pump_range}
+use Rattle.hyd_curves.specs.Asked.{pump_fault}
 use Rattle.hyd_curves.specs.Judged.{on_no_points, verdict_at, IsVerdictOf, IsVerdictOn, AreVerdicts}
 use Rattle.hyd_curves.specs.Points.{points_in, each, list_of, ArePoints}
 use Rattle.hyd_curves.specs.declared.judged.Verdict.{Verdict}

@@ -1,12 +1,11 @@
 -- Curves of pumps, by the count of their points.
-use Rattle.std.proofs.Common.{◌≡◌, ◌<◌, ◌≤◌, ◌^◌, Bool, true, false, List, [], ◌∷◌, length, get_or, pos, ◌-ℤ◌, refl, sym, arith}
+use Rattle.std.proofs.Common.{◌≡◌, ◌^◌, Bool, true, List, [], ◌∷◌, length, get_or, pos, ◌-ℤ◌, refl, arith}
 use Rattle.std.specs.Prelude.{◌&&◌}
 use lib.Signed.{le_z}
 use Rattle.hyd_num.specs.Quantity.{head_ticks}
 use Rattle.hyd_spec_input.specs.Curves as curve
-use Rattle.hyd_curves.specs.Points.{points_in, point_in}
+use Rattle.hyd_curves.specs.Points.{points_in}
 use Rattle.hyd_curves.specs.declared.points.CurvePoint.{CurvePoint}
-use Rattle.hyd_curves.proofs.TurnLemmas.{le_true}
 
 -- neither one point nor three
 pub other_shutoff : (us : Bool) (points : List CurvePoint) → (length points ≡ 1 → ⊥) → (length points ≡ 3 → ⊥)

@@ -1,5 +1,5 @@
 -- Volume curves.
-use Rattle.std.proofs.Common.{◌≡◌, ◌++◌, ◌^◌, ◌≤◌, ℕ, nat_le, unsigned_abs, ◌==◌, ◌<ℤ◌, ◌≤ℤ◌, ◌*ℤ◌, Bool, true, false, List, [], ◌∷◌, map, length, refl, sym, ap, ◌∙◌, arith, ℤ, pos, neg_ℤ, true≢false, subst}
+use Rattle.std.proofs.Common.{◌≡◌, ◌++◌, ◌^◌, ◌≤◌, nat_le, unsigned_abs, ◌==◌, ◌<ℤ◌, ◌≤ℤ◌, ◌*ℤ◌, Bool, true, false, List, [], ◌∷◌, length, refl, sym, ap, ◌∙◌, arith, ℤ, pos, neg_ℤ, true≢false, subst}
 use Rattle.std.specs.Prelude.{◌&&◌, ◌||◌}
 use Rattle.std.specs.List.{list_all}
 use Rattle.std.proofs.lemmas.List.{length-map}
@@ -13,10 +13,9 @@ use Rattle.hyd_spec_input.specs.Curves as curve
 use Rattle.hyd_spec_input.specs.Curves.{volume_point, volume_points, is_fuller, in_turn, covers, at_start, at_end}
 use Rattle.hyd_net.specs.declared.curves.VolumePoint.{VolumePoint}
 use Rattle.hyd_curves.specs.Points.{points_in, point_in}
-use Rattle.hyd_net.specs.Curves.{Knot, on_line, between, value_from, value_at, volume_knots, volume_at}
+use Rattle.hyd_net.specs.Curves.{Knot, between, value_from, value_at, volume_knots, volume_at}
 use Rattle.hyd_curves.specs.Shapes.{level_passes, begins_and_ends, IsRight}
 use Rattle.hyd_curves.specs.Lines.{IsSmall, knot_of}
-use Rattle.hyd_curves.specs.Turns.{all_in_turn, goes_on}
 use Rattle.hyd_curves.specs.declared.points.CurvePoint.{CurvePoint}
 use Rattle.hyd_curves.specs.declared.ticks.Ticks.{Ticks}
 use Rattle.hyd_curves.proofs.LineLemmas.{one_times, apart, together, floor_whole}

@@ -1,4 +1,4 @@
-use Rattle.std.proofs.Common.{FitsSigned, ◌^◌, ◌-ℤ◌, ◌*ℤ◌, ◌∙◌, pos, sym, refl, arith}
+use Rattle.std.proofs.Common.{FitsSigned, ◌^◌, ◌-ℤ◌, ◌*ℤ◌, pos, refl, arith}
 use Rattle.std.specs.Int.{w128}
 use Rattle.std.proofs.lemmas.Int.{ints, to_z-of_z}
 use Rattle.hyd_curves.specs.Lines.{knot_of}

@@ -1,4 +1,4 @@
-use Rattle.std.proofs.Common.{FitsSigned, ◌-ℤ◌, ◌∙◌, sym, refl, arith}
+use Rattle.std.proofs.Common.{FitsSigned, ◌-ℤ◌, ◌∙◌, arith}
 use Rattle.std.specs.Int.{w128}
 use Rattle.std.proofs.lemmas.Int.{ints, to_z-of_z}
 use Rattle.hyd_curves.proofs.TurnLemmas.{and_third}
