@@ -25,9 +25,9 @@ use Rattle.hyd_spec_input.specs.Project.{IsPumpKind}
 use Rattle.hyd_spec_input.specs.Tables.{curve_named}
 use Rattle.hyd_spec_networks.proofs.Faultless.{below}
 use Rattle.hyd_build_links.specs.Pumps.{ArePumpPoints, IsPumpLaw}
-use Rattle.hyd_build_links.specs.Stub.{points_in}
+use Rattle.hyd_curves.specs.Points.{points_in}
 use Rattle.hyd_build_links.specs.declared.laws.PumpLaw.{PumpLaw}
-use Rattle.hyd_build_links.specs.declared.stub.CurvePoint.{CurvePoint}
+use Rattle.hyd_curves.specs.declared.points.CurvePoint.{CurvePoint}
 
 -- ---- one point
 

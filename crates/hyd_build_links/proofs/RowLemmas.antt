@@ -24,9 +24,9 @@ use Rattle.hyd_spec_networks.proofs.LinkKinds.{PipeNumbers, pipe_numbers, ValveN
 use Rattle.hyd_states.proofs.RangeLemmas.{throttle_alone, coefficient_right}
 use Rattle.hyd_build_links.specs.Pumps.{ArePumpPoints}
 use Rattle.hyd_build_links.specs.Sources.{IsRowOf, rows_from}
-use Rattle.hyd_build_links.specs.Stub.{points_in}
+use Rattle.hyd_curves.specs.Points.{points_in}
 use Rattle.hyd_build_links.specs.declared.source.LinkSource.{LinkSource}
-use Rattle.hyd_build_links.specs.declared.stub.CurvePoint.{CurvePoint}
+use Rattle.hyd_curves.specs.declared.points.CurvePoint.{CurvePoint}
 use Rattle.hyd_build_links.proofs.SourceLemmas.{right_source, free_row}
 
 -- a row that is right has no fault

@@ -1,4 +1,3 @@
-pub mod Stub
 pub mod Sources
 pub mod Pumps
 pub mod Statuses

@@ -10,7 +10,7 @@ use Rattle.hyd_spec_input.specs.Network.{number_in, node_ids, pattern_ids, bend_
 use Rattle.hyd_spec_input.specs.Tables.{link_rows}
 use Rattle.hyd_tables.specs.Found.{rows_at}
 use Rattle.hyd_tables.specs.Tables.{IsTable}
-use Rattle.hyd_build_links.specs.Stub.{ArePoints}
+use Rattle.hyd_curves.specs.Points.{ArePoints}
 use Rattle.hyd_build_links.specs.declared.source.LinkSource.{LinkSource}
 
 -- the rows of a source

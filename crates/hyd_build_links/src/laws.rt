@@ -9,9 +9,9 @@ ghost use Rattle.hyd_num.specs.Refusal.{IsRefused};
 ghost use Rattle.hyd_net.specs.Made.{IsRounded, IsExactly};
 ghost use Rattle.hyd_resist.specs.Ranges.{IsCurveFlow};
 ghost use Rattle.hyd_build_links.specs.Pumps.{ArePumpPoints, IsPumpLaw};
-ghost use Rattle.hyd_build_links.specs.Stub.{points_in};
+ghost use Rattle.hyd_curves.specs.Points.{points_in};
 
-use crate::stub::CurvePoint;
+use hyd_curves::CurvePoint;
 use hyd_net::ShutoffHead;
 use hyd_num::{Capacity, Decimal, FlowUnit, Span, mul_div_ceil, mul_div_floor};
 use hyd_resist::pump_capacity;

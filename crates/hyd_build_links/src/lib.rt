@@ -10,7 +10,6 @@ mod pumps;
 mod source;
 mod starts;
 mod statuses;
-mod stub;
 mod valves;
 
 pub use links::build_links;

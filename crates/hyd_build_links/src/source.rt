@@ -1,7 +1,7 @@
 //! What links are built from.
 #![tactic(auto)]
 
-use crate::stub::Points;
+use hyd_curves::Points;
 use hyd_lex::Line;
 use hyd_net::Names;
 use hyd_num::FlowUnit;
