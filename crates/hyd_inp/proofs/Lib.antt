@@ -1,3 +1,2 @@
 pub mod Families
 pub mod Whole
-pub mod TableRows

@@ -70,14 +70,7 @@ fn first_from_links(
         (IsWrongOf family.from_links (rows_at text.now.text lines.now)) (length lines.now) found) }
 {
     let links = judge_links(alloc, text, lines, tables)?;
-    let commands = first_of_commands(
-        alloc,
-        text,
-        lines,
-        tables.nodes,
-        &links.table,
-        tables.unit,
-    )?;
+    let commands = first_of_commands(alloc, text, lines, tables.nodes, &links.table, tables.unit)?;
     Ok(least(links.found, commands))
 }
 
