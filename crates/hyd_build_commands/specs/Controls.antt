@@ -1,5 +1,5 @@
 -- Controls of a file without a fault.
-use Rattle.std.specs.Prelude.{◌≡◌, ℕ, true, false, List, codes, take, Option, None}
+use Rattle.std.specs.Prelude.{◌≡◌, ℕ, true, false, List, codes, take, None}
 use Rattle.hyd_lex.specs.Lines.{Row}
 use Rattle.hyd_lex.specs.declared.section.Section.TheVariants.{Controls}
 use Rattle.hyd_net.specs.Ranges.{IsHead}
