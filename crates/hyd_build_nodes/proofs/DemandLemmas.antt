@@ -1,7 +1,6 @@
 -- The demands of junctions, one row further.
-use Rattle.std.proofs.Common.{◌≡◌, ◌+◌, ◌*◌, ◌^◌, ◌<◌, ◌≤◌, ◌++◌, ℕ, Bool, true, false, List, [], ◌∷◌, map, length, take, position, Option, Some, None, slice_get, refl, sym, ap, ◌∙◌, subst, arith, get_or, append-nil, length-append}
-use Rattle.std.specs.Prelude.{slice_set, slice_index_or, ℤ, unsigned_abs, pos}
-use Rattle.std.specs.List.{All}
+use Rattle.std.proofs.Common.{◌≡◌, ◌+◌, ◌^◌, ◌<◌, ◌≤◌, ◌++◌, ℕ, true, false, List, [], ◌∷◌, map, length, take, position, Option, Some, None, slice_get, refl, sym, ap, ◌∙◌, subst, arith, get_or, append-nil, length-append}
+use Rattle.std.specs.Prelude.{slice_set, slice_index_or, ℤ, unsigned_abs}
 use Rattle.std.specs.Str.{bytes_eq}
 use Rattle.std.specs.Cmp.Lexicographic.{bytes_decides}
 use Rattle.std.proofs.lemmas.Int.{ints}
@@ -31,7 +30,6 @@ use Rattle.hyd_tables.specs.Tables.{AreFirsts}
 use Rattle.hyd_tables.proofs.FoundLemmas.{filter_more, filter_same}
 use Rattle.hyd_tables.proofs.SectionLemmas.{all_rows}
 use Rattle.hyd_tables.proofs.TableLemmas.{even}
-use Rattle.hyd_build_nodes.specs.Built.{number_of}
 use Rattle.hyd_build_nodes.specs.Gathered.{demand_by, each, AreEmpty, IsSetAt, value_of, AreDemands}
 use Rattle.hyd_build_nodes.proofs.RightLemmas.{among}
 use Rattle.hyd_build_nodes.proofs.ReservoirLemmas.{pattern_is}
@@ -50,7 +48,8 @@ one_more lists number was now demand l w n =
     let e : each (slice_set lists number now) ≡ slice_set (each lists) number now.list =
     map-set demands_in lists number now in
     let m : length (each lists) ≡ length lists = length-map lists demands_in in
-    let old : get_or (each lists) number [] ≡ was.list = get_or-map demands_in lists number was [] l ∙ ap demands_in (sym w) in
+    let old : get_or (each lists) number [] ≡ was.list = get_or-map demands_in lists number was [] l ∙ ap demands_in
+    (sym w) in
     record {
       even = rw e (length-set (each lists) number now.list);
       here = rw (e, old) (get_or-set_same (each lists) number now.list [] (omega (arith, m, l)) ∙ n);
@@ -96,7 +95,8 @@ more_here rows k row is member =
     let same : bytes_eq name (own_id row) ≡ true = (bytes_decides name (own_id row)).1 refl in
     let kept : rows_with name (before ++ row ∷ []) ≡ rows_with name before ++ row ∷ [] =
     filter-append (λ (r : Row). bytes_eq name (own_id r)) before (row ∷ []) ∙ rw same refl in
-    ap (λ (rs : List Row). map (demand_of_row rows) (rows_with name rs)) (filter_more (is_of Demands) rows k row is member)
+    ap (λ (rs : List Row). map (demand_of_row rows) (rows_with name rs)) (filter_more
+    (is_of Demands) rows k row is member)
     ∙ ap (map (demand_of_row rows)) kept ∙ map-append (demand_of_row rows) (rows_with name before) (row ∷ [])
 
 none_here : (rows : List Row) (k : ℕ) (row : Row) (name : List ℕ) → slice_get rows k ≡ Some row
@@ -106,8 +106,10 @@ none_here : (rows : List Row) (k : ℕ) (row : Row) (name : List ℕ) → slice_
 none_here rows k row name is member other =
     let before = rows_of Demands (take k rows) in
     let kept : rows_with name (before ++ row ∷ []) ≡ rows_with name before =
-    filter-append (λ (r : Row). bytes_eq name (own_id r)) before (row ∷ []) ∙ rw other (append-nil (rows_with name before)) in
-    ap (λ (rs : List Row). map (demand_of_row rows) (rows_with name rs)) (filter_more (is_of Demands) rows k row is member)
+    filter-append (λ (r : Row). bytes_eq name (own_id r)) before (row ∷ []) ∙ rw other (append-nil
+    (rows_with name before)) in
+    ap (λ (rs : List Row). map (demand_of_row rows) (rows_with name rs)) (filter_more
+    (is_of Demands) rows k row is member)
     ∙ ap (map (demand_of_row rows)) kept
 
 pub add_row : (rows : List Row) (k : ℕ) (row : Row) (names : List (List ℕ)) (before after : List (List Demand))
@@ -121,7 +123,8 @@ add_row rows k row names before after number demand was is member there d set =
     λ name ds. ds ≡ map (demand_of_row rows) (rows_with name (rows_of Demands (take k rows))) in
     let After : List ℕ → List Demand → Type 0 =
     λ name ds. ds ≡ map (demand_of_row rows) (rows_with name (rows_of Demands (take (k + 1) rows))) in
-    let old : slice_index_or before number [] ≡ map (demand_of_row rows) (rows_with (own_id row) (rows_of Demands (take k rows))) =
+    let old : slice_index_or before number [] ≡ map (demand_of_row rows) (rows_with (own_id row) (rows_of Demands
+    (take k rows))) =
     sym (ap (value_of [] before) there) ∙ was.named (own_id row) in
     record {
       even = set.even ∙ was.even;

@@ -1,10 +1,8 @@
 -- The emitters of junctions, one row further.
 use Rattle.std.proofs.Common.{◌≡◌, ◌+◌, ◌*◌, ◌^◌, ◌<◌, ◌≤◌, ◌++◌, ℕ, Bool, true, false, List, [], ◌∷◌, length, take, position, Option, Some, None, slice_get, refl, sym, ap, ◌∙◌, subst, arith, length-append, inl, inr}
-use Rattle.std.specs.Prelude.{slice_set, slice_index_or, ℤ, pos, ◌≤ℤ◌}
-use Rattle.std.specs.List.{All}
+use Rattle.std.specs.Prelude.{slice_set, ℤ, pos, ◌≤ℤ◌}
 use Rattle.std.specs.Str.{bytes_eq}
 use Rattle.std.specs.Cmp.Lexicographic.{bytes_decides}
-use Rattle.std.proofs.lemmas.Int.{ints}
 use Rattle.std.proofs.lemmas.List.{get_or-set_same, get_or-set_other, length-set}
 use Rattle.std.proofs.lemmas.List.Elements.{All-push}
 use Rattle.hyd_num.specs.declared.capacities.Capacity.{Capacity}

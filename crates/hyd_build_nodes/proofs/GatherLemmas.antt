@@ -1,18 +1,17 @@
 -- Values by the numbers of names, one of them set.
-use Rattle.std.proofs.Common.{◌≡◌, ◌+◌, ◌<◌, ◌≤◌, ◌++◌, ℕ, Bool, true, false, List, [], ◌∷◌, map, filter, length, take, drop, position, Option, Some, None, slice_get, refl, sym, ap, ◌∙◌, subst, arith, true≢false, get_or, inl, inr, append-nil, append_assoc, length-append, nat_lt, ltb-true, ltb-false}
-use Rattle.std.specs.Prelude.{slice_set, slice_index_or}
+use Rattle.std.proofs.Common.{◌≡◌, ◌+◌, ◌++◌, ℕ, Bool, true, false, List, [], ◌∷◌, filter, length, take, drop, position, Option, Some, None, slice_get, refl, sym, ap, ◌∙◌, subst, true≢false, get_or, inl, inr, append_assoc, nat_lt, ltb-true, ltb-false}
+use Rattle.std.specs.Prelude.{slice_index_or}
 use Rattle.std.specs.List.{All}
 use Rattle.std.specs.Str.{bytes_eq}
 use Rattle.std.specs.Cmp.Lexicographic.{bytes_decides}
 use Rattle.std.proofs.lemmas.Bool.{cases_Bool}
-use Rattle.std.proofs.lemmas.List.{map-set, length-map, get_or-set_same, get_or-set_other, length-set, get_or-map, take-append-drop}
-use Rattle.std.proofs.lemmas.List.Elements.{filter-append, All-push}
+use Rattle.std.proofs.lemmas.List.{take-append-drop}
+use Rattle.std.proofs.lemmas.List.Elements.{filter-append}
 use Rattle.std.proofs.lemmas.List.Quantifiers.{position-Some}
 use Rattle.std.proofs.Math.ListN.{get_or-eq_default}
 use Rattle.hyd_lex.specs.Lines.{Row}
 use Rattle.hyd_lex.specs.declared.line.Line.{Line}
 use Rattle.hyd_lex.specs.declared.section.Section.TheVariants.{Junctions}
-use Rattle.hyd_net.specs.declared.cause.Cause.{Cause}
 use Rattle.hyd_spec_input.specs.Network.{number_in}
 use Rattle.hyd_spec_input.specs.Tables.{is_of, is_node, node_rows, own_id, row_with, has_id}
 use Rattle.hyd_spec_input.specs.WithOthers.{known_as, known_junction}
@@ -26,8 +25,10 @@ use Rattle.hyd_build_nodes.specs.Gathered.{IsSetAt, value_of}
 one_name : (names : List (List ℕ)) (a b : List ℕ) (k : ℕ) → position (bytes_eq a) names ≡ Some k
     → position (bytes_eq b) names ≡ Some k → a ≡ b
 one_name names a b k p q =
-    let x : a ≡ get_or names k [] = (bytes_decides a (get_or names k [])).0 (position-Some (bytes_eq a) names k [] p).1 in
-    let y : b ≡ get_or names k [] = (bytes_decides b (get_or names k [])).0 (position-Some (bytes_eq b) names k [] q).1 in
+    let x : a ≡ get_or names k [] = (bytes_decides a (get_or names k [])).0 (position-Some
+    (bytes_eq a) names k [] p).1 in
+    let y : b ≡ get_or names k [] = (bytes_decides b (get_or names k [])).0 (position-Some
+    (bytes_eq b) names k [] q).1 in
     x ∙ sym y
 
 -- a junction that is known has a number
@@ -36,7 +37,8 @@ pub known_there : (text : List ℕ) (rows : List Row) (names : List (List ℕ)) 
     → position (bytes_eq name) names ≡ None → ⊥
 known_there text rows names firsts name table known none =
     let no : row_with name (node_rows rows) ≡ None = not_found text (node_rows rows) names firsts name table none in
-    let wrong : known_as (is_of Junctions) None ≡ None = subst (λ (o : Option Row). known_as (is_of Junctions) o ≡ None) no known in
+    let wrong : known_as (is_of Junctions) None ≡ None = subst (λ (o : Option Row). known_as
+    (is_of Junctions) o ≡ None) no known in
     let x : ⊥ = cc in x
 
 has_between : (name : List ℕ) (xs ys : List Row) (row : Row) → bytes_eq name (own_id row) ≡ true
@@ -63,7 +65,8 @@ pub own_there : (text : List ℕ) (rows : List Row) (k : ℕ) (row : Row) (names
     → AreFirsts text (node_rows rows) names firsts → slice_get rows k ≡ Some row → is_node row ≡ true
     → position (bytes_eq (own_id row)) names ≡ None → ⊥
 own_there text rows k row names firsts table is member none =
-    let no : row_with (own_id row) (node_rows rows) ≡ None = not_found text (node_rows rows) names firsts (own_id row) table none in
+    let no : row_with (own_id row) (node_rows rows) ≡ None = not_found text (node_rows rows) names firsts
+    (own_id row) table none in
     let there : has_id (own_id row) (node_rows rows) ≡ true = has_more is_node rows k row is member in
     let gone : has_id (own_id row) (node_rows rows) ≡ false = has_id-is (own_id row) (node_rows rows) ∙ rw no refl in
     true≢false (sym there ∙ gone)

@@ -1,10 +1,10 @@
 -- Junctions of a file without a fault.
-use Rattle.std.proofs.Common.{◌≡◌, ◌+◌, ◌*◌, ◌^◌, ◌<◌, ◌≤◌, ◌++◌, ℕ, Bool, true, false, List, [], ◌∷◌, map, length, take, position, Option, Some, None, slice_get, refl, sym, ap, ◌∙◌, subst, arith, get_or}
-use Rattle.std.specs.Prelude.{slice_index_or, unsigned_abs, pos}
+use Rattle.std.proofs.Common.{◌≡◌, ◌+◌, ◌^◌, ◌<◌, ◌≤◌, ◌++◌, ℕ, true, List, [], ◌∷◌, map, length, take, position, Option, Some, None, slice_get, refl, sym, ap, ◌∙◌, subst, arith, get_or}
+use Rattle.std.specs.Prelude.{unsigned_abs, pos}
 use Rattle.std.specs.Str.{bytes_eq}
 use Rattle.std.proofs.lemmas.List.{length-map, get_or-map, take_all}
 use Rattle.std.proofs.lemmas.Option.{get_or_from_slice_get, slice_get-get_or}
-use Rattle.hyd_num.specs.Quantity.{is_us_unit, head_ticks, flow_ticks}
+use Rattle.hyd_num.specs.Quantity.{flow_ticks}
 use Rattle.hyd_num.specs.declared.capacities.Capacity.{Capacity}
 use Rattle.hyd_num.specs.declared.units.FlowUnit.{FlowUnit}
 use Rattle.hyd_lex.specs.Bytes.{text_of}
@@ -19,7 +19,7 @@ use Rattle.hyd_rows.specs.declared.nodes.JunctionRow.{JunctionRow}
 use Rattle.hyd_spec_input.specs.Columns.{amount, amount_or, word, or_empty}
 use Rattle.hyd_spec_input.specs.Faults.{NoneIs, IsWrongWithOthers}
 use Rattle.hyd_spec_input.specs.InForce as force
-use Rattle.hyd_spec_input.specs.Network.{number_in, pattern_ids, or_own, own_demand, demands_of, emitter_of, demand_of_row, last_naming, coefficient}
+use Rattle.hyd_spec_input.specs.Network.{pattern_ids, or_own, own_demand, emitter_of, demand_of_row, last_naming, coefficient}
 use Rattle.hyd_spec_input.specs.Project.{Match, IsJunction, IsEmitter}
 use Rattle.hyd_spec_input.specs.Tables.{is_of, is_node, rows_of, rows_with, own_id, node_rows}
 use Rattle.hyd_spec_input.specs.WithOthers as others
@@ -89,7 +89,8 @@ demands_named rows row names lists number list are there l e =
     let named : get_or (each lists) number []
     ≡ map (demand_of_row rows) (rows_with (own_id row) (rows_of Demands (take (length rows) rows))) =
     sym (ap (value_of [] (each lists)) there) ∙ are.named (own_id row) in
-    sym read ∙ named ∙ ap (λ (rs : List Row). map (demand_of_row rows) (rows_with (own_id row) (rows_of Demands rs))) all
+    sym read ∙ named ∙ ap (λ (rs : List Row). map (demand_of_row rows) (rows_with (own_id row)
+    (rows_of Demands rs))) all
 
 emitter_named : (rows : List Row) (row : Row) (names : List (List ℕ)) (emitters : List (Option Capacity)) (number : ℕ)
     (emitter : Option Capacity) → AreEmitters rows (length rows) names emitters
@@ -100,10 +101,12 @@ emitter_named rows row names emitters number emitter are there l e =
     let P : Option ℕ → Type 0 = λ o. IsEmitter (force.unit rows)
     (coefficient (last_naming (own_id row) (rows_of Emitters (take (length rows) rows)))) (value_of None emitters o) in
     let named : IsEmitter (force.unit rows)
-    (coefficient (last_naming (own_id row) (rows_of Emitters (take (length rows) rows)))) (get_or emitters number None) =
+    (coefficient (last_naming (own_id row) (rows_of Emitters (take (length rows) rows))))
+    (get_or emitters number None) =
     subst P there (are.named (own_id row)) in
     let read : get_or emitters number None ≡ emitter = same_read emitters number None emitter l ∙ sym e in
-    let Q : List Row → Type 0 = λ rs. IsEmitter (force.unit rows) (coefficient (last_naming (own_id row) (rows_of Emitters rs)))
+    let Q : List Row → Type 0 = λ rs. IsEmitter (force.unit rows) (coefficient (last_naming (own_id row)
+    (rows_of Emitters rs)))
     emitter in
     subst Q all (subst (IsEmitter (force.unit rows)
     (coefficient (last_naming (own_id row) (rows_of Emitters (take (length rows) rows))))) read named)
@@ -119,11 +122,13 @@ pub junction_more : (text : List ℕ) (rows : List Row) (k : ℕ) (row : Row) (s
     → IsJunctionBy parts.unit parts.patterns.now says (get_or parts.demands.now number list).list
     (get_or parts.emitters.now number emitter) j → after ≡ before ++ j ∷ []
     → Match (IsJunction rows) (rows_of Junctions (take (k + 1) rows)) after
-junction_more text rows k row says parts number list emitter before after j built is member are by there l d e read more =
+junction_more text rows k row says parts number list emitter before after j built is member are by there l d e read
+    more =
     let P : ListView Demand → Type 0 = λ x. IsJunctionBy parts.unit parts.patterns.now says x.list
     (get_or parts.emitters.now number emitter) j in
     let Q : Option Capacity → Type 0 = λ x. IsJunctionBy parts.unit parts.patterns.now says list.list x j in
-    let made : IsJunctionBy parts.unit parts.patterns.now says list.list emitter j = subst Q (sym e) (subst P (sym d) read) in
+    let made : IsJunctionBy parts.unit parts.patterns.now says list.list emitter j = subst Q (sym e) (subst P
+    (sym d) read) in
     let m : length (each parts.demands.now) ≡ length parts.demands.now = length-map parts.demands.now demands_in in
     let demands = demands_named rows row parts.nodes.now.names parts.demands.now number list are.demands there
     (omega (arith, l, m, are.demands.even)) d in

@@ -1,5 +1,5 @@
 -- Reservoirs of a file without a fault.
-use Rattle.std.proofs.Common.{◌≡◌, ◌*◌, ◌^◌, ◌≤◌, ℕ, true, List, Option, Some, None, refl, sym, ◌∙◌, slice_get}
+use Rattle.std.proofs.Common.{◌≡◌, ◌*◌, ◌^◌, ◌≤◌, ℕ, true, List, Option, Some, None, refl, ◌∙◌, slice_get}
 use Rattle.std.specs.Prelude.{unsigned_abs}
 use Rattle.hyd_num.specs.Quantity.{is_us_unit, head_ticks}
 use Rattle.hyd_num.specs.declared.units.FlowUnit.{FlowUnit}
@@ -18,7 +18,8 @@ use Rattle.hyd_spec_networks.proofs.NodeRanges.{head_right}
 use Rattle.hyd_build_nodes.specs.Built.{number_of, IsReservoirOf}
 use Rattle.hyd_build_nodes.proofs.RightLemmas.{among, small_head}
 
-pub pattern_is : (rows : List Row) (name : Option (List ℕ)) → number_of (pattern_ids rows) name ≡ pattern_number rows name
+pub pattern_is : (rows : List Row) (name : Option (List ℕ)) → number_of
+    (pattern_ids rows) name ≡ pattern_number rows name
 pattern_is rows None = refl
 pattern_is rows (Some name) = refl
 

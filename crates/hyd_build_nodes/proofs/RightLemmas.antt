@@ -1,6 +1,6 @@
 -- Rows of a file without a fault, and lists that match them, one row further.
-use Rattle.std.proofs.Common.{◌≡◌, ◌+◌, ◌*◌, ◌^◌, ◌≤◌, ◌++◌, ℕ, Bool, true, false, List, [], ◌∷◌, take, drop, filter, length, slice_get, Option, Some, None, refl, sym, subst, arith, inl}
-use Rattle.std.specs.Prelude.{ℤ, pos, unsigned_abs}
+use Rattle.std.proofs.Common.{◌≡◌, ◌+◌, ◌*◌, ◌^◌, ◌≤◌, ◌++◌, ℕ, true, false, List, [], ◌∷◌, take, drop, length, slice_get, Some, None, sym, subst, arith, inl}
+use Rattle.std.specs.Prelude.{ℤ, unsigned_abs}
 use Rattle.std.proofs.lemmas.Int.{ints}
 use Rattle.hyd_lex.specs.Lines.{Row}
 use Rattle.hyd_lex.specs.declared.line.Line.{Line}
@@ -34,7 +34,8 @@ pub among : (section : Section) (rows : List Row) (k : ℕ) (row : Row) → None
 among section rows k row right is of =
     let P : Section → Type 0 = λ s. others.section_fault s rows k row ≡ None in
     subst P (section_is section row of)
-    (none_of (others.row_fault rows k row) (λ cause f. right k cause (record { row = row; row_is = is; fault = inl f })))
+    (none_of (others.row_fault rows k row) (λ cause f. right k cause
+    (record { row = row; row_is = is; fault = inl f })))
 
 pub small_head : (ticks : ℤ) → IsHead ticks → unsigned_abs ticks ≤ 2 * 10 ^ 17
 small_head ticks h = grind (arith, ints, h.at_least, h.at_most)

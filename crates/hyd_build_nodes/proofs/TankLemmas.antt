@@ -1,17 +1,17 @@
 -- Tanks of a file without a fault.
-use Rattle.std.proofs.Common.{◌≡◌, ◌+◌, ◌*◌, ◌^◌, ◌≤◌, ◌++◌, ℕ, Bool, true, false, List, [], ◌∷◌, Option, Some, None, refl, sym, ap, ◌∙◌, subst, slice_get, take, drop, arith}
+use Rattle.std.proofs.Common.{◌≡◌, ◌+◌, ◌*◌, ◌^◌, ◌≤◌, ℕ, Bool, true, false, List, [], ◌∷◌, Option, Some, None, refl, ap, ◌∙◌, subst, slice_get, take, arith}
 use Rattle.std.specs.Prelude.{ℤ, pos, ◌≤ℤ◌, ◌+ℤ◌, unsigned_abs, codes, ◌&&◌}
 use Rattle.std.proofs.lemmas.Int.{ints}
 use Rattle.std.proofs.lemmas.Bool.{and_parts}
 use lib.Signed.{le_z}
-use Rattle.hyd_num.specs.Quantity.{is_us_unit, head_ticks}
+use Rattle.hyd_num.specs.Quantity.{head_ticks}
 use Rattle.hyd_num.specs.declared.units.FlowUnit.{FlowUnit}
 use Rattle.hyd_lex.specs.Lines.{Row}
 use Rattle.hyd_lex.specs.declared.section.Section.TheVariants.{Tanks}
 use Rattle.hyd_net.specs.Ranges.{IsHead, Lies}
 use Rattle.hyd_net.specs.declared.nodes.Tank.{Tank}
 use Rattle.hyd_spec_input.specs.ByItself.{IsWrongByItself}
-use Rattle.hyd_spec_input.specs.Columns.{first, needed, optional, ends, id, number, not_negative, one_of, word, amount, units}
+use Rattle.hyd_spec_input.specs.Columns.{needed, optional, ends, id, number, not_negative, one_of, word, amount, units}
 use Rattle.hyd_spec_input.specs.Faults.{NoneIs, IsWrongWithOthers}
 use Rattle.hyd_spec_input.specs.InForce as force
 use Rattle.hyd_spec_input.specs.Network.{shape_names}
@@ -22,7 +22,7 @@ use Rattle.hyd_spec_input.specs.WithOthers as others
 use Rattle.hyd_spec_input.specs.WithOthers.{us}
 use Rattle.hyd_spec_networks.proofs.Faultless.{all_none, needed_none, in_range, at_most, within}
 use Rattle.hyd_spec_networks.proofs.NodeRanges.{head_right, head_rises, head_sum}
-use Rattle.hyd_build_nodes.specs.Built.{number_of, IsSmall, AreSmall, IsTankBy, IsTankOf, HasTankMore}
+use Rattle.hyd_build_nodes.specs.Built.{number_of, AreSmall, IsTankOf, HasTankMore}
 use Rattle.hyd_build_nodes.proofs.RightLemmas.{alone, among, small_head, built_more}
 
 shape_is : (rows : List Row) (name : Option (List ℕ)) → number_of (shape_names rows) name ≡ shape_number rows name

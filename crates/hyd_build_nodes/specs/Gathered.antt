@@ -50,7 +50,9 @@ pub record AreNone (emitters : List (Option Capacity)) (count : ℕ) : Type 0 wh
   pub none : All (λ (emitter : Option Capacity). emitter ≡ None) emitters
 
 -- for each name, the emitter of its number is that of the last row that names it, among the first
-pub record AreEmitters (rows : List Row) (k : ℕ) (names : List (List ℕ)) (emitters : List (Option Capacity)) : Type 0 where
+pub record AreEmitters (rows : List Row) (k : ℕ) (names : List (List ℕ)) (emitters : List
+    (Option Capacity)) : Type 0 where
   pub even : length emitters ≡ length names
-  pub named : (name : List ℕ) → IsEmitter (force.unit rows) (coefficient (last_naming name (rows_of Emitters (take k rows))))
+  pub named : (name : List ℕ) → IsEmitter (force.unit rows) (coefficient (last_naming name (rows_of Emitters
+      (take k rows))))
       (value_of None emitters (number_in names name))

@@ -1,4 +1,4 @@
-use Rattle.std.proofs.Common.{◌≡◌, ℕ, List, Some, None, length, position, get_or, arith, sym, ap, ◌∙◌}
+use Rattle.std.proofs.Common.{◌≡◌, ℕ, List, Some, None, position, get_or, arith, sym, ap, ◌∙◌}
 use Rattle.std.specs.Str.{bytes_eq}
 use Rattle.std.proofs.lemmas.List.{length-map}
 use Rattle.hyd_lex.specs.Lines.{row_of}
@@ -76,5 +76,7 @@ returns c =
     (ap (λ (id : List ℕ). position (bytes_eq id) names) (id_is _ c.in-Ok.row c.in-Ok.ensures.1)
     ∙ sym c.number.ensures.value ∙ c.in-Some.is)
     (c.demand_by-demand.ensures
-    ∙ demand_is rows (row_of text (get_or c.args.lines.now c.args.place nothing)) c.in-Ok.row c.args.unit c.args.patterns.now c.requires.unit c.requires.patterns c.in-Ok.ensures.1)
+    ∙ demand_is rows (row_of text
+    (get_or c.args.lines.now c.args.place nothing)) c.in-Ok.row c.args.unit c.args.patterns.now c.requires.unit
+    c.requires.patterns c.in-Ok.ensures.1)
     c.in_ok-push_at.ensures
