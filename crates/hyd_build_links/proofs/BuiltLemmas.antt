@@ -49,7 +49,8 @@ built_same rows before section k row links is other built =
     let P : List Row → Type 0 = λ rs. Match (IsLink rows) (before ++ rs) links in
     subst P (sym (filter_same (is_of section) rows k row is other)) built
 
-pub built_more : (rows before : List Row) (section : Section) (k : ℕ) (row : Row) (links after : List Link) (link : Link)
+pub built_more : (rows before : List Row) (section : Section) (k : ℕ) (row : Row) (links after : List Link)
+    (link : Link)
     → slice_get rows k ≡ Some row → is_of section row ≡ true → IsLink rows row link → after ≡ links ++ link ∷ []
     → AreBuilt rows before section k links → AreBuilt rows before section (k + 1) after
 built_more rows before section k row links after link is of made e built =

@@ -61,7 +61,8 @@ pipe_facts text from line at =
 pub record ValveFacts (text : List ℕ) (from : LinkSource) (line : Line) : Type 0 where
   pub own : alone.valve (row_of text line).words ≡ None
   pub numbers : ValveNumbers (row_of text line).words
-  pub coefficient : alone.is_throttle (row_of text line).words ≡ true → IsUpTo (10 ^ 6) (amount 5 (row_of text line).words)
+  pub coefficient : alone.is_throttle (row_of text line).words ≡ true
+      → IsUpTo (10 ^ 6) (amount 5 (row_of text line).words)
   pub fully : (valve : ValveRow) (us : Bool) → IsValveRow (row_of text line).words valve → us ≡ is_us_unit from.unit
       → alone.is_general (row_of text line).words ≡ false
       → IsRefusedValve valve.diameter.nano valve.minor.nano us → ⊥

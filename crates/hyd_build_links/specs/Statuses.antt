@@ -18,7 +18,8 @@ pub record AreNone (last : List (Option Line)) (count : ℕ) : Type 0 where
   pub none : All (λ (line : Option Line). line ≡ None) last
 
 -- for each name that has a number, the line of its last row of [STATUS] among the first rows
-pub record AreStatuses (text : List ℕ) (rows : List Row) (k : ℕ) (names : List (List ℕ)) (last : List (Option Line)) : Type 0 where
+pub record AreStatuses (text : List ℕ) (rows : List Row) (k : ℕ) (names : List (List ℕ))
+    (last : List (Option Line)) : Type 0 where
   pub even : length last ≡ length names
   pub lie : All (λ (line : Option Line). IfSome line (LiesIn text)) last
   pub named : (name : List ℕ) (number : ℕ) → number_in names name ≡ Some number

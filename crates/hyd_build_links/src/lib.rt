@@ -1,5 +1,5 @@
-//! The links of the network that an input file describes (EPANET 2.2 User Manual, appendix C, [PIPES], [PUMPS], [VALVES]
-//! and [STATUS]), of a file whose rows are right by themselves and with the others.
+//! The links of the network that an input file describes (EPANET 2.2 User Manual, appendix C, [PIPES], [PUMPS],
+//! [VALVES] and [STATUS]), of a file whose rows are right by themselves and with the others.
 #![tactic(auto)]
 
 mod laws;

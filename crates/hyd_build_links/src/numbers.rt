@@ -22,7 +22,8 @@ pub(crate) fn number(names: &Names, name: &[u8]) -> u32
 
 /// The number of a pattern that may be named.
 pub(crate) fn pattern_number(patterns: &Names, name: Option<&[u8]>) -> Option<u32>
-    ensures { (rows : List Row) → patterns.now ≡ pattern_ids rows → result ≡ number_of_pattern rows (text_of name.entry) }
+    ensures { (rows : List Row) → patterns.now ≡ pattern_ids rows
+        → result ≡ number_of_pattern rows (text_of name.entry) }
 {
     match name {
         Some(name) => patterns.number(name),

@@ -12,7 +12,7 @@ ghost use Rattle.hyd_spec_input.specs.NetworkRows as row;
 ghost use Rattle.hyd_spec_input.specs.Tables.{node_rows, rows_of};
 ghost use Rattle.hyd_spec_input.specs.WithOthers as others;
 ghost use Rattle.hyd_tables.specs.Sections.{IsFaultThen};
-ghost use Rattle.hyd_tables.specs.Tables.{IsTable, IsEven};
+ghost use Rattle.hyd_tables.specs.Tables.{IsTable};
 ghost use Rattle.hyd_curves.specs.Judged.{AreVerdicts};
 ghost use Rattle.hyd_judge.specs.Patterns.{ArePatterns};
 ghost use Rattle.hyd_judge_links.specs.Links as links;

@@ -6,5 +6,6 @@ use Rattle.hyd_build_links.specs.Sources.{rows_from}
 use Rattle.hyd_build_links.proofs.links.add_section.Given as goal
 
 abbrev pub invariant-loop-place : goal.invariant-loop-place
-invariant-loop-place l = (before : List Row) → Match (IsLink (rows_from l.text.text l.source)) before l.initial.links.list
+invariant-loop-place l = (before : List Row)
+    → Match (IsLink (rows_from l.text.text l.source)) before l.initial.links.list
     → AreBuilt (rows_from l.text.text l.source) before l.section l.place l.links.list

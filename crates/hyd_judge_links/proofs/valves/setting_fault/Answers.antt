@@ -30,8 +30,8 @@ returns-in-Throttle c =
     let words = words_at c.args.text.now c.args.line.now in
     let P : ValveSetting → Type 0 = λ setting. IsValveSetting words setting in
     let is = subst P c.in-Throttle.is c.requires.read.setting in
-    λ rows curves verdicts. throttle_verdict rows c.args.tables.now.unit words (is_us_unit c.args.tables.now.unit) _ is.0
-    (throttle_alone words is.0)
+    λ rows curves verdicts. throttle_verdict rows c.args.tables.now.unit words (is_us_unit c.args.tables.now.unit) _
+    is.0 (throttle_alone words is.0)
     (rw (← c.requires.read.diameter, ← c.requires.read.minor, ← is.1, ← c.is_us.ensures) c.throttle_fault.ensures)
 
 pub returns-in-Flow : goal.returns-in-Flow
