@@ -1,6 +1,6 @@
 use Rattle.std.specs.Prelude.{codes}
 use Rattle.hyd_numbers.proofs.LinesInForce.{hydraulic_gives, pattern_gives, report_gives, rule_gives}
-use Rattle.hyd_numbers.proofs.times.read_times.Goals as goal
+use Rattle.hyd_numbers.proofs.times.times_in_force.Goals as goal
 
 pub seconds-written-requires-clause-gives : goal.seconds-written-requires-clause-gives
 seconds-written-requires-clause-gives c = hydraulic_gives (codes "TIMESTEP")

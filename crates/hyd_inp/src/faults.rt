@@ -1,22 +1,18 @@
-//! The network of a text, or its fault.
+//! The fault of a text.
 #![tactic(auto)]
 
-ghost use Rattle.std.specs.Prelude.{◌≡◌, ◌≤◌, ◌^◌, length, IfOk, IfErr, IfSome, IfNone};
+ghost use Rattle.std.specs.Prelude.{◌≡◌, ◌≤◌, ◌^◌, length, IfOk, IfSome, IfNone};
 ghost use Rattle.std.specs.List.{All};
 ghost use Rattle.hyd_lex.specs.Lines.{LiesIn, items_of, rows_in, fault_in};
-ghost use Rattle.hyd_net.specs.Sound.{Sound};
-ghost use Rattle.hyd_spec_input.specs.ByItself.{IsWrongByItself};
-ghost use Rattle.hyd_spec_input.specs.Faults.{NoneIs, IsFault, IsFaultOf, HasNoFault, IsWrongWithOthers};
-ghost use Rattle.hyd_spec_input.specs.Project.{IsProject};
+ghost use Rattle.hyd_spec_input.specs.Faults.{IsFault, IsFaultOf, HasNoFault};
 ghost use Rattle.hyd_tables.specs.Found.{rows_at};
-ghost use Rattle.hyd_inp.specs.Refused.{IfFault};
 
-use crate::fault::{InpFault, InpRefused, line_cause};
+use crate::fault::{InpFault, line_cause};
 use crate::lack::lack;
 use crate::with_others::first_with_others;
 use hyd_by_itself::first_by_itself;
 use hyd_lex::{LexFault, Line, Lines};
-use hyd_net::{Cause, OutOfMemory, Project};
+use hyd_net::{Cause, OutOfMemory};
 use hyd_tables::gather;
 use std::alloc::Global;
 
@@ -63,41 +59,21 @@ fn fault_of(
     }
 }
 
-// The network of a text without a fault.
-fn build(alloc: Global, text: &Lines<'_>, lines: &[Line]) -> Result<Project, OutOfMemory>
-    requires few { length lines.now ≤ 2 ^ 26 }
-    requires lie { All (LiesIn text.now.text) lines.now }
-    requires by_itself { NoneIs (IsWrongByItself (rows_at text.now.text lines.now)) }
-    requires with_others { NoneIs (IsWrongWithOthers (rows_at text.now.text lines.now)) }
-    ensures { IfOk result (IsProject (rows_at text.now.text lines.now)) }
-{
-    let _alloc = alloc;
-    let _text = text;
-    let _lines = lines;
-    Err(std::alloc::AllocError)
-}
-
-/// Reads the network of a text of the input grammar. A fault is the first in this order: more than 64 MiB (line 0), the
-/// first row that is wrong by itself, the line that breaks a rule of lines, the first row that is wrong with the others,
-/// what the whole file lacks (line 0).
-pub fn read_project(alloc: Global, text: &[u8]) -> Result<Project, InpRefused>
-    ensures fault { IfErr result (λ refused. IfFault refused (λ f. IsFault text.now f.line f.cause)) }
-    ensures without { IfOk result (λ _. HasNoFault text.now) }
-    ensures project { IfOk result (IsProject (rows_in (items_of text.now))) }
-    ensures sound { IfOk result Sound }
+/// The fault of a text, where it has one: the first in this order: more than 64 MiB (line 0), the first row that is wrong
+/// by itself, the line that breaks a rule of lines, the first row that is wrong with the others, what the whole file lacks
+/// (line 0).
+pub fn find_fault(alloc: Global, text: &[u8]) -> Result<Option<InpFault>, OutOfMemory>
+    ensures fault { IfOk result (λ fault. IfSome fault (λ f. IsFault text.now f.line f.cause)) }
+    ensures none { IfOk result (λ fault. IfNone fault (HasNoFault text.now)) }
 {
     if text.len() > LONGEST {
-        return Err(InpRefused::Fault(InpFault {
+        return Ok(Some(InpFault {
             line: 0,
             cause: Cause::Limit(1),
         }));
     }
     let gathered = gather(alloc, text)?;
     let reader = Lines::new(text);
-    let lines = gathered.lines.as_slice();
-    if let Some(fault) = fault_of(alloc, &reader, lines, gathered.fault)? {
-        return Err(InpRefused::Fault(fault));
-    }
-    let project = build(alloc, &reader, lines)?;
-    Ok(project)
+    let fault = fault_of(alloc, &reader, gathered.lines.as_slice(), gathered.fault)?;
+    Ok(fault)
 }
