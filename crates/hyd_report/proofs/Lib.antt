@@ -1,5 +1,6 @@
 pub mod Joining
 pub mod LineLemmas
+pub mod LinkLemmas
 pub mod LoopLemmas
 pub mod PrintLemmas
 pub mod PutLemmas

@@ -1,5 +1,5 @@
 -- Lines one after another, and what is put of one.
-use Rattle.std.proofs.Common.{◌≡◌, ℕ, zero, suc, ◌+◌, ◌<◌, ◌≤◌, ℤ, pos, ◌+ℤ◌, ◌-ℤ◌, ◌≤ℤ◌, List, [], ◌∷◌, ◌++◌, length, map, take, drop, Option, Some, None, refl, sym, ap, subst, ◌∙◌, append_assoc, append-nil, arith}
+use Rattle.std.proofs.Common.{◌≡◌, ℕ, zero, suc, ◌+◌, ◌<◌, ◌≤◌, ℤ, pos, ◌+ℤ◌, ◌-ℤ◌, ◌≤ℤ◌, List, [], ◌∷◌, ◌++◌, length, map, take, drop, get_or, Option, Some, None, refl, sym, ap, subst, ◌∙◌, append_assoc, append-nil, arith}
 use Rattle.std.specs.Prelude.{slice_get, slice_index_or, IfSome}
 use Rattle.std.proofs.lemmas.Int.{ints}
 use Rattle.std.proofs.lemmas.Option.{slice_get-get_or, get_or_from_slice_get}
@@ -31,6 +31,18 @@ pub there : {X : Type 0} (xs : List X) (i : ℕ) (Q : X → Type 0) → i < leng
 there [] i Q within q = absurd (omega arith)
 there (x ∷ xs) zero Q within q = (x, (refl, q))
 there (x ∷ xs) (suc i) Q within q = there xs i Q (omega arith) q
+
+pub found : {X : Type 0} (xs : List X) (i : ℕ) → i < length xs → (x : X) × (slice_get xs i ≡ Some x)
+found [] i within = absurd (omega arith)
+found (x ∷ xs) zero within = (x, refl)
+found (x ∷ xs) (suc i) within = found xs i (omega arith)
+
+-- what was read of a list, as a function shows it
+pub map-read : {X Y : Type 0} (f : X → Y) (xs : List X) (i : ℕ) (x : X) (d : Y) → i < length xs → x ≡ get_or xs i x
+    → slice_index_or (map f xs) i d ≡ f x
+map-read f [] i x d within is = absurd (omega arith)
+map-read f (y ∷ ys) zero x d within is = ap f (sym is)
+map-read f (y ∷ ys) (suc i) x d within is = map-read f ys i x d (omega arith) is
 
 -- ---- lines one after another
 
