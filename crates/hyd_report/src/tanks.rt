@@ -34,13 +34,13 @@ fn state_end(state: &TankState) -> Text
 }
 
 /// Puts the line of a tank by its printed numbers.
-fn put_parts<D: Desk>(
-    project: &Project,
+fn put_parts<'x, D: Desk>(
+    project: &'x Project,
     tank: u32,
-    head: &Ends,
-    level: &Ends,
-    inflow: &Ends,
-    state: &TankState,
+    head: &'x Ends,
+    level: &'x Ends,
+    inflow: &'x Ends,
+    state: TankState,
     pen: &mut Pen,
     desk: &mut D,
 ) -> Result<(), OutFault>
@@ -48,9 +48,9 @@ fn put_parts<D: Desk>(
     requires ready { OnCert pen.old.to (IsTrue (D.ready desk.old)) }
     ensures { (h l i : Interval) → ArePrinted h head.now → ArePrinted l level.now → ArePrinted i inflow.now
         → Puts D.files D.rest D.written D.printed D.target D.ready D.counts D.openings
-        (line_text project.now (TankLine tank h l i state.now)) result pen.old pen.new desk.old desk.new }
+        (line_text project.now (TankLine tank h l i state)) result pen.old pen.new desk.old desk.new }
 {
-    let last = state_end(state);
+    let last = state_end(&state);
     put_pieces(
         &[
             b"TANK ".as_slice(),
@@ -104,7 +104,7 @@ fn put_tank<D: Desk>(
     let head = print_tank_heads(project, levels, bottom_of(project, tank));
     let level = print_levels(project, levels);
     let inflow = print_flows(project, inflow);
-    put_parts(project, tank, &head, &level, &inflow, state, pen, desk)
+    put_parts(project, tank, &head, &level, &inflow, *state, pen, desk)
 }
 
 /// Puts the lines of all tanks, each at its levels, with its inflow and its state.
