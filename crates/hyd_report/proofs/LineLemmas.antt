@@ -6,6 +6,9 @@ use Rattle.std.proofs.lemmas.Option.{slice_get-get_or, get_or_from_slice_get}
 use Rattle.hyd_num.specs.declared.decimals.Span.{Span}
 use Rattle.hyd_spec.specs.Types.{Project, Tank, Link, LinkState}
 use Rattle.hyd_spec.specs.declared.TankState.{TankState}
+use Rattle.hyd_spec.specs.declared.TankState.TheVariants.{Between}
+use Rattle.hyd_spec_certificates.specs.declared.LevelSpan.{LevelSpan}
+use Rattle.hyd_spec_certificates.specs.Decided.{nowhere}
 use Rattle.hyd_spec.specs.Assignment.{head_at}
 use Rattle.hyd_spec.specs.Quantity.{is_us}
 use Rattle.hyd_spec.specs.Rules.{state_of_link}
@@ -16,10 +19,10 @@ use Rattle.hyd_spec_certificates.specs.Boxes.{difference, flow_box, out_box}
 use Rattle.hyd_spec_reports.specs.ReportLine.{ReportLine, JunctionLine, ReservoirLine, TankLine, LinkLine, line_text}
 use Rattle.hyd_spec_reports.specs.Report.{status_of}
 use Rattle.hyd_spec_reports.specs.declared.StatusWord.{StatusWord}
-use Rattle.hyd_facts.specs.OfPeriod.{flows_of}
+use Rattle.hyd_facts.specs.OfPeriod.{levels_of, flows_of}
 use Rattle.hyd_bounds.specs.Bounds.{IsSpan}
 use Rattle.hyd_report.specs.Printing.{printed, quantity_in, ArePrinted}
-use Rattle.hyd_report.specs.Lines.{texts, junction_between, reservoir_line, tank_at, no_link, link_line}
+use Rattle.hyd_report.specs.Lines.{texts, junction_between, reservoir_line, tank_at, tank_line, no_link, link_line}
 use Rattle.hyd_report.specs.declared.printed.Ends.{Ends}
 use Rattle.hyd_report.specs.declared.printed.Quantity.TheVariants.{Head, Pressure, Flow}
 
@@ -160,6 +163,32 @@ pub tank_put : (o : Option Tank) (network : Project) (P : List ℕ → Type 0) (
 tank_put None network P k levels inflow state bottom head level flow at h l i puts = tt
 tank_put (Some here) network P k levels inflow state bottom head level flow at h l i puts =
     puts _ _ _ (subst (λ (z : ℤ). ArePrinted (printed (quantity_in network Head) (shifted z levels)) head) at h) l i
+
+-- an item, whatever stands for those that aren't there
+index-same : {X : Type 0} (xs : List X) (i : ℕ) (d e : X) → i < length xs → slice_index_or xs i d ≡ slice_index_or xs i e
+index-same [] i d e within = absurd (omega arith)
+index-same (x ∷ xs) zero d e within = refl
+index-same (x ∷ xs) (suc i) d e within = index-same xs i d e (omega arith)
+
+index-map : {X Y : Type 0} (f : X → Y) (xs : List X) (i : ℕ) (e : X) (d : Y) → i < length xs
+    → f (slice_index_or xs i e) ≡ slice_index_or (map f xs) i d
+index-map f [] i e d within = absurd (omega arith)
+index-map f (x ∷ xs) zero e d within = refl
+index-map f (x ∷ xs) (suc i) e d within = index-map f xs i e d (omega arith)
+
+-- the line of a tank by what was read of the lists
+pub tank_read : (o : Option Tank) (network : Project) (P : List ℕ → Type 0) (k : ℕ) (levels : List LevelSpan) (inflows : List Span)
+    (states : List TankState) (level : LevelSpan) (inflow : Span) (state : TankState)
+    → k < length levels → k < length inflows → k < length states → inflow ≡ get_or inflows k inflow
+    → IfSome o (λ here. P (line_text network (tank_at network k here (levels_of (slice_index_or levels k level)) (flows_of inflow) (slice_index_or states k state))))
+    → IfSome o (λ here. P (line_text network (tank_line network levels inflows states k here)))
+tank_read o network P k levels inflows states level inflow state in_levels in_inflows in_states read puts =
+    let Q : Interval → Interval → TankState → Type 0 = λ l i s. IfSome o (λ here. P (line_text network (tank_at network k here l i s))) in
+    subst (λ (s : TankState). Q (slice_index_or (map levels_of levels) k nowhere) (slice_index_or (map flows_of inflows) k nowhere) s)
+    (index-same states k state Between in_states)
+    (subst (λ (i : Interval). Q (slice_index_or (map levels_of levels) k nowhere) i (slice_index_or states k state))
+    (sym (map-read flows_of inflows k inflow nowhere in_inflows read))
+    (subst (λ (l : Interval). Q l (flows_of inflow) (slice_index_or states k state)) (index-map levels_of levels k level nowhere in_levels) puts))
 
 -- ---- links
 
