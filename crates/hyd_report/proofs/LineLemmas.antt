@@ -20,9 +20,10 @@ use Rattle.hyd_spec_reports.specs.ReportLine.{ReportLine, JunctionLine, Reservoi
 use Rattle.hyd_spec_reports.specs.Report.{status_of}
 use Rattle.hyd_spec_reports.specs.declared.StatusWord.{StatusWord}
 use Rattle.hyd_facts.specs.OfPeriod.{levels_of, flows_of}
-use Rattle.hyd_bounds.specs.Bounds.{IsSpan}
+use Rattle.hyd_bounds.specs.Bounds.{IsSpan, AreInOrder}
 use Rattle.hyd_report.specs.Printing.{printed, quantity_in, ArePrinted}
 use Rattle.hyd_report.specs.Lines.{texts, junction_between, reservoir_line, tank_at, tank_line, no_link, link_line}
+use Rattle.hyd_report.proofs.Joining.{map-append, joined-append}
 use Rattle.hyd_report.specs.declared.printed.Ends.{Ends}
 use Rattle.hyd_report.specs.declared.printed.Quantity.TheVariants.{Head, Pressure, Flow}
 
@@ -210,3 +211,28 @@ link_put (Some here) network grid below above states P l flow ends status place 
     subst (λ (g : GridLink). P (line_text network (LinkLine l (printed (quantity_in network Flow) (flow_box g below above))
     (status_of (is_us network) network.bends.list here.kind (state_of_link states l) (difference g below above))))) (sym is)
     (text _ (sym word))
+
+-- ---- orders of vectors
+
+pub in_order : (lower upper below above : List ℤ) → length lower ≡ length upper → AreInOrder (pos 0) (lower ++ below) (upper ++ above)
+    → AreInOrder (pos 0) lower upper
+in_order [] [] below above same order node = omega (arith, ints)
+in_order [] (u ∷ us) below above same order node = absurd (omega arith)
+in_order (l ∷ ls) [] below above same order node = absurd (omega arith)
+in_order (l ∷ ls) (u ∷ us) below above same order zero = order 0
+in_order (l ∷ ls) (u ∷ us) below above same order (suc node) = in_order ls us below above (omega arith) (λ n. order (suc n)) node
+
+-- ---- texts of lists of lines
+
+pub texts-append : (network : Project) (xs ys : List ReportLine) → texts network (xs ++ ys) ≡ texts network xs ++ texts network ys
+texts-append network xs ys =
+    ap joined (map-append (line_text network) xs ys) ∙ joined-append (map (line_text network) xs) (map (line_text network) ys)
+
+map-map : {X Y Z : Type 0} (f : Y → Z) (h : X → Y) (xs : List X) → map f (map h xs) ≡ map (λ x. f (h x)) xs
+map-map f h [] = refl
+map-map f h (x ∷ xs) = ap (λ rest. f (h x) ∷ rest) (map-map f h xs)
+
+-- the texts of lines that are made of items
+pub texts-map : {X : Type 0} (network : Project) (h : X → ReportLine) (xs : List X)
+    → joined (map (λ x. line_text network (h x)) xs) ≡ texts network (map h xs)
+texts-map network h xs = ap joined (sym (map-map (line_text network) h xs))
