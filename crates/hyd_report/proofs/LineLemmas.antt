@@ -14,7 +14,9 @@ use Rattle.hyd_spec.specs.Quantity.{is_us}
 use Rattle.hyd_spec.specs.Rules.{state_of_link}
 use Rattle.hyd_spec.specs.Lists.{joined, map_from}
 use Rattle.hyd_spec_certificates.specs.Interval.{Interval, shifted}
-use Rattle.hyd_spec_certificates.specs.Grid.{Grid, GridLink, GridJunction}
+use Rattle.hyd_spec_certificates.specs.Grid.{Grid, GridLink, GridJunction, all_heads}
+use Rattle.hyd_spec_certificates.specs.declared.Problem.TheVariants.{Main}
+use Rattle.hyd_spec_certificates.specs.declared.Side.TheVariants.{Upper, Lower}
 use Rattle.hyd_spec_certificates.specs.Boxes.{difference, flow_box, out_box}
 use Rattle.hyd_spec_reports.specs.ReportLine.{ReportLine, JunctionLine, ReservoirLine, TankLine, LinkLine, line_text}
 use Rattle.hyd_spec_reports.specs.Report.{status_of}
@@ -22,7 +24,7 @@ use Rattle.hyd_spec_reports.specs.declared.StatusWord.{StatusWord}
 use Rattle.hyd_facts.specs.OfPeriod.{levels_of, flows_of}
 use Rattle.hyd_bounds.specs.Bounds.{IsSpan, AreInOrder}
 use Rattle.hyd_report.specs.Printing.{printed, quantity_in, ArePrinted}
-use Rattle.hyd_report.specs.Lines.{texts, junction_between, reservoir_line, tank_at, tank_line, no_link, link_line}
+use Rattle.hyd_report.specs.Lines.{texts, junction_between, junction_line, reservoir_line, tank_at, tank_line, no_link, link_line}
 use Rattle.hyd_report.proofs.Joining.{map-append, joined-append}
 use Rattle.hyd_report.specs.declared.printed.Ends.{Ends}
 use Rattle.hyd_report.specs.declared.printed.Quantity.TheVariants.{Head, Pressure, Flow}
@@ -236,3 +238,33 @@ map-map f h (x ∷ xs) = ap (λ rest. f (h x) ∷ rest) (map-map f h xs)
 pub texts-map : {X : Type 0} (network : Project) (h : X → ReportLine) (xs : List X)
     → joined (map (λ x. line_text network (h x)) xs) ≡ texts network (map h xs)
 texts-map network h xs = ap joined (sym (map-map (line_text network) h xs))
+
+-- the texts of a report time
+pub state_text : (network : Project) (t : ReportLine) (lo lower up upper : List ℤ) (js : List GridJunction) (rs rest : List ReportLine)
+    → lo ≡ lower → up ≡ upper
+    → line_text network t ++ (texts network (map_from (junction_line network lo up) 0 js) ++ (texts network rs ++ texts network rest))
+    ≡ texts network (t ∷ (map_from (junction_line network lower upper) 0 js ++ (rs ++ rest)))
+state_text network t lo lower up upper js rs rest is_lower is_upper =
+    ap (λ (v : List ℤ). line_text network t ++ (texts network (map_from (junction_line network v up) 0 js) ++ (texts network rs ++ texts network rest))) is_lower
+    ∙ (ap (λ (v : List ℤ). line_text network t ++ (texts network (map_from (junction_line network lower v) 0 js) ++ (texts network rs ++ texts network rest))) is_upper
+    ∙ ap (λ (s : List ℕ). line_text network t ++ s)
+    (ap (λ (s : List ℕ). texts network (map_from (junction_line network lower upper) 0 js) ++ s) (sym (texts-append network rs rest))
+    ∙ sym (texts-append network (map_from (junction_line network lower upper) 0 js) (rs ++ rest))))
+
+-- the texts of tanks and links
+pub tanks_text : (network : Project) (grid : Grid) (states : List LinkState) (ls levels : List LevelSpan) (is inflows : List Span)
+    (ts tanks : List TankState) (lo lower up upper : List ℤ) → ls ≡ levels → is ≡ inflows → ts ≡ tanks → lo ≡ lower → up ≡ upper
+    → texts network (map_from (tank_line network ls is ts) 0 network.tanks.list)
+    ++ texts network (map_from (link_line network grid (all_heads grid Main Lower lo) (all_heads grid Main Upper up) states) 0 network.links.list)
+    ≡ texts network (map_from (tank_line network levels inflows tanks) 0 network.tanks.list
+    ++ map_from (link_line network grid (all_heads grid Main Lower lower) (all_heads grid Main Upper upper) states) 0 network.links.list)
+tanks_text network grid states ls levels is inflows ts tanks lo lower up upper a b c d e =
+    let link : List ℤ → List ℤ → List ℕ = λ l u. texts network (map_from (link_line network grid (all_heads grid Main Lower l) (all_heads grid Main Upper u) states) 0 network.links.list) in
+    let tank : List LevelSpan → List Span → List TankState → List ℕ = λ l i t. texts network (map_from (tank_line network l i t) 0 network.tanks.list) in
+    ap (λ (l : List LevelSpan). tank l is ts ++ link lo up) a
+    ∙ (ap (λ (i : List Span). tank levels i ts ++ link lo up) b
+    ∙ (ap (λ (t : List TankState). tank levels inflows t ++ link lo up) c
+    ∙ (ap (λ (l : List ℤ). tank levels inflows tanks ++ link l up) d
+    ∙ (ap (λ (u : List ℤ). tank levels inflows tanks ++ link lower u) e
+    ∙ sym (texts-append network (map_from (tank_line network levels inflows tanks) 0 network.tanks.list)
+    (map_from (link_line network grid (all_heads grid Main Lower lower) (all_heads grid Main Upper upper) states) 0 network.links.list))))))
