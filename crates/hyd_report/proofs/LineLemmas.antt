@@ -268,3 +268,24 @@ tanks_text network grid states ls levels is inflows ts tanks lo lower up upper a
     ∙ (ap (λ (u : List ℤ). tank levels inflows tanks ++ link lower u) e
     ∙ sym (texts-append network (map_from (tank_line network levels inflows tanks) 0 network.tanks.list)
     (map_from (link_line network grid (all_heads grid Main Lower lower) (all_heads grid Main Upper upper) states) 0 network.links.list))))))
+
+pub items_text : {X : Type 0} (network : Project) (h : ℕ → X → ReportLine) (t time : ℕ) (xs ys : List X) → t ≡ time → xs ≡ ys
+    → joined (map (λ x. line_text network (h t x)) xs) ≡ texts network (map (h time) ys)
+items_text network h t time xs ys at same =
+    texts-map network (h t) xs ∙ (ap (λ n. texts network (map (h n) xs)) at ∙ ap (λ zs. texts network (map (h time) zs)) same)
+
+-- the texts of the end of a period
+pub end_text : {X Y : Type 0} (network : Project) (h : ℕ → X → ReportLine) (k : ℕ → Y → ReportLine) (t time : ℕ) (xs xs' : List X) (ys ys' : List Y)
+    → t ≡ time → xs ≡ xs' → ys ≡ ys'
+    → joined (map (λ x. line_text network (h t x)) xs) ++ joined (map (λ y. line_text network (k t y)) ys)
+    ≡ texts network (map (h time) xs' ++ map (k time) ys')
+end_text network h k t time xs xs' ys ys' at same alike =
+    ap (λ s. s ++ joined (map (λ y. line_text network (k t y)) ys)) (items_text network h t time xs xs' at same)
+    ∙ (ap (λ s. texts network (map (h time) xs') ++ s) (items_text network k t time ys ys' at alike)
+    ∙ sym (texts-append network (map (h time) xs') (map (k time) ys')))
+
+-- the texts of three parts
+pub three_text : (network : Project) (xs ys zs : List ReportLine)
+    → texts network xs ++ (texts network ys ++ texts network zs) ≡ texts network (xs ++ (ys ++ zs))
+three_text network xs ys zs =
+    ap (λ t. texts network xs ++ t) (sym (texts-append network ys zs)) ∙ sym (texts-append network xs (ys ++ zs))

@@ -146,12 +146,10 @@ pub(crate) fn before_rules(changes: &[Change]) -> usize
     ensures value { result ≡ before_rules changes.now }
     ensures within { result ≤ length changes.now }
 {
-    let mut count = 0;
-    while count < changes.len() {
-        if is_by_rule(&changes[count]) {
-            return count;
+    for i in 0..changes.len() {
+        if is_by_rule(&changes[i]) {
+            return i;
         }
-        count += 1;
     }
-    count
+    changes.len()
 }

@@ -18,3 +18,4 @@ mod times;
 mod words;
 
 pub use last::{put_done, put_partial, put_refused_end};
+pub use report::put_report;

@@ -1,10 +1,7 @@
-use Rattle.std.proofs.Common.{◌≡◌, ◌+◌, ◌-◌, ◌≤◌, length, drop}
+use Rattle.std.proofs.Common.{◌≡◌, ◌+◌, drop}
 use Rattle.hyd_report.specs.Words.{before_rules}
 use Rattle.hyd_report.proofs.changes.before_rules.Given as goal
 
-abbrev pub decreases-loop-1 : goal.decreases-loop-1
-decreases-loop-1 l = length l.changes - l.count
-
 -- none so far is by a rule
-abbrev pub invariant-loop-1 : goal.invariant-loop-1
-invariant-loop-1 l = record { within : l.count ≤ length l.changes; so_far : before_rules l.changes ≡ l.count + before_rules (drop l.count l.changes) }
+abbrev pub invariant-loop-i : goal.invariant-loop-i
+invariant-loop-i l = before_rules l.changes ≡ l.i + before_rules (drop l.i l.changes)
