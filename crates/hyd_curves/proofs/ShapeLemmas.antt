@@ -1,5 +1,5 @@
 -- Volume curves.
-use Rattle.std.proofs.Common.{◌≡◌, ◌++◌, ◌^◌, ◌≤◌, ℕ, nat_le, unsigned_abs, ◌==◌, ◌<ℤ◌, ◌≤ℤ◌, ◌*ℤ◌, Bool, true, false, List, [], ◌∷◌, map, length, refl, sym, ap, ◌∙◌, arith, ℤ, pos, neg_ℤ, true≢false, subst}
+use Rattle.std.proofs.Common.{◌≡◌, ◌++◌, ◌^◌, ◌≤◌, nat_le, unsigned_abs, ◌==◌, ◌<ℤ◌, ◌≤ℤ◌, ◌*ℤ◌, Bool, true, false, List, [], ◌∷◌, length, refl, sym, ap, ◌∙◌, arith, ℤ, pos, neg_ℤ, true≢false, subst}
 use Rattle.std.specs.Prelude.{◌&&◌, ◌||◌}
 use Rattle.std.specs.List.{list_all}
 use Rattle.std.proofs.lemmas.List.{length-map}
@@ -13,14 +13,13 @@ use Rattle.hyd_spec_input.specs.Curves as curve
 use Rattle.hyd_spec_input.specs.Curves.{volume_point, volume_points, is_fuller, in_turn, covers, at_start, at_end}
 use Rattle.hyd_net.specs.declared.curves.VolumePoint.{VolumePoint}
 use Rattle.hyd_curves.specs.Points.{points_in, point_in}
-use Rattle.hyd_net.specs.Curves.{Knot, on_line, between, value_from, value_at, volume_knots, volume_at}
+use Rattle.hyd_net.specs.Curves.{Knot, between, value_from, value_at, volume_knots, volume_at}
 use Rattle.hyd_curves.specs.Shapes.{level_passes, begins_and_ends, IsRight}
 use Rattle.hyd_curves.specs.Lines.{IsSmall, knot_of}
-use Rattle.hyd_curves.specs.Turns.{all_in_turn, goes_on}
 use Rattle.hyd_curves.specs.declared.points.CurvePoint.{CurvePoint}
 use Rattle.hyd_curves.specs.declared.ticks.Ticks.{Ticks}
 use Rattle.hyd_curves.proofs.LineLemmas.{one_times, apart, together, floor_whole}
-use Rattle.hyd_curves.proofs.TurnLemmas.{no_items}
+use Rattle.hyd_curves.proofs.TurnLemmas.{no_items, le_true, last_is}
 
 -- a point as a volume point
 abbrev pub shape_point : Bool → CurvePoint → VolumePoint
@@ -33,12 +32,6 @@ shape us points = volume_points us (points_in points)
 
 abbrev between_ends : ℤ → ℤ → List VolumePoint → Bool
 between_ends minimum maximum points = begins_and_ends points && covers minimum maximum points
-
-last_is : (us : Bool) (test : VolumePoint → Bool) (front : List CurvePoint) (last : CurvePoint)
-    → at_end test (shape us (front ++ last ∷ [])) ≡ test (shape_point us last)
-last_is us test [] last = refl
-last_is us test (a ∷ []) last = refl
-last_is us test (a ∷ b ∷ front) last = last_is us test (b ∷ front) last
 
 pub no_ends : (us : Bool) (minimum maximum : ℤ) (points : List CurvePoint) → length points ≡ 0
     → false ≡ between_ends minimum maximum (shape us points)
@@ -55,12 +48,12 @@ ends_are us minimum maximum points rest front first last e f =
     let high : at_end (λ (p : VolumePoint). le_z p.volume (pos (10 ^ 18))) (shape us points)
     ≡ le_z (shape_point us last).volume (pos (10 ^ 18)) =
     ap (λ (ps : List CurvePoint). at_end (λ (p : VolumePoint). le_z p.volume (pos (10 ^ 18))) (shape us ps)) f
-    ∙ last_is us (λ p. le_z p.volume (pos (10 ^ 18))) front last in
+    ∙ last_is (λ (p : VolumePoint). le_z p.volume (pos (10 ^ 18))) (volume_point us) front last in
     let start : at_start (λ (p : VolumePoint). le_z p.level minimum) (shape us points) ≡ le_z (shape_point us first).level minimum =
     rw e refl in
     let end : at_end (λ (p : VolumePoint). le_z maximum p.level) (shape us points) ≡ le_z maximum (shape_point us last).level =
     ap (λ (ps : List CurvePoint). at_end (λ (p : VolumePoint). le_z maximum p.level) (shape us ps)) f
-    ∙ last_is us (λ p. le_z maximum p.level) front last in
+    ∙ last_is (λ (p : VolumePoint). le_z maximum p.level) (volume_point us) front last in
     sym (rw (low, high, start, end) refl)
 
 -- ---- the volume up to a level
@@ -75,13 +68,13 @@ pub record IsWalked (us : Bool) (points : List CurvePoint) (level : ℤ) (first 
 
 -- ---- what is asked of neighbours
 
-below : (a b : ℤ) → lt_z a b ≡ true → a <ℤ b
+pub below : (a b : ℤ) → lt_z a b ≡ true → a <ℤ b
 below a b h = grind (arith, ints)
 
 not_below : (a b : ℤ) → lt_z a b ≡ false → b ≤ℤ a
 not_below a b h = grind (arith, ints)
 
-at_most : (a b : ℤ) → le_z a b ≡ true → a ≤ℤ b
+pub at_most : (a b : ℤ) → le_z a b ≡ true → a ≤ℤ b
 at_most a b h = grind (arith, ints)
 
 -- a point has at most the last one's volume
@@ -250,9 +243,6 @@ pub all_but_room : (two turns ends cover room : Bool) → two ≡ true → turns
 all_but_room two turns ends cover room a b c =
     let both = and_parts ends cover c in
     rw (a, b, both.0, both.1) refl
-
-le_true : (a b : ℕ) → a ≤ b → nat_le a b ≡ true
-le_true a b l = grind (arith, nat_tests)
 
 pub two_points : (us : Bool) (points : List CurvePoint) → 2 ≤ length points
     → nat_le 2 (length (shape us points)) ≡ true

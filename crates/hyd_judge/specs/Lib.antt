@@ -5,3 +5,4 @@ pub mod Nodes
 pub mod Demands
 pub mod Options
 pub mod Extremes
+pub mod JudgedNodes

@@ -1,14 +1,14 @@
 //! Rows of [STATUS] among all rows.
 #![tactic(auto)]
 
-ghost use Rattle.std.specs.Prelude.{◌≡◌, ◌<◌, length};
+ghost use Rattle.std.specs.Prelude.{◌≡◌, ◌<◌, ◌==◌, length};
 ghost use Rattle.std.specs.List.{All};
 ghost use Rattle.hyd_lex.specs.Lines.{LiesIn};
 ghost use Rattle.hyd_lex.specs.declared.section.Section.TheVariants.{Status};
 ghost use Rattle.hyd_spec_input.specs.ByItself.{IsWrongByItself};
 ghost use Rattle.hyd_spec_input.specs.Faults.{NoneIs};
 ghost use Rattle.hyd_spec_input.specs.InForce as force;
-ghost use Rattle.hyd_spec_input.specs.Tables.{link_rows};
+ghost use Rattle.hyd_spec_input.specs.Tables.{place as section_place, link_rows};
 ghost use Rattle.hyd_tables.specs.Found.{HasFound, IsVerdict, rows_at};
 ghost use Rattle.hyd_tables.specs.Sections.{IsWrongIn};
 ghost use Rattle.hyd_tables.specs.Tables.{IsTable};
@@ -21,6 +21,15 @@ use hyd_num::FlowUnit;
 use hyd_rows::read_status;
 use hyd_spec_input::LinkWord;
 use hyd_tables::{Found, Table, kept};
+
+fn is_status(section: Section) -> bool
+    ensures { result ≡ (section_place section == 10) }
+{
+    match section {
+        Section::Status => true,
+        _ => false,
+    }
+}
 
 // What is wrong with the row of a place, where it is one of [STATUS].
 fn status_fault(
@@ -38,7 +47,7 @@ fn status_fault(
     ensures { IsVerdict (IsWrongIn Status (rows_at text.now.text lines.now) place) result }
 {
     let line = &lines[place];
-    if line.section != Section::Status {
+    if !is_status(line.section) {
         return None;
     }
     let Ok(row) = read_status(text, line) else {

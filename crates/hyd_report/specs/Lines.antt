@@ -7,6 +7,11 @@ use Rattle.hyd_spec.specs.Quantity.{is_us}
 use Rattle.hyd_spec.specs.Assignment.{head_at}
 use Rattle.hyd_spec.specs.Rules.{state_of_link}
 use Rattle.hyd_spec.specs.declared.TankState.{TankState}
+use Rattle.hyd_spec.specs.declared.TankState.TheVariants.{Between}
+use Rattle.hyd_spec_certificates.specs.declared.LevelSpan.{LevelSpan}
+use Rattle.hyd_num.specs.declared.decimals.Span.{Span}
+use Rattle.hyd_spec_certificates.specs.Decided.{nowhere}
+use Rattle.hyd_facts.specs.OfPeriod.{levels_of, flows_of}
 use Rattle.hyd_spec_certificates.specs.Interval.{Interval, exactly, shifted}
 use Rattle.hyd_spec_certificates.specs.Grid.{Grid, GridLink, GridJunction}
 use Rattle.hyd_spec_certificates.specs.Boxes.{difference, flow_box, out_box}
@@ -39,6 +44,12 @@ abbrev pub tank_at : Project → ℕ → Tank → Interval → Interval → Tank
 tank_at network k tank level inflow state =
     TankLine k (printed (quantity_in network Head) (shifted tank.bottom level)) (printed (quantity_in network Head) level)
     (printed (quantity_in network Flow) inflow) state
+
+-- The line of tank number k by the levels, the inflows and the states of all tanks.
+abbrev pub tank_line : Project → List LevelSpan → List Span → List TankState → ℕ → Tank → ReportLine
+tank_line network levels inflows states k tank =
+    tank_at network k tank (slice_index_or (map levels_of levels) k nowhere) (slice_index_or (map flows_of inflows) k nowhere)
+    (slice_index_or states k Between)
 
 -- A link that isn't there is shut.
 abbrev pub no_link : GridLink

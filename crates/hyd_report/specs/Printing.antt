@@ -1,6 +1,7 @@
 -- Printed intervals: the greatest numbers of four decimals at most, and the least ones at least, their ends.
 -- Source: this program's format.
-use Rattle.std.specs.Prelude.{◌≡◌, ℕ, ◌^◌, ℤ, pos, ◌*ℤ◌}
+use Rattle.std.specs.Prelude.{◌≡◌, ℕ, ◌≤◌, ◌^◌, ℤ, pos, ◌*ℤ◌, unsigned_abs}
+use Rattle.hyd_num.specs.declared.decimals.Span.{Span}
 use Rattle.hyd_num.specs.Rational.{Rational, floor, ceiling}
 use Rattle.hyd_num.specs.Decimals.{head_quantity, pressure_quantity, flow_quantity, decimal_text}
 use Rattle.hyd_spec.specs.Types.{Project}
@@ -31,3 +32,8 @@ quantity_in network Flow ticks = flow_quantity network.options.unit ticks
 pub record ArePrinted (interval : Interval) (ends : Ends) : Type 0 where
   pub low : ends.low ≡ decimal_text interval.lo
   pub high : ends.high ≡ decimal_text interval.hi
+
+-- Flows that can be printed.
+pub record IsSmall (flow : Span) : Type 0 where
+  pub low : unsigned_abs flow.lo ≤ 10 ^ 27
+  pub high : unsigned_abs flow.hi ≤ 10 ^ 27

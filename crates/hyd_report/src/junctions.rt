@@ -68,24 +68,24 @@ fn put_junction<D: Desk>(
     project: &Project,
     net: &Net,
     junction: u32,
-    lower: i64,
-    upper: i64,
+    lower: &i64,
+    upper: &i64,
     pen: &mut Pen,
     desk: &mut D,
 ) -> Result<(), OutFault>
     requires sound { Sound project.now }
     requires in_range { junction < length net.now.junctions }
-    requires lower { IsInBox lower }
-    requires upper { IsInBox upper }
-    requires ordered { lower ≤ℤ upper }
+    requires lower { IsInBox lower.now }
+    requires upper { IsInBox upper.now }
+    requires ordered { lower.now ≤ℤ upper.now }
     requires ready { OnCert pen.old.to (IsTrue (D.ready desk.old)) }
     ensures { IfSome (slice_get (grid_of net.now).junctions junction) (λ here.
         Puts D.files D.rest D.written D.printed D.target D.ready D.counts D.openings
-        (line_text project.now (junction_between project.now junction here lower upper)) result pen.old pen.new desk.old desk.new) }
+        (line_text project.now (junction_between project.now junction here lower.now upper.now)) result pen.old pen.new desk.old desk.new) }
 {
-    let flow = out_box(net, junction, lower, upper);
-    let head = print_heads(project, lower, upper);
-    let pressure = print_pressures(project, lower, upper, net.elevation(junction));
+    let flow = out_box(net, junction, *lower, *upper);
+    let head = print_heads(project, *lower, *upper);
+    let pressure = print_pressures(project, *lower, *upper, net.elevation(junction));
     let outflow = print_flows(project, &flow);
     put_parts(project, junction, &head, &pressure, &outflow, pen, desk)
 }
@@ -114,8 +114,8 @@ pub(crate) fn put_junctions<D: Desk>(
             project,
             net,
             j,
-            lower[j as usize],
-            upper[j as usize],
+            &lower[j as usize],
+            &upper[j as usize],
             pen,
             desk,
         ) {

@@ -1,6 +1,8 @@
 //! Printed decimals.
 
-ghost use Rattle.std.specs.Prelude.{◌≡◌, ◌≤◌, ◌^◌, ◌-ℤ◌, unsigned_abs};
+ghost use Rattle.std.specs.Prelude.{◌≡◌, ◌≤◌, ◌^◌, ◌+ℤ◌, ◌-ℤ◌, unsigned_abs};
+ghost use Rattle.hyd_facts.specs.OfPeriod.{levels_of, flows_of};
+ghost use Rattle.hyd_spec_certificates.specs.Interval.{shifted};
 ghost use Rattle.hyd_units.specs.Rounding.{IsDecimalOf};
 ghost use Rattle.hyd_report.specs.Printing.{printed, quantity_in, ArePrinted};
 ghost use Rattle.hyd_report.specs.declared.printed.Quantity.TheVariants.{Head, Pressure, Flow};
@@ -8,6 +10,7 @@ ghost use Rattle.hyd_report.specs.declared.printed.Quantity.TheVariants.{Head, P
 use crate::words::Text;
 use hyd_net::Project;
 use hyd_num::Span;
+use hyd_spec_certificates::LevelSpan;
 use hyd_units::{BUFFER_SIZE, Way, print_flow, print_head, print_pressure};
 
 /// What a printed number is.
@@ -85,11 +88,38 @@ pub(crate) fn print_pressures(project: &Project, lower: i64, upper: i64, elevati
     )
 }
 
+/// How much a level and an elevation are together.
+fn raised(level: i64, by: i64) -> i128
+    ensures sum { result ≡ level +ℤ by }
+    ensures in_range { unsigned_abs result ≤ 10 ^ 27 }
+{
+    i128::from(level) + i128::from(by)
+}
+
+/// Heads of levels from one to another above a bottom, as they are printed.
+pub(crate) fn print_tank_heads(project: &Project, levels: &LevelSpan, bottom: i64) -> Ends
+    ensures { ArePrinted (printed (quantity_in project.now Head) (shifted bottom (levels_of levels.now))) result }
+{
+    print_ends(
+        project,
+        Quantity::Head,
+        raised(levels.lo, bottom),
+        raised(levels.hi, bottom),
+    )
+}
+
+/// Levels from one to another, as they are printed.
+pub(crate) fn print_levels(project: &Project, levels: &LevelSpan) -> Ends
+    ensures { ArePrinted (printed (quantity_in project.now Head) (levels_of levels.now)) result }
+{
+    print_heads(project, levels.lo, levels.hi)
+}
+
 /// Flows from one to another, as they are printed.
 pub(crate) fn print_flows(project: &Project, flow: &Span) -> Ends
     requires low { unsigned_abs flow.now.lo ≤ 10 ^ 27 }
     requires high { unsigned_abs flow.now.hi ≤ 10 ^ 27 }
-    ensures { ArePrinted (printed (quantity_in project.now Flow) (record { lo = flow.now.lo; hi = flow.now.hi })) result }
+    ensures { ArePrinted (printed (quantity_in project.now Flow) (flows_of flow.now)) result }
 {
     print_ends(project, Quantity::Flow, flow.lo, flow.hi)
 }

@@ -57,23 +57,23 @@ pub(crate) fn tank_word(state: &TankState) -> &'static [u8]
 }
 
 /// The word of a link's status.
-pub(crate) fn status_word(status: StatusWord) -> &'static [u8]
-    ensures { result.now ≡ status_text status }
+pub(crate) fn status_word(status: StatusWord) -> Text
+    ensures { result ≡ status_text status }
 {
     match status {
-        StatusWord::Open => b"OPEN",
-        StatusWord::Closed => b"CLOSED",
-        StatusWord::Active => b"ACTIVE",
-        StatusWord::Unsure => b"UNSURE",
+        StatusWord::Open => word(b"OPEN"),
+        StatusWord::Closed => word(b"CLOSED"),
+        StatusWord::Active => word(b"ACTIVE"),
+        StatusWord::Unsure => word(b"UNSURE"),
     }
 }
 
 /// The word of a side.
-pub(crate) fn side_word(side: Side) -> &'static [u8]
-    ensures { result.now ≡ side_word side }
+pub(crate) fn side_word(side: Side) -> Text
+    ensures { result ≡ side_word side }
 {
     match side {
-        Side::Upper => b"UPPER",
-        Side::Lower => b"LOWER",
+        Side::Upper => word(b"UPPER"),
+        Side::Lower => word(b"LOWER"),
     }
 }

@@ -1,5 +1,5 @@
-use Rattle.std.proofs.Common.{◌≡◌, ◌≤◌, ℤ, unsigned_abs, ◌-ℤ◌, to_z, of_z, FitsSigned, arith, sym, ◌∙◌, refl}
-use Rattle.std.specs.Int.{w128, int_div_euclid}
+use Rattle.std.proofs.Common.{◌≤◌, ℤ, unsigned_abs, ◌-ℤ◌, to_z, of_z, FitsSigned, arith, ◌∙◌}
+use Rattle.std.specs.Int.{w128}
 use Rattle.std.proofs.lemmas.Int.{ints, to_z-of_z}
 use Rattle.hyd_curves.specs.Lines.{knot_of}
 use Rattle.hyd_curves.proofs.LineLemmas.{floor_is, quotient_small}
