@@ -48,7 +48,7 @@ ends_are unit points rest front first last e f =
 -- ---- the first two points
 
 -- a head is at least the last one
-lifted : (a : HeadPoint) (points : List HeadPoint) → in_turn is_slower (a ∷ points) ≡ true
+pub lifted : (a : HeadPoint) (points : List HeadPoint) → in_turn is_slower (a ∷ points) ≡ true
     → at_end (λ (p : HeadPoint). le_z (pos 0) p.head) (a ∷ points) ≡ true → pos 0 ≤ℤ a.head
 lifted a [] falls end = at_most (pos 0) a.head end
 lifted a (b ∷ points) falls end =

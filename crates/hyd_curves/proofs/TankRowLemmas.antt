@@ -32,6 +32,8 @@ use Rattle.hyd_tables.proofs.FoundLemmas.{filter_more, filter_same}
 use Rattle.hyd_tables.specs.Found.{rows_at}
 use Rattle.hyd_tables.proofs.SectionLemmas.{none_of, all_rows}
 use Rattle.hyd_lex.specs.declared.line.Line.{Line}
+use Rattle.hyd_spec_input.specs.InForce as force
+use Rattle.hyd_curves.specs.Asked.{tank_curve_fault}
 use Rattle.hyd_curves.specs.Named.{IsSmallVolume, AreShapes, AreShapesAt, with_name}
 use Rattle.hyd_curves.specs.Points.{points_in, point_in}
 use Rattle.hyd_curves.specs.Shapes.{IsRight, level_passes, begins_and_ends}
@@ -72,11 +74,11 @@ right_small (a ∷ b ∷ points) right =
 
 -- ---- a tank's row among all rows
 
-behind_none : (fault next : Option Cause) → or_else fault next ≡ None → next ≡ None
+pub behind_none : (fault next : Option Cause) → or_else fault next ≡ None → next ≡ None
 behind_none None next e = e
 behind_none (Some cause) next e = absurd (let x : ⊥ = cc in x)
 
-here_none : (fault next : Option Cause) → or_else fault next ≡ None → fault ≡ None
+pub here_none : (fault next : Option Cause) → or_else fault next ≡ None → fault ≡ None
 here_none None next e = refl
 here_none (Some cause) next e = absurd (let x : ⊥ = cc in x)
 
@@ -101,7 +103,7 @@ curve_passes rows k row right is member =
     ∙ none_of (others.row_fault rows k row)
     (λ cause f. right k cause (record { row = row; row_is = is; fault = inl f })))
 
-passes : (b : Bool) (cause : Cause) → unless b cause ≡ None → b ≡ true
+pub passes : (b : Bool) (cause : Cause) → unless b cause ≡ None → b ≡ true
 passes true cause e = refl
 passes false cause e = absurd (let x : ⊥ = cc in x)
 
@@ -170,7 +172,7 @@ none_row rows k row shapes before is member none = record {
   lists = before.lists;
 }
 
-length_with : (there : Bool) (names : List (List ℕ)) (name : List ℕ)
+pub length_with : (there : Bool) (names : List (List ℕ)) (name : List ℕ)
     → length (if there then names else names ++ name ∷ []) ≤ length names + 1
 length_with true names name = omega arith
 length_with false names name = omega (arith, length-append names (name ∷ []))
@@ -211,3 +213,11 @@ all_shapes text lines k shapes at l =
       subst (λ (ns : List (List ℕ)). Match (λ (name : List ℕ) (list : ListView VolumePoint). list.list ≡ shape_points rows name)
           ns shapes.lists.list) names at.lists,
     )
+
+-- ---- what a tank's row asks of its curve, in the unit in force
+
+pub volume_curve_is : (rows : List Row) (row : Row) (name : Option (List ℕ))
+    → tank_curve_fault rows (force.unit rows) (amount 3 row.words) (amount 4 row.words) name
+    ≡ others.volume_curve rows row name
+volume_curve_is rows row None = refl
+volume_curve_is rows row (Some name) = refl
