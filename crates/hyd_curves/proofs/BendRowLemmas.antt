@@ -1,12 +1,12 @@
 -- The curves by straight lines that pumps and valves name, one row further.
-use Rattle.std.proofs.Common.{◌≡◌, All, ◌+◌, ◌<◌, ◌≤◌, ◌++◌, ◌^◌, ◌==◌, ℕ, unsigned_abs, Bool, true, false, List, [], ◌∷◌, map, length, take, slice_get, get_or, Option, Some, None, ℤ, pos, neg_ℤ, ◌≤ℤ◌, ◌<ℤ◌, ◌*ℤ◌, refl, sym, ap, ◌∙◌, subst, arith, true≢false, append-nil, append_assoc, inl, if◌then◌else◌}
+use Rattle.std.proofs.Common.{◌≡◌, All, ◌+◌, ◌<◌, ◌≤◌, ◌++◌, ◌^◌, ◌==◌, ℕ, unsigned_abs, Bool, true, false, List, [], ◌∷◌, map, length, take, slice_get, get_or, Option, Some, None, pos, neg_ℤ, ◌≤ℤ◌, ◌<ℤ◌, ◌*ℤ◌, refl, sym, ap, ◌∙◌, subst, arith, true≢false, append-nil, append_assoc, inl, if◌then◌else◌}
 use Rattle.std.specs.Prelude.{◌&&◌, nat_le}
 use Rattle.std.specs.List.{flat_map, list_all}
 use Rattle.std.proofs.lemmas.Int.{ints, by_lt_z}
 use Rattle.std.proofs.lemmas.Bool.{and_parts}
 use Rattle.std.proofs.lemmas.Bool.Decides.{nat_tests}
 use Rattle.std.proofs.lemmas.Grind.{flat_map-append}
-use Rattle.std.proofs.lemmas.List.{length-map, get_or-map, length-append}
+use Rattle.std.proofs.lemmas.List.{length-map, get_or-map}
 use Rattle.std.proofs.lemmas.List.Elements.{All-nil, All-cons}
 use lib.Signed.{le_z, lt_z}
 use Rattle.hyd_num.specs.Quantity.{is_us_unit}
@@ -23,7 +23,7 @@ use Rattle.hyd_net.specs.declared.cause.Cause.TheVariants.{Range, Unsupported}
 use Rattle.hyd_net.specs.declared.curves.HeadPoint.{HeadPoint}
 use Rattle.hyd_spec_input.specs.ByItself as itself
 use Rattle.hyd_spec_input.specs.ByItself.{IsWrongByItself}
-use Rattle.hyd_spec_input.specs.Columns.{or_else, first, unless, or_empty}
+use Rattle.hyd_spec_input.specs.Columns.{first, unless, or_empty}
 use Rattle.hyd_spec_input.specs.Curves.{in_turn, at_start, at_end, has_flow, is_head, is_slower, is_faster, is_bent, is_pump_curve, is_pump_bend, begins_at_0, is_valve_bend, head_point, head_points}
 use Rattle.hyd_spec_input.specs.Faults.{NoneIs, IsWrongWithOthers}
 use Rattle.hyd_spec_input.specs.InForce as force
@@ -41,7 +41,6 @@ use Rattle.hyd_curves.specs.Bends.{begins_and_ends, loss_passes}
 use Rattle.hyd_curves.specs.Named.{with_name}
 use Rattle.hyd_curves.specs.NamedBends.{IsSmallHead, AreBends, AreOf, AreOfPumps, AreOfValves, pump_names, valve_names}
 use Rattle.hyd_curves.specs.Points.{points_in, point_in}
-use Rattle.hyd_curves.specs.Turns.{all_in_turn}
 use Rattle.hyd_curves.specs.declared.bends.Bends.{Bends}
 use Rattle.hyd_curves.specs.declared.points.CurvePoint.{CurvePoint}
 use Rattle.hyd_curves.proofs.BendLemmas.{lifted}
@@ -106,7 +105,11 @@ first_low a b c points rise fall start low =
     let p : Knot = record { place = a.flow; value = a.head } in
     let q : Knot = record { place = b.flow; value = b.head } in
     let line : value_at 1 (head_knots (a ∷ b ∷ c ∷ points)) (pos 0) ≡ on_line 1 p q (pos 0) =
-    rw (apart (pos 0) (pos 1 *ℤ b.flow) (omega (arith, ints, one_times b.flow, start, rise)), apart a.flow b.flow rise) refl in
+    rw (
+      apart (pos 0) (pos 1 *ℤ b.flow) (omega (arith, ints, one_times b.flow, start, rise)),
+      apart a.flow b.flow
+          rise,
+    ) refl in
     by_lt_z (pos (10 ^ 16)) a.head
     (λ above. absurd (true≢false (sym low ∙ ap (λ (v : Rational). is_at_most v (whole (pos (10 ^ 16)))) line
     ∙ sym (high_is p q (pos (10 ^ 16)) rise start (omega (arith, ints, fall)) above))))
@@ -121,13 +124,15 @@ bend_small (a ∷ b ∷ c ∷ points) l right =
     let parts = and_parts (list_all has_flow all && in_turn is_slower all)
     (begins_and_ends all && is_at_most (value_at 1 (head_knots all) (pos 0)) (whole (pos (10 ^ 16)))) right in
     let both = and_parts (list_all has_flow all) (in_turn is_slower all) parts.0 in
-    let ends = and_parts (begins_and_ends all) (is_at_most (value_at 1 (head_knots all) (pos 0)) (whole (pos (10 ^ 16)))) parts.1 in
+    let ends = and_parts (begins_and_ends all) (is_at_most (value_at 1 (head_knots all) (pos 0)) (whole (pos (10 ^
+    16)))) parts.1 in
     let edges = and_parts (at_start (λ (p : HeadPoint). le_z (pos 0) p.flow) all)
     (at_end (λ (p : HeadPoint). le_z (pos 0) p.head) all) ends.0 in
     let order = and_parts (is_slower a b) (in_turn is_slower (b ∷ c ∷ points)) both.1 in
     let down = and_parts (lt_z a.flow b.flow) (lt_z b.head a.head) order.0 in
     falling_small a (b ∷ c ∷ points) both.0 both.1 edges.1
-    (first_low a b c points (below a.flow b.flow down.0) (below b.head a.head down.1) (at_most (pos 0) a.flow edges.0) ends.1)
+    (first_low a b c points (below a.flow b.flow down.0) (below b.head a.head down.1) (at_most (pos 0) a.flow
+    edges.0) ends.1)
 
 losses_small : (points : List HeadPoint) → list_all loss_passes points ≡ true → All IsSmallHead points
 losses_small [] right = All-nil IsSmallHead
@@ -164,10 +169,12 @@ bent_right : (rows : List Row) (name : List ℕ) → others.curve_of_pump rows (
     → is_bent (curve_named rows name) ≡ true → is_pump_bend (bend_points rows name) ≡ true
 bent_right rows name right bent =
     let range : others.pump_curve_range rows name ≡ None =
-    behind_none (unless (is_pump_curve (curve_named rows name)) (Unsupported 4)) (others.pump_curve_range rows name) right in
+    behind_none (unless (is_pump_curve (curve_named rows name)) (Unsupported 4)) (others.pump_curve_range rows name)
+    right in
     passes (is_pump_bend (bend_points rows name)) Range (rw bent at range)
 
-bent_many : (rows : List Row) (name : List ℕ) → is_bent (curve_named rows name) ≡ true → 4 ≤ length (bend_points rows name)
+bent_many : (rows : List Row) (name : List ℕ) → is_bent (curve_named rows name) ≡ true → 4 ≤ length (bend_points
+    rows name)
 bent_many rows name bent =
     let n : length (bend_points rows name) ≡ length (curve_named rows name) =
     length-map (curve_named rows name) (head_point (force.unit rows) (us rows)) in
@@ -229,7 +236,8 @@ pub with_one : (rows : List Row) (named all : List (List ℕ)) (most : ℕ) (ben
     → AreOf rows named most bends → all ≡ named ++ name ∷ [] → next.names ≡ with_name bends.names name
     → AreBends rows next → AreOf rows all (most + 1) next
 with_one rows named all most bends next name before e names lists = record {
-  names = names ∙ ap (λ (ns : List (List ℕ)). with_name ns name) before.names ∙ sym (ap (new_names []) e ∙ one_name_more named name);
+  names = names ∙ ap (λ (ns : List (List ℕ)). with_name ns name) before.names ∙ sym (ap (new_names []) e ∙
+      one_name_more named name);
   few = omega (arith, before.few, ap length names, length_with (is_among name bends.names) bends.names name);
   lists = lists;
 }
@@ -287,7 +295,8 @@ few points named e l =
 pub valve_as_before : (rows : List Row) (k : ℕ) (bends : Bends) → AreOfValves rows k bends
     → valve_names (take (k + 1) rows) ≡ valve_names (take k rows) → AreOfValves rows (k + 1) bends
 valve_as_before rows k bends before e =
-    let same : pump_names rows rows ++ valve_names (take (k + 1) rows) ≡ pump_names rows rows ++ valve_names (take k rows) =
+    let same : pump_names rows rows ++ valve_names (take (k + 1) rows) ≡ pump_names rows rows ++ valve_names (take k
+    rows) =
     ap (λ (ns : List (List ℕ)). pump_names rows rows ++ ns) e in
     let next = as_before rows (pump_names rows rows ++ valve_names (take k rows))
     (pump_names rows rows ++ valve_names (take (k + 1) rows)) (length rows + k) bends before same in
@@ -302,7 +311,8 @@ valve_with_one rows k bends next name before e names lists =
     ap (λ (ns : List (List ℕ)). pump_names rows rows ++ ns) e
     ∙ sym (append_assoc (pump_names rows rows) (valve_names (take k rows)) (name ∷ [])) in
     let more = with_one rows (pump_names rows rows ++ valve_names (take k rows))
-    (pump_names rows rows ++ valve_names (take (k + 1) rows)) (length rows + k) bends next name before all names lists in
+    (pump_names rows rows ++ valve_names (take (k + 1) rows)) (length rows + k) bends next name before all names
+    lists in
     record { names = more.names; few = omega (arith, more.few); lists = more.lists }
 
 -- ---- all rows
@@ -331,8 +341,10 @@ pub all_bends : (text : List ℕ) (lines : List Line) (k : ℕ) (bends : Bends) 
 all_bends text lines k bends at l =
     let rows = rows_at text lines in
     let names : bends.names ≡ bend_names rows =
-    at.names ∙ ap (λ (rs : List Row). new_names [] (pump_names rows rows ++ valve_names rs)) (all_rows text lines k l) in (
+    at.names ∙ ap (λ (rs : List Row). new_names [] (pump_names rows rows ++ valve_names rs)) (all_rows text lines k
+    l) in (
       names,
-      subst (λ (ns : List (List ℕ)). Match (λ (name : List ℕ) (list : ListView HeadPoint). list.list ≡ bend_points rows name)
+      subst (λ (ns : List (List ℕ)). Match (λ (name : List ℕ) (list : ListView HeadPoint). list.list ≡ bend_points
+          rows name)
           ns bends.lists.list) names at.lists,
     )

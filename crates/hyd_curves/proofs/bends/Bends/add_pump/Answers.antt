@@ -1,4 +1,4 @@
-use Rattle.std.proofs.Common.{◌≡◌, ◌++◌, ℕ, List, [], Option, Some, None, All, get_or, take, true, false, sym, ap, ◌∙◌, subst, refl, arith, append-nil}
+use Rattle.std.proofs.Common.{◌≡◌, Some, None, All, get_or, take, true, false, sym, ◌∙◌, subst, refl, append-nil}
 use Rattle.hyd_num.specs.Quantity.{is_us_unit}
 use Rattle.hyd_lex.specs.Lines.{row_of}
 use Rattle.hyd_lex.specs.declared.line.Line.{Line}

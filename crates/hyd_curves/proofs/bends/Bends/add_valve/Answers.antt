@@ -1,4 +1,4 @@
-use Rattle.std.proofs.Common.{◌≡◌, ◌++◌, ◌+◌, ◌∷◌, ℕ, List, [], Option, Some, None, All, length, get_or, take, sym, ap, ◌∙◌, subst, refl, arith, append-nil, append_assoc}
+use Rattle.std.proofs.Common.{◌≡◌, ◌∷◌, [], All, get_or, take, sym, ap, ◌∙◌, subst, refl, append-nil}
 use Rattle.hyd_num.specs.Quantity.{is_us_unit}
 use Rattle.hyd_lex.specs.Bytes.{text_of}
 use Rattle.hyd_lex.specs.Lines.{row_of}
@@ -9,7 +9,7 @@ use Rattle.hyd_spec_input.specs.Network.{as_list}
 use Rattle.hyd_spec_input.specs.Project.{bend_points}
 use Rattle.hyd_tables.specs.Found.{rows_at}
 use Rattle.hyd_tables.proofs.FoundLemmas.{row_at}
-use Rattle.hyd_curves.specs.NamedBends.{IsSmallHead, pump_names, valve_names}
+use Rattle.hyd_curves.specs.NamedBends.{IsSmallHead, valve_names}
 use Rattle.hyd_curves.specs.Points.{points_in}
 use Rattle.hyd_curves.proofs.BendRowLemmas.{other_valve, next_valve, valve_as_before, valve_with_one, valve_small}
 use Rattle.hyd_curves.proofs.bends.Bends.add_valve.Goals as goal
