@@ -1,5 +1,5 @@
 -- The flow box of a link, and vectors that end before a node.
-use Rattle.std.proofs.Common.{◌≡◌, ◌≤◌, ℕ, zero, suc, ℤ, pos, ◌+ℤ◌, ◌-ℤ◌, refl, sym, ap, ap₂, subst, ◌∙◌, arith, List, [], ◌∷◌, length, map}
+use Rattle.std.proofs.Common.{◌≡◌, ◌≤◌, ℕ, zero, suc, ℤ, pos, ◌+ℤ◌, ◌-ℤ◌, refl, ap, subst, ◌∙◌, arith, List, [], ◌∷◌, length, map}
 use Rattle.std.specs.Prelude.{Option, slice_get, slice_set, Some}
 use Rattle.std.specs.Option.{IfSome}
 use Rattle.hyd_num.specs.declared.decimals.Span.{Span}

@@ -2,3 +2,5 @@ pub mod Flowing
 pub mod Inflowing
 pub mod Leaving
 pub mod Wording
+pub mod Holding
+pub mod Pinned

@@ -1,5 +1,5 @@
 -- Status words by the state of a link and its own law.
-use Rattle.std.proofs.Common.{◌≡◌, ◌<◌, ◌≤ℤ◌, ◌<ℤ◌, ◌*ℤ◌, ℕ, ℤ, pos, Bool, true, false, List, refl, sym, ap, ap₂, subst, ◌∙◌, arith}
+use Rattle.std.proofs.Common.{◌≡◌, ◌<◌, ◌≤ℤ◌, ◌<ℤ◌, ◌*ℤ◌, ℤ, pos, Bool, true, false, List, refl, sym, ap₂, ◌∙◌, arith}
 use Rattle.std.specs.Prelude.{int_le, int_lt, if◌then◌else◌}
 use Rattle.std.proofs.lemmas.Int.{ints}
 use Rattle.hyd_num.specs.Rational.{Rational, ceiling}
@@ -7,11 +7,10 @@ use Rattle.hyd_net.specs.ListView.{ListView}
 use Rattle.hyd_net.specs.States.{CanHave}
 use Rattle.hyd_net.specs.Curves.{Knot, value_at}
 use Rattle.hyd_net.specs.declared.curves.HeadPoint.{HeadPoint}
-use Rattle.hyd_spec.specs.Types.{LinkKind, PipeLink, CheckPipe, PumpLink, CurvePump, Tcv, Fcv, Gpv, OpenValve, Quadratic, Linear, LinkState, Open, Closed, Speed, Throttle, Limit}
+use Rattle.hyd_spec.specs.Types.{LinkKind, PipeLink, CheckPipe, PumpLink, CurvePump, Tcv, Fcv, Gpv, Quadratic, Linear, LinkState, Open, Closed, Speed, Throttle, Limit}
 use Rattle.hyd_spec.specs.Law.{Law}
 use Rattle.hyd_spec.specs.LinkLaw.{own_law}
 use Rattle.hyd_spec_certificates.specs.Interval.{Interval}
-use Rattle.hyd_spec_reports.specs.declared.StatusWord.{StatusWord}
 use Rattle.hyd_spec_reports.specs.declared.StatusWord.TheVariants.{Open as WordOpen, Closed as WordClosed, Unsure as WordUnsure}
 use Rattle.hyd_spec_reports.specs.Report.{by_drive, by_knots, status_of}
 use Rattle.hyd_num.proofs.Integers.{times_rises}

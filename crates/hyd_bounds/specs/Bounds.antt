@@ -1,8 +1,9 @@
 -- What bounds are between: vectors below and above.
-use Rattle.std.specs.Prelude.{◌≡◌, ℕ, ◌+◌, ℤ, ◌+ℤ◌, ◌≤ℤ◌, List, length, All}
+use Rattle.std.specs.Prelude.{◌≡◌, ℕ, ◌+◌, ℤ, pos, ◌+ℤ◌, ◌≤ℤ◌, List, length, All, Some, slice_get, slice_index_or}
 use Rattle.hyd_num.specs.declared.decimals.Span.{Span}
 use Rattle.hyd_spec.specs.Assignment.{head_at}
-use Rattle.hyd_spec_certificates.specs.Interval.{Interval}
+use Rattle.hyd_spec_certificates.specs.Interval.{Interval, exactly, width}
+use Rattle.hyd_spec_certificates.specs.Grid.{Grid}
 use Rattle.hyd_spec_certificates.specs.Certificate.{IsInBox}
 use Rattle.hyd_graph.specs.NetView.{NetView}
 
@@ -19,6 +20,14 @@ pub record IsVector (net : NetView) (u : List ℤ) : Type 0 where
 -- each head below is at most the one above it and t more
 abbrev pub AreInOrder : ℤ → List ℤ → List ℤ → Type 0
 AreInOrder t below above = (node : ℕ) → head_at below node ≤ℤ (head_at above node +ℤ t)
+
+-- each tank's interval is in order
+abbrev pub TanksInOrder : Grid → Type 0
+TanksInOrder grid = (k : ℕ) (x : Interval) → slice_get grid.tanks k ≡ Some x → x.lo ≤ℤ x.hi
+
+-- how far the interval of a tank is wide
+abbrev pub tank_width : Grid → ℕ → ℤ
+tank_width grid tank = width (slice_index_or grid.tanks tank (exactly (pos 0)))
 
 -- the node of a tank: tanks follow junctions and reservoirs
 abbrev pub tank_node_of : NetView → ℕ → ℕ

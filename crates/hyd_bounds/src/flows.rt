@@ -10,6 +10,7 @@ ghost use Rattle.hyd_spec_certificates.specs.Boxes.{flow_box};
 ghost use Rattle.hyd_graph.specs.GridOf.{grid_of};
 ghost use Rattle.hyd_law.specs.LinkLaws.{link_low, link_high, IsSoundLink, LinkAccepts};
 ghost use Rattle.hyd_bounds.specs.Bounds.{IsSpan, IsVector, AreInOrder};
+ghost use Rattle.hyd_bounds.specs.Holding.{HoldsFlow};
 
 use crate::heads::{difference, node_head};
 use hyd_graph::Net;
@@ -39,7 +40,8 @@ fn between(law: &LinkLaw, least: i64, greatest: i64) -> Span
 
 /// What flows in a link from its first node to its second, in flow ticks: from the low flow at its least head
 /// difference to the high flow at its greatest, widened by the tolerance. `low` and `high` are heads of the junctions
-/// below and above those of every assignment, as a LOWER and an UPPER certificate of `Problem::Main`.
+/// below and above those of every assignment, as a LOWER and an UPPER certificate of `Problem::Main`: of such the span
+/// holds the link's flow in every assignment, at every scale.
 pub fn flow_box(net: &Net, link: u32, low: &[i64], high: &[i64]) -> Span
     requires in_range { link < length net.now.ends }
     requires low { IsVector net.now low.now }
@@ -47,6 +49,7 @@ pub fn flow_box(net: &Net, link: u32, low: &[i64], high: &[i64]) -> Span
     requires ordered { AreInOrder (pos 0) (all_heads (grid_of net.now) Main Lower low.now) (all_heads (grid_of net.now) Main Upper high.now) }
     ensures flow { IfSome (slice_get (grid_of net.now).links link) (λ l.
         IsSpan result (flow_box l (all_heads (grid_of net.now) Main Lower low.now) (all_heads (grid_of net.now) Main Upper high.now))) }
+    ensures holds { HoldsFlow (grid_of net.now) low.now high.now link result }
     ensures small_lo { unsigned_abs result.lo ≤ 10 ^ 27 }
     ensures small_hi { unsigned_abs result.hi ≤ 10 ^ 27 }
 {

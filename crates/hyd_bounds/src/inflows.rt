@@ -1,15 +1,18 @@
 //! Inflows of tanks.
 #![tactic(auto)]
 
-ghost use Rattle.std.specs.Prelude.{◌≡◌, ◌<◌, ◌≤◌, ◌*◌, ◌^◌, pos, length, unsigned_abs, slice_index_or};
+ghost use Rattle.std.specs.Prelude.{◌≡◌, ◌<◌, ◌≤◌, ◌*◌, ◌^◌, ℕ, ℤ, List, pos, length, unsigned_abs};
 ghost use Rattle.hyd_spec_certificates.specs.declared.Problem.TheVariants.{Pinned};
 ghost use Rattle.hyd_spec_certificates.specs.declared.Side.TheVariants.{Upper, Lower};
-ghost use Rattle.hyd_spec_certificates.specs.Interval.{exactly, width};
-ghost use Rattle.hyd_spec_certificates.specs.Grid.{all_heads};
+ghost use Rattle.hyd_spec_certificates.specs.Grid.{Grid, all_heads};
 ghost use Rattle.hyd_spec_certificates.specs.Boxes.{inflow_box};
 ghost use Rattle.hyd_graph.specs.GridOf.{grid_of};
-ghost use Rattle.hyd_bounds.specs.Bounds.{IsSpan, IsVector, AreInOrder, tank_node_of};
+ghost use Rattle.hyd_bounds.specs.Bounds.{IsSpan, IsVector, AreInOrder, TanksInOrder, tank_width, tank_node_of};
+ghost use Rattle.hyd_bounds.specs.Holding.{HoldsInflow};
+ghost use Rattle.hyd_spec_certificates.specs.Certificate.{IsCertificate};
+ghost use Rattle.hyd_spec_laws.specs.Laws.{IsSteady};
 ghost use Rattle.hyd_check.specs.Sides.{flows_out};
+ghost use Rattle.hyd_check.specs.Comparing.{FixedWithin};
 
 use crate::flows::TOLERANCE;
 use hyd_check::flows_out;
@@ -30,15 +33,17 @@ fn tank_flows(net: &Net, tank: u32, side: Side, u: &[i64], node: u32) -> i128
 }
 
 /// What flows into a tank, in flow ticks: from the LOWER vector the flows toward it at least, from the UPPER one at most,
-/// widened by the tolerance for each of its link ends. `low` and `high` are heads of the junctions with that tank pinned, as
-/// certificates of `Problem::Pinned`.
+/// widened by the tolerance for each of its link ends. `low` and `high` are heads of the junctions with that tank pinned,
+/// as certificates of `Problem::Pinned`, which are in order by `pinned_in_order`: of such the span holds the inflow of
+/// every assignment, at every scale.
 pub fn tank_inflow(net: &Net, tank: u32, low: &[i64], high: &[i64]) -> Span
     requires in_range { tank < length net.now.tanks }
     requires low { IsVector net.now low.now }
     requires high { IsVector net.now high.now }
-    requires ordered { AreInOrder (width (slice_index_or (grid_of net.now).tanks tank (exactly (pos 0))))
+    requires ordered { AreInOrder (tank_width (grid_of net.now) tank)
         (all_heads (grid_of net.now) (Pinned tank) Lower low.now) (all_heads (grid_of net.now) (Pinned tank) Upper high.now) }
     ensures inflow { IsSpan result (inflow_box (grid_of net.now) tank (tank_node_of net.now tank) low.now high.now) }
+    ensures holds { HoldsInflow (grid_of net.now) tank low.now high.now result }
     ensures small_lo { unsigned_abs result.lo ≤ 10 ^ 27 }
     ensures small_hi { unsigned_abs result.hi ≤ 10 ^ 27 }
 {
@@ -52,3 +57,14 @@ pub fn tank_inflow(net: &Net, tank: u32, low: &[i64], high: &[i64]) -> Span
         hi: greatest + missed,
     }
 }
+
+/// Certificates that pin a tank are in order, up to the width of its level interval, where each tank's interval is: so
+/// are the fixed heads, and with them the heads of all nodes.
+pub fn pinned_in_order()
+    ensures fixed { (grid : Grid) (tank : ℕ) → tank < length grid.tanks → TanksInOrder grid
+        → FixedWithin grid (Pinned tank) (Pinned tank) (tank_width grid tank) }
+    ensures heads { (grid : Grid) → IsSteady grid → (tank : ℕ) (low high : List ℤ) → tank < length grid.tanks
+        → TanksInOrder grid → IsCertificate grid (Pinned tank) Lower low → IsCertificate grid (Pinned tank) Upper high
+        → AreInOrder (tank_width grid tank)
+        (all_heads grid (Pinned tank) Lower low) (all_heads grid (Pinned tank) Upper high) }
+{}

@@ -9,6 +9,6 @@ mod outflows;
 mod status;
 
 pub use flows::flow_box;
-pub use inflows::tank_inflow;
+pub use inflows::{pinned_in_order, tank_inflow};
 pub use outflows::out_box;
 pub use status::status_of;

@@ -7,6 +7,7 @@ ghost use Rattle.hyd_spec_certificates.specs.Certificate.{IsInBox};
 ghost use Rattle.hyd_spec_certificates.specs.Boxes.{out_box};
 ghost use Rattle.hyd_graph.specs.GridOf.{grid_of, capacity_of};
 ghost use Rattle.hyd_bounds.specs.Bounds.{IsSpan};
+ghost use Rattle.hyd_bounds.specs.Holding.{HoldsOutflow};
 
 use crate::flows::TOLERANCE;
 use hyd_check::outflow;
@@ -28,13 +29,15 @@ fn missed(emitter: Option<&Quad>) -> i128
 }
 
 /// What leaves a junction beside its links between two of its heads (head ticks), in flow ticks: its demand flow, widened
-/// by the tolerance, and its emitter flow, widened by it where there is an emitter.
+/// by the tolerance, and its emitter flow, widened by it where there is an emitter. Of heads of a LOWER and an UPPER
+/// certificate the span holds what leaves in every assignment, at every scale.
 pub fn out_box(net: &Net, junction: u32, low: i64, high: i64) -> Span
     requires in_range { junction < length net.now.junctions }
     requires low { IsInBox low }
     requires high { IsInBox high }
     requires ordered { low ≤ℤ high }
     ensures outflow { IfSome (slice_get (grid_of net.now).junctions junction) (λ j. IsSpan result (out_box j low high)) }
+    ensures holds { HoldsOutflow (grid_of net.now) junction low high result }
     ensures small_lo { unsigned_abs result.lo ≤ 10 ^ 27 }
     ensures small_hi { unsigned_abs result.hi ≤ 10 ^ 27 }
 {

@@ -21,6 +21,7 @@ ghost use Rattle.hyd_law.specs.Wrapped.{IsDifference, IsLift};
 ghost use Rattle.hyd_law.specs.LinkLaws.{IsSoundLink, LinkAccepts};
 ghost use Rattle.hyd_law.specs.declared.link_law.LinkLaw.TheVariants.{Pump, Bent as BentLaw};
 ghost use Rattle.hyd_bounds.specs.Bounds.{IsVector};
+ghost use Rattle.hyd_bounds.specs.Holding.{HoldsStatus};
 ghost use Rattle.hyd_bounds.specs.Words.{open_word, running_word, limited_word, word_of};
 
 use crate::heads::{difference, node_head};
@@ -157,16 +158,22 @@ fn word_of(state: &LinkState, law: &LinkLaw, least: i64, greatest: i64) -> Statu
 /// The status of a link as the report prints it, by its state, its own law and the interval of its head difference
 /// (EPANET 2.2 User Manual, status of links): OPEN or CLOSED where that is so for each difference in it, ACTIVE of a valve
 /// that holds its setting, else UNSURE. `low` and `high` are heads of the junctions below and above those of every
-/// assignment, as a LOWER and an UPPER certificate of `Problem::Main`.
+/// assignment, as a LOWER and an UPPER certificate of `Problem::Main`: of such the word holds of the link in every
+/// assignment, at every scale.
 pub fn status_of(net: &Net, link: u32, low: &[i64], high: &[i64]) -> StatusWord
     requires in_range { link < length net.now.ends }
     requires low { IsVector net.now low.now }
     requires high { IsVector net.now high.now }
-    ensures { (us : Bool) (bends : List (ListView HeadPoint)) (kind : LinkKind) (state : LinkState) (place : GridLink)
-        → CanHave kind state → slice_get (states_of net.now) link ≡ Some state
+    ensures word { (us : Bool) (bends : List (ListView HeadPoint)) (kind : LinkKind) (state : LinkState)
+        (place : GridLink) → CanHave kind state → slice_get (states_of net.now) link ≡ Some state
         → slice_get (own_laws net.now) link ≡ Some (own_law us bends kind state)
         → slice_get (grid_of net.now).links link ≡ Some place → result ≡ status_of us bends kind state
         (difference place (all_heads (grid_of net.now) Main Lower low.now) (all_heads (grid_of net.now) Main Upper high.now)) }
+    ensures holds { (us : Bool) (bends : List (ListView HeadPoint)) (kind : LinkKind) (state : LinkState)
+        (place : GridLink) → CanHave kind state → slice_get (states_of net.now) link ≡ Some state
+        → slice_get (own_laws net.now) link ≡ Some (own_law us bends kind state)
+        → slice_get (grid_of net.now).links link ≡ Some place
+        → HoldsStatus (grid_of net.now) low.now high.now us bends kind state place result }
 {
     let _links = net.links();
     let ends = net.ends(link);

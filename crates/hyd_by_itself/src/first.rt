@@ -1,12 +1,11 @@
 //! The first row that is wrong by itself.
 #![tactic(auto)]
 
-ghost use Rattle.std.specs.Prelude.{IfSome, IfNone};
+ghost use Rattle.std.specs.Prelude.{length};
 ghost use Rattle.std.specs.List.{All};
 ghost use Rattle.hyd_lex.specs.Lines.{LiesIn};
 ghost use Rattle.hyd_spec_input.specs.ByItself.{IsWrongByItself};
-ghost use Rattle.hyd_spec_input.specs.Faults.{IsFirst, NoneIs};
-ghost use Rattle.hyd_tables.specs.Found.{rows_at};
+ghost use Rattle.hyd_tables.specs.Found.{HasFound, rows_at};
 
 use crate::sections::row_fault;
 use crate::stages::next_stage;
@@ -17,9 +16,8 @@ use hyd_tables::Found;
 /// The first row that is wrong by itself. `None` comes exactly where no row is.
 pub fn first_by_itself(text: &Lines<'_>, lines: &[Line]) -> Option<Found>
     requires { All (LiesIn text.now.text) lines.now }
-    ensures first { IfSome result (λ found. IsFirst (rows_at text.now.text lines.now)
-        (IsWrongByItself (rows_at text.now.text lines.now)) found.line found.cause) }
-    ensures none { IfNone result (NoneIs (IsWrongByItself (rows_at text.now.text lines.now))) }
+    ensures { HasFound (rows_at text.now.text lines.now) (IsWrongByItself (rows_at text.now.text lines.now))
+        (length lines.now) result }
 {
     let mut stage = Stage::Outside;
     for place in 0..lines.len() {

@@ -1,5 +1,5 @@
 -- Both sides by one word: which enclosing functions a side takes, and when a junction passes with another head.
-use Rattle.std.specs.Prelude.{◌≡◌, ℕ, ◌<◌, ℤ, Bool, true, false, List, length, Some, slice_get, slice_set}
+use Rattle.std.specs.Prelude.{◌≡◌, ℕ, ◌<◌, ℤ, pos, neg_ℤ, ◌+ℤ◌, ◌-ℤ◌, Bool, true, false, List, length, Some, slice_get, slice_set}
 use Rattle.hyd_spec.specs.Law.{Law}
 use Rattle.hyd_spec.specs.Assignment.{head_at}
 use Rattle.hyd_spec_certificates.specs.declared.Problem.{Problem}
@@ -7,7 +7,7 @@ use Rattle.hyd_spec_certificates.specs.declared.Side.{Side}
 use Rattle.hyd_spec_certificates.specs.declared.Side.TheVariants.{Upper, Lower}
 use Rattle.hyd_spec_certificates.specs.Enclosing.{low, high}
 use Rattle.hyd_spec_certificates.specs.Grid.{Grid, GridLink, GridJunction}
-use Rattle.hyd_spec_certificates.specs.NetOutflow.{net, net_low, net_high, outflow_low, outflow_high}
+use Rattle.hyd_spec_certificates.specs.NetOutflow.{net, net_low, net_high, outflow_low, outflow_high, margin}
 use Rattle.hyd_spec_certificates.specs.Certificate.{IsInBox, Passes}
 
 -- ---- enclosing functions
@@ -40,6 +40,11 @@ outflow Lower junction h = outflow_high junction h
 abbrev pub net_outflow : Side → Grid → Problem → List ℤ → ℕ → GridJunction → ℤ
 net_outflow Upper grid problem u i junction = net_low grid problem u i junction
 net_outflow Lower grid problem u i junction = net_high grid problem u i junction
+
+-- by how much a junction passes: what flows out of it on balance, or into it, beyond its margin and 1
+abbrev pub surplus : Side → Grid → Problem → List ℤ → ℕ → GridJunction → ℤ
+surplus Upper grid problem u i junction = net_low grid problem u i junction -ℤ (margin grid i +ℤ pos 1)
+surplus Lower grid problem u i junction = neg_ℤ (net_high grid problem u i junction) -ℤ (margin grid i +ℤ pos 1)
 
 -- ---- junctions
 

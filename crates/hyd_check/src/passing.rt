@@ -7,7 +7,7 @@ ghost use Rattle.hyd_spec_certificates.specs.Certificate.{IsInBox};
 ghost use Rattle.hyd_spec_certificates.specs.NetOutflow.{net_low, net_high};
 ghost use Rattle.hyd_graph.specs.GridOf.{grid_of};
 ghost use Rattle.hyd_graph.specs.Nets.{HasProblem};
-ghost use Rattle.hyd_check.specs.Sides.{net_outflow, PassesWith, PassesAt};
+ghost use Rattle.hyd_check.specs.Sides.{net_outflow, surplus, PassesWith, PassesAt};
 
 use crate::flows::flows_out;
 use crate::heads::head_of;
@@ -58,13 +58,16 @@ pub fn net_high(net: &Net, problem: Problem, u: &[i64], i: u32) -> i128
     net_outflow(net, problem, Side::Lower, u, i, head_of(u, i))
 }
 
-/// By how much junction i passes with `head` in place of its own, in flow ticks: at least 0 exactly where it passes.
+/// By how much junction i passes with `head` in place of its own, in flow ticks: its net outflow, for LOWER its net
+/// inflow, less its margin and 1. So it is at least 0 exactly where the junction passes.
 pub fn surplus(net: &Net, problem: Problem, side: Side, u: &[i64], i: u32, head: i64) -> i128
     requires one_each { length u.now ≡ length net.now.junctions }
     requires in_box { All IsInBox u.now }
     requires head_in_box { IsInBox head }
     requires inside { i < length u.now }
     requires pinned { HasProblem net.now problem }
+    ensures value { (junction : GridJunction) → slice_get (grid_of net.now).junctions i ≡ Some junction
+        → result ≡ surplus side (grid_of net.now) problem (slice_set u.now i head) i junction }
     ensures passes { pos 0 ≤ℤ result ↔ PassesWith (grid_of net.now) problem side u.now i head }
     ensures small { unsigned_abs result ≤ 2 ^ 115 }
 {

@@ -1,4 +1,6 @@
+pub mod NamedLemmas
 pub mod PointLemmas
+pub mod TankRowLemmas
 pub mod TurnLemmas
 pub mod BendLemmas
 pub mod CapacityLemmas

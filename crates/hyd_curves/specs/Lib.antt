@@ -5,3 +5,5 @@ pub mod Turns
 pub mod Shapes
 pub mod Lines
 pub mod Bends
+pub mod Named
+pub mod NamedBends

@@ -7,7 +7,7 @@ use Rattle.hyd_lex.specs.Bytes.{is_keyword}
 use Rattle.hyd_lex.specs.Lines.{Row, Reading, row_of}
 use Rattle.hyd_lex.specs.declared.line.Line.{Line}
 use Rattle.hyd_lex.specs.declared.section.Section.{Section}
-use Rattle.hyd_lex.specs.declared.section.Section.TheVariants.{Options, Times}
+use Rattle.hyd_lex.specs.declared.section.Section.TheVariants.{Options}
 use Rattle.hyd_spec_input.specs.ByItself as itself
 use Rattle.hyd_spec_input.specs.ByItself.{IsWrongByItself}
 use Rattle.hyd_spec_input.specs.Capacities.{IsRefusedIn}
@@ -170,28 +170,3 @@ add_row rows k row found unit p cause before is member u are e =
     found_kept rows (IsWrongIn Options rows) k row found cause before is
     (verdict_without_capacity Options rows k row cause is member
     (no_capacity row.section rows (others.holds_action (take k rows) row) row member) verdict)
-
--- ---- times
-
-times_fault : (section : Section) (rows : List Row) (k : ℕ) (row : Row) → (place section == 14) ≡ true
-    → others.section_fault section rows k row ≡ None
-times_fault Times rows k row h = refl
-times_fault _ rows k row h = absurd (true≢false (sym h))
-
-times_capacity : (section : Section) (rows : List Row) (acting : Bool) (row : Row) → (place section == 14) ≡ true
-    → IsRefusedIn section rows acting row → ⊥
-times_capacity Times rows acting row h refused = refused
-times_capacity _ rows acting row h refused = absurd (true≢false (sym h))
-
--- a row of times is never wrong with the others
-pub no_wrong_times : (rows : List Row) → NoneIs (IsWrongIn Times rows)
-no_wrong_times rows k cause w =
-    let same : w.row ≡ w.wrong.row = cc in
-    let member : is_of Times w.wrong.row ≡ true = rw (← same) w.member in
-    elim w.wrong.fault [
-      | inl f ↦ (let none : others.row_fault rows k w.wrong.row ≡ None =
-          times_fault w.wrong.row.section rows k w.wrong.row member in
-          let x : ⊥ = cc in x)
-      | inr r ↦ times_capacity w.wrong.row.section rows (others.holds_action (take k rows) w.wrong.row) w.wrong.row member
-          r.1
-    ]

@@ -4,7 +4,7 @@
 ghost use Rattle.std.specs.Prelude.{◌≡◌, ◌<◌, ◌+◌, ◌*◌, ◌^◌, [], ◌∷◌, List, ℤ, None, length, pos, max, codes, IfSome};
 ghost use Rattle.std.specs.List.{All};
 ghost use Rattle.hyd_lex.specs.Lines.{LiesIn, Row, row_of};
-ghost use Rattle.hyd_lex.specs.declared.section.Section.TheVariants.{Options as InOptions, Times as InTimes};
+ghost use Rattle.hyd_lex.specs.declared.section.Section.TheVariants.{Options as InOptions};
 ghost use Rattle.hyd_opts.specs.Judged.{words_at};
 ghost use Rattle.hyd_spec_input.specs.ByItself.{IsWrongByItself};
 ghost use Rattle.hyd_spec_input.specs.Columns as column;
@@ -225,15 +225,13 @@ fn further(
 
 /// Of a file whose rows are right by themselves, its first row of [OPTIONS] that is wrong with the others (Range): a
 /// minimum or required pressure above 10^17 head ticks or, where demands depend on pressure, the later of the two lines
-/// in force where the required pressure isn't a tenth of a unit above the minimum at least. Rows of [TIMES] are never
-/// wrong with the others.
+/// in force where the required pressure isn't a tenth of a unit above the minimum at least.
 pub fn judge_options(text: &Lines<'_>, lines: &[Line], unit: FlowUnit) -> Option<Found>
     requires lie { All (LiesIn text.now.text) lines.now }
     requires right { NoneIs (IsWrongByItself (rows_at text.now.text lines.now)) }
     requires unit { unit ≡ force.unit (rows_at text.now.text lines.now) }
-    ensures options { HasFound (rows_at text.now.text lines.now)
-        (IsWrongIn InOptions (rows_at text.now.text lines.now)) (length lines.now) result }
-    ensures times { NoneIs (IsWrongIn InTimes (rows_at text.now.text lines.now)) }
+    ensures { HasFound (rows_at text.now.text lines.now) (IsWrongIn InOptions (rows_at text.now.text lines.now))
+        (length lines.now) result }
 {
     let pressures = pressures_in_force(text, lines);
     let mut found = None;

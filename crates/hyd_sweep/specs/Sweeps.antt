@@ -1,6 +1,7 @@
 -- What raises and sweeps give.
 -- Source: this program's; rounds in any order are chaotic iterations (Chazan and Miranker 1969).
-use Rattle.std.specs.Prelude.{◌≡◌, ◌≢◌, ℕ, ◌<◌, ℤ, pos, neg_ℤ, ◌+ℤ◌, ◌-ℤ◌, List, [], ◌∷◌, ◌++◌, length, take, All, slice_get, slice_set, slice_index_or, Option, Some, None, suc, zero, ⊤, ◌<ℤ◌, Bool, true, false}
+use Rattle.std.specs.Prelude.{◌≡◌, ◌≢◌, ℕ, ◌<◌, ℤ, pos, neg_ℤ, ◌+ℤ◌, ◌-ℤ◌, List, [], ◌∷◌, ◌++◌, length, take, All, Contains, slice_get, slice_set, slice_index_or, Option, Some, None, suc, zero, ⊤, ◌<ℤ◌, Bool, true, false}
+use Rattle.hyd_spec.specs.Lists.{Each}
 use Rattle.hyd_spec.specs.Assignment.{head_at}
 use Rattle.hyd_spec_certificates.specs.declared.Problem.{Problem}
 use Rattle.hyd_spec_certificates.specs.declared.Side.{Side}
@@ -8,7 +9,7 @@ use Rattle.hyd_spec_certificates.specs.declared.Side.TheVariants.{Upper, Lower}
 use Rattle.hyd_spec_certificates.specs.declared.HeldJunction.{HeldJunction}
 use Rattle.hyd_spec_certificates.specs.Grid.{Grid, GridJunction}
 use Rattle.hyd_spec_certificates.specs.Certificate.{box_limit, IsInBox, Suits, IsCertificateHolding, IsCandidateHolding, IsRaisedHolding, AreRoundsHolding, IsTightHolding}
-use Rattle.hyd_spec_certificates.specs.Climbing.{Climbs}
+use Rattle.hyd_spec_certificates.specs.Climbing.{IsStart, LiesBeyond, HasParts, HasRounds}
 use Rattle.hyd_spec_laws.specs.Sides.{along}
 use Rattle.hyd_sweep.specs.declared.answers.Raised.{Raised}
 use Rattle.hyd_sweep.specs.declared.answers.Raised.TheVariants.{Passed, Moved, NoValue}
@@ -72,22 +73,49 @@ RaiseGives held grid problem side i old new NoValue = (new ≡ old) × HasNoValu
 
 -- ---- junctions in an order
 
+-- the raises of these junctions, each from what the ones before it left, lead from u to w
+pub data AreRaises (held : Option HeldJunction) (grid : Grid) (problem : Problem) (side : Side)
+    : List ℕ → List ℤ → List ℤ → Type 0 where
+  no_raise : {u : List ℤ} → AreRaises held grid problem side [] u u
+  one_raise : {i : ℕ} {order : List ℕ} {u w : List ℤ} {junction : GridJunction} {x : ℤ}
+      → slice_get grid.junctions i ≡ Some junction → IsRaisedHolding held grid problem side u i junction x
+      → AreRaises held grid problem side order (slice_set u i x) w → AreRaises held grid problem side (i ∷ order) u w
+
 -- what raises in an order give: all of them where each exists, else those before the first that doesn't
 abbrev pub FollowGives : Option HeldJunction → Grid → Problem → Side → List ℕ → List ℤ → List ℤ → Raised → Type 0
 FollowGives held grid problem side order old new Passed =
-    (new ≡ old) × Climbs held grid problem side order old new
+    (new ≡ old) × AreRaises held grid problem side order old new
 FollowGives held grid problem side order old new Moved =
-    (new ≢ old) × Climbs held grid problem side order old new
+    (new ≢ old) × AreRaises held grid problem side order old new
 FollowGives held grid problem side order old new NoValue =
-    (k : ℕ) × ((k < length order) × (Climbs held grid problem side (take k order) old new
+    (k : ℕ) × ((k < length order) × (AreRaises held grid problem side (take k order) old new
     × HasNoValue held grid problem side new (slice_index_or order k 0)))
+
+-- an order names every junction
+abbrev pub NamesEach : Grid → List ℕ → Type 0
+NamesEach grid order = (i : ℕ) → i < length grid.junctions → Contains order i
+
+-- where raises in an order lead: from a start to a start, which is the tight vector if every junction suits there, as
+-- it does where no head moved in an order that names each; as far as n rounds, or farther, in an order of n parts that
+-- each name every junction; and where a junction of the order has no value there is no certificate
+pub record FollowLeads (held : Option HeldJunction) (grid : Grid) (problem : Problem) (side : Side) (order : List ℕ)
+    (old new : List ℤ) (result : Raised) : Type 0 where
+  pub start : IsStart held grid problem side old → IsStart held grid problem side new
+  pub tight : IsStart held grid problem side old → Each grid.junctions (Suits held grid problem side new)
+      → IsTightHolding held grid problem side new
+  pub passed : IsStart held grid problem side old → result ≡ Passed → NamesEach grid order
+      → IsTightHolding held grid problem side new
+  pub rounds : (n : ℕ) → HasParts (length grid.junctions) n order → result ≢ NoValue
+      → HasRounds held grid problem side n old new
+  pub none : IsStart held grid problem side old → result ≡ NoValue → (w : List ℤ)
+      → IsCertificateHolding held grid problem side w → ⊥
 
 -- the raises in an order so far, and whether one moved a head
 pub record IsFollowing (held : Option HeldJunction) (grid : Grid) (problem : Problem) (side : Side) (order : List ℕ)
     (old u : List ℤ) (moved : Bool) : Type 0 where
   pub one_each : length u ≡ length grid.junctions
   pub in_box : All IsInBox u
-  pub climbs : Climbs held grid problem side order old u
+  pub raises : AreRaises held grid problem side order old u
   pub still : moved ≡ false → u ≡ old
   pub ahead : moved ≡ true → (m : ℕ) × ((m < length old) × (along side (head_at old m) <ℤ along side (head_at u m)))
 
@@ -101,18 +129,20 @@ numbers (suc n) = numbers n ++ (n ∷ [])
 -- what a round in file order gives: the junction without a value, if there is one
 abbrev pub RoundGives : Option HeldJunction → Grid → Problem → Side → List ℤ → List ℤ → Option ℕ → Type 0
 RoundGives held grid problem side old new None =
-    Climbs held grid problem side (numbers (length grid.junctions)) old new
+    AreRaises held grid problem side (numbers (length grid.junctions)) old new
 RoundGives held grid problem side old new (Some j) =
-    (j < length grid.junctions) × (Climbs held grid problem side (numbers j) old new
+    (j < length grid.junctions) × (AreRaises held grid problem side (numbers j) old new
     × HasNoValue held grid problem side new j)
 
--- what a sweep of at most so many rounds gives: the tight vector; or a junction without a value at the heads that were
--- reached, and then there is no certificate; or so many rounds from the first heads exist, and lead to none
+-- what a sweep of at most so many rounds gives: the tight vector; or a junction without a value at heads in the box,
+-- and then there is no certificate; or so many rounds from the first heads exist, and lead to none, and the heads are
+-- a start that lies as far out as these rounds lead, or farther
 abbrev pub SweepGives : Option HeldJunction → Grid → Problem → Side → ℕ → List ℤ → List ℤ → Swept → Type 0
 SweepGives held grid problem side rounds old new Least = IsTightHolding held grid problem side new
 SweepGives held grid problem side rounds old new (NoCertificate j) =
     (j < length grid.junctions) × (HasNoValue held grid problem side new j
-    × ((w : List ℤ) → IsCertificateHolding held grid problem side w → ⊥))
+    × (All IsInBox new × ((w : List ℤ) → IsCertificateHolding held grid problem side w → ⊥)))
 SweepGives held grid problem side rounds old new RoundsSpent =
     (v : List ℤ) × (AreRoundsHolding held grid problem side rounds old v
-    × (IsCertificateHolding held grid problem side v → ⊥))
+    × ((IsCertificateHolding held grid problem side v → ⊥)
+    × (LiesBeyond side v new × IsStart held grid problem side new)))

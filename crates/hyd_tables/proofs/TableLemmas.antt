@@ -1,12 +1,12 @@
 -- Look-ups in tables of IDs.
-use Rattle.std.proofs.Common.{◌≡◌, ◌+◌, ◌<◌, ◌≤◌, ◌++◌, ℕ, Bool, true, false, not, List, [], ◌∷◌, map, length, slice_get, position, Option, Some, None, Contains, refl, sym, ap, ◌∙◌, true≢false, arith, nat_lt, ltb-true, ltb-false, get_or, inl, inr, one-add, suc}
+use Rattle.std.proofs.Common.{◌≡◌, ◌+◌, ◌<◌, ◌≤◌, ◌++◌, ℕ, Bool, true, false, not, List, [], ◌∷◌, map, length, slice_get, position, Option, Some, None, Contains, refl, sym, ap, ◌∙◌, subst, true≢false, arith, nat_lt, ltb-true, ltb-false, get_or, inl, inr, one-add, suc}
 use Rattle.std.specs.Prelude.{◌↔◌}
 use Rattle.std.specs.List.{list_any, position_or_len}
 use Rattle.std.specs.Str.{bytes_eq}
 use Rattle.std.specs.Option.{option_map}
 use Rattle.std.specs.Cmp.Lexicographic.{bytes_decides, nat_list_eq_equiv}
 use Rattle.std.proofs.lemmas.Bool.{cases_Bool}
-use Rattle.std.proofs.lemmas.List.Elements.{All-push}
+use Rattle.std.proofs.lemmas.List.Elements.{All-push, All-get_or}
 use Rattle.std.proofs.lemmas.List.{map-append, length-map}
 use Rattle.std.proofs.lemmas.Option.{slice_get-map, slice_get_read}
 use Rattle.std.proofs.lemmas.Map.Views.{Contains-from_any, list_any-from_Contains}
@@ -172,6 +172,17 @@ found_at text rows names firsts name k line is p l =
     l in
     sym (is.same name) ∙ row_at_place name rs (omega (arith, s.0, s.1)) ∙ ap (slice_get rs) s.0
     ∙ slice_get-map (row_of text) firsts k ∙ ap (option_map (row_of text)) at
+
+-- the line of a name lies in the text
+pub found_lies : (text : List ℕ) (rows : List Row) (names : List (List ℕ)) (firsts : List Line) (name : List ℕ)
+    (k : ℕ) (line : Line)
+    → AreFirsts text rows names firsts → position (bytes_eq name) names ≡ Some k → line ≡ get_or firsts k line
+    → LiesIn text line
+found_lies text rows names firsts name k line is p l =
+    let s = place_of (bytes_eq name) names k p in
+    let even = ap length is.aligned ∙ length-map (rows_at text firsts) own_id ∙ length-map firsts (row_of text) in
+    let P : Line → Type 0 = LiesIn text in
+    subst P (sym l) (All-get_or P firsts k line (omega (arith, s.1, even)) is.lie)
 
 pub not_found : (text : List ℕ) (rows : List Row) (names : List (List ℕ)) (firsts : List Line) (name : List ℕ)
     → AreFirsts text rows names firsts → position (bytes_eq name) names ≡ None → row_with name rows ≡ None

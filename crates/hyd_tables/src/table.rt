@@ -67,6 +67,8 @@ impl Table {
             → row_with name.now rows ≡ Some (row_of text.now.text line)) }
         ensures none { IfNone result ((rows : List Row) → IsTable text.now.text rows self.now
             → row_with name.now rows ≡ None) }
+        ensures lies { IfSome result (λ line. (rows : List Row) → IsTable text.now.text rows self.now
+            → LiesIn text.now.text line) }
     {
         let number = self.names.number(name)?;
         Some(self.firsts[number as usize])

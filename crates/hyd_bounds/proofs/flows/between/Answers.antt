@@ -1,6 +1,6 @@
-use Rattle.std.proofs.Common.{◌≡◌, ◌≤ℤ◌, ◌∙◌, ap, w64, to_z, of_z, arith, ℤ}
+use Rattle.std.proofs.Common.{◌≡◌, ◌≤ℤ◌, ◌∙◌, ap, w64, to_z, of_z, arith}
 use Rattle.std.proofs.lemmas.Int.{ints}
-use Rattle.hyd_law.specs.LinkLaws.{link_low, link_high, IsLaw-link}
+use Rattle.hyd_law.specs.LinkLaws.{link_low, IsLaw-link}
 use Rattle.hyd_bounds.proofs.flows.between.Goals as goal
 
 pub invariant_of-result : goal.invariant_of-result

@@ -1,4 +1,4 @@
-use Rattle.std.proofs.Common.{◌≡◌, ◌≤◌, ◌∙◌, ap, w64, to_z, of_z, arith, ℤ, ◌-ℤ◌}
+use Rattle.std.proofs.Common.{◌≡◌, w64, to_z, of_z, arith, ◌-ℤ◌}
 use Rattle.std.proofs.lemmas.Int.{ints}
 use Rattle.hyd_spec.specs.Assignment.{head_at}
 use Rattle.hyd_spec_certificates.specs.declared.Problem.TheVariants.{Main}
@@ -7,6 +7,7 @@ use Rattle.hyd_spec_certificates.specs.Grid.{all_heads}
 use Rattle.hyd_graph.specs.GridOf.{grid_of}
 use Rattle.hyd_check.proofs.Shares.{StandsFor, stands-for}
 use Rattle.hyd_bounds.proofs.Flowing.{flow-box-is}
+use Rattle.hyd_bounds.proofs.Holding.{holds-flow}
 use Rattle.hyd_bounds.proofs.flows.flow_box.Goals as goal
 
 there : (c : goal.After-law) → StandsFor (grid_of c.args.net.now).links c.args.link c.law.result.now
@@ -69,3 +70,13 @@ returns-clause-flow c =
     (to_z w64 (of_z w64 c.difference-least.result)) (to_z w64 (of_z w64 c.difference-greatest.result)) c.between.result
     (stands-for grid.links c.args.link c.law.result.now (omega (arith, each, given)) c.law.ensures.stands)
     c.ends-ends.ensures.grid least greatest c.between.ensures.lo c.between.ensures.hi
+
+pub returns-clause-holds : goal.returns-clause-holds
+returns-clause-holds c =
+    let each = c.links-links.ensures.each in
+    let given = c.requires.in_range in
+    holds-flow (grid_of c.args.net.now) c.args.low.now c.args.high.now c.args.link c.between.result (omega (
+      arith,
+      each,
+      given,
+    )) (returns-clause-flow c)

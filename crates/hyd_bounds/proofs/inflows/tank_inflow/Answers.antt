@@ -1,13 +1,13 @@
-use Rattle.std.proofs.Common.{◌≡◌, ◌+◌, ◌-◌, ◌*◌, ◌≤◌, ◌≤ℤ◌, ◌∙◌, ap, sym, subst, to_z, of_z, arith, ℕ, ℤ, pos, length}
-use Rattle.std.specs.Int.{w128}
+use Rattle.std.proofs.Common.{◌≡◌, ◌+◌, ◌-◌, ◌∙◌, ap, arith, ℕ, length}
 use Rattle.std.proofs.lemmas.Int.{ints}
 use Rattle.hyd_spec_certificates.specs.declared.Problem.TheVariants.{Pinned}
 use Rattle.hyd_spec_certificates.specs.declared.Side.TheVariants.{Upper, Lower}
 use Rattle.hyd_spec_certificates.specs.Enclosing.{low, high}
 use Rattle.hyd_spec_certificates.specs.Grid.{all_heads}
 use Rattle.hyd_spec_certificates.specs.NetOutflow.{net, link_ends}
-use Rattle.hyd_graph.specs.GridOf.{grid_of, node_count}
+use Rattle.hyd_graph.specs.GridOf.{grid_of}
 use Rattle.hyd_bounds.specs.Bounds.{tank_node_of}
+use Rattle.hyd_bounds.proofs.Holding.{holds-inflow}
 use Rattle.hyd_bounds.proofs.Inflowing.{flows-in-order}
 use Rattle.hyd_bounds.proofs.inflows.tank_inflow.Goals as goal
 
@@ -59,3 +59,10 @@ returns-clause-small_hi c =
     let small = c.tank_flows-greatest.ensures.small in
     let few = c.row.ensures.few in
     omega (arith, ints, small, few)
+
+pub returns-clause-holds : goal.returns-clause-holds
+returns-clause-holds c =
+    let net = c.args.net.now in
+    holds-inflow (grid_of net) c.args.tank (tank_node_of net c.args.tank) (length net.junctions) c.args.low.now
+    c.args.high.now _ c.junctions-junctions.ensures.each
+    (omega arith) (returns-clause-inflow c)

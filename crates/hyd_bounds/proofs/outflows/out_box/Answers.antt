@@ -1,12 +1,11 @@
-use Rattle.std.proofs.Common.{◌≡◌, ◌<◌, ◌≤ℤ◌, ◌∙◌, ap, subst, w64, to_z, of_z, arith, ℤ, ◌+ℤ◌, ◌-ℤ◌, length, Some}
+use Rattle.std.proofs.Common.{◌≡◌, ◌∙◌, ap, w64, to_z, of_z, arith, ℤ, ◌+ℤ◌, ◌-ℤ◌}
 use Rattle.std.specs.Int.{w128}
-use Rattle.std.specs.Prelude.{slice_get}
 use Rattle.std.specs.Option.{option_map, option_copied}
 use Rattle.std.proofs.lemmas.Int.{ints}
-use Rattle.hyd_spec_certificates.specs.Grid.{GridJunction}
 use Rattle.hyd_spec_certificates.specs.NetOutflow.{outflow_low, outflow_high}
 use Rattle.hyd_graph.specs.GridOf.{grid_of, capacity_of}
-use Rattle.hyd_bounds.proofs.Leaving.{miss, out-box-at, outflows-in-order}
+use Rattle.hyd_bounds.proofs.Holding.{holds-outflow}
+use Rattle.hyd_bounds.proofs.Leaving.{out-box-at, outflows-in-order}
 use Rattle.hyd_bounds.proofs.outflows.out_box.Goals as goal
 
 pub invariant_of-result : goal.invariant_of-result
@@ -54,3 +53,10 @@ returns-clause-small_hi c =
     let small = c.outflow-2.ensures.small in
     let few = c.missed-missed.ensures.small in
     omega (arith, ints, small, few)
+
+pub returns-clause-holds : goal.returns-clause-holds
+returns-clause-holds c =
+    let each = c.junctions-junctions.ensures.each in
+    let given = c.requires.in_range in
+    holds-outflow (grid_of c.args.net.now) c.args.junction c.args.low c.args.high _ (omega (arith, each, given))
+    (returns-clause-outflow c)

@@ -1,4 +1,4 @@
-use Rattle.std.proofs.Common.{◌≡◌, ◌∙◌, ap, ap₂, w64, to_z, of_z, arith, ℤ, pos, false}
+use Rattle.std.proofs.Common.{◌≡◌, ◌∙◌, ap, ap₂, w64, to_z, of_z, arith, ℤ, false}
 use Rattle.std.specs.Int.{w128}
 use Rattle.std.proofs.lemmas.Int.{ints}
 use Rattle.hyd_num.specs.Rational.{ceiling}

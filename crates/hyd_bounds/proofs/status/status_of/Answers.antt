@@ -1,4 +1,4 @@
-use Rattle.std.proofs.Common.{◌≡◌, ◌∙◌, ap, sym, w64, to_z, of_z, arith, ℕ, ℤ, ◌-ℤ◌, Some}
+use Rattle.std.proofs.Common.{◌≡◌, ◌∙◌, ap, sym, w64, to_z, of_z, arith, ◌-ℤ◌}
 use Rattle.std.proofs.lemmas.Int.{ints}
 use Rattle.hyd_spec.specs.Assignment.{head_at}
 use Rattle.hyd_spec_certificates.specs.declared.Problem.TheVariants.{Main}
@@ -8,11 +8,12 @@ use Rattle.hyd_spec_certificates.specs.Boxes.{difference}
 use Rattle.hyd_graph.specs.ExactLaw.{exact_law}
 use Rattle.hyd_graph.specs.GridOf.{grid_of}
 use Rattle.hyd_bounds.proofs.Flowing.{placed-ends, some-same, law-at}
+use Rattle.hyd_bounds.proofs.Holding.{holds-status}
 use Rattle.hyd_bounds.proofs.Wording.{status-is}
 use Rattle.hyd_bounds.proofs.status.status_of.Goals as goal
 
-pub returns : goal.returns
-returns c us bends kind state place can state_is own_is place_is =
+pub returns-clause-word : goal.returns-clause-word
+returns-clause-word c us bends kind state place can state_is own_is place_is =
     let grid = grid_of c.args.net.now in
     let below = all_heads grid Main Lower c.args.low.now in
     let above = all_heads grid Main Upper c.args.high.now in
@@ -38,3 +39,8 @@ returns c us bends kind state place can state_is own_is place_is =
     (to_z w64 (of_z w64 c.difference-greatest.result)) (difference place below above).lo (difference place below above).hi can
     (some-same _ _ (sym c.state.ensures ∙ state_is)) (some-same _ _ (sym (law-at c.args.net.now.own c.args.link c.own_law.result.now c.own_law.ensures.value) ∙ own_is))
     least greatest
+
+pub returns-clause-holds : goal.returns-clause-holds
+returns-clause-holds c us bends kind state place can state_is own_is place_is =
+    holds-status (grid_of c.args.net.now) c.args.low.now c.args.high.now us bends kind state place _
+    (returns-clause-word c us bends kind state place can state_is own_is place_is)

@@ -1,4 +1,4 @@
-use Rattle.std.proofs.Common.{◌≡◌, ◌∙◌, ap, sym, subst, w64, to_z, of_z, arith, ℕ, ℤ, pos, ◌+ℤ◌, length, List, [], drop, false}
+use Rattle.std.proofs.Common.{◌≡◌, ap, sym, subst, w64, to_z, of_z, arith, ℤ, pos, ◌+ℤ◌, List, [], drop, false}
 use Rattle.std.specs.Prelude.{slice_set}
 use Rattle.std.specs.Int.{w128}
 use Rattle.std.proofs.lemmas.Int.{ints}

@@ -3,18 +3,14 @@ use Rattle.hyd_lex.specs.declared.section.Section.TheVariants.{Options}
 use Rattle.hyd_tables.specs.Found.{rows_at}
 use Rattle.hyd_tables.specs.Sections.{IsWrongIn}
 use Rattle.hyd_tables.proofs.SectionLemmas.{found_fewer}
-use Rattle.hyd_judge.proofs.BoundLemmas.{no_wrong_times}
 use Rattle.hyd_judge.proofs.options.judge_options.Goals as goal
 
 pub loop-place-init : goal.loop-place-init
 loop-place-init c = λ k l. absurd (omega arith)
 
-pub returns-clause-options : goal.returns-clause-options
-returns-clause-options c =
+pub returns : goal.returns
+returns c =
     let text = c.args.text.now.text in
     let lines = c.args.lines.now in
     found_fewer (rows_at text lines) (IsWrongIn Options (rows_at text lines)) c.loop-place.place (length lines)
     c.loop-place.found c.loop-place.invariant c.loop-place-test.false
-
-pub returns-clause-times : goal.returns-clause-times
-returns-clause-times c = no_wrong_times (rows_at c.args.text.now.text c.args.lines.now)

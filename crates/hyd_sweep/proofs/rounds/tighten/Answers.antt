@@ -1,11 +1,11 @@
-use Rattle.std.proofs.Common.{◌≡◌, ◌+◌, ◌∙◌, sym, subst, arith, ℕ, length, suc}
+use Rattle.std.proofs.Common.{◌≡◌, ◌+◌, ◌∙◌, sym, subst, arith, ℕ, suc}
 use Rattle.std.proofs.lemmas.Bool.{false≢true}
 use Rattle.hyd_graph.specs.GridOf.{grid_of}
 use Rattle.hyd_spec_certificates.specs.Climbing.{HasRounds}
-use Rattle.hyd_spec_raises.proofs.Sweeping.{has-begins, climb-start}
-use Rattle.hyd_sweep.specs.Sweeps.{RoundGives, numbers}
+use Rattle.hyd_spec_raises.proofs.Sweeping.{has-begins}
+use Rattle.hyd_sweep.specs.Sweeps.{RoundGives}
 use Rattle.std.specs.Prelude.{Option}
-use Rattle.hyd_sweep.proofs.Walking.{round-more, sweep-none, sweep-spent}
+use Rattle.hyd_sweep.proofs.Walking.{round-more, round-start, sweep-none, sweep-spent}
 use Rattle.hyd_sweep.proofs.rounds.tighten.Goals as goal
 
 pub loop-spent-init : goal.loop-spent-init
@@ -25,7 +25,8 @@ loop-spent-preserved c =
     let start = c.loop-spent.invariant.start in
     let gives = subst (λ (r : Option ℕ). RoundGives held grid problem side c.loop-spent.u c.round.new.u r) c.in_default.is c.round.ensures in
     record {
-      start = climb-start held grid c.junctions-junctions.ensures.steady problem side (numbers (length grid.junctions)) c.loop-spent.u c.round.new.u gives start;
+      start = round-start held grid c.junctions-junctions.ensures.steady problem side c.loop-spent.u c.round.new.u
+          gives start;
       rounds = subst (λ (n : ℕ). HasRounds held grid problem side n c.args.u.now c.round.new.u) (let e : suc c.loop-spent.spent ≡ c.loop-spent.spent + 1 = omega arith in e)
           (round-more held grid c.junctions-junctions.ensures.steady problem side c.loop-spent.spent c.args.u.now c.loop-spent.u c.round.new.u start.one_each c.loop-spent.invariant.rounds gives);
     }

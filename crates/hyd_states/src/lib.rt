@@ -1,0 +1,13 @@
+//! The states that the words of an input file ask of links (EPANET 2.2 User Manual, [STATUS], [CONTROLS], [RULES]). A
+//! link comes as the line of its row, which is right by itself.
+#![tactic(auto)]
+
+mod faults;
+mod settings;
+mod types;
+
+pub use faults::state_fault;
+pub use settings::{
+    is_refused, is_refused_valve, limit_state, link_state, speed_state, throttle_state, valve_law,
+};
+pub use types::{LinkType, link_type};
