@@ -1,6 +1,7 @@
 //! The controls and rules of an input file without a fault (EPANET 2.2 User Manual, appendix C).
 #![tactic(auto)]
 
+mod actions;
 mod controls;
 mod numbers;
 
