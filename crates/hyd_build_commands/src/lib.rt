@@ -4,5 +4,6 @@
 mod actions;
 mod controls;
 mod numbers;
+mod values;
 
 pub use controls::build_controls;
