@@ -43,9 +43,10 @@ each_line : {X : Type 0} (P : ℕ → X → ReportLine → Type 0) (f : ℕ → 
     → ((k : ℕ) (x : X) → slice_get xs k ≡ Some x → P (n + k) x (f (n + k) x)) → LineEach P n xs (map_from f n xs)
 each_line P f n [] each = tt
 each_line P f n (x ∷ xs) each =
-    let here : n + 0 ≡ n = omega arith in
-    (subst (λ m. P m x (f m x)) here (each 0 x refl),
-    each_line P f (suc n) xs (λ k y at. let m : n + suc k ≡ suc n + k = omega arith in subst (λ j. P j y (f j y)) m (each (suc k) y at)))
+    let here : n + 0 ≡ n = omega arith in (
+      subst (λ m. P m x (f m x)) here (each 0 x refl),
+      each_line P f (suc n) xs (λ k y at. let m : n + suc k ≡ suc n + k = omega arith in subst (λ j. P j y (f j y)) m (each (suc k) y at)),
+    )
 
 every_line : {X : Type 0} (P : ℕ → X → ReportLine → Type 0) (f : ℕ → X → ReportLine) (xs : List X)
     → ((k : ℕ) (x : X) → slice_get xs k ≡ Some x → P k x (f k x)) → LineEach P 0 xs (map_from f 0 xs)

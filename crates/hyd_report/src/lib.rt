@@ -13,9 +13,11 @@ mod printed;
 mod report;
 mod reservoirs;
 mod states;
+mod stops;
 mod tanks;
 mod times;
 mod words;
 
 pub use last::{put_done, put_partial, put_refused_end};
 pub use report::put_report;
+pub use stops::put_stop;
