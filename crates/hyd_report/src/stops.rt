@@ -49,7 +49,7 @@ fn put_problem<D: Desk>(
 }
 
 /// Puts a key word and a space, and the words of a problem and a side at a junction.
-fn put_failing<D: Desk>(
+pub(crate) fn put_failing<D: Desk>(
     project: &Project,
     key: &[u8],
     problem: Problem,
