@@ -1,5 +1,5 @@
 -- Lines one after another, and what is put of one.
-use Rattle.std.proofs.Common.{◌≡◌, ℕ, zero, suc, ◌+◌, ◌<◌, ◌≤◌, ℤ, pos, ◌+ℤ◌, ◌-ℤ◌, ◌≤ℤ◌, List, [], ◌∷◌, ◌++◌, length, map, take, drop, get_or, Option, Some, None, refl, sym, ap, subst, ◌∙◌, append_assoc, append-nil, arith}
+use Rattle.std.proofs.Common.{◌≡◌, ℕ, zero, suc, ◌+◌, ◌<◌, ℤ, pos, ◌-ℤ◌, List, [], ◌∷◌, ◌++◌, length, map, take, get_or, Option, Some, None, refl, sym, ap, subst, ◌∙◌, append_assoc, append-nil, arith}
 use Rattle.std.specs.Prelude.{slice_get, slice_index_or, IfSome}
 use Rattle.std.proofs.lemmas.Int.{ints}
 use Rattle.std.proofs.lemmas.Option.{slice_get-get_or, get_or_from_slice_get}
@@ -71,9 +71,11 @@ module _ {X : Type 0} (network : Project) (f : ℕ → X → ReportLine) where
   rest_from k xs zero = (texts network (map_from f k xs), refl)
   rest_from k [] (suc i) = ([], refl)
   rest_from k (y ∷ ys) (suc i) =
-      let r = rest_from (suc k) ys i in
-      (r.0, append_assoc (line_text network (f k y)) (texts network (map_from f (suc k) (take i ys))) r.0
-      ∙ ap (λ t. line_text network (f k y) ++ t) r.1)
+      let r = rest_from (suc k) ys i in (
+        r.0,
+        append_assoc (line_text network (f k y)) (texts network (map_from f (suc k) (take i ys))) r.0
+            ∙ ap (λ t. line_text network (f k y) ++ t) r.1,
+      )
 
   -- one line more
   pub lines_more : (xs : List X) (i : ℕ) (x : X) → slice_get xs i ≡ Some x

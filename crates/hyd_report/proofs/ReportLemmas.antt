@@ -1,5 +1,5 @@
 -- The lines that the program makes are the report of the period.
-use Rattle.std.proofs.Common.{◌≡◌, ℕ, zero, suc, ◌+◌, ◌<◌, ℤ, pos, ◌-ℤ◌, Bool, true, false, MatchBool, List, [], ◌∷◌, ◌++◌, length, map, take, drop, Option, Some, None, if◌then◌else◌, refl, sym, ap, subst, ◌∙◌, arith}
+use Rattle.std.proofs.Common.{◌≡◌, ℕ, zero, suc, ◌+◌, ℤ, Bool, true, false, MatchBool, List, [], ◌∷◌, ◌++◌, length, map, take, drop, Option, Some, if◌then◌else◌, refl, ap, subst, ◌∙◌, arith}
 use Rattle.std.specs.Prelude.{slice_get, slice_index_or}
 use Rattle.std.specs.Option.{option_map}
 use Rattle.std.proofs.lemmas.Option.{slice_get_within, slice_get-get_or, slice_get-map}
@@ -10,11 +10,11 @@ use Rattle.hyd_spec.specs.Assignment.{head_at}
 use Rattle.hyd_spec.specs.Rules.{state_of_link}
 use Rattle.hyd_spec.specs.declared.TankState.{TankState}
 use Rattle.hyd_spec.specs.declared.TankState.TheVariants.{Between}
-use Rattle.hyd_spec_certificates.specs.Interval.{Interval, exactly, shifted}
+use Rattle.hyd_spec_certificates.specs.Interval.{Interval, shifted}
 use Rattle.hyd_spec_certificates.specs.Grid.{Grid, GridLink, GridJunction}
-use Rattle.hyd_spec_certificates.specs.Boxes.{difference, flow_box, out_box}
+use Rattle.hyd_spec_certificates.specs.Boxes.{difference, flow_box}
 use Rattle.hyd_spec_certificates.specs.Record.{Record, Standing}
-use Rattle.hyd_spec_certificates.specs.Decided.{heads_below, heads_above, nowhere, inflow_of_tank, level_of_tank, links_at}
+use Rattle.hyd_spec_certificates.specs.Decided.{heads_below, heads_above, nowhere, inflow_of_tank, level_of_tank}
 use Rattle.hyd_spec_reports.specs.ReportLine.{ReportLine, TimeLine, LinkLine}
 use Rattle.hyd_spec_reports.specs.Report.{Prints, LineEach, IsJunctionLine, IsReservoirLine, IsTankLine, IsLinkLine, AreStateLines, AreEndLines, IsReport, is_report_time, change_line, event_line, changes_at, status_of}
 use Rattle.hyd_facts.specs.declared.facts.Facts.{Facts}
@@ -27,7 +27,7 @@ use Rattle.hyd_report.specs.Printing.{printed, quantity_in}
 use Rattle.hyd_report.specs.declared.printed.Quantity.TheVariants.{Head, Pressure, Flow}
 use Rattle.hyd_report.specs.Words.{before_rules}
 use Rattle.hyd_report.specs.Lines.{junction_line, reservoir_line, tank_line, no_link, link_line}
-use Rattle.hyd_report.specs.Periods.{AreTankFacts, state_lines, start_lines, middle_lines, end_lines, lines_of}
+use Rattle.hyd_report.specs.Periods.{AreTankFacts, state_lines, middle_lines, end_lines, lines_of}
 use Rattle.hyd_report.proofs.PrintLemmas.{prints}
 use Rattle.hyd_report.proofs.ChangeLemmas.{changes_apart}
 
@@ -43,9 +43,10 @@ each_line : {X : Type 0} (P : ℕ → X → ReportLine → Type 0) (f : ℕ → 
     → ((k : ℕ) (x : X) → slice_get xs k ≡ Some x → P (n + k) x (f (n + k) x)) → LineEach P n xs (map_from f n xs)
 each_line P f n [] each = tt
 each_line P f n (x ∷ xs) each =
-    let here : n + 0 ≡ n = omega arith in
-    (subst (λ m. P m x (f m x)) here (each 0 x refl),
-    each_line P f (suc n) xs (λ k y at. let m : n + suc k ≡ suc n + k = omega arith in subst (λ j. P j y (f j y)) m (each (suc k) y at)))
+    let here : n + 0 ≡ n = omega arith in (
+      subst (λ m. P m x (f m x)) here (each 0 x refl),
+      each_line P f (suc n) xs (λ k y at. let m : n + suc k ≡ suc n + k = omega arith in subst (λ j. P j y (f j y)) m (each (suc k) y at)),
+    )
 
 every_line : {X : Type 0} (P : ℕ → X → ReportLine → Type 0) (f : ℕ → X → ReportLine) (xs : List X)
     → ((k : ℕ) (x : X) → slice_get xs k ≡ Some x → P k x (f k x)) → LineEach P 0 xs (map_from f 0 xs)

@@ -1,5 +1,5 @@
 -- The lines of a period, as the program makes them, and what it needs of the period.
-use Rattle.std.specs.Prelude.{◌≡◌, ℕ, ◌+◌, pos, List, [], ◌∷◌, ◌++◌, length, map, take, drop, All, if◌then◌else◌}
+use Rattle.std.specs.Prelude.{◌≡◌, ◌+◌, pos, List, [], ◌∷◌, ◌++◌, length, map, take, drop, All, if◌then◌else◌}
 use Rattle.hyd_spec.specs.Types.{Project, LinkState}
 use Rattle.hyd_spec.specs.Lists.{map_from}
 use Rattle.hyd_spec.specs.Network.{tank_count}

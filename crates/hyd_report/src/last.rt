@@ -27,11 +27,7 @@ pub fn put_partial<D: Desk>(records: u32, pen: &mut Pen, desk: &mut D) -> Result
         (partial_line records) result pen.old pen.new desk.old desk.new }
 {
     let records = number(u64::from(records));
-    put_pieces(
-        &[b"PARTIAL ".as_slice(), records.bytes(), b"\n"],
-        pen,
-        desk,
-    )
+    put_pieces(&[b"PARTIAL ".as_slice(), records.bytes(), b"\n"], pen, desk)
 }
 
 /// Puts the last line where the END line of a certificate says what isn't so, with that line's number, counted from 1. Its

@@ -67,7 +67,13 @@ fn put_start<D: Desk>(
         Ok(()) => {}
         Err(fault) => return Err(fault),
     }
-    put_changes(project, u64::from(facts.time), by_controls(facts), pen, desk)
+    put_changes(
+        project,
+        u64::from(facts.time),
+        by_controls(facts),
+        pen,
+        desk,
+    )
 }
 
 /// When a period ends, in seconds.

@@ -129,7 +129,13 @@ pub(crate) fn put_tanks<D: Desk>(
 {
     for k in 0..project.tanks.len() {
         match put_tank(
-            project, k as u32, &levels[k], &inflows[k], &states[k], pen, desk,
+            project,
+            k as u32,
+            &levels[k],
+            &inflows[k],
+            &states[k],
+            pen,
+            desk,
         ) {
             Ok(()) => {}
             Err(fault) => return Err(fault),

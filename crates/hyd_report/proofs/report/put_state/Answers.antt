@@ -1,5 +1,5 @@
 -- One part after another.
-use Rattle.std.proofs.Common.{◌≡◌, ◌++◌, ◌∙◌, List, ℕ, ℤ, pos, sym, subst}
+use Rattle.std.proofs.Common.{◌++◌, ◌∙◌, List, ℤ, pos, sym, subst}
 use Rattle.hyd_spec.specs.Lists.{map_from}
 use Rattle.hyd_spec_certificates.specs.Decided.{heads_below, heads_above}
 use Rattle.hyd_spec_certificates.specs.Grid.{fixed_heads}

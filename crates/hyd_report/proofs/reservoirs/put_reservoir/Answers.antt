@@ -1,7 +1,6 @@
 -- The head of a reservoir stands behind those of the junctions.
-use Rattle.std.proofs.Common.{◌≡◌, ◌<◌, ap, ℕ, ◌+◌, ◌∙◌, ◌++◌, List, length, map, to_z-of_z, FitsSigned, w64}
+use Rattle.std.proofs.Common.{◌≡◌, ap, ℕ, ◌+◌, ◌∙◌, ◌++◌, List, length, to_z-of_z, FitsSigned, w64}
 use Rattle.hyd_spec.specs.Assignment.{head_at}
-use Rattle.hyd_spec.specs.Lists.{map_from}
 use Rattle.hyd_spec_certificates.specs.Grid.{fixed_heads}
 use Rattle.hyd_spec_certificates.specs.declared.Problem.TheVariants.{Main}
 use Rattle.hyd_spec_certificates.specs.declared.Side.TheVariants.{Lower}
