@@ -1,3 +1,4 @@
 pub mod NumberLemmas
 pub mod ControlLemmas
 pub mod ActionLemmas
+pub mod ClauseLemmas
