@@ -2,3 +2,4 @@ pub mod NumberLemmas
 pub mod ControlLemmas
 pub mod ActionLemmas
 pub mod ClauseLemmas
+pub mod RightClauses
