@@ -54,7 +54,8 @@ abbrev pub NamesRule : Row → Type 0
 NamesRule row = (is_of Rules row ≡ true) × (is_rule (begins_with row.words) ≡ true)
 
 -- one part of a rule that begins before a place, up to another place: its lines there, each with its item
-pub record AreParts {B : Type 0} (passes : Stage → Bool) (R : List (List ℕ) → B → Type 0) (rows : List Row) (from place : ℕ) (stage : Stage) (list : List B) : Type 0 where
+pub record AreParts {B : Type 0} (passes : Stage → Bool) (R : List (List ℕ) → B
+    → Type 0) (rows : List Row) (from place : ℕ) (stage : Stage) (list : List B) : Type 0 where
   pub stage_is : stage ≡ stage_at rows place
   pub done : List (List (List ℕ))
   pub all : lines_at passes Named (rest_of_rule rows from) ≡ done ++ lines_at passes stage (rest_of_rule rows place)

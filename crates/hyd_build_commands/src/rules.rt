@@ -28,6 +28,7 @@ fn bytes_of(alloc: Global, word: &[u8]) -> Result<List<u8>, OutOfMemory>
     ensures { IfOk result (λ bytes. bytes.list ≡ word.now) }
 {
     let mut bytes = List::new(alloc);
+    bytes.reserve(word.len())?;
     for k in 0..word.len() {
         bytes.push(word[k])?;
     }

@@ -22,7 +22,8 @@ loop-place-preserved-then-not-is_rules c =
     let text = c.args.text.now.text in
     let lines = c.args.lines.now in
     let rows = rows_at text lines in
-    parts_skip (is_of_branch c.args.branch) (IsAction rows) rows c.args.from c.loop-place.place _ c.loop-place.stage c.loop-place.list.list
+    parts_skip (is_of_branch c.args.branch) (IsAction rows) rows c.args.from c.loop-place.place _ c.loop-place.stage
+    c.loop-place.list.list
     c.loop-place.invariant (row_at text lines c.loop-place.place nothing c.loop-place-test.true)
     (sym c.is_rules.ensures ∙ c.if-not-is_rules.true)
 
@@ -32,8 +33,8 @@ returns-then-is_rule c =
     let text = c.args.text.now.text in
     let lines = c.args.lines.now in
     let rows = rows_at text lines in
-    parts_before_rule (is_of_branch c.args.branch) (IsAction rows) rows c.args.from c.loop-place.place _ c.loop-place.stage
-    c.loop-place.list.list c.loop-place.invariant
+    parts_before_rule (is_of_branch c.args.branch) (IsAction rows) rows c.args.from c.loop-place.place _
+    c.loop-place.stage c.loop-place.list.list c.loop-place.invariant
     (row_at text lines c.loop-place.place nothing c.loop-place-test.true)
     (sym c.is_rules.ensures ∙ c.if-not-is_rules.false)
     (ap is_rule (sym c.first_word-first.ensures) ∙ sym c.is_rule.ensures ∙ c.if-is_rule.true)
@@ -64,7 +65,8 @@ action_of-requires-clause-right c = λ row is.
     let of : is_of_branch c.args.branch (stage_by (stage_at rows c.loop-place.place) (begins_with here.words)) ≡ true =
     ap (λ s. is_of_branch c.args.branch (stage_by s (begins_with here.words))) (sym c.loop-place.invariant.stage_is)
     ∙ ap (λ o. is_of_branch c.args.branch (stage_by c.loop-place.stage o)) (sym c.first_word-first.ensures)
-    ∙ ap (is_of_branch c.args.branch) (sym c.stage_by-stage.ensures) ∙ sym c.is_of_branch.ensures ∙ c.if-not-is_of_branch.false in
+    ∙ ap (is_of_branch c.args.branch) (sym c.stage_by-stage.ensures) ∙ sym c.is_of_branch.ensures
+    ∙ c.if-not-is_of_branch.false in
     subst (λ (r : Row). IsRightAction rows r.words) same
     (right_branch rows c.loop-place.place here c.args.branch c.requires.by_itself c.requires.with_others at
     (sym c.is_rules.ensures ∙ c.if-not-is_rules.false) of)
@@ -77,8 +79,8 @@ loop-place-preserved c =
     let rows = rows_at text lines in
     let here = row_of text (get_or lines c.loop-place.place nothing) in
     let at = row_at text lines c.loop-place.place nothing c.loop-place-test.true in
-    parts_more (is_of_branch c.args.branch) (IsAction rows) rows c.args.from c.loop-place.place here c.loop-place.stage _
-    c.loop-place.list.list _ c.action_of.result c.loop-place.invariant at
+    parts_more (is_of_branch c.args.branch) (IsAction rows) rows c.args.from c.loop-place.place here
+    c.loop-place.stage _ c.loop-place.list.list _ c.action_of.result c.loop-place.invariant at
     (sym c.is_rules.ensures ∙ c.if-not-is_rules.false)
     (ap is_rule (sym c.first_word-first.ensures) ∙ sym c.is_rule.ensures ∙ c.if-is_rule.false)
     (c.stage_by-stage.ensures ∙ ap (stage_by c.loop-place.stage) c.first_word-first.ensures)
@@ -89,5 +91,6 @@ returns c =
     let text = c.args.text.now.text in
     let lines = c.args.lines.now in
     let rows = rows_at text lines in
-    parts_at_end (is_of_branch c.args.branch) (IsAction rows) rows c.args.from c.loop-place.place c.loop-place.stage c.loop-place.list.list
+    parts_at_end (is_of_branch c.args.branch) (IsAction rows) rows c.args.from c.loop-place.place c.loop-place.stage
+    c.loop-place.list.list
     c.loop-place.invariant (omega (arith, c.loop-place-test.false, length-map lines (row_of text)))

@@ -5,5 +5,5 @@ use Rattle.hyd_build_commands.proofs.parts.actions_of.Given as goal
 
 abbrev pub invariant-loop-place : goal.invariant-loop-place
 invariant-loop-place l =
-    AreParts (is_of_branch l.branch) (IsAction (rows_at l.text.text l.lines)) (rows_at l.text.text l.lines) l.from l.place
-    l.stage l.list.list
+    AreParts (is_of_branch l.branch) (IsAction (rows_at l.text.text l.lines)) (rows_at l.text.text l.lines) l.from
+    l.place l.stage l.list.list
