@@ -6,7 +6,6 @@ mod cert;
 #[cfg(test)]
 mod first_rows;
 #[cfg(test)]
-#[cfg(test)]
 mod lines;
 #[cfg(test)]
 mod network_rows;
