@@ -171,7 +171,7 @@ module _ (held : Option HeldJunction) (grid : Grid) (steady : IsSteady grid) (pr
       (
         rounds-spent held grid steady problem side n old u rounds start (λ is. not
             is.passes),
-        (rounds.ahead, start),
+        (rounds.ahead, (start, λ is. not is.passes)),
       ),
     ),
   )

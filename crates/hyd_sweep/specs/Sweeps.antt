@@ -136,7 +136,7 @@ RoundGives held grid problem side old new (Some j) =
 
 -- what a sweep of at most so many rounds gives: the tight vector; or a junction without a value at heads in the box,
 -- and then there is no certificate; or so many rounds from the first heads exist, and lead to none, and the heads are
--- a start that lies as far out as these rounds lead, or farther
+-- a start that lies as far out as these rounds lead, or farther, and is no certificate either
 abbrev pub SweepGives : Option HeldJunction → Grid → Problem → Side → ℕ → List ℤ → List ℤ → Swept → Type 0
 SweepGives held grid problem side rounds old new Least = IsTightHolding held grid problem side new
 SweepGives held grid problem side rounds old new (NoCertificate j) =
@@ -145,4 +145,5 @@ SweepGives held grid problem side rounds old new (NoCertificate j) =
 SweepGives held grid problem side rounds old new RoundsSpent =
     (v : List ℤ) × (AreRoundsHolding held grid problem side rounds old v
     × ((IsCertificateHolding held grid problem side v → ⊥)
-    × (LiesBeyond side v new × IsStart held grid problem side new)))
+    × (LiesBeyond side v new × (IsStart held grid problem side new
+    × (IsCertificateHolding held grid problem side new → ⊥)))))
