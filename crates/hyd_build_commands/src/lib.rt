@@ -1,7 +1,9 @@
 //! The controls and rules of an input file without a fault (EPANET 2.2 User Manual, appendix C).
 #![tactic(auto)]
 
+mod actions;
 mod controls;
 mod numbers;
+mod values;
 
 pub use controls::build_controls;

@@ -1,25 +1,31 @@
 -- Lines one after another, and what is put of one.
-use Rattle.std.proofs.Common.{◌≡◌, ℕ, zero, suc, ◌+◌, ◌<◌, ◌≤◌, ℤ, pos, ◌+ℤ◌, ◌-ℤ◌, ◌≤ℤ◌, List, [], ◌∷◌, ◌++◌, length, map, take, drop, Option, Some, None, refl, sym, ap, subst, ◌∙◌, append_assoc, append-nil, arith}
+use Rattle.std.proofs.Common.{◌≡◌, ℕ, zero, suc, ◌+◌, ◌<◌, ℤ, pos, ◌-ℤ◌, List, [], ◌∷◌, ◌++◌, length, map, take, get_or, Option, Some, None, refl, sym, ap, subst, ◌∙◌, append_assoc, append-nil, arith}
 use Rattle.std.specs.Prelude.{slice_get, slice_index_or, IfSome}
 use Rattle.std.proofs.lemmas.Int.{ints}
 use Rattle.std.proofs.lemmas.Option.{slice_get-get_or, get_or_from_slice_get}
 use Rattle.hyd_num.specs.declared.decimals.Span.{Span}
 use Rattle.hyd_spec.specs.Types.{Project, Tank, Link, LinkState}
 use Rattle.hyd_spec.specs.declared.TankState.{TankState}
+use Rattle.hyd_spec.specs.declared.TankState.TheVariants.{Between}
+use Rattle.hyd_spec_certificates.specs.declared.LevelSpan.{LevelSpan}
+use Rattle.hyd_spec_certificates.specs.Decided.{nowhere}
 use Rattle.hyd_spec.specs.Assignment.{head_at}
 use Rattle.hyd_spec.specs.Quantity.{is_us}
 use Rattle.hyd_spec.specs.Rules.{state_of_link}
 use Rattle.hyd_spec.specs.Lists.{joined, map_from}
 use Rattle.hyd_spec_certificates.specs.Interval.{Interval, shifted}
-use Rattle.hyd_spec_certificates.specs.Grid.{Grid, GridLink, GridJunction}
+use Rattle.hyd_spec_certificates.specs.Grid.{Grid, GridLink, GridJunction, all_heads}
+use Rattle.hyd_spec_certificates.specs.declared.Problem.TheVariants.{Main}
+use Rattle.hyd_spec_certificates.specs.declared.Side.TheVariants.{Upper, Lower}
 use Rattle.hyd_spec_certificates.specs.Boxes.{difference, flow_box, out_box}
 use Rattle.hyd_spec_reports.specs.ReportLine.{ReportLine, JunctionLine, ReservoirLine, TankLine, LinkLine, line_text}
 use Rattle.hyd_spec_reports.specs.Report.{status_of}
 use Rattle.hyd_spec_reports.specs.declared.StatusWord.{StatusWord}
-use Rattle.hyd_facts.specs.OfPeriod.{flows_of}
-use Rattle.hyd_bounds.specs.Bounds.{IsSpan}
+use Rattle.hyd_facts.specs.OfPeriod.{levels_of, flows_of}
+use Rattle.hyd_bounds.specs.Bounds.{IsSpan, AreInOrder}
 use Rattle.hyd_report.specs.Printing.{printed, quantity_in, ArePrinted}
-use Rattle.hyd_report.specs.Lines.{texts, junction_between, reservoir_line, tank_at, no_link, link_line}
+use Rattle.hyd_report.specs.Lines.{texts, junction_between, junction_line, reservoir_line, tank_at, tank_line, no_link, link_line}
+use Rattle.hyd_report.proofs.Joining.{map-append, joined-append}
 use Rattle.hyd_report.specs.declared.printed.Ends.{Ends}
 use Rattle.hyd_report.specs.declared.printed.Quantity.TheVariants.{Head, Pressure, Flow}
 
@@ -31,6 +37,18 @@ pub there : {X : Type 0} (xs : List X) (i : ℕ) (Q : X → Type 0) → i < leng
 there [] i Q within q = absurd (omega arith)
 there (x ∷ xs) zero Q within q = (x, (refl, q))
 there (x ∷ xs) (suc i) Q within q = there xs i Q (omega arith) q
+
+pub found : {X : Type 0} (xs : List X) (i : ℕ) → i < length xs → (x : X) × (slice_get xs i ≡ Some x)
+found [] i within = absurd (omega arith)
+found (x ∷ xs) zero within = (x, refl)
+found (x ∷ xs) (suc i) within = found xs i (omega arith)
+
+-- what was read of a list, as a function shows it
+pub map-read : {X Y : Type 0} (f : X → Y) (xs : List X) (i : ℕ) (x : X) (d : Y) → i < length xs → x ≡ get_or xs i x
+    → slice_index_or (map f xs) i d ≡ f x
+map-read f [] i x d within is = absurd (omega arith)
+map-read f (y ∷ ys) zero x d within is = ap f (sym is)
+map-read f (y ∷ ys) (suc i) x d within is = map-read f ys i x d (omega arith) is
 
 -- ---- lines one after another
 
@@ -53,9 +71,11 @@ module _ {X : Type 0} (network : Project) (f : ℕ → X → ReportLine) where
   rest_from k xs zero = (texts network (map_from f k xs), refl)
   rest_from k [] (suc i) = ([], refl)
   rest_from k (y ∷ ys) (suc i) =
-      let r = rest_from (suc k) ys i in
-      (r.0, append_assoc (line_text network (f k y)) (texts network (map_from f (suc k) (take i ys))) r.0
-      ∙ ap (λ t. line_text network (f k y) ++ t) r.1)
+      let r = rest_from (suc k) ys i in (
+        r.0,
+        append_assoc (line_text network (f k y)) (texts network (map_from f (suc k) (take i ys))) r.0
+            ∙ ap (λ t. line_text network (f k y) ++ t) r.1,
+      )
 
   -- one line more
   pub lines_more : (xs : List X) (i : ℕ) (x : X) → slice_get xs i ≡ Some x
@@ -149,6 +169,32 @@ tank_put None network P k levels inflow state bottom head level flow at h l i pu
 tank_put (Some here) network P k levels inflow state bottom head level flow at h l i puts =
     puts _ _ _ (subst (λ (z : ℤ). ArePrinted (printed (quantity_in network Head) (shifted z levels)) head) at h) l i
 
+-- an item, whatever stands for those that aren't there
+index-same : {X : Type 0} (xs : List X) (i : ℕ) (d e : X) → i < length xs → slice_index_or xs i d ≡ slice_index_or xs i e
+index-same [] i d e within = absurd (omega arith)
+index-same (x ∷ xs) zero d e within = refl
+index-same (x ∷ xs) (suc i) d e within = index-same xs i d e (omega arith)
+
+index-map : {X Y : Type 0} (f : X → Y) (xs : List X) (i : ℕ) (e : X) (d : Y) → i < length xs
+    → f (slice_index_or xs i e) ≡ slice_index_or (map f xs) i d
+index-map f [] i e d within = absurd (omega arith)
+index-map f (x ∷ xs) zero e d within = refl
+index-map f (x ∷ xs) (suc i) e d within = index-map f xs i e d (omega arith)
+
+-- the line of a tank by what was read of the lists
+pub tank_read : (o : Option Tank) (network : Project) (P : List ℕ → Type 0) (k : ℕ) (levels : List LevelSpan) (inflows : List Span)
+    (states : List TankState) (level : LevelSpan) (inflow : Span) (state : TankState)
+    → k < length levels → k < length inflows → k < length states → inflow ≡ get_or inflows k inflow
+    → IfSome o (λ here. P (line_text network (tank_at network k here (levels_of (slice_index_or levels k level)) (flows_of inflow) (slice_index_or states k state))))
+    → IfSome o (λ here. P (line_text network (tank_line network levels inflows states k here)))
+tank_read o network P k levels inflows states level inflow state in_levels in_inflows in_states read puts =
+    let Q : Interval → Interval → TankState → Type 0 = λ l i s. IfSome o (λ here. P (line_text network (tank_at network k here l i s))) in
+    subst (λ (s : TankState). Q (slice_index_or (map levels_of levels) k nowhere) (slice_index_or (map flows_of inflows) k nowhere) s)
+    (index-same states k state Between in_states)
+    (subst (λ (i : Interval). Q (slice_index_or (map levels_of levels) k nowhere) i (slice_index_or states k state))
+    (sym (map-read flows_of inflows k inflow nowhere in_inflows read))
+    (subst (λ (l : Interval). Q l (flows_of inflow) (slice_index_or states k state)) (index-map levels_of levels k level nowhere in_levels) puts))
+
 -- ---- links
 
 pub link_put : (o : Option Link) (network : Project) (grid : Grid) (below above : List ℤ) (states : List LinkState)
@@ -169,3 +215,79 @@ link_put (Some here) network grid below above states P l flow ends status place 
     subst (λ (g : GridLink). P (line_text network (LinkLine l (printed (quantity_in network Flow) (flow_box g below above))
     (status_of (is_us network) network.bends.list here.kind (state_of_link states l) (difference g below above))))) (sym is)
     (text _ (sym word))
+
+-- ---- orders of vectors
+
+pub in_order : (lower upper below above : List ℤ) → length lower ≡ length upper → AreInOrder (pos 0) (lower ++ below) (upper ++ above)
+    → AreInOrder (pos 0) lower upper
+in_order [] [] below above same order node = omega (arith, ints)
+in_order [] (u ∷ us) below above same order node = absurd (omega arith)
+in_order (l ∷ ls) [] below above same order node = absurd (omega arith)
+in_order (l ∷ ls) (u ∷ us) below above same order zero = order 0
+in_order (l ∷ ls) (u ∷ us) below above same order (suc node) = in_order ls us below above (omega arith) (λ n. order (suc n)) node
+
+-- ---- texts of lists of lines
+
+pub texts-append : (network : Project) (xs ys : List ReportLine) → texts network (xs ++ ys) ≡ texts network xs ++ texts network ys
+texts-append network xs ys =
+    ap joined (map-append (line_text network) xs ys) ∙ joined-append (map (line_text network) xs) (map (line_text network) ys)
+
+map-map : {X Y Z : Type 0} (f : Y → Z) (h : X → Y) (xs : List X) → map f (map h xs) ≡ map (λ x. f (h x)) xs
+map-map f h [] = refl
+map-map f h (x ∷ xs) = ap (λ rest. f (h x) ∷ rest) (map-map f h xs)
+
+-- the texts of lines that are made of items
+pub texts-map : {X : Type 0} (network : Project) (h : X → ReportLine) (xs : List X)
+    → joined (map (λ x. line_text network (h x)) xs) ≡ texts network (map h xs)
+texts-map network h xs = ap joined (sym (map-map (line_text network) h xs))
+
+-- the texts of a report time
+pub state_text : (network : Project) (t : ReportLine) (lo lower up upper : List ℤ) (js : List GridJunction) (rs rest : List ReportLine)
+    → lo ≡ lower → up ≡ upper
+    → line_text network t ++ (texts network (map_from (junction_line network lo up) 0 js) ++ (texts network rs ++ texts network rest))
+    ≡ texts network (t ∷ (map_from (junction_line network lower upper) 0 js ++ (rs ++ rest)))
+state_text network t lo lower up upper js rs rest is_lower is_upper =
+    ap (λ (v : List ℤ). line_text network t ++ (texts network (map_from (junction_line network v up) 0 js) ++ (texts network rs ++ texts network rest))) is_lower
+    ∙ (ap (λ (v : List ℤ). line_text network t ++ (texts network (map_from (junction_line network lower v) 0 js) ++ (texts network rs ++ texts network rest))) is_upper
+    ∙ ap (λ (s : List ℕ). line_text network t ++ s)
+    (ap (λ (s : List ℕ). texts network (map_from (junction_line network lower upper) 0 js) ++ s) (sym (texts-append network rs rest))
+    ∙ sym (texts-append network (map_from (junction_line network lower upper) 0 js) (rs ++ rest))))
+
+-- the texts of tanks and links
+pub tanks_text : (network : Project) (grid : Grid) (states : List LinkState) (ls levels : List LevelSpan) (is inflows : List Span)
+    (ts tanks : List TankState) (lo lower up upper : List ℤ) → ls ≡ levels → is ≡ inflows → ts ≡ tanks → lo ≡ lower → up ≡ upper
+    → texts network (map_from (tank_line network ls is ts) 0 network.tanks.list)
+    ++ texts network (map_from (link_line network grid (all_heads grid Main Lower lo) (all_heads grid Main Upper up) states) 0 network.links.list)
+    ≡ texts network (map_from (tank_line network levels inflows tanks) 0 network.tanks.list
+    ++ map_from (link_line network grid (all_heads grid Main Lower lower) (all_heads grid Main Upper upper) states) 0 network.links.list)
+tanks_text network grid states ls levels is inflows ts tanks lo lower up upper a b c d e =
+    let link : List ℤ → List ℤ → List ℕ = λ l u. texts network (map_from (link_line network grid (all_heads grid Main Lower l) (all_heads grid Main Upper u) states) 0 network.links.list) in
+    let tank : List LevelSpan → List Span → List TankState → List ℕ = λ l i t. texts network (map_from (tank_line network l i t) 0 network.tanks.list) in
+    ap (λ (l : List LevelSpan). tank l is ts ++ link lo up) a
+    ∙ (ap (λ (i : List Span). tank levels i ts ++ link lo up) b
+    ∙ (ap (λ (t : List TankState). tank levels inflows t ++ link lo up) c
+    ∙ (ap (λ (l : List ℤ). tank levels inflows tanks ++ link l up) d
+    ∙ (ap (λ (u : List ℤ). tank levels inflows tanks ++ link lower u) e
+    ∙ sym (texts-append network (map_from (tank_line network levels inflows tanks) 0 network.tanks.list)
+    (map_from (link_line network grid (all_heads grid Main Lower lower) (all_heads grid Main Upper upper) states) 0 network.links.list))))))
+
+pub items_text : {X : Type 0} (network : Project) (h : ℕ → X → ReportLine) (t time : ℕ) (xs ys : List X) → t ≡ time → xs ≡ ys
+    → joined (map (λ x. line_text network (h t x)) xs) ≡ texts network (map (h time) ys)
+items_text network h t time xs ys at same =
+    texts-map network (h t) xs ∙ (ap (λ n. texts network (map (h n) xs)) at ∙ ap (λ zs. texts network (map (h time) zs)) same)
+
+-- the texts of the end of a period
+pub end_text : {X Y : Type 0} (network : Project) (h : ℕ → X → ReportLine) (k : ℕ → Y → ReportLine) (t time : ℕ) (xs xs' : List X) (ys ys' : List Y)
+    → t ≡ time → xs ≡ xs' → ys ≡ ys'
+    → joined (map (λ x. line_text network (h t x)) xs) ++ joined (map (λ y. line_text network (k t y)) ys)
+    ≡ texts network (map (h time) xs' ++ map (k time) ys')
+end_text network h k t time xs xs' ys ys' at same alike =
+    ap (λ s. s ++ joined (map (λ y. line_text network (k t y)) ys)) (items_text network h t time xs xs' at same)
+    ∙ (ap (λ s. texts network (map (h time) xs') ++ s) (items_text network k t time ys ys' at alike)
+    ∙ sym (texts-append network (map (h time) xs') (map (k time) ys')))
+
+-- the texts of three parts
+pub three_text : (network : Project) (xs ys zs : List ReportLine)
+    → texts network xs ++ (texts network ys ++ texts network zs) ≡ texts network (xs ++ (ys ++ zs))
+three_text network xs ys zs =
+    ap (λ t. texts network xs ++ t) (sym (texts-append network ys zs)) ∙ sym (texts-append network xs (ys ++ zs))

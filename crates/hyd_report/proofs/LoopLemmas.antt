@@ -1,5 +1,5 @@
 -- Loops that put a line for each item.
-use Rattle.std.proofs.Common.{◌≡◌, ℕ, ◌+◌, ◌<◌, Bool, List, length, take, Option, Some}
+use Rattle.std.proofs.Common.{ℕ, ◌+◌, ◌<◌, Bool, List, length, take, Option}
 use Rattle.std.specs.Prelude.{Ok, Err, IfSome, slice_get}
 use Rattle.hyd_io.specs.declared.desk.Faults.{Faults}
 use Rattle.hyd_io.specs.declared.desk.Openings.{Openings}

@@ -1,12 +1,12 @@
 -- How texts that are put in follow one another.
-use Rattle.std.proofs.Common.{◌≡◌, ◌≢◌, ℕ, Bool, List, [], ◌++◌, Option, Some, None, refl, sym, ap, subst, ◌∙◌, append-nil, append_assoc, arith}
-use Rattle.std.specs.Prelude.{Result, Ok, Err, IfSome, IsSome, IfErr, OnOk, OnErr, is_some}
+use Rattle.std.proofs.Common.{◌≡◌, ℕ, Bool, List, [], ◌++◌, Option, Some, None, refl, sym, subst, ◌∙◌, append-nil, append_assoc, arith}
+use Rattle.std.specs.Prelude.{Result, Ok, Err, IfSome, IsSome, IsTrue}
 use Rattle.hyd_io.specs.declared.desk.Faults.{Faults}
 use Rattle.hyd_io.specs.declared.desk.Openings.{Openings}
 use Rattle.hyd_io.specs.declared.output.OutFault.{OutFault}
 use Rattle.hyd_io.specs.declared.output.Channel.{Channel}
 use Rattle.hyd_io.specs.declared.output.Channel.TheVariants.{Cert, Report}
-use Rattle.hyd_io.specs.Told.{Files, file_at, Moves, PutOut}
+use Rattle.hyd_io.specs.Told.{Files, Moves, PutOut}
 use Rattle.hyd_io.specs.Counts.{NeverFall}
 use Rattle.hyd_io.specs.Output.{by_channel, OnCert, OnReport, HasOutCause, PenState}
 use Rattle.hyd_io.proofs.ToldLemmas.{moves_then, put_out_then, put_out_more, moves_nothing}
@@ -173,3 +173,11 @@ module _ {S : Type 0} {files : S → Option Files} {rest written printed target 
   -- the same text in other words
   pub puts_same : (a b : List ℕ) (result : Result (Unit {0}) OutFault) (p q : PenState) (d e : S) → a ≡ b → Puts files rest written printed target ready counts openings a result p q d e → Puts files rest written printed target ready counts openings b result p q d e
   puts_same a b result p q d e same first = subst (λ (text : List ℕ). Puts files rest written printed target ready counts openings text result p q d e) same first
+
+  -- what is ready stays so
+  pub puts_ready : (text : List ℕ) (result : Result (Unit {0}) OutFault) (p q : PenState) (d e : S)
+      → Puts files rest written printed target ready counts openings text result p q d e
+      → OnCert p.to (IsTrue (ready d)) → OnCert q.to (IsTrue (ready e))
+  puts_ready text result p q d e first before =
+      subst (λ (c : Channel). OnCert c (IsTrue (ready e))) (sym first.to_stays)
+      (subst (λ (b : Bool). OnCert p.to (IsTrue b)) (sym first.ready_stays) before)

@@ -85,6 +85,7 @@ fn put_link<D: Desk>(
         (all_heads (grid_of net.now) Main Upper upper.now) (states_of net.now) link here))
         result pen.old pen.new desk.old desk.new) }
 {
+    let _links = net.links();
     let flow = flow_box(net, link, lower, upper);
     let status = status_of(net, link, lower, upper);
     let flow = print_flows(project, &flow);

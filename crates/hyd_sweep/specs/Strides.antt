@@ -37,8 +37,8 @@ abbrev pub LiesWithin : Side → ℕ → List ℤ → List ℤ → List ℤ → 
 LiesWithin side times ways u v = (i : ℕ) → i < length u
     → (along side (head_at v i) -ℤ along side (head_at u i)) ≤ℤ pos (times * unsigned_abs (head_at ways i))
 
--- after a round from u to w each head goes on to v by less than 2^20 times as far as the round moved it, and stays where
--- it didn't
+-- after a round from u to w each head goes on to v by less than 2^20 times as far as the round moved it, and stays
+-- where it didn't
 abbrev pub GoesOnWithin : Side → List ℤ → List ℤ → List ℤ → Type 0
 GoesOnWithin side u w v = (i : ℕ) → i < length w
     → (along side (head_at v i) -ℤ along side (head_at w i))

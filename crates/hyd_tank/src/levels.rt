@@ -105,7 +105,8 @@ pub fn next_level(tank: &Tank, level: LevelSpan, inflow: Span, seconds: u32) -> 
 
     // It lies in those of wider levels under a wider inflow.
     ensures nests { (wider more : Interval) → IsInside (levels_of level) wider → IsInside (inflows_of inflow) more
-        → IsInside (levels_of result) (next_stocks (cylinder tank.now) tank.now (with_levels wider) more seconds).level }
+        → IsInside (levels_of result)
+        (next_stocks (cylinder tank.now) tank.now (with_levels wider) more seconds).level }
 {
     levels_after(tank, level, inflow, seconds, WIDENING)
 }
@@ -196,12 +197,14 @@ pub fn first_second(
     ensures ordered { level.lo ≤ℤ level.hi → result.0 ≤ result.1 }
 
     // The first second of each level of the interval under each inflow lies between them, at every scale.
-    ensures holds { (S : ℕ) (z q : ℤ) (first : ℕ) → 0 < S → LiesIn S (levels_of level) z → LiesIn S (inflows_of inflow) q
+    ensures holds { (S : ℕ) (z q : ℤ) (first : ℕ) → 0 < S → LiesIn S (levels_of level) z
+        → LiesIn S (inflows_of inflow) q
         → IsFirstSecond (has_reached S (cylinder tank.now) tank.now (level_stock z) q rising target) cap first
         → (result.0 ≤ first) × (first ≤ result.1) }
 
     // They lie between those of wider levels under a wider inflow.
-    ensures nests { (wider more : Interval) (sooner later : ℕ) → IsInside (levels_of level) wider → IsInside (inflows_of inflow) more
+    ensures nests { (wider more : Interval) (sooner later : ℕ) → IsInside (levels_of level) wider
+        → IsInside (inflows_of inflow) more
         → IsEarliestSecond (cylinder tank.now) tank.now (with_levels wider) more target rising cap sooner
         → IsLatestSecond (cylinder tank.now) tank.now (with_levels wider) more target rising cap later
         → (sooner ≤ result.0) × (result.1 ≤ later) }

@@ -13,8 +13,10 @@ rule_truth-requires-clause-rule c =
 
 pub returns-clause-truth : goal.returns-clause-truth
 returns-clause-truth c = λ each there.
-    let low = lower_readings c.args.low.now (map flow_interval c.args.flows.now) (map level_interval c.args.levels.now) c.args.links.now in
-    let high = upper_readings c.args.high.now (map flow_interval c.args.flows.now) (map level_interval c.args.levels.now) c.args.links.now in
+    let low = lower_readings c.args.low.now (map flow_interval c.args.flows.now) (map level_interval c.args.levels.now)
+    c.args.links.now in
+    let high = upper_readings c.args.high.now (map flow_interval c.args.flows.now) (map level_interval
+    c.args.levels.now) c.args.links.now in
     subst (λ (rule : Rule). IsTruthBetween c.args.project.now c.args.time low high rule c.rule_truth.result)
     (rule_is c.args.project.now c.args.rule c.as_slice.result.now c.index-as_slice-rule.result each
     c.requires.in_range c.as_slice.ensures c.index-as_slice-rule.is there)
@@ -22,8 +24,10 @@ returns-clause-truth c = λ each there.
 
 pub returns-clause-holds : goal.returns-clause-holds
 returns-clause-holds c = λ each there S x some between.
-    truth_holds c.args.project.now c.requires.sound c.args.rule c.args.time _ _ each c.rule_truth.result c.requires.in_range there (returns-clause-truth c each there) S x some between
+    truth_holds c.args.project.now c.requires.sound c.args.rule c.args.time _ _ each c.rule_truth.result
+    c.requires.in_range there (returns-clause-truth c each there) S x some between
 
 pub returns-clause-nests : goal.returns-clause-nests
 returns-clause-nests c = λ each there lower upper below above.
-    truth_stays c.args.project.now c.requires.sound c.args.rule c.args.time _ _ each c.rule_truth.result c.requires.in_range there (returns-clause-truth c each there) lower upper below above
+    truth_stays c.args.project.now c.requires.sound c.args.rule c.args.time _ _ each c.rule_truth.result
+    c.requires.in_range there (returns-clause-truth c each there) lower upper below above

@@ -1,5 +1,5 @@
 -- The line of the junction that is there.
-use Rattle.std.proofs.Common.{◌≡◌, ◌-ℤ◌, List, ℕ, to_z-of_z, FitsSigned, w64, rules}
+use Rattle.std.proofs.Common.{◌-ℤ◌, List, ℕ, to_z-of_z, FitsSigned, w64, rules}
 use Rattle.std.specs.Prelude.{slice_get, IfSome}
 use Rattle.hyd_graph.specs.GridOf.{grid_of}
 use Rattle.hyd_bounds.specs.Bounds.{IsSpan}

@@ -1,7 +1,5 @@
 -- One text follows another.
-use Rattle.std.proofs.Common.{ℕ, List, Bor, [], map, take, arith}
-use Rattle.std.specs.Prelude.{Ok}
-use Rattle.hyd_spec.specs.Lists.{joined}
+use Rattle.std.proofs.Common.{ℕ, List, Bor}
 use Rattle.hyd_report.proofs.Joining.{joined-more, joined-split}
 use Rattle.hyd_report.proofs.PutLemmas.{puts_then, puts_cut, puts_same}
 use Rattle.hyd_report.proofs.pieces.put_pieces.Goals as goal

@@ -7,9 +7,17 @@ use Rattle.hyd_sweep.proofs.strides.leap_on.Goals as goal
 
 pub loop-tried-init : goal.loop-tried-init
 loop-tried-init c = record {
-  leads = leads-self c.args.held (grid_of c.args.net.now) c.junctions-junctions.ensures.steady c.args.problem c.args.side c.args.u.now;
+  leads = leads-self c.args.held (grid_of c.args.net.now) c.junctions-junctions.ensures.steady c.args.problem
+      c.args.side c.args.u.now;
   stride = c.new-stride.ensures.stride;
-  far = (0, (let r = c.new-stride.ensures.reach in omega (arith, r), within-self c.args.side 0 c.args.ways.now c.args.u.now));
+  far = (
+    0,
+    (
+      let r = c.new-stride.ensures.reach in omega (arith, r),
+      within-self c.args.side 0 c.args.ways.now
+          c.args.u.now,
+    ),
+  );
 }
 
 pub loop-tried-preserved : goal.loop-tried-preserved
@@ -19,19 +27,28 @@ loop-tried-preserved c =
     let one_more : 40 - c.loop-tried.tried ≡ suc left = (let lt = c.loop-tried-test.true in omega (arith, lt)) in
     let most = subst (λ (n : ℕ). inv.far.0 + reach c.loop-tried.stride n ≤ 1048575) one_more inv.far.1.0 in
     record {
-      leads = leads-more c.args.held (grid_of c.args.net.now) c.junctions-junctions.ensures.steady c.args.problem c.args.side c.args.u.now c.loop-tried.u c.propose.new.to
+      leads = leads-more c.args.held (grid_of c.args.net.now) c.junctions-junctions.ensures.steady c.args.problem
+          c.args.side c.args.u.now c.loop-tried.u c.propose.new.to
           c.leap-leapt.new.u c.leap-leapt.result inv.leads c.leap-leapt.ensures.leaps.0 c.leap-leapt.ensures.new;
       stride = c.after-stride.ensures.stride;
-      far = strides-more c.args.side c.leap-leapt.result c.args.ways.now c.args.u.now c.loop-tried.u c.propose.new.to c.leap-leapt.new.u c.loop-tried.stride c.after-stride.result left inv.far.0
-          (sym inv.leads.one_each) inv.far.1.1 c.propose.ensures.near c.leap-leapt.ensures.new (c.after-stride.ensures.reach left) most;
+      far = strides-more c.args.side c.leap-leapt.result c.args.ways.now c.args.u.now c.loop-tried.u c.propose.new.to
+          c.leap-leapt.new.u c.loop-tried.stride c.after-stride.result left inv.far.0
+          (sym inv.leads.one_each) inv.far.1.1 c.propose.ensures.near c.leap-leapt.ensures.new
+          (c.after-stride.ensures.reach left) most;
     }
 
 pub returns-then-stride-gt-PARTS-clause-near : goal.returns-then-stride-gt-PARTS-clause-near
 returns-then-stride-gt-PARTS-clause-near c =
     let far = c.loop-tried.invariant.far in
-    within-more c.args.side far.0 1048575 c.args.ways.now c.args.u.now c.loop-tried.u (let m = far.1.0 in omega (arith, m)) far.1.1
+    within-more c.args.side far.0 1048575 c.args.ways.now c.args.u.now c.loop-tried.u (let m = far.1.0 in omega (
+      arith,
+      m,
+    )) far.1.1
 
 pub returns-clause-near : goal.returns-clause-near
 returns-clause-near c =
     let far = c.loop-tried.invariant.far in
-    within-more c.args.side far.0 1048575 c.args.ways.now c.args.u.now c.loop-tried.u (let m = far.1.0 in omega (arith, m)) far.1.1
+    within-more c.args.side far.0 1048575 c.args.ways.now c.args.u.now c.loop-tried.u (let m = far.1.0 in omega (
+      arith,
+      m,
+    )) far.1.1

@@ -8,5 +8,6 @@ abbrev pub invariant-loop-tried : goal.invariant-loop-tried
 invariant-loop-tried l = record {
   leads : LeadsOn l.held (grid_of l.net) l.problem l.side l.initial.u l.u;
   stride : IsStride l.stride;
-  far : (spent : ℕ) × ((spent + reach l.stride (40 - l.tried) ≤ 1048575) × LiesWithin l.side spent l.ways l.initial.u l.u);
+  far : (spent : ℕ) × ((spent + reach l.stride (40 - l.tried) ≤ 1048575) × LiesWithin l.side spent l.ways l.initial.u
+      l.u);
 }

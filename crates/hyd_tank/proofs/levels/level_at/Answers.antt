@@ -19,17 +19,22 @@ pub returns-clause-ordered : goal.returns-clause-ordered
 returns-clause-ordered c = λ order.
     let tank = c.args.tank.now in
     subst (λ (x : Interval). x.lo ≤ℤ x.hi) (sym c.levels_after.ensures)
-    (carried_ordered (cylinder tank) tank (cylinder_vessel tank c.requires.tank) (stocks_at c.args.level) (inflows_of c.args.inflow) c.args.seconds (level_there c.args.level order) c.args.inflow.ordered)
+    (carried_ordered (cylinder tank) tank (cylinder_vessel tank c.requires.tank) (stocks_at c.args.level) (inflows_of
+    c.args.inflow) c.args.seconds (level_there c.args.level order) c.args.inflow.ordered)
 
 pub returns-clause-holds : goal.returns-clause-holds
 returns-clause-holds c = λ S z q some lies flow.
     let tank = c.args.tank.now in
-    subst (λ (x : Interval). LiesAround S x (carried_level S (cylinder tank) tank (level_stock z) q c.args.seconds)) (sym c.levels_after.ensures)
-    (carried_lies S (cylinder tank) (stocks_at c.args.level) (inflows_of c.args.inflow) c.args.seconds (level_stock z) q (level_lies S c.args.level z lies) flow tank some (cylinder_vessel tank c.requires.tank))
+    subst (λ (x : Interval). LiesAround S x (carried_level S (cylinder tank) tank (level_stock z) q c.args.seconds))
+    (sym c.levels_after.ensures)
+    (carried_lies S (cylinder tank) (stocks_at c.args.level) (inflows_of c.args.inflow) c.args.seconds (level_stock z)
+    q (level_lies S c.args.level z lies) flow tank some (cylinder_vessel tank c.requires.tank))
 
 pub returns-clause-nests : goal.returns-clause-nests
 returns-clause-nests c = λ wider more inside flow.
     let tank = c.args.tank.now in
-    subst (λ (x : Interval). IsInside x (carried_levels (cylinder tank) tank (with_levels wider) more c.args.seconds)) (sym c.levels_after.ensures)
-    (carried_inside (cylinder tank) tank (cylinder_vessel tank c.requires.tank) (stocks_at c.args.level) (with_levels wider) (inflows_of c.args.inflow) more c.args.seconds
+    subst (λ (x : Interval). IsInside x (carried_levels (cylinder tank) tank (with_levels wider) more c.args.seconds))
+    (sym c.levels_after.ensures)
+    (carried_inside (cylinder tank) tank (cylinder_vessel tank c.requires.tank) (stocks_at c.args.level) (with_levels
+    wider) (inflows_of c.args.inflow) more c.args.seconds
     (levels_inside c.args.level wider inside) flow)

@@ -19,18 +19,22 @@ pub returns-clause-ordered : goal.returns-clause-ordered
 returns-clause-ordered c = λ order.
     let tank = c.args.tank.now in
     subst (λ (x : Interval). x.lo ≤ℤ x.hi) (sym c.levels_after.ensures)
-    (next_has (cylinder tank) tank (stocks_at c.args.level) (inflows_of c.args.inflow) c.args.seconds (cylinder_vessel tank c.requires.tank) (level_there c.args.level order) c.args.inflow.ordered).level
+    (next_has (cylinder tank) tank (stocks_at c.args.level) (inflows_of c.args.inflow) c.args.seconds (cylinder_vessel
+    tank c.requires.tank) (level_there c.args.level order) c.args.inflow.ordered).level
 
 pub returns-clause-holds : goal.returns-clause-holds
 returns-clause-holds c = λ S z q next some lies flow is.
     let tank = c.args.tank.now in
     subst (λ (x : Interval). LiesIn S x next) (sym c.levels_after.ensures)
-    (next_lies S (cylinder tank) tank (stocks_at c.args.level) (inflows_of c.args.inflow) c.args.seconds (level_stock z) q (level_stock next) some (cylinder_vessel tank c.requires.tank)
+    (next_lies S (cylinder tank) tank (stocks_at c.args.level) (inflows_of c.args.inflow) c.args.seconds (level_stock
+    z) q (level_stock next) some (cylinder_vessel tank c.requires.tank)
     (level_lies S c.args.level z lies) flow is).level
 
 pub returns-clause-nests : goal.returns-clause-nests
 returns-clause-nests c = λ wider more inside flow.
     let tank = c.args.tank.now in
-    subst (λ (x : Interval). IsInside x (next_stocks (cylinder tank) tank (with_levels wider) more c.args.seconds).level) (sym c.levels_after.ensures)
-    (next_inside (cylinder tank) tank (stocks_at c.args.level) (with_levels wider) (inflows_of c.args.inflow) more c.args.seconds (cylinder_vessel tank c.requires.tank)
+    subst (λ (x : Interval). IsInside x (next_stocks (cylinder tank) tank (with_levels wider) more
+    c.args.seconds).level) (sym c.levels_after.ensures)
+    (next_inside (cylinder tank) tank (stocks_at c.args.level) (with_levels wider) (inflows_of c.args.inflow) more
+    c.args.seconds (cylinder_vessel tank c.requires.tank)
     (levels_inside c.args.level wider inside) flow).level

@@ -43,5 +43,7 @@ returns-clause-nests c = λ each at wider more sooner later inside flow e l.
 pub returns-clause-ordered : goal.returns-clause-ordered
 returns-clause-ordered c = λ has.
     let each = c.tank_at.result in
-    seconds_ordered (walls_of c.args.project.now each) each (stocks_of c.args.stock) (inflows_of c.args.inflow) c.args.target c.args.rising c.args.cap c.first_of.result.0 c.first_of.result.1
-    (vessels c.args.project.now c.requires.sound c.args.tank each c.tank_at.ensures) has c.args.inflow.ordered (returns-clause-earliest c each c.tank_at.ensures) (returns-clause-latest c each c.tank_at.ensures)
+    seconds_ordered (walls_of c.args.project.now each) each (stocks_of c.args.stock) (inflows_of c.args.inflow)
+    c.args.target c.args.rising c.args.cap c.first_of.result.0 c.first_of.result.1
+    (vessels c.args.project.now c.requires.sound c.args.tank each c.tank_at.ensures) has c.args.inflow.ordered
+    (returns-clause-earliest c each c.tank_at.ensures) (returns-clause-latest c each c.tank_at.ensures)

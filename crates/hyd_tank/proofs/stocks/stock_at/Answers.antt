@@ -32,7 +32,8 @@ returns-clause-holds c = λ each at S one q some lies flow.
 pub returns-clause-nests : goal.returns-clause-nests
 returns-clause-nests c = λ each at wider more inside flow.
     let walls = walls_of c.args.project.now each in
-    subst (λ (x : Stocks). AreInside x (carried_stocks walls each wider more c.args.seconds)) (sym (returns-clause-value c each at))
+    subst (λ (x : Stocks). AreInside x (carried_stocks walls each wider more c.args.seconds)) (sym
+    (returns-clause-value c each at))
     (carried_stocks_inside walls each (stocks_of c.args.stock) wider (inflows_of c.args.inflow) more c.args.seconds
     (vessels c.args.project.now c.requires.sound c.args.tank each at) inside flow)
 
@@ -40,11 +41,13 @@ pub returns-clause-held : goal.returns-clause-held
 returns-clause-held c = λ each at.
     let walls = walls_of c.args.project.now each in
     subst (AreHeld walls each) (sym (returns-clause-value c each at))
-    (carried_held walls each (stocks_of c.args.stock) (inflows_of c.args.inflow) c.args.seconds (vessels c.args.project.now c.requires.sound c.args.tank each at))
+    (carried_held walls each (stocks_of c.args.stock) (inflows_of c.args.inflow) c.args.seconds (vessels
+    c.args.project.now c.requires.sound c.args.tank each at))
 
 pub returns-clause-ordered : goal.returns-clause-ordered
 returns-clause-ordered c = λ has.
     let each = c.tank_at.result in
     subst HasStock (sym (returns-clause-value c each c.tank_at.ensures))
-    (carried_has (walls_of c.args.project.now each) each (stocks_of c.args.stock) (inflows_of c.args.inflow) c.args.seconds
+    (carried_has (walls_of c.args.project.now each) each (stocks_of c.args.stock) (inflows_of c.args.inflow)
+    c.args.seconds
     (vessels c.args.project.now c.requires.sound c.args.tank each c.tank_at.ensures) has c.args.inflow.ordered)
