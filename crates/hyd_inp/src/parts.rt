@@ -45,20 +45,29 @@ pub(crate) struct Parts {
 pub(crate) fn assemble(numbers: Numbers, parts: Parts, options: Options, times: Times) -> Project
     ensures { AreAll numbers parts options times result }
 {
-    let Numbers { nodes, links, .. } = numbers;
+    let Numbers {
+        nodes: node_ids,
+        links: link_ids,
+        ..
+    } = numbers;
+    let Parts {
+        nodes,
+        links,
+        changes,
+    } = parts;
     Project {
         options,
         times,
-        node_ids: nodes,
-        link_ids: links,
-        junctions: parts.nodes.junctions,
-        reservoirs: parts.nodes.reservoirs,
-        tanks: parts.nodes.tanks,
-        links: parts.links.links,
-        patterns: parts.changes.patterns,
-        shapes: parts.nodes.shapes,
-        bends: parts.links.bends,
-        controls: parts.changes.controls,
-        rules: parts.changes.rules,
+        node_ids,
+        link_ids,
+        junctions: nodes.junctions,
+        reservoirs: nodes.reservoirs,
+        tanks: nodes.tanks,
+        links: links.links,
+        patterns: changes.patterns,
+        shapes: nodes.shapes,
+        bends: links.bends,
+        controls: changes.controls,
+        rules: changes.rules,
     }
 }
