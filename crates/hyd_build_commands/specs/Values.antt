@@ -1,8 +1,8 @@
 -- What clauses of rules compare with.
-use Rattle.std.specs.Prelude.{◌≡◌, ℕ, ◌*◌, ◌^◌, Bool, true, false, List, ℤ, pos, ◌*ℤ◌}
+use Rattle.std.specs.Prelude.{◌≡◌, Bool, true, false, ℤ}
 use Rattle.hyd_net.specs.Made.{IsAmount}
 use Rattle.hyd_net.specs.declared.rules.What.{What}
-use Rattle.hyd_net.specs.declared.rules.What.TheVariants.{Head, Pressure, Level, Flow, Setting, Status, Time, Clock}
+use Rattle.hyd_net.specs.declared.rules.What.TheVariants.{Status, Time, Clock}
 use Rattle.hyd_net.specs.declared.rules.Value.{Value}
 use Rattle.hyd_net.specs.declared.rules.Value.TheVariants.{Amount}
 use Rattle.hyd_num.specs.declared.units.FlowUnit.{FlowUnit}

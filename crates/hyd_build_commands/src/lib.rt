@@ -2,6 +2,7 @@
 #![tactic(auto)]
 
 mod actions;
+mod clauses;
 mod controls;
 mod numbers;
 mod values;

@@ -12,7 +12,8 @@ use Rattle.hyd_spec_reports.specs.declared.CertRefused.{CertRefused}
 use Rattle.hyd_spec_reports.specs.declared.CertRefused.TheVariants.{Place, Demand, Fails, Open as MatterOpen, Length, After}
 
 -- three pieces, the second one in other words
-pub three_pieces : (a b c front id : List ℕ) → a ≡ front → b ≡ id → joined (a ∷ (b ∷ (c ∷ []))) ≡ front ++ (id ++ (c ++ []))
+pub three_pieces : (a b c front id : List ℕ) → a ≡ front → b ≡ id → joined (a ∷ (b ∷ (c ∷ []))) ≡ front ++ (id ++
+    (c ++ []))
 three_pieces a b c front id is_front is_id =
     ap (λ x. x ++ (b ++ (c ++ []))) is_front ∙ ap (λ y. front ++ (y ++ (c ++ []))) is_id
 
@@ -45,8 +46,10 @@ stop_text network time cause a p t is_a is_p is_t =
     let rest = words (cause_words network cause) ++ codes "\n" in
     ap (λ x. joined (x ∷ (p ∷ (codes " time " ∷ (t ∷ (codes " " ∷ []))))) ++ rest) is_a
     ∙ (ap (λ x. joined (codes "STOP period " ∷ (x ∷ (codes " time " ∷ (t ∷ (codes " " ∷ []))))) ++ rest) is_p
-    ∙ (ap (λ x. joined (codes "STOP period " ∷ (decimal (period_of cause) ∷ (codes " time " ∷ (x ∷ (codes " " ∷ []))))) ++ rest) is_t
-    ∙ front_of_stop (decimal (period_of cause)) (clock_text time) (cause_words network cause) (has_words network cause)))
+    ∙ (ap (λ x. joined (codes "STOP period " ∷ (decimal (period_of cause) ∷ (codes " time " ∷ (x ∷
+    (codes " " ∷ []))))) ++ rest) is_t
+    ∙ front_of_stop (decimal (period_of cause)) (clock_text time) (cause_words network cause)
+    (has_words network cause)))
 
 front_of_refusal : (p : List ℕ) (ws : List (List ℕ)) → 0 < length ws
     → (codes "BADCERT period " ++ (p ++ (codes " " ++ []))) ++ (words ws ++ codes "\n")
@@ -62,8 +65,11 @@ has_reason network (MatterOpen period) = omega arith
 has_reason network (Length period) = omega arith
 has_reason network (After period) = omega arith
 
-pub refused_text : (network : Project) (cause : CertRefused) (a p : List ℕ) → a ≡ codes "BADCERT period " → p ≡ decimal (refused_period cause)
-    → joined (a ∷ (p ∷ (codes " " ∷ []))) ++ (words (refusal_words network cause) ++ codes "\n") ≡ refused_line network cause
+pub refused_text : (network : Project) (cause : CertRefused) (a p : List ℕ) → a ≡ codes "BADCERT period " → p
+    ≡ decimal (refused_period cause)
+    → joined (a ∷ (p ∷ (codes " " ∷ []))) ++ (words (refusal_words network cause) ++ codes "\n")
+    ≡ refused_line network cause
 refused_text network cause a p is_a is_p =
-    ap (λ t. t ++ (words (refusal_words network cause) ++ codes "\n")) (three_pieces a p (codes " ") (codes "BADCERT period ") (decimal (refused_period cause)) is_a is_p)
+    ap (λ t. t ++ (words (refusal_words network cause) ++ codes "\n")) (three_pieces a p (codes " ")
+    (codes "BADCERT period ") (decimal (refused_period cause)) is_a is_p)
     ∙ front_of_refusal (decimal (refused_period cause)) (refusal_words network cause) (has_reason network cause)

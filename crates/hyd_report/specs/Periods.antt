@@ -25,7 +25,8 @@ pub record AreTankFacts (network : Project) (facts : Facts) : Type 0 where
   pub states : length facts.tanks.list ≡ tank_count network
   pub small : All IsSmall facts.inflows.list
 
--- The vectors of a record with all tanks alike are heads of a net's junctions in the box, each below at most the one above, and
+-- The vectors of a record with all tanks alike are heads of a net's junctions in the box, each below at most the one
+-- above, and
 -- so are the heads of its other nodes.
 pub record AreBounds (net : NetView) (row : Record) : Type 0 where
   pub lower : IsVector net row.main.lower

@@ -56,8 +56,8 @@ fn refused_period(cause: &CertRefused) -> u32
     }
 }
 
-/// Puts the last line where a record was refused: the period that was due, and why. Its faults and its needs are those of
-/// `Pen::put`.
+/// Puts the last line where a record was refused: the period that was due, and why. Its faults and its needs are
+/// those of `Pen::put`.
 pub fn put_refused<D: Desk>(
     project: &Project,
     cause: &CertRefused,

@@ -123,7 +123,8 @@ fn put_between<D: Desk>(
 ) -> Result<(), OutFault>
     requires { OnCert pen.old.to (IsTrue (D.ready desk.old)) }
     ensures { Puts D.files D.rest D.written D.printed D.target D.ready D.counts D.openings
-        (key.now ++ (id.now ++ (codes " " ++ (signed_decimal lo.now ++ (codes " " ++ (signed_decimal hi.now ++ codes "\n"))))))
+        (key.now ++ (id.now ++ (codes " " ++ (signed_decimal lo.now ++ (codes " " ++ (signed_decimal hi.now
+        ++ codes "\n"))))))
         result pen.old pen.new desk.old desk.new }
 {
     let lo = signed(lo);
@@ -278,8 +279,8 @@ fn period_of(cause: &StopCause) -> u32
     }
 }
 
-/// Puts the last line of a stopped run: its period, when that begins, in seconds, and the cause. Its faults and its needs are
-/// those of `Pen::put`.
+/// Puts the last line of a stopped run: its period, when that begins, in seconds, and the cause. Its faults and its
+/// needs are those of `Pen::put`.
 pub fn put_stop<D: Desk>(
     project: &Project,
     time: u32,

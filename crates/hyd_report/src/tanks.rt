@@ -124,7 +124,8 @@ pub(crate) fn put_tanks<D: Desk>(
     requires ready { OnCert pen.old.to (IsTrue (D.ready desk.old)) }
     requires unbroken { pen.old.fault ≡ None }
     ensures { Puts D.files D.rest D.written D.printed D.target D.ready D.counts D.openings
-        (texts project.now (map_from (tank_line project.now levels.now inflows.now states.now) 0 project.now.tanks.list))
+        (texts project.now (map_from (tank_line project.now levels.now inflows.now states.now) 0
+        project.now.tanks.list))
         result pen.old pen.new desk.old desk.new }
 {
     for k in 0..project.tanks.len() {

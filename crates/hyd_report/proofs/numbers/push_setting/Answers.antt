@@ -9,5 +9,7 @@ unfolding fixed_point
 returns c =
     let text = c.args.text.now in
     let n = c.args.billionths in
-    c.push_last_digits.ensures.text ∙ (ap (λ t. t ++ last_digits 9 n) (c.push.ensures ∙ ap (λ t. t ++ codes ".") c.push_number.ensures.text)
-    ∙ (append_assoc (text ++ decimal (n / 10 ^ 9)) (codes ".") (last_digits 9 n) ∙ append_assoc text (decimal (n / 10 ^ 9)) (codes "." ++ last_digits 9 n)))
+    c.push_last_digits.ensures.text ∙ (ap (λ t. t ++ last_digits 9 n) (c.push.ensures ∙ ap
+    (λ t. t ++ codes ".") c.push_number.ensures.text)
+    ∙ (append_assoc (text ++ decimal (n / 10 ^ 9)) (codes ".") (last_digits 9 n) ∙ append_assoc text (decimal
+    (n / 10 ^ 9)) (codes "." ++ last_digits 9 n)))

@@ -11,7 +11,8 @@ pub returns-in-Err-put_piece : goal.returns-in-Err-put_piece
 returns-in-Err-put_piece g c =
     let now : Bor (List ℕ) → List ℕ = λ p. p.now in
     puts_same _ _ _ _ _ _ _ (joined-split now c.args.pieces.now c.loop-piece.piece-index _ c.loop-piece-test.true)
-    (puts_cut _ _ c.in-Err-put_piece.fault _ _ _ _ (puts_then _ _ _ _ _ _ _ _ _ c.loop-piece.invariant c.in-Err-put_piece.ensures))
+    (puts_cut _ _ c.in-Err-put_piece.fault _ _ _ _ (puts_then _ _ _ _ _ _ _ _ _ c.loop-piece.invariant
+    c.in-Err-put_piece.ensures))
 
 pub loop-piece-preserved : goal.loop-piece-preserved
 loop-piece-preserved g c =

@@ -8,12 +8,14 @@ use Rattle.hyd_report.proofs.refusals.put_refused.Goals as goal
 
 pub returns-in-Err : goal.returns-in-Err
 returns-in-Err g c =
-    let number : c.bytes.result.now ≡ decimal (refused_period c.args.cause.now) = c.bytes.ensures ∙ (c.number-period.ensures.text ∙ ap decimal (c.from.ensures ∙ c.refused_period.ensures)) in
+    let number : c.bytes.result.now ≡ decimal (refused_period c.args.cause.now) = c.bytes.ensures ∙
+    (c.number-period.ensures.text ∙ ap decimal (c.from.ensures ∙ c.refused_period.ensures)) in
     puts_same _ _ _ _ _ _ _ (refused_text c.args.project.now c.args.cause.now _ _ c.as_slice.ensures number)
     (puts_cut _ _ c.in-Err.fault _ _ _ _ c.in-Err.ensures)
 
 pub returns : goal.returns
 returns g c =
-    let number : c.bytes.result.now ≡ decimal (refused_period c.args.cause.now) = c.bytes.ensures ∙ (c.number-period.ensures.text ∙ ap decimal (c.from.ensures ∙ c.refused_period.ensures)) in
+    let number : c.bytes.result.now ≡ decimal (refused_period c.args.cause.now) = c.bytes.ensures ∙
+    (c.number-period.ensures.text ∙ ap decimal (c.from.ensures ∙ c.refused_period.ensures)) in
     puts_same _ _ _ _ _ _ _ (refused_text c.args.project.now c.args.cause.now _ _ c.as_slice.ensures number)
     (puts_then _ _ _ _ _ _ _ _ _ c.in-Ok.ensures c.put_refusal.ensures)

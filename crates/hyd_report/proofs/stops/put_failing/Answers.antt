@@ -9,9 +9,11 @@ returns-in-Err g c = puts_cut _ _ c.in-Err.fault _ _ _ _ c.in-Err.ensures
 
 pub returns-in-Err-put_problem : goal.returns-in-Err-put_problem
 returns-in-Err-put_problem g c =
-    puts_then _ _ _ _ _ _ _ _ _ c.in-Ok.ensures (puts_cut _ _ c.in-Err-put_problem.fault _ _ _ _ c.in-Err-put_problem.ensures)
+    puts_then _ _ _ _ _ _ _ _ _ c.in-Ok.ensures (puts_cut _ _ c.in-Err-put_problem.fault _ _ _ _
+    c.in-Err-put_problem.ensures)
 
 pub returns : goal.returns
 returns g c =
     puts_then _ _ _ _ _ _ _ _ _ c.in-Ok.ensures (puts_then _ _ _ _ _ _ _ _ _ c.in-Ok-put_problem.ensures
-    (puts_same _ _ _ _ _ _ _ (three_pieces _ _ (codes "\n") (codes " JUNCTION ") _ c.as_slice.ensures c.node_id.ensures) c.put_pieces.ensures))
+    (puts_same _ _ _ _ _ _ _ (three_pieces _ _ (codes "\n") (codes " JUNCTION ") _ c.as_slice.ensures
+    c.node_id.ensures) c.put_pieces.ensures))
