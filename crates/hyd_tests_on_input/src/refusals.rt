@@ -75,8 +75,8 @@ fn refused_texts(rt: HostRuntime) -> Result<(), Fail> {
     Ok(())
 }
 
-// Lines behind the base text, and what is said of the whole: each cause, each part that isn't supported, which of several
-// faults is named.
+// Lines behind the base text, and what is said of the whole: each cause, each part that isn't supported, and which of
+// several faults is named.
 const ADDED: [(&str, &str); 47] = [
     ("[JUNCTIONS]\nK 0 5 * extra\n", "19 Syntax"),
     ("[PIPES]\nQ R J 1000\n", "19 Syntax"),
