@@ -1,5 +1,5 @@
 -- Volume curves.
-use Rattle.std.proofs.Common.{◌≡◌, ◌++◌, ◌^◌, ◌≤◌, ℕ, nat_le, unsigned_abs, ◌==◌, ◌<ℤ◌, ◌≤ℤ◌, ◌*ℤ◌, Bool, true, false, List, [], ◌∷◌, map, length, refl, sym, ap, ◌∙◌, arith, ℤ, pos, neg_ℤ, true≢false, subst}
+use Rattle.std.proofs.Common.{◌≡◌, ◌++◌, ◌^◌, ◌≤◌, nat_le, unsigned_abs, ◌==◌, ◌<ℤ◌, ◌≤ℤ◌, ◌*ℤ◌, Bool, true, false, List, [], ◌∷◌, length, refl, sym, ap, ◌∙◌, arith, ℤ, pos, neg_ℤ, true≢false, subst}
 use Rattle.std.specs.Prelude.{◌&&◌, ◌||◌}
 use Rattle.std.specs.List.{list_all}
 use Rattle.std.proofs.lemmas.List.{length-map}
@@ -13,14 +13,13 @@ use Rattle.hyd_spec_input.specs.Curves as curve
 use Rattle.hyd_spec_input.specs.Curves.{volume_point, volume_points, is_fuller, in_turn, covers, at_start, at_end}
 use Rattle.hyd_net.specs.declared.curves.VolumePoint.{VolumePoint}
 use Rattle.hyd_curves.specs.Points.{points_in, point_in}
-use Rattle.hyd_net.specs.Curves.{Knot, on_line, between, value_from, value_at, volume_knots, volume_at}
+use Rattle.hyd_net.specs.Curves.{Knot, between, value_from, value_at, volume_knots, volume_at}
 use Rattle.hyd_curves.specs.Shapes.{level_passes, begins_and_ends, IsRight}
 use Rattle.hyd_curves.specs.Lines.{IsSmall, knot_of}
-use Rattle.hyd_curves.specs.Turns.{all_in_turn, goes_on}
 use Rattle.hyd_curves.specs.declared.points.CurvePoint.{CurvePoint}
 use Rattle.hyd_curves.specs.declared.ticks.Ticks.{Ticks}
 use Rattle.hyd_curves.proofs.LineLemmas.{one_times, apart, together, floor_whole}
-use Rattle.hyd_curves.proofs.TurnLemmas.{no_items}
+use Rattle.hyd_curves.proofs.TurnLemmas.{no_items, le_true, last_is}
 
 -- a point as a volume point
 abbrev pub shape_point : Bool → CurvePoint → VolumePoint
@@ -34,12 +33,6 @@ shape us points = volume_points us (points_in points)
 abbrev between_ends : ℤ → ℤ → List VolumePoint → Bool
 between_ends minimum maximum points = begins_and_ends points && covers minimum maximum points
 
-last_is : (us : Bool) (test : VolumePoint → Bool) (front : List CurvePoint) (last : CurvePoint)
-    → at_end test (shape us (front ++ last ∷ [])) ≡ test (shape_point us last)
-last_is us test [] last = refl
-last_is us test (a ∷ []) last = refl
-last_is us test (a ∷ b ∷ front) last = last_is us test (b ∷ front) last
-
 pub no_ends : (us : Bool) (minimum maximum : ℤ) (points : List CurvePoint) → length points ≡ 0
     → false ≡ between_ends minimum maximum (shape us points)
 no_ends us minimum maximum points e = rw (no_items points e) refl
@@ -50,17 +43,20 @@ pub ends_are : (us : Bool) (minimum maximum : ℤ) (points rest front : List Cur
     && (le_z (shape_point us first).level minimum && le_z maximum (shape_point us last).level))
     ≡ between_ends minimum maximum (shape us points)
 ends_are us minimum maximum points rest front first last e f =
-    let low : at_start (λ (p : VolumePoint). le_z (pos 0) p.volume) (shape us points) ≡ le_z (pos 0) (shape_point us first).volume =
+    let low : at_start (λ (p : VolumePoint). le_z (pos 0) p.volume) (shape us points) ≡ le_z (pos 0) (shape_point us
+    first).volume =
     rw e refl in
     let high : at_end (λ (p : VolumePoint). le_z p.volume (pos (10 ^ 18))) (shape us points)
     ≡ le_z (shape_point us last).volume (pos (10 ^ 18)) =
     ap (λ (ps : List CurvePoint). at_end (λ (p : VolumePoint). le_z p.volume (pos (10 ^ 18))) (shape us ps)) f
-    ∙ last_is us (λ p. le_z p.volume (pos (10 ^ 18))) front last in
-    let start : at_start (λ (p : VolumePoint). le_z p.level minimum) (shape us points) ≡ le_z (shape_point us first).level minimum =
+    ∙ last_is (λ (p : VolumePoint). le_z p.volume (pos (10 ^ 18))) (volume_point us) front last in
+    let start : at_start (λ (p : VolumePoint). le_z p.level minimum) (shape us points) ≡ le_z (shape_point us
+    first).level minimum =
     rw e refl in
-    let end : at_end (λ (p : VolumePoint). le_z maximum p.level) (shape us points) ≡ le_z maximum (shape_point us last).level =
+    let end : at_end (λ (p : VolumePoint). le_z maximum p.level) (shape us points) ≡ le_z maximum (shape_point us
+    last).level =
     ap (λ (ps : List CurvePoint). at_end (λ (p : VolumePoint). le_z maximum p.level) (shape us ps)) f
-    ∙ last_is us (λ p. le_z maximum p.level) front last in
+    ∙ last_is (λ (p : VolumePoint). le_z maximum p.level) (volume_point us) front last in
     sym (rw (low, high, start, end) refl)
 
 -- ---- the volume up to a level
@@ -69,19 +65,21 @@ abbrev pub point_of : Ticks → VolumePoint
 point_of ticks = record { level = ticks.place; volume = ticks.value }
 
 -- the volume is by a point and those after it, all of them right
-pub record IsWalked (us : Bool) (points : List CurvePoint) (level : ℤ) (first : Ticks) (left : List CurvePoint) : Type 0 where
-  pub value : value_from 1 (knot_of first) (volume_knots (shape us left)) level ≡ value_at 1 (volume_knots (shape us points)) level
+pub record IsWalked (us : Bool) (points : List CurvePoint) (level : ℤ) (first : Ticks) (left : List CurvePoint) :
+    Type 0 where
+  pub value : value_from 1 (knot_of first) (volume_knots (shape us left)) level
+      ≡ value_at 1 (volume_knots (shape us points)) level
   pub right : IsRight (point_of first ∷ shape us left)
 
 -- ---- what is asked of neighbours
 
-below : (a b : ℤ) → lt_z a b ≡ true → a <ℤ b
+pub below : (a b : ℤ) → lt_z a b ≡ true → a <ℤ b
 below a b h = grind (arith, ints)
 
 not_below : (a b : ℤ) → lt_z a b ≡ false → b ≤ℤ a
 not_below a b h = grind (arith, ints)
 
-at_most : (a b : ℤ) → le_z a b ≡ true → a ≤ℤ b
+pub at_most : (a b : ℤ) → le_z a b ≡ true → a ≤ℤ b
 at_most a b h = grind (arith, ints)
 
 -- a point has at most the last one's volume
@@ -189,7 +187,8 @@ pub walk_ends : (us : Bool) (points left later : List CurvePoint) (level result 
     → result ≡ floor (between 1 (knot_of first) (knot_of second) level) → result ≡ volume_at (shape us points) level
 walk_ends us points left later level result first second point walked e t h r =
     r ∙ ap floor (sym (reached us (knot_of first) (knot_of second) later level h)
-    ∙ ap (λ (ps : List VolumePoint). value_from 1 (knot_of first) (volume_knots ps) level) (two_are us left later point second e t)
+    ∙ ap (λ (ps : List VolumePoint). value_from 1 (knot_of first) (volume_knots ps) level) (two_are us left later
+    point second e t)
     ∙ walked.value)
 
 -- the two points that the walk stands at
@@ -209,7 +208,8 @@ pub walk_alone : (us : Bool) (points left : List CurvePoint) (level result : ℤ
     → result ≡ volume_at (shape us points) level
 walk_alone us points left level result first walked e r =
     let P : List CurvePoint → Type 0 =
-    λ ps. value_from 1 (knot_of first) (volume_knots (shape us ps)) level ≡ value_at 1 (volume_knots (shape us points)) level in
+    λ ps. value_from 1 (knot_of first) (volume_knots (shape us ps)) level ≡ value_at 1 (volume_knots (shape us
+    points)) level in
     r ∙ sym (floor_whole first.value) ∙ ap floor (subst P (no_items left e) walked.value)
 
 -- ---- the curve of a tank
@@ -237,7 +237,8 @@ covered_small minimum maximum points right covered order =
     let first = first_passes level_passes (λ p. le_z p.level minimum) points all ends.0 in
     let last = last_passes level_passes (λ p. le_z maximum p.level) points all ends.1 in
     let low : neg_ℤ (pos (10 ^ 17)) ≤ℤ first.0.level =
-    at_most _ _ (and_parts (le_z (neg_ℤ (pos (10 ^ 17))) first.0.level) (le_z first.0.level (pos (10 ^ 17))) first.1).0 in
+    at_most _ _ (and_parts (le_z (neg_ℤ (pos (10 ^ 17))) first.0.level) (le_z first.0.level (pos (10 ^ 17)))
+    first.1).0 in
     let high : last.0.level ≤ℤ pos (10 ^ 17) =
     at_most _ _ (and_parts (le_z (neg_ℤ (pos (10 ^ 17))) last.0.level) (le_z last.0.level (pos (10 ^ 17))) last.1).1 in
     let from : first.0.level ≤ℤ minimum = at_most _ _ first.2 in
@@ -250,9 +251,6 @@ pub all_but_room : (two turns ends cover room : Bool) → two ≡ true → turns
 all_but_room two turns ends cover room a b c =
     let both = and_parts ends cover c in
     rw (a, b, both.0, both.1) refl
-
-le_true : (a b : ℕ) → a ≤ b → nat_le a b ≡ true
-le_true a b l = grind (arith, nat_tests)
 
 pub two_points : (us : Bool) (points : List CurvePoint) → 2 ≤ length points
     → nat_le 2 (length (shape us points)) ≡ true

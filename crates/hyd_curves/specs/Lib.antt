@@ -4,3 +4,6 @@ pub mod Judged
 pub mod Turns
 pub mod Shapes
 pub mod Lines
+pub mod Bends
+pub mod Named
+pub mod NamedBends

@@ -14,6 +14,9 @@ use hyd_units::{flow_ticks, head_ticks};
 /// The greatest head, up or down.
 pub(crate) const GREATEST_HEAD: i128 = 100_000_000_000_000_000;
 
+/// The greatest flow, either way.
+pub(crate) const GREATEST_FLOW: i128 = 1_000_000_000_000_000;
+
 /// A point of a curve in ticks, before its ranges are known: of a volume curve a level and a volume, of the others a
 /// flow and a head.
 #[derive(Clone, Copy, Drop)]
@@ -47,6 +50,7 @@ pub(crate) fn volume_point(point: CurvePoint, us: bool) -> Ticks
 pub(crate) fn head_point(point: CurvePoint, unit: FlowUnit) -> Ticks
     ensures place { result.place ≡ quantity.flow_ticks unit point.x.nano }
     ensures value { result.value ≡ quantity.head_ticks (is_us_unit unit) point.y.nano }
+    ensures heads { unsigned_abs result.value ≤ 10 ^ 26 }
 {
     Ticks {
         place: flow_ticks(point.x, unit),

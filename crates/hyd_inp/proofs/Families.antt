@@ -1,19 +1,18 @@
 -- The first wrong rows of families of sections: the first of them all is the first row that is wrong with the others.
-use Rattle.std.proofs.Common.{◌≡◌, ◌<◌, ◌≤◌, ℕ, Bool, true, false, ◌||◌, List, length, slice_get, take, Option, Some, None, refl, sym, subst, arith, inl, inr}
+use Rattle.std.proofs.Common.{◌≡◌, ◌≤◌, ℕ, Bool, true, List, length, take, Option, Some, None, refl, subst, arith, inl, inr}
 use Rattle.std.proofs.lemmas.Bool.{cases_Bool, or_left, or_right}
 use Rattle.std.proofs.lemmas.List.{length-map}
 use Rattle.hyd_lex.specs.Lines.{Row, row_of}
 use Rattle.hyd_lex.specs.declared.line.Line.{Line}
 use Rattle.hyd_lex.specs.declared.section.Section.{Section}
-use Rattle.hyd_lex.specs.declared.section.Section.TheVariants.{Junctions, Reservoirs, Tanks, Pipes, Pumps, Valves, Demands, Emitters, Curves, Patterns, Status, Controls, Rules, Options, Times}
+use Rattle.hyd_lex.specs.declared.section.Section.TheVariants.{Times}
 use Rattle.hyd_net.specs.declared.cause.Cause.{Cause}
 use Rattle.hyd_spec_input.specs.Capacities.{IsRefusedIn}
 use Rattle.hyd_spec_input.specs.Faults.{IsWrongWithOthers}
-use Rattle.hyd_spec_input.specs.Tables.{is_of, is_node, is_link}
 use Rattle.hyd_spec_input.specs.WithOthers.{section_fault, holds_action}
 use Rattle.hyd_inp.specs.Families.{Both, is_judged, IsWrongOf}
 use Rattle.hyd_tables.specs.declared.found.Found.{Found}
-use Rattle.hyd_tables.specs.Found.{HasFound, IsFirstAt, IsWrongAmong, Either, least, rows_at}
+use Rattle.hyd_tables.specs.Found.{HasFound, IsWrongAmong, Either, least, rows_at}
 use Rattle.hyd_tables.proofs.LeastLemmas.{found_least}
 
 -- where two notions of a wrong row are one
@@ -31,7 +30,7 @@ found_as rows One Other n (Some found) to from is = record {
 
 either_family : (rows : List Row) (f g : Row → Bool) (Wrong : ℕ → Cause → Type 0) (k : ℕ) (cause : Cause)
     → Either (IsWrongAmong f Wrong rows) (IsWrongAmong g Wrong rows) k cause
-        → IsWrongAmong (Both f g) Wrong rows k cause
+    → IsWrongAmong (Both f g) Wrong rows k cause
 either_family rows f g Wrong k cause w = elim w [
   | inl u ↦ record { row = u.row; row_is = u.row_is; member = or_left (f u.row) (g u.row) u.member; wrong = u.wrong }
   | inr v ↦ record { row = v.row; row_is = v.row_is; member = or_right (f v.row) (g v.row) v.member; wrong = v.wrong }
@@ -39,7 +38,7 @@ either_family rows f g Wrong k cause w = elim w [
 
 one_family : (rows : List Row) (f g : Row → Bool) (Wrong : ℕ → Cause → Type 0) (k : ℕ) (cause : Cause)
     → IsWrongAmong (Both f g) Wrong rows k cause → Either (IsWrongAmong f Wrong rows)
-        (IsWrongAmong g Wrong rows) k cause
+    (IsWrongAmong g Wrong rows) k cause
 one_family rows f g Wrong k cause w = elim (cases_Bool (f w.row)) [
   | inl t ↦ inl (record { row = w.row; row_is = w.row_is; member = t; wrong = w.wrong })
   | inr e ↦ inr (record { row = w.row; row_is = w.row_is; member = rw e at w.member; wrong = w.wrong })
@@ -52,7 +51,7 @@ pub found_both : (rows : List Row) (f g : Row → Bool) (Wrong : ℕ → Cause �
     → HasFound rows (IsWrongAmong (Both f g) Wrong rows) n (least one other)
 found_both rows f g Wrong n one other all a b =
     found_as rows (Either (IsWrongAmong f Wrong rows) (IsWrongAmong g Wrong rows)) (IsWrongAmong
-        (Both f g) Wrong rows) n
+    (Both f g) Wrong rows) n
     (least one other) (either_family rows f g Wrong) (one_family rows f g Wrong)
     (found_least rows (IsWrongAmong f Wrong rows) (IsWrongAmong g Wrong rows) n one other all a b)
 

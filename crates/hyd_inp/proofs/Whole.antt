@@ -1,5 +1,5 @@
 -- The fault of a text from what was found.
-use Rattle.std.proofs.Common.{◌≡◌, ◌≤◌, ◌^◌, ℕ, Bool, true, false, ◌||◌, List, [], ◌∷◌, length, Option, Some, None, refl, sym, ap, ◌∙◌, subst, arith, inl, inr, nat_le}
+use Rattle.std.proofs.Common.{◌≡◌, ◌≤◌, ◌^◌, ℕ, Bool, true, false, ◌||◌, List, [], ◌∷◌, length, Option, Some, None, refl, sym, ap, ◌∙◌, subst, arith, inl, inr}
 use Rattle.std.specs.Prelude.{IfSome, IfNone}
 use Rattle.std.specs.List.{list_any}
 use Rattle.std.proofs.lemmas.Bool.{cases_Bool, le-leb}
@@ -18,10 +18,6 @@ use Rattle.hyd_spec_input.specs.Tables.{is_of, rows_of}
 use Rattle.hyd_tables.specs.declared.found.Found.{Found}
 use Rattle.hyd_tables.specs.Found.{HasFound, rows_at}
 use Rattle.hyd_tables.proofs.FoundLemmas.{first_of, none_of}
-use Rattle.hyd_net.specs.Sound.{Sound}
-use Rattle.hyd_net.specs.declared.project.Project.{Project}
-use Rattle.hyd_spec_input.specs.Project.{IsProject}
-use Rattle.hyd_spec_networks.proofs.Parts.{all_right}
 use Rattle.hyd_inp.specs.Sources.{is_source}
 use Rattle.hyd_inp.specs.declared.fault.InpFault.{InpFault}
 
@@ -63,8 +59,10 @@ pub fault_of_lines : (text : List ℕ) (lines : List Line) (fault : LexFault) (c
     → Some fault ≡ fault_in (items_of text) → cause ≡ line_cause fault.cause
     → IsFaultOf (items_of text) fault.line cause
 fault_of_lines text lines fault cause rows none end c =
-    inr (right_alone text lines rows none,
-      inl (record { fault = fault; fault_is = sym end; line_is = refl; cause_is = c }))
+    inr (
+      right_alone text lines rows none,
+      inl (record { fault = fault; fault_is = sym end; line_is = refl; cause_is = c }),
+    )
 
 pub fault_among : (text : List ℕ) (lines : List Line) (found : Found)
     → rows_at text lines ≡ rows_in (items_of text) → NoneIs (IsWrongByItself (rows_at text lines))
@@ -73,8 +71,13 @@ pub fault_among : (text : List ℕ) (lines : List Line) (found : Found)
     → IsFaultOf (items_of text) found.line found.cause
 fault_among text lines found rows none end is =
     let P : List Row → Type 0 = λ rs. IsFirst rs (IsWrongWithOthers rs) found.line found.cause in
-    inr (right_alone text lines rows none, inr (sym end,
-      inl (subst P rows (first_of (rows_at text lines) (IsWrongWithOthers (rows_at text lines)) found is))))
+    inr (
+      right_alone text lines rows none,
+      inr (
+        sym end,
+        inl (subst P rows (first_of (rows_at text lines) (IsWrongWithOthers (rows_at text lines)) found is)),
+      ),
+    )
 
 right_among : (text : List ℕ) (lines : List Line) → rows_at text lines ≡ rows_in (items_of text)
     → NoneIs (IsWrongWithOthers (rows_at text lines)) → NoneIs (IsWrongWithOthers (rows_in (items_of text)))
@@ -86,8 +89,13 @@ pub fault_of_all : (text : List ℕ) (lines : List Line) (cause : Cause)
     → None ≡ fault_in (items_of text) → NoneIs (IsWrongWithOthers (rows_at text lines))
     → Some cause ≡ lack (rows_at text lines) → IsFaultOf (items_of text) 0 cause
 fault_of_all text lines cause rows alone end among lacks =
-    inr (right_alone text lines rows alone, inr (sym end,
-      inr (right_among text lines rows among, refl, sym (lacks ∙ ap lack rows))))
+    inr (
+      right_alone text lines rows alone,
+      inr (
+        sym end,
+        inr (right_among text lines rows among, refl, sym (lacks ∙ ap lack rows)),
+      ),
+    )
 
 pub no_fault : (text : List ℕ) (lines : List Line) → length text ≤ 2 ^ 26
     → rows_at text lines ≡ rows_in (items_of text) → NoneIs (IsWrongByItself (rows_at text lines))
@@ -108,7 +116,7 @@ has_first x xs = le-leb 1 (length (x ∷ xs)) (omega arith)
 
 pub some_sources : (text : List ℕ) (lines : List Line)
     → list_any is_source lines ≡ (has_some (rows_of Reservoirs (rows_at text lines)) || has_some (rows_of Tanks
-        (rows_at text lines)))
+    (rows_at text lines)))
 some_sources text [] = refl
 some_sources text (line ∷ lines) =
     let row = row_of text line in
@@ -135,39 +143,16 @@ pub lacks_nothing : (rows : List Row) → names_head_loss rows ≡ true
     → (has_some (rows_of Reservoirs rows) || has_some (rows_of Tanks rows)) ≡ true → None ≡ lack rows
 lacks_nothing rows named some = rw (named, some) refl
 
--- what the whole reader knows of the reader of lines
-pub fault_read : (text t : List ℕ) (found : Option InpFault) (fault : InpFault) → t ≡ text → length text ≤ 2 ^ 26
-    → found ≡ Some fault → IfSome found (λ f. IsFaultOf (items_of t) f.line f.cause)
-        → IsFault text fault.line fault.cause
-fault_read text t found fault e short is faulty =
-    let P : Option InpFault → Type 0 = λ o. IfSome o (λ f. IsFaultOf (items_of t) f.line f.cause) in
-    let here : IsFaultOf (items_of t) fault.line fault.cause = subst P is faulty in
-    let Q : List ℕ → Type 0 = λ x. IsFaultOf (items_of x) fault.line fault.cause in
-    inr (short, subst Q e here)
+-- ---- what is found by the reader of a text
 
-pub none_read : (t : List ℕ) (found : Option InpFault) → found ≡ None → IfNone found (HasNoFault t) → HasNoFault t
-none_read t found is none =
-    let P : Option InpFault → Type 0 = λ o. IfNone o (HasNoFault t) in subst P is none
+pub some_of_text : (text t : List ℕ) (found : Option InpFault) → t ≡ text → length text ≤ 2 ^ 26
+    → IfSome found (λ f. IsFaultOf (items_of t) f.line f.cause) → IfSome found (λ f. IsFault text f.line f.cause)
+some_of_text text t None e short faulty = tt
+some_of_text text t (Some fault) e short faulty =
+    let P : List ℕ → Type 0 = λ x. IsFaultOf (items_of x) fault.line fault.cause in
+    inr (short, subst P e faulty)
 
-rows_read : (text t : List ℕ) (lines items : List Line) → t ≡ text → lines ≡ items
-    → rows_at text items ≡ rows_in (items_of text) → rows_in (items_of t) ≡ rows_at t lines
-rows_read text t lines items e same rows =
-    ap (λ x. rows_in (items_of x)) e ∙ sym (ap (λ x. rows_at x lines) e ∙ ap (rows_at text) same ∙ rows)
-
-pub alone_read : (text t : List ℕ) (lines items : List Line) → t ≡ text → lines ≡ items
-    → rows_at text items ≡ rows_in (items_of text) → HasNoFault t → NoneIs (IsWrongByItself (rows_at t lines))
-alone_read text t lines items e same rows none =
-    let P : List Row → Type 0 = λ rs. NoneIs (IsWrongByItself rs) in
-    subst P (rows_read text t lines items e same rows) none.by_itself
-
-pub among_read : (text t : List ℕ) (lines items : List Line) → t ≡ text → lines ≡ items
-    → rows_at text items ≡ rows_in (items_of text) → HasNoFault t → NoneIs (IsWrongWithOthers (rows_at t lines))
-among_read text t lines items e same rows none =
-    let P : List Row → Type 0 = λ rs. NoneIs (IsWrongWithOthers rs) in
-    subst P (rows_read text t lines items e same rows) none.with_others
-
-pub sound_read : (text t : List ℕ) (lines items : List Line) (p : Project) → t ≡ text → lines ≡ items
-    → rows_at text items ≡ rows_in (items_of text) → HasNoFault t → IsProject (rows_at t lines) p → Sound p
-sound_read text t lines items p e same rows none is =
-    let P : List Row → Type 0 = λ rs. IsProject rs p in
-    all_right t p none (subst P (sym (rows_read text t lines items e same rows)) is)
+pub none_of_text : (text t : List ℕ) (found : Option InpFault) → t ≡ text → IfNone found (HasNoFault t)
+    → IfNone found (HasNoFault text)
+none_of_text text t None e none = subst HasNoFault e none
+none_of_text text t (Some fault) e none = tt

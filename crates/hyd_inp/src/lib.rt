@@ -1,10 +1,10 @@
-//! The reader of input files (EPANET 2.2 User Manual, appendix C): the network that a text describes, or its fault.
+//! The reader of input files (EPANET 2.2 User Manual, appendix C): the first fault of a text, or that it has none.
 #![tactic(auto)]
 
 mod fault;
+mod faults;
 mod lack;
-mod project;
 mod with_others;
 
-pub use fault::{InpFault, InpRefused};
-pub use project::read_project;
+pub use fault::InpFault;
+pub use faults::find_fault;

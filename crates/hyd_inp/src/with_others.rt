@@ -33,25 +33,26 @@ use std::alloc::Global;
 
 // The first wrong row of states, controls and rules.
 fn first_of_commands(
+    alloc: Global,
     text: &Lines<'_>,
     lines: &[Line],
     nodes: &Table,
     links: &Table,
     unit: FlowUnit,
-) -> Option<Found>
+) -> Result<Option<Found>, OutOfMemory>
     requires few { length lines.now ≤ 2 ^ 26 }
     requires lie { All (LiesIn text.now.text) lines.now }
     requires right { NoneIs (IsWrongByItself (rows_at text.now.text lines.now)) }
     requires nodes { IsTable text.now.text (node_rows (rows_at text.now.text lines.now)) nodes.now }
     requires links { IsTable text.now.text (link_rows (rows_at text.now.text lines.now)) links.now }
     requires unit { unit ≡ force.unit (rows_at text.now.text lines.now) }
-    ensures { HasFound (rows_at text.now.text lines.now)
-        (IsWrongOf family.commands (rows_at text.now.text lines.now)) (length lines.now) result }
+    ensures { IfOk result (λ found. HasFound (rows_at text.now.text lines.now)
+        (IsWrongOf family.commands (rows_at text.now.text lines.now)) (length lines.now) found) }
 {
     let status = judge_status(text, lines, links, unit);
     let controls = judge_controls(text, lines, nodes, links, unit);
-    let rules = judge_rules(text, lines, nodes, links, unit);
-    least(status, least(controls, rules))
+    let rules = judge_rules(alloc, text, lines, nodes, links, unit)?;
+    Ok(least(status, least(controls, rules)))
 }
 
 // The first wrong row of links and of what is judged against them.
@@ -69,7 +70,7 @@ fn first_from_links(
         (IsWrongOf family.from_links (rows_at text.now.text lines.now)) (length lines.now) found) }
 {
     let links = judge_links(alloc, text, lines, tables)?;
-    let commands = first_of_commands(text, lines, tables.nodes, &links.table, tables.unit);
+    let commands = first_of_commands(alloc, text, lines, tables.nodes, &links.table, tables.unit)?;
     Ok(least(links.found, commands))
 }
 

@@ -1,7 +1,7 @@
 -- The extremes of multipliers, one row further.
-use Rattle.std.proofs.Common.{◌≡◌, ◌+◌, ◌*◌, ◌^◌, ◌<◌, ◌≤◌, ◌++◌, ◌⊎◌, ℕ, Bool, true, false, ◌&&◌, List, [], ◌∷◌, map, filter, length, take, drop, position, Option, Some, None, slice_get, refl, sym, ap, ◌∙◌, subst, arith, ◌==◌, true≢false, get_or, inl, inr, append-nil, append_assoc, length-append, nat_lt, ltb-true, ltb-false}
-use Rattle.std.specs.Prelude.{slice_set, slice_index_or, ℤ, pos, neg_ℤ, ◌≤ℤ◌, ◌*ℤ◌, unsigned_abs, Contains, flat_map}
-use Rattle.std.specs.List.{All, list_all, AllPass}
+use Rattle.std.proofs.Common.{◌≡◌, ◌+◌, ◌*◌, ◌^◌, ◌<◌, ◌≤◌, ◌++◌, ◌⊎◌, ℕ, Bool, true, false, ◌&&◌, List, [], ◌∷◌, filter, length, take, drop, position, Option, Some, None, slice_get, refl, sym, ap, ◌∙◌, subst, arith, ◌==◌, true≢false, get_or, inl, inr, append-nil, append_assoc, length-append, nat_lt, ltb-true, ltb-false}
+use Rattle.std.specs.Prelude.{slice_set, ℤ, pos, neg_ℤ, ◌≤ℤ◌, ◌*ℤ◌, unsigned_abs, flat_map}
+use Rattle.std.specs.List.{All, list_all}
 use Rattle.std.specs.Str.{bytes_eq}
 use Rattle.std.specs.Cmp.Lexicographic.{bytes_decides}
 use Rattle.std.proofs.lemmas.Bool.{cases_Bool, and_parts}
@@ -19,10 +19,9 @@ use Rattle.hyd_lex.specs.Lines.{Row}
 use Rattle.hyd_lex.specs.declared.line.Line.{Line}
 use Rattle.hyd_lex.specs.declared.section.Section.{Section}
 use Rattle.hyd_lex.specs.declared.section.Section.TheVariants.{Patterns as InPatterns}
-use Rattle.hyd_net.specs.declared.cause.Cause.{Cause}
 use Rattle.hyd_spec_input.specs.ByItself as itself
 use Rattle.hyd_spec_input.specs.ByItself.{IsWrongByItself}
-use Rattle.hyd_spec_input.specs.Columns.{first, needed, any, id, within}
+use Rattle.hyd_spec_input.specs.Columns.{needed, any, id, within}
 use Rattle.hyd_spec_input.specs.Curves.{is_within}
 use Rattle.hyd_spec_input.specs.DataRows as row_form
 use Rattle.hyd_spec_input.specs.DataRows.{multipliers}
@@ -59,20 +58,24 @@ not_less a b l = grind (arith, ints)
 All-from : (P Q : ℤ → Type 0) (xs : List ℤ) → ((v : ℤ) → P v → Q v) → All P xs → All Q xs
 All-from P Q xs each all k d l = each (get_or xs k d) (all k d l)
 
-one_more : (values : List ℤ) (n : ℤ) (b : Bounds) → Enclose values b → AreExtremes (values ++ n ∷ []) (widened (Some b) n)
+one_more : (values : List ℤ) (n : ℤ) (b : Bounds) → Enclose values b → AreExtremes (values ++ n ∷ []) (widened
+    (Some b) n)
 one_more values n b e = elim (cases_Bool (lt_z n b.least)) [
   | inl t ↦ rw t (record {
     least_is_there = Contains-push values n;
     greatest_is_there = Contains-append_left values (n ∷ []) b.greatest e.greatest_is_there;
-    at_least = All-push (λ v. n ≤ℤ v) values n (All-from (λ v. b.least ≤ℤ v) (λ v. n ≤ℤ v) values (λ v l. le_both n b.least v t l) e.at_least) (le_itself n);
-    at_most = All-push (λ v. v ≤ℤ b.greatest) values n e.at_most (le_both n b.least b.greatest t (All-contains (λ v. b.least ≤ℤ v) values b.greatest e.at_least e.greatest_is_there));
+    at_least = All-push (λ v. n ≤ℤ v) values n (All-from (λ v. b.least ≤ℤ v) (λ v. n ≤ℤ v) values
+        (λ v l. le_both n b.least v t l) e.at_least) (le_itself n);
+    at_most = All-push (λ v. v ≤ℤ b.greatest) values n e.at_most (le_both n b.least b.greatest t (All-contains
+        (λ v. b.least ≤ℤ v) values b.greatest e.at_least e.greatest_is_there));
   })
   | inr f ↦ elim (cases_Bool (lt_z b.greatest n)) [
     | inl t ↦ rw (f, t) (record {
       least_is_there = Contains-append_left values (n ∷ []) b.least e.least_is_there;
       greatest_is_there = Contains-push values n;
       at_least = All-push (λ v. b.least ≤ℤ v) values n e.at_least (not_less n b.least f);
-      at_most = All-push (λ v. v ≤ℤ n) values n (All-from (λ v. v ≤ℤ b.greatest) (λ v. v ≤ℤ n) values (λ v l. le_other b.greatest n v t l) e.at_most) (le_itself n);
+      at_most = All-push (λ v. v ≤ℤ n) values n (All-from (λ v. v ≤ℤ b.greatest) (λ v. v ≤ℤ n) values
+          (λ v l. le_other b.greatest n v t l) e.at_most) (le_itself n);
     })
     | inr g ↦ rw (f, g) (record {
       least_is_there = Contains-append_left values (n ∷ []) b.least e.least_is_there;
@@ -91,7 +94,8 @@ first_one n = record {
   at_most = All-push (λ v. v ≤ℤ n) [] n (All-nil (λ v. v ≤ℤ n)) (le_itself n);
 }
 
-step : (values : List ℤ) (n : ℤ) (o : Option Bounds) → AreExtremes values o → AreExtremes (values ++ n ∷ []) (widened o n)
+step : (values : List ℤ) (n : ℤ) (o : Option Bounds) → AreExtremes values o → AreExtremes (values ++ n ∷ [])
+    (widened o n)
 step values n None e = let P : List ℤ → Type 0 = λ vs. Enclose (vs ++ n ∷ []) (record { least = n; greatest = n }) in
     subst P (sym e) (first_one n)
 step values n (Some b) e = one_more values n b e
@@ -124,7 +128,8 @@ enclosed_test test convex values b e = elim (cases_Bool (test b.least && test b.
   | inr f ↦ elim (cases_Bool (list_all test values)) [
     | inl t ↦ (let all = AllPass-from_list_all test values t in
         let low : test b.least ≡ true = All-contains (λ v. test v ≡ true) values b.least all e.least_is_there in
-        let high : test b.greatest ≡ true = All-contains (λ v. test v ≡ true) values b.greatest all e.greatest_is_there in
+        let high : test b.greatest ≡ true = All-contains
+        (λ v. test v ≡ true) values b.greatest all e.greatest_is_there in
         absurd (true≢false (sym (both_true (test b.least) (test b.greatest) low high) ∙ f)))
     | inr g ↦ g ∙ sym f
   ]
@@ -150,7 +155,8 @@ within_abs most z e =
     grind (arith, ints, p.0, p.1)
 
 abs_within : (most : ℕ) (z : ℤ) → unsigned_abs z ≤ most → is_within most z ≡ true
-abs_within most z l = both_true (le_z (neg_ℤ (pos most)) z) (le_z z (pos most)) (grind (arith, ints)) (grind (arith, ints))
+abs_within most z l = both_true (le_z (neg_ℤ (pos most)) z) (le_z z (pos most)) (grind (arith, ints)) (grind
+    (arith, ints))
 
 one_is_greater : (a v b : ℤ) → a ≤ℤ v → v ≤ℤ b → (unsigned_abs v ≤ unsigned_abs a) ⊎ (unsigned_abs v ≤ unsigned_abs b)
 one_is_greater a v b l m = elim (cases_Bool (le_z (pos 0) v)) [
@@ -186,7 +192,8 @@ more_here rows k row name is member same =
     let kept : rows_with name (before ++ row ∷ []) ≡ rows_with name before ++ row ∷ [] =
     filter-append (λ (r : Row). bytes_eq name (own_id r)) before (row ∷ []) ∙ rw same refl in
     let all : pattern_named (take (k + 1) rows) name ≡ flat_map row_multipliers (rows_with name (before ++ row ∷ [])) =
-    ap (λ (rs : List Row). flat_map row_multipliers (rows_with name rs)) (filter_more (is_of InPatterns) rows k row is member) in
+    ap (λ (rs : List Row). flat_map row_multipliers (rows_with name rs)) (filter_more
+    (is_of InPatterns) rows k row is member) in
     all ∙ ap (flat_map row_multipliers) kept ∙ flat_map-append row_multipliers (rows_with name before) (row ∷ [])
     ∙ ap (λ ms. pattern_named (take k rows) name ++ ms) (append-nil (multipliers row.words))
 
@@ -199,7 +206,8 @@ none_here rows k row name is member other =
     filter-append (λ (r : Row). bytes_eq name (own_id r)) before (row ∷ [])
     ∙ rw other (append-nil (rows_with name before)) in
     let all : pattern_named (take (k + 1) rows) name ≡ flat_map row_multipliers (rows_with name (before ++ row ∷ [])) =
-    ap (λ (rs : List Row). flat_map row_multipliers (rows_with name rs)) (filter_more (is_of InPatterns) rows k row is member) in
+    ap (λ (rs : List Row). flat_map row_multipliers (rows_with name rs)) (filter_more
+    (is_of InPatterns) rows k row is member) in
     all ∙ ap (flat_map row_multipliers) kept
 
 not_named : (name : List ℕ) (row : Row) → bytes_eq name (own_id row) ≡ true → name ≡ own_id row
@@ -209,8 +217,10 @@ not_named name row t = (bytes_decides name (own_id row)).0 t
 one_name : (names : List (List ℕ)) (a b : List ℕ) (k : ℕ) → position (bytes_eq a) names ≡ Some k
     → position (bytes_eq b) names ≡ Some k → a ≡ b
 one_name names a b k p q =
-    let x : a ≡ get_or names k [] = (bytes_decides a (get_or names k [])).0 (position-Some (bytes_eq a) names k [] p).1 in
-    let y : b ≡ get_or names k [] = (bytes_decides b (get_or names k [])).0 (position-Some (bytes_eq b) names k [] q).1 in
+    let x : a ≡ get_or names k [] = (bytes_decides a (get_or names k [])).0 (position-Some
+    (bytes_eq a) names k [] p).1 in
+    let y : b ≡ get_or names k [] = (bytes_decides b (get_or names k [])).0 (position-Some
+    (bytes_eq b) names k [] q).1 in
     x ∙ sym y
 
 -- the bounds of a number that a name may have
@@ -233,7 +243,8 @@ bounds_more rows k row names each number value name is member there l v (Some fo
       | inl t ↦ (let e : name ≡ own_id row = not_named name row t in
           let g : Some found ≡ Some number = f ∙ rw e there in
           let n : found ≡ number = cc in
-          let old : bounds (get_or each number None) ≡ all_widened None (pattern_named (take k rows) name) = rw n at was in
+          let old : bounds (get_or each number None) ≡ all_widened None (pattern_named
+          (take k rows) name) = rw n at was in
           rw n (ap bounds (get_or-set_same each number value None l) ∙ v
           ∙ ap (λ o. all_widened o (multipliers row.words)) old
           ∙ sym (all_widened_more None (pattern_named (take k rows) name) (multipliers row.words))
@@ -252,11 +263,13 @@ pub add_row : (rows : List Row) (k : ℕ) (row : Row) (names : List (List ℕ)) 
 add_row rows k row names each number old value before is member there l o v = record {
   even = length-set each number value ∙ before.even;
   named = λ name. bounds_more rows k row names each number value name is member there l
-      (v ∙ ap (λ (x : Option Extremes). all_widened (bounds x) (multipliers row.words)) (o ∙ same_read each number old l))
+      (v ∙ ap (λ (x : Option Extremes). all_widened (bounds x) (multipliers row.words)) (o
+      ∙ same_read each number old l))
       (number_in names name) refl (before.named name);
 }
   where
-    same_read : (xs : List (Option Extremes)) (i : ℕ) (d : Option Extremes) → i < length xs → get_or xs i d ≡ get_or xs i None
+    same_read : (xs : List (Option Extremes)) (i : ℕ) (d : Option Extremes) → i < length xs
+        → get_or xs i d ≡ get_or xs i None
     same_read xs i d l = sym (get_or_from_slice_get xs i (get_or xs i d) None (slice_get-get_or xs i d l))
 
 pub skip_row : (rows : List Row) (k : ℕ) (row : Row) (names : List (List ℕ)) (each : List (Option Extremes))
@@ -291,7 +304,8 @@ none_of_names each none None = refl
 none_of_names each none (Some k) = none_at each k none
 
 pub before_rows : (text : List ℕ) (rows : List Row) (names : List (List ℕ)) (firsts : List Line)
-    (each : List (Option Extremes)) → AreFirsts text (rows_of InPatterns rows) names firsts → AreNone each (length firsts)
+    (each : List (Option Extremes)) → AreFirsts text (rows_of InPatterns rows) names firsts → AreNone each
+    (length firsts)
     → AreWidened rows 0 names each
 before_rows text rows names firsts each table none = record {
   even = none.count_is ∙ sym (even text (rows_of InPatterns rows) names firsts table);
@@ -327,7 +341,8 @@ pattern_is_right rows k row right is member =
 pub multipliers_are_right : (words : List (List ℕ)) → row_form.pattern words ≡ None
     → row_form.each (within (10 ^ 6)) (drop 1 words) ≡ None
 multipliers_are_right words e =
-    let each = all_none (needed id 0 words ∷ needed any 1 words ∷ row_form.each (within (10 ^ 6)) (drop 1 words) ∷ []) e in
+    let each = all_none (needed id 0 words ∷ needed any 1 words ∷ row_form.each (within (10 ^ 6))
+    (drop 1 words) ∷ []) e in
     each.1.1.0
 
 has_between : (name : List ℕ) (xs ys : List Row) (row : Row) → bytes_eq name (own_id row) ≡ true
@@ -356,7 +371,8 @@ pub number_is_there : (text : List ℕ) (rows : List Row) (k : ℕ) (row : Row) 
 number_is_there text rows k row names firsts table is member none =
     let no : row_with (own_id row) (rows_of InPatterns rows) ≡ None =
     not_found text (rows_of InPatterns rows) names firsts (own_id row) table none in
-    let there : has_id (own_id row) (rows_of InPatterns rows) ≡ true = has_more (is_of InPatterns) rows k row is member in
+    let there : has_id (own_id row) (rows_of InPatterns rows) ≡ true = has_more
+    (is_of InPatterns) rows k row is member in
     let gone : has_id (own_id row) (rows_of InPatterns rows) ≡ false =
     has_id-is (own_id row) (rows_of InPatterns rows) ∙ rw no refl in
     true≢false (sym there ∙ gone)
@@ -379,7 +395,8 @@ pub named_extremes : (text : List ℕ) (rows : List Row) (patterns : Patterns) (
     (o : Option Bounds) → number ≡ number_in patterns.table.names name → o ≡ bounds_of patterns.extremes.items number
     → ArePatterns text rows patterns → AreExtremes (multipliers_of rows (Some name)) o
 named_extremes text rows patterns name number o n e are =
-    subst (AreExtremes (pattern_named rows name)) (sym (e ∙ ap (bounds_of patterns.extremes.items) n)) (are.extremes name)
+    subst (AreExtremes (pattern_named rows name)) (sym (e ∙ ap (bounds_of patterns.extremes.items) n))
+    (are.extremes name)
 
 pub named_between : (text : List ℕ) (rows : List Row) (patterns : Patterns) (name : List ℕ) (number : Option ℕ)
     (o : Option Bounds) → number ≡ number_in patterns.table.names name → o ≡ bounds_of patterns.extremes.items number

@@ -1,6 +1,6 @@
 -- The nodes, one row further.
 use Rattle.std.proofs.Common.{◌≡◌, ◌+◌, ◌≤◌, ◌++◌, ℕ, Bool, true, false, not, List, [], ◌∷◌, take, length, slice_get, Option, Some, None, refl, sym, ap, ◌∙◌, subst, arith, ◌==◌, ◌||◌, true≢false, length-append}
-use Rattle.std.specs.Prelude.{ℤ, pos, ◌*ℤ◌, ◌^◌}
+use Rattle.std.specs.Prelude.{ℤ, pos, ◌^◌}
 use Rattle.hyd_num.specs.Quantity.{is_us_unit, head_ticks}
 use Rattle.hyd_num.specs.declared.units.FlowUnit.{FlowUnit}
 use Rattle.hyd_lex.specs.Lines.{Row}
@@ -10,7 +10,7 @@ use Rattle.hyd_net.specs.declared.cause.Cause.{Cause}
 use Rattle.hyd_net.specs.declared.cause.Cause.TheVariants.{Range}
 use Rattle.hyd_spec_input.specs.ByItself as itself
 use Rattle.hyd_spec_input.specs.ByItself.{IsWrongByItself}
-use Rattle.hyd_spec_input.specs.Capacities.{IsRefusedIn, IsRefusedRow}
+use Rattle.hyd_spec_input.specs.Capacities.{IsRefusedIn}
 use Rattle.hyd_spec_input.specs.Columns.{or_else, unless, amount, amount_or}
 use Rattle.hyd_spec_input.specs.Faults.{NoneIs}
 use Rattle.hyd_spec_input.specs.InForce as force
@@ -25,8 +25,8 @@ use Rattle.hyd_tables.specs.Tables.{AreFirsts}
 use Rattle.hyd_tables.proofs.FoundLemmas.{filter_more, filter_same, found_skip, found_kept}
 use Rattle.hyd_tables.proofs.SectionLemmas.{none_of, verdict_without_capacity}
 use Rattle.hyd_judge.specs.Extremes.{Bounds, AreExtremes}
-use Rattle.hyd_judge.specs.Nodes.{junction_fault, is_head_times, times_fault, heads_fault, reservoir_fault, apart_fault, tank_fault}
-use Rattle.hyd_judge.specs.Pending.{tank_curve_fault}
+use Rattle.hyd_judge.specs.Nodes.{junction_fault, is_head_times, times_fault, heads_fault, reservoir_fault, tank_fault}
+use Rattle.hyd_curves.specs.Asked.{tank_curve_fault}
 use Rattle.hyd_judge.specs.JudgedNodes.{IsWrongNode, counted, node_alone, fault_among, AreCounts, AreNodes}
 use Rattle.hyd_judge.specs.declared.nodes.Counts.{Counts}
 use Rattle.hyd_judge.specs.declared.nodes.Nodes.{Nodes}
@@ -152,7 +152,13 @@ among_nodes rows k row (Some cause) is member verdict =
     record { row = verdict.row; row_is = verdict.row_is; member = rw same member; wrong = verdict.wrong }
 among_nodes rows k row None is member verdict = λ cause w.
     let same : w.row ≡ row = cc in
-    verdict cause (record { row = w.row; row_is = w.row_is; member = rw same (own_section row.section); wrong = w.wrong })
+    verdict cause (record {
+      row = w.row;
+      row_is = w.row_is;
+      member = rw same
+          (own_section row.section);
+      wrong = w.wrong;
+    })
 
 node_verdict : (rows : List Row) (k : ℕ) (row : Row) (unit : FlowUnit) (counts : Counts) (new : Bool)
     (cause : Option Cause) → slice_get rows k ≡ Some row → is_node row ≡ true → unit ≡ force.unit rows

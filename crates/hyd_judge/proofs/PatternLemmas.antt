@@ -28,7 +28,8 @@ use Rattle.hyd_tables.proofs.SectionLemmas.{verdict_without_capacity, other_sect
 -- ---- counts up to one above the most that are allowed
 
 -- the words behind the first, counted up to a number
-pub behind_first : (words : List (List ℕ)) → min (length words) 1000002 - 1 ≡ min (length (multipliers words)) most_counted
+pub behind_first : (words : List (List ℕ)) → min (length words) 1000002 - 1 ≡ min (length
+    (multipliers words)) most_counted
 behind_first words =
     let n : length (multipliers words) ≡ length words - 1 = length-map (drop 1 words) nano_of ∙ length-drop 1 words in
     grind (arith, n)
@@ -95,7 +96,8 @@ add_row text rows k row patterns next new more fault before is member table e na
     (length next.table.names) new before.distinct e names) in
     let lines : length next.table.firsts.items ≡ distinct (rows_of InPatterns (take (k + 1) rows)) =
     sym (even text _ next.table.names next.table.firsts.items table) ∙ ids in
-    let counted : passes 1000000 8 next.count ≡ passes 1000000 8 (multiplier_count (rows_of InPatterns (take (k + 1) rows))) =
+    let counted : passes 1000000 8 next.count ≡ passes 1000000 8 (multiplier_count (rows_of InPatterns (take
+    (k + 1) rows))) =
     passes_alike (multiplier_count (rows_of InPatterns (take (k + 1) rows))) next.count count in
     let verdict : fault ≡ others.row_fault rows k row =
     f ∙ rw (lines, counted) (sym (fault_is row.section rows k row member)) in

@@ -13,7 +13,7 @@ use Rattle.hyd_tables.specs.Found.{HasFound, IsWrongAmong}
 use Rattle.hyd_tables.specs.Tables.{IsTable, IsEven}
 use Rattle.hyd_judge.specs.Nodes.{junction_fault, reservoir_fault, tank_fault}
 use Rattle.hyd_judge.specs.Patterns.{ArePatterns}
-use Rattle.hyd_judge.specs.Pending.{ArePoints}
+use Rattle.hyd_curves.specs.Points.{ArePoints}
 use Rattle.hyd_judge.specs.declared.node_tables.NodeTables.{NodeTables}
 use Rattle.hyd_judge.specs.declared.nodes.Counts.{Counts}
 use Rattle.hyd_judge.specs.declared.nodes.Nodes.{Nodes}

@@ -5,5 +5,4 @@ pub mod Nodes
 pub mod Demands
 pub mod Options
 pub mod Extremes
-pub mod Pending
 pub mod JudgedNodes

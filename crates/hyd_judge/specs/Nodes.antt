@@ -1,5 +1,5 @@
 -- What nodes are asked, by what a pass over the rows knows of them.
-use Rattle.std.specs.Prelude.{◌≡◌, ℕ, ◌^◌, Bool, true, false, List, [], ◌∷◌, slice_get, Option, Some, None, ℤ, pos, ◌+ℤ◌, ◌-ℤ◌, ◌*ℤ◌}
+use Rattle.std.specs.Prelude.{◌≡◌, ℕ, ◌^◌, Bool, true, List, [], ◌∷◌, slice_get, Option, ℤ, pos, ◌+ℤ◌, ◌-ℤ◌, ◌*ℤ◌}
 use Rattle.std.specs.List.{list_all}
 use lib.Signed.{le_z}
 use Rattle.hyd_num.specs.Quantity.{is_us_unit, head_ticks}
@@ -13,7 +13,7 @@ use Rattle.hyd_net.specs.declared.cause.Cause.{Cause}
 use Rattle.hyd_net.specs.declared.cause.Cause.TheVariants.{DuplicateId, Range}
 use Rattle.hyd_tables.specs.Ranges.{head_fault, junction_ranges}
 use Rattle.hyd_judge.specs.Extremes.{Bounds, pass}
-use Rattle.hyd_judge.specs.Pending.{tank_curve_fault}
+use Rattle.hyd_curves.specs.Asked.{tank_curve_fault}
 
 -- what a junction is asked, by the unit, its count and whether its ID is new
 abbrev pub junction_fault : List Row → FlowUnit → ℕ → Bool → List (List ℕ) → Option Cause

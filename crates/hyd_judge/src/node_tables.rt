@@ -2,7 +2,7 @@
 #![tactic(auto)]
 
 use crate::patterns::Patterns;
-use crate::pending::Points;
+use hyd_curves::Points;
 use hyd_num::FlowUnit;
 use hyd_tables::Table;
 

@@ -99,11 +99,7 @@ impl Counted {
 }
 
 // The patterns of all rows.
-fn count_patterns(
-    alloc: Global,
-    text: &Lines<'_>,
-    lines: &[Line],
-) -> Result<Counted, OutOfMemory>
+fn count_patterns(alloc: Global, text: &Lines<'_>, lines: &[Line]) -> Result<Counted, OutOfMemory>
     requires few { length lines.now < 2 ^ 31 }
     requires lie { All (LiesIn text.now.text) lines.now }
     ensures table { IfOk result (λ counted.

@@ -16,10 +16,10 @@ ghost use Rattle.hyd_spec_input.specs.Tables.{rows_of};
 ghost use Rattle.hyd_tables.specs.Ranges as range;
 ghost use Rattle.hyd_tables.specs.Tables.{IsTable, IsEven};
 ghost use Rattle.hyd_judge.specs.Nodes as node;
-ghost use Rattle.hyd_judge.specs.Pending.{ArePoints};
+ghost use Rattle.hyd_curves.specs.Points.{ArePoints};
 
 use crate::node_tables::NodeTables;
-use crate::pending::{Points, tank_curve_fault};
+use hyd_curves::{Points, tank_curve_fault};
 use hyd_lex::{Line, Lines};
 use hyd_net::Cause;
 use hyd_num::{Decimal, FlowUnit};
@@ -113,8 +113,8 @@ fn levels_fault(row: &TankRow<'_>, points: &Points, curves: &Table, unit: FlowUn
 }
 
 /// What is wrong with a tank, where it is the first row with its ID or not: Limit 6 above 32 of them, DuplicateId,
-/// UnknownName of its volume curve, Range of its bottom, of levels less than a hundredth of a foot apart, of the head at
-/// its maximum level, and of a volume curve that doesn't cover its levels.
+/// UnknownName of its volume curve, Range of its bottom, of levels less than a hundredth of a foot apart, of the head
+/// at its maximum level, and of a volume curve that doesn't cover its levels.
 pub(crate) fn tank_fault(
     text: &Lines<'_>,
     line: &Line,

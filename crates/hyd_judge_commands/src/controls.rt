@@ -12,13 +12,13 @@ ghost use Rattle.hyd_spec_input.specs.Capacities.{IsRefusedSetting};
 ghost use Rattle.hyd_spec_input.specs.Columns.{word};
 ghost use Rattle.hyd_spec_input.specs.Faults.{NoneIs};
 ghost use Rattle.hyd_spec_input.specs.InForce as force;
-ghost use Rattle.hyd_spec_input.specs.Tables.{place as section_place, is_of, link_rows, node_rows, link_named};
+ghost use Rattle.hyd_spec_input.specs.Tables.{place as section_place, is_of, link_rows, node_rows};
 ghost use Rattle.hyd_spec_input.specs.WithOthers as others;
 ghost use Rattle.hyd_states.specs.States.{IsRightLink};
 ghost use Rattle.hyd_tables.specs.Found.{HasFound, rows_at};
 ghost use Rattle.hyd_tables.specs.Sections.{IsWrongIn, IsFaultThen};
 ghost use Rattle.hyd_tables.specs.Tables.{IsTable, IsEven};
-ghost use Rattle.hyd_judge_commands.specs.Controls.{AreControls, IsControlNode, control_fault as fault_of_control, commanded_fault as fault_of_commanded};
+ghost use Rattle.hyd_judge_commands.specs.Controls.{AreControls, IsControlNode, IsControlFault, commanded_fault as fault_of_commanded};
 
 use crate::names::{named_link, named_node};
 use crate::states::capacity_fault;
@@ -133,9 +133,7 @@ fn control_fault(
     requires member { (row : Row) → slice_get (rows_at text.now.text lines.now) place ≡ Some row
         → is_of InControls row ≡ true }
     ensures { (row : Row) → slice_get (rows_at text.now.text lines.now) place ≡ Some row
-        → IsFaultThen (fault_of_control (rows_at text.now.text lines.now) count row)
-        (IsRefusedSetting (rows_at text.now.text lines.now)
-        (link_named (rows_at text.now.text lines.now) (word 1 row.words)) (word 2 row.words)) result }
+        → IsControlFault (rows_at text.now.text lines.now) count row result }
 {
     let line = &lines[place];
     let Ok(control) = read_control(text, line) else {

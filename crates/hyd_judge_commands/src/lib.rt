@@ -4,8 +4,11 @@
 
 mod controls;
 mod names;
+mod parts;
+mod rules;
 mod states;
 mod status;
 
 pub use controls::judge_controls;
+pub use rules::judge_rules;
 pub use status::judge_status;

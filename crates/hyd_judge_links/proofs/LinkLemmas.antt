@@ -3,7 +3,7 @@ use Rattle.std.proofs.Common.{◌≡◌, ◌+◌, ◌≤◌, ◌++◌, ℕ, Bool
 use Rattle.hyd_num.specs.declared.units.FlowUnit.{FlowUnit}
 use Rattle.hyd_lex.specs.Lines.{Row}
 use Rattle.hyd_lex.specs.declared.section.Section.{Section}
-use Rattle.hyd_lex.specs.declared.section.Section.TheVariants.{Junctions, Reservoirs, Tanks, Pipes, Pumps, Valves, Demands, Emitters, Curves, Patterns, Status, Controls, Rules, Options, Times}
+use Rattle.hyd_lex.specs.declared.section.Section.TheVariants.{Pipes, Pumps, Valves}
 use Rattle.hyd_net.specs.declared.cause.Cause.{Cause}
 use Rattle.hyd_spec_input.specs.ByItself as itself
 use Rattle.hyd_spec_input.specs.ByItself.{IsWrongByItself}
@@ -81,13 +81,14 @@ among_links rows k row (Some cause) is member verdict =
     record { row = verdict.row; row_is = verdict.row_is; member = rw same member; wrong = verdict.wrong }
 among_links rows k row None is member verdict = λ cause w.
     let same : w.row ≡ row = cc in
-    verdict cause (record { row = w.row; row_is = w.row_is; member = rw same (own_section row.section); wrong = w.wrong })
+    let member : is_of row.section w.row ≡ true = rw same (own_section row.section) in
+    verdict cause (record { row = w.row; row_is = w.row_is; member = member; wrong = w.wrong })
 
 link_verdict : (rows : List Row) (k : ℕ) (row : Row) (unit : FlowUnit) (count : ℕ) (new : Bool) (cause : Option Cause)
     → slice_get rows k ≡ Some row → is_link row ≡ true → unit ≡ force.unit rows
     → count ≡ length (link_rows (take (k + 1) rows)) → new ≡ not (has_id (own_id row) (link_rows (take k rows)))
-    → IsFaultThen (fault_among row.section rows unit count new row.words) (IsRefusedLink row.section rows unit row.words)
-    cause
+    → IsFaultThen (fault_among row.section rows unit count new row.words)
+    (IsRefusedLink row.section rows unit row.words) cause
     → IsVerdict (IsWrongLink rows k) cause
 link_verdict rows k row unit count new cause is member u n e then =
     let h : is_link_section row.section ≡ true = sym (links_are row.section) ∙ member in

@@ -1,6 +1,5 @@
 -- Verdicts on valves with a capacity.
 use Rattle.std.proofs.Common.{◌≡◌, ℕ, Bool, true, false, List, Option, None, Some, refl, sym, inl, inr, ◌⊎◌, true≢false}
-use Rattle.hyd_num.specs.Quantity.{is_us_unit}
 use Rattle.hyd_num.specs.declared.units.FlowUnit.{FlowUnit}
 use Rattle.hyd_lex.specs.Lines.{Row}
 use Rattle.hyd_net.specs.declared.cause.Cause.{Cause}

@@ -2,14 +2,15 @@
 use Rattle.std.specs.Prelude.{◌≡◌, ℕ, Bool, true, false, ◌||◌, List, [], ◌∷◌, Option, None, ◌⊎◌, if◌then◌else◌}
 use Rattle.hyd_lex.specs.Lines.{Row}
 use Rattle.hyd_lex.specs.declared.section.Section.{Section}
-use Rattle.hyd_lex.specs.declared.section.Section.TheVariants.{Pipes, Pumps, Valves, Curves, Patterns}
+use Rattle.hyd_lex.specs.declared.section.Section.TheVariants.{Pipes, Pumps, Valves, Curves}
 use Rattle.hyd_num.specs.Quantity.{is_us_unit}
 use Rattle.hyd_net.specs.declared.cause.Cause.{Cause}
 use Rattle.hyd_net.specs.declared.cause.Cause.TheVariants.{DuplicateId}
 use Rattle.hyd_num.specs.declared.units.FlowUnit.{FlowUnit}
 use Rattle.hyd_tables.specs.Ranges.{flow_fault}
 use Rattle.hyd_tables.specs.Tables.{IsEven, IsTable}
-use Rattle.hyd_judge_links.specs.Stub.{AreVerdicts, AreExtremes}
+use Rattle.hyd_curves.specs.Judged.{AreVerdicts}
+use Rattle.hyd_judge.specs.Patterns.{ArePatterns}
 use Rattle.hyd_judge_links.specs.declared.tables.LinkTables.{LinkTables}
 use Rattle.hyd_spec_input.specs.Capacities.{IsRefusedPipe, IsRefusedValve, IsRefusedCurve}
 use Rattle.hyd_spec_input.specs.Columns.{or_else, first, unless, word, amount}
@@ -70,15 +71,14 @@ IsRefusedValveOf us words =
 pub record AreEven (tables : LinkTables) : Type 0 where
   pub nodes : IsEven tables.nodes.now
   pub curves : IsEven tables.curves.now
-  pub patterns : IsEven tables.patterns.now
+  pub patterns : IsEven tables.patterns.now.table
 
 -- the tables and the unit of a file
 pub record AreTables (text : List ℕ) (rows : List Row) (tables : LinkTables) : Type 0 where
   pub nodes : IsTable text (node_rows rows) tables.nodes.now
   pub curves : IsTable text (rows_of Curves rows) tables.curves.now
   pub verdicts : AreVerdicts rows tables.curves.now.names tables.verdicts.now
-  pub patterns : IsTable text (rows_of Patterns rows) tables.patterns.now
-  pub extremes : AreExtremes rows tables.patterns.now.names tables.extremes.now
+  pub patterns : ArePatterns text rows tables.patterns.now
   pub unit_is : tables.unit ≡ force.unit rows
 
 -- ---- links by section

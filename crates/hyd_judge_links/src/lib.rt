@@ -6,6 +6,8 @@ mod ends;
 mod links;
 mod pipes;
 mod pumps;
-mod stub;
 mod tables;
 mod valves;
+
+pub use links::{Links, judge_links};
+pub use tables::LinkTables;

@@ -100,9 +100,9 @@ impl Links {
 
 /// The links of a file whose rows are right by themselves, and its first row of [PIPES], [PUMPS] and [VALVES] that is
 /// wrong with the others: the first with more than 20,000 links up to it (Limit 7), an ID that an earlier link has
-/// (DuplicateId), a node, curve or pattern that isn't there (UnknownName), a pump's curve of a kind that isn't supported
-/// (Unsupported 4), a curve out of range, a multiplier of a pump's pattern that isn't from 0 to 10, the flow of a flow
-/// control valve above 10^15 flow ticks (Range), and last a capacity out of range (Limit 13).
+/// (DuplicateId), a node, curve or pattern that isn't there (UnknownName), a pump's curve of a kind that isn't
+/// supported (Unsupported 4), a curve out of range, a multiplier of a pump's pattern that isn't from 0 to 10, the flow
+/// of a flow control valve above 10^15 flow ticks (Range), and last a capacity out of range (Limit 13).
 pub fn judge_links(
     alloc: Global,
     text: &Lines<'_>,

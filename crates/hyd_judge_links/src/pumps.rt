@@ -1,10 +1,10 @@
 //! Pumps among all rows.
 #![tactic(auto)]
 
-ghost use Rattle.std.specs.Prelude.{◌≡◌, [], ◌∷◌, List, Some, None};
+ghost use Rattle.std.specs.Prelude.{◌≡◌, [], ◌∷◌, ℕ, List, Some, None};
 ghost use Rattle.hyd_lex.specs.Bytes.{text_of};
 ghost use Rattle.hyd_lex.specs.Lines.{LiesIn, Row};
-ghost use Rattle.hyd_lex.specs.declared.section.Section.TheVariants.{Curves, Patterns};
+ghost use Rattle.hyd_lex.specs.declared.section.Section.TheVariants.{Curves};
 ghost use Rattle.hyd_opts.specs.Judged.{words_at};
 ghost use Rattle.hyd_spec_input.specs.Capacities.{IsRefusedCurve};
 ghost use Rattle.hyd_spec_input.specs.Columns.{first};
@@ -12,23 +12,51 @@ ghost use Rattle.hyd_spec_input.specs.NetworkRows as row;
 ghost use Rattle.hyd_spec_input.specs.Tables.{node_rows, rows_of};
 ghost use Rattle.hyd_spec_input.specs.WithOthers as others;
 ghost use Rattle.hyd_tables.specs.Sections.{IsFaultThen};
-ghost use Rattle.hyd_tables.specs.Tables.{IsTable, IsEven};
-ghost use Rattle.hyd_judge_links.specs.Stub.{AreVerdicts, AreExtremes};
+ghost use Rattle.hyd_tables.specs.Tables.{IsTable};
+ghost use Rattle.hyd_curves.specs.Judged.{AreVerdicts};
+ghost use Rattle.hyd_judge.specs.Patterns.{ArePatterns};
 ghost use Rattle.hyd_judge_links.specs.Links as links;
 ghost use Rattle.hyd_judge_links.specs.Links.{AreEven};
 
 use crate::ends::ends_fault;
-use crate::stub::speeds_fault;
 use crate::tables::LinkTables;
+use hyd_judge::Patterns;
 use hyd_lex::{Line, Lines};
 use hyd_net::Cause;
+use hyd_num::Decimal;
 use hyd_rows::{PumpRow, read_pump};
 use hyd_tables::{unknown_curve, unknown_pattern};
+
+const GREATEST_SPEED: i128 = 10 * 1_000_000_000;
+
+// A speed from 0 to 10.
+fn is_speed(number: Decimal) -> bool
+    ensures { result ≡ others.is_speed number.nano }
+{
+    0 <= number.nano && number.nano <= GREATEST_SPEED
+}
+
+// Range where a multiplier of the pattern that a pump names is no speed.
+fn speeds_fault(patterns: &Patterns, name: Option<&[u8]>) -> Option<Cause>
+    ensures { (text : List ℕ) (rows : List Row) → ArePatterns text rows patterns.now
+        → result ≡ others.each_multiplier others.is_speed rows (text_of name.entry) }
+{
+    let Some(extremes) = patterns.extremes(name) else {
+        return None;
+    };
+    if !is_speed(extremes.least) {
+        return Some(Cause::Range);
+    }
+    if !is_speed(extremes.greatest) {
+        return Some(Cause::Range);
+    }
+    None
+}
 
 // What is wrong with the curve, the speeds or the capacity of a pump.
 fn curve_fault(pump: &PumpRow<'_>, tables: &LinkTables<'_>) -> Option<Cause>
     ensures { (rows : List Row) → AreVerdicts rows tables.now.curves.now.names tables.now.verdicts.now
-        → AreExtremes rows tables.now.patterns.now.names tables.now.extremes.now
+        → (text : List ℕ) → ArePatterns text rows tables.now.patterns.now
         → IsFaultThen (first (others.curve_of_pump rows (Some pump.now.curve.now)
         ∷ others.each_multiplier others.is_speed rows (text_of pump.now.pattern) ∷ []))
         (IsRefusedCurve rows (Some pump.now.curve.now)) result }
@@ -39,7 +67,7 @@ fn curve_fault(pump: &PumpRow<'_>, tables: &LinkTables<'_>) -> Option<Cause>
     {
         return Some(cause);
     }
-    if let Some(cause) = speeds_fault(tables.extremes, tables.patterns, pump.pattern) {
+    if let Some(cause) = speeds_fault(tables.patterns, pump.pattern) {
         return Some(cause);
     }
     if tables
@@ -65,8 +93,7 @@ pub(crate) fn pump_fault(
     ensures { (rows : List Row) → IsTable text.now.text (node_rows rows) tables.now.nodes.now
         → IsTable text.now.text (rows_of Curves rows) tables.now.curves.now
         → AreVerdicts rows tables.now.curves.now.names tables.now.verdicts.now
-        → IsTable text.now.text (rows_of Patterns rows) tables.now.patterns.now
-        → AreExtremes rows tables.now.patterns.now.names tables.now.extremes.now
+        → ArePatterns text.now.text rows tables.now.patterns.now
         → IsFaultThen (links.pump_fault rows count new (words_at text.now line.now))
         (IsRefusedCurve rows (row.pump_curve (words_at text.now line.now))) result }
 {
@@ -79,7 +106,7 @@ pub(crate) fn pump_fault(
     if let Some(cause) = unknown_curve(text, tables.curves, Some(pump.curve)) {
         return Some(cause);
     }
-    if let Some(cause) = unknown_pattern(text, tables.patterns, pump.pattern) {
+    if let Some(cause) = unknown_pattern(text, &tables.patterns.table, pump.pattern) {
         return Some(cause);
     }
     curve_fault(&pump, tables)

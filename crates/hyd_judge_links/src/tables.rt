@@ -1,7 +1,8 @@
 //! What rows of links are judged against.
 #![tactic(auto)]
 
-use crate::stub::{Extremes, Verdicts};
+use hyd_curves::Verdicts;
+use hyd_judge::Patterns;
 use hyd_num::FlowUnit;
 use hyd_tables::Table;
 
@@ -12,8 +13,6 @@ pub struct LinkTables<'a> {
     pub curves: &'a Table,
     /// What pumps and general purpose valves ask of each curve.
     pub verdicts: &'a Verdicts,
-    pub patterns: &'a Table,
-    /// The least and the greatest multiplier of each pattern.
-    pub extremes: &'a Extremes,
+    pub patterns: &'a Patterns,
     pub unit: FlowUnit,
 }

@@ -2,50 +2,34 @@
 #![tactic(auto)]
 
 ghost use Rattle.std.specs.Prelude.{◌≡◌, ◌⊎◌, [], ◌∷◌, List, Some, None};
-ghost use Rattle.std.specs.Bool.{OnTrue, OnFalse};
 ghost use Rattle.hyd_lex.specs.Lines.{LiesIn, Row};
 ghost use Rattle.hyd_lex.specs.declared.section.Section.TheVariants.{Curves};
 ghost use Rattle.hyd_num.specs.Quantity.{is_us_unit};
 ghost use Rattle.hyd_opts.specs.Judged.{words_at};
-ghost use Rattle.hyd_resist.specs.Ranges.{IsDiameter, IsMinorCoefficient};
+ghost use Rattle.hyd_resist.specs.Ranges.{IsDiameter};
 ghost use Rattle.hyd_rows.specs.Rows.{IsValveRow};
 ghost use Rattle.hyd_spec_input.specs.Capacities.{IsRefusedValve};
 ghost use Rattle.hyd_spec_input.specs.Columns.{first};
 ghost use Rattle.hyd_spec_input.specs.NetworkRows as row;
 ghost use Rattle.hyd_spec_input.specs.Tables.{node_rows, rows_of};
 ghost use Rattle.hyd_spec_input.specs.WithOthers as others;
+ghost use Rattle.hyd_states.specs.States.{IsThrottleCoefficient};
 ghost use Rattle.hyd_tables.specs.Ranges as range;
 ghost use Rattle.hyd_tables.specs.Sections.{IsCapacityFault, IsFaultThen};
 ghost use Rattle.hyd_tables.specs.Tables.{IsTable, IsEven};
-ghost use Rattle.hyd_judge_links.specs.Stub.{AreVerdicts};
+ghost use Rattle.hyd_curves.specs.Judged.{AreVerdicts};
 ghost use Rattle.hyd_judge_links.specs.Links as links;
 ghost use Rattle.hyd_judge_links.specs.Links.{AreEven, IsRefusedValveOf};
 
 use crate::ends::ends_fault;
-use crate::stub::Verdicts;
 use crate::tables::LinkTables;
+use hyd_curves::Verdicts;
 use hyd_lex::{Line, Lines};
 use hyd_net::Cause;
 use hyd_num::{Decimal, FlowUnit};
-use hyd_resist::valve_capacity;
 use hyd_rows::{ValveRow, ValveSetting, read_valve};
+use hyd_states::is_refused_valve;
 use hyd_tables::{Table, flow_fault, unknown_curve};
-
-// Whether a coefficient above 0 makes a capacity out of range.
-fn is_refused(diameter: Decimal, coefficient: Decimal, us: bool) -> bool
-    requires diameter { IsDiameter diameter }
-    requires coefficient { IsMinorCoefficient coefficient }
-    ensures refused { OnTrue result (IsRefusedValve diameter.nano coefficient.nano us) }
-    ensures accepted { OnFalse result (¬ IsRefusedValve diameter.nano coefficient.nano us) }
-{
-    if coefficient.nano == 0 {
-        return false;
-    }
-    match valve_capacity(diameter, coefficient, us) {
-        Ok(_) => false,
-        Err(_) => true,
-    }
-}
 
 // What is wrong with a throttle control valve: Limit 13 where its capacity, fully open or at its setting, is out of
 // range.
@@ -56,15 +40,15 @@ fn throttle_fault(
     us: bool,
 ) -> Option<Cause>
     requires diameter { IsDiameter diameter }
-    requires minor { IsMinorCoefficient minor }
-    requires coefficient { IsMinorCoefficient coefficient }
+    requires minor { IsThrottleCoefficient minor }
+    requires coefficient { IsThrottleCoefficient coefficient }
     ensures { IsCapacityFault
         (IsRefusedValve diameter.nano minor.nano us ⊎ IsRefusedValve diameter.nano coefficient.nano us) result }
 {
-    if is_refused(diameter, minor, us) {
+    if is_refused_valve(diameter, minor, us) {
         return Some(Cause::Limit(13));
     }
-    if is_refused(diameter, coefficient, us) {
+    if is_refused_valve(diameter, coefficient, us) {
         return Some(Cause::Limit(13));
     }
     None
@@ -78,14 +62,14 @@ fn flow_valve_fault(
     unit: FlowUnit,
 ) -> Option<Cause>
     requires diameter { IsDiameter diameter }
-    requires minor { IsMinorCoefficient minor }
+    requires minor { IsThrottleCoefficient minor }
     ensures { IsFaultThen (range.flow_fault unit flow.nano)
         (IsRefusedValve diameter.nano minor.nano (is_us_unit unit)) result }
 {
     if let Some(cause) = flow_fault(flow, unit) {
         return Some(cause);
     }
-    if is_refused(diameter, minor, unit.is_us()) {
+    if is_refused_valve(diameter, minor, unit.is_us()) {
         return Some(Cause::Limit(13));
     }
     None

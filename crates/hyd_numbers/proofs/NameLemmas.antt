@@ -37,7 +37,7 @@ turned false false c = refl
 
 pub one_more : (name : List ℕ) (seen names : List (List ℕ))
     → new_names seen (names ++ name ∷ []) ≡ with_name (is_among name seen || is_among name (new_names seen names))
-        (new_names seen names) name
+    (new_names seen names) name
 one_more name seen [] = elim (cases_Bool (is_among name seen)) [
   | inl t ↦ rw t refl
   | inr f ↦ rw f refl
@@ -46,7 +46,7 @@ one_more name seen (id ∷ ids) = elim (cases_Bool (is_among id seen)) [
   | inl t ↦ rw t (one_more name seen ids)
   | inr f ↦ rw f (ap (λ more. id ∷ more) (one_more name (id ∷ seen) ids)
       ∙ with_first (is_among name (id ∷ seen) || is_among name (new_names (id ∷ seen) ids)) id name (new_names
-          (id ∷ seen) ids)
+      (id ∷ seen) ids)
       ∙ ap (λ b. with_name b (id ∷ new_names (id ∷ seen) ids) name)
       (turned (bytes_eq name id) (is_among name seen) (is_among name (new_names (id ∷ seen) ids))))
 ]
@@ -69,12 +69,12 @@ new_or_old : (name : List ℕ) (ids : List (List ℕ)) (added : Bool) → ((adde
     → (b : Bool) → is_among name ids ≡ b → (if added then ids ++ name ∷ [] else ids) ≡ with_name b ids name
 new_or_old name ids added present true e =
     let old : added ≡ false = present.1 (Contains-from_any (λ x y h. (bytes_decides x y).0 h) name ids (sym
-        (among_is name ids) ∙ e)) in
+    (among_is name ids) ∙ e)) in
     rw old refl
 new_or_old name ids true present false e = refl
 new_or_old name ids false present false e =
     absurd (true≢false (sym (list_any-from_Contains nat_list_eq_equiv name ids (present.0 refl))
-        ∙ sym (among_is name ids) ∙ e))
+    ∙ sym (among_is name ids) ∙ e))
 
 with_append : (b : Bool) (before names : List (List ℕ)) (name : List ℕ)
     → with_name b (before ++ names) name ≡ before ++ with_name b names name
@@ -97,14 +97,14 @@ pub section_more : (section : Section) (rows : List Row) (k : ℕ) (row : Row) (
     (added : Bool)
     → slice_get rows k ≡ Some row → is_of section row ≡ true
     → ((added ≡ false) ↔ Contains ids (own_id row)) → ids ≡ before
-        ++ new_names before (map own_id (rows_of section (take k rows)))
+    ++ new_names before (map own_id (rows_of section (take k rows)))
     → after ≡ (if added then ids ++ own_id row ∷ [] else ids)
     → after ≡ before ++ new_names before (map own_id (rows_of section (take (k + 1) rows)))
 section_more section rows k row before ids after added at member present is e =
     added_more (own_id row) before (map own_id (rows_of section (take k rows))) ids after added present is e
     ∙ ap (λ names. before ++ new_names before names)
     (sym (ap (map own_id) (filter_more (is_of section) rows k row at member)
-        ∙ map-append own_id (rows_of section (take k rows)) (row ∷ [])))
+    ∙ map-append own_id (rows_of section (take k rows)) (row ∷ [])))
 
 pub section_same : (section : Section) (rows : List Row) (k : ℕ) (row : Row) (before ids : List (List ℕ))
     → slice_get rows k ≡ Some row → is_of section row ≡ false

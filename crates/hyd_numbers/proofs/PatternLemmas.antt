@@ -179,8 +179,13 @@ open_old : (rows : List Row) (row : Row) (n : ℕ) → is_among (own_id row) (id
 open_old rows row n there at =
     let same : ids_of (rows ++ row ∷ []) ≡ ids_of rows = ids_more rows row ∙ rw there refl in
     let apart : (n == length (all_given rows)) ≡ false =
-    ne_eqb n (length (all_given rows)) (λ e. absurd (omega (arith, e, at.inside, length-map (ids_of rows)
-        (given rows)))) in
+    ne_eqb n (length (all_given rows)) (λ e. absurd (omega (
+      arith,
+      e,
+      at.inside,
+      length-map (ids_of rows)
+          (given rows),
+    ))) in
     record {
       all = rw (apart, same) refl;
       at = rw same at;
@@ -233,7 +238,7 @@ open_row rows later row n e =
 pub row_filled : (rows later : List Row) (row : Row) (n : ℕ) (before after_open after : List (List ℤ))
     → number_in (ids_of (rows ++ row ∷ later)) (own_id row) ≡ Some n → before ≡ all_given rows
     → after_open ≡ opened n before → after ≡ slice_set after_open n (slice_index_or after_open n []
-        ++ row_multipliers row)
+    ++ row_multipliers row)
     → after ≡ all_given (rows ++ row ∷ [])
 row_filled rows later row n before after_open after e b o a =
     let is = open_row rows later row n e in
@@ -241,7 +246,7 @@ row_filled rows later row n before after_open after e b o a =
     let f : after_open ≡ map (given rows) ids = o ∙ ap (opened n) b ∙ is.all in
     a ∙ ap (λ l. slice_set l n (slice_index_or l n [] ++ row_multipliers row)) f
     ∙ set_one (given rows) (own_id row) (row_multipliers row) ids n (names_once (map own_id (rows
-        ++ row ∷ []))) is.at.is
+    ++ row ∷ []))) is.at.is
     ∙ same_map (added_at (given rows) (own_id row) (row_multipliers row)) (given (rows ++ row ∷ [])) ids
     (λ id. sym (given_more rows row id))
 
@@ -262,12 +267,15 @@ has_its_number rows later row none =
     has_number (own_id row) ids (counted (own_id row) ids
     (among_new (own_id row) [] (map own_id (rows ++ row ∷ later)) refl
     ∙ ap (is_among (own_id row)) (map-append own_id rows (row ∷ later))
-        ∙ inside (own_id row) (map own_id rows) (map own_id later))) none
+    ∙ inside (own_id row) (map own_id rows) (map own_id later))) none
   where
     inside : (name : List ℕ) (xs ys : List (List ℕ)) → is_among name (xs ++ name ∷ ys) ≡ true
     inside name [] ys = rw (itself name) refl
-    inside name (x ∷ xs) ys = elim (cases_Bool (bytes_eq name x)) [ inl t ↦ rw t refl | inr f ↦ rw f
-        (inside name xs ys) ]
+    inside name (x ∷ xs) ys = elim (cases_Bool (bytes_eq name x)) [
+      | inl t ↦ rw t refl
+      | inr f ↦ rw f
+          (inside name xs ys)
+    ]
 
     counted : (name : List ℕ) (ids : List (List ℕ)) → is_among name ids ≡ true → 1 ≤ occurs name ids
     counted name [] e = absurd (true≢false (sym e))
@@ -298,7 +306,7 @@ pub add_pattern : (rows : List Row) (k n : ℕ) (row : Row) (before after : List
 add_pattern rows k n row before after after_open is member number b o a =
     let parts = parted_rows rows k row is member in
     let e : number_in (ids_of (rows_of Patterns (take k rows)
-        ++ row ∷ rows_of Patterns (drop (suc k) rows))) (own_id row)
+    ++ row ∷ rows_of Patterns (drop (suc k) rows))) (own_id row)
     ≡ Some n = ap (λ rs. number_in (ids_of rs) (own_id row)) (sym parts) ∙ number in
     row_filled (rows_of Patterns (take k rows)) (rows_of Patterns (drop (suc k) rows)) row n (each before) after_open
     (each after) e b o a
@@ -311,7 +319,7 @@ pub inside_patterns : (rows : List Row) (k n : ℕ) (row : Row) (before : List P
 inside_patterns rows k n row before after_open is member number b o =
     let parts = parted_rows rows k row is member in
     let e : number_in (ids_of (rows_of Patterns (take k rows)
-        ++ row ∷ rows_of Patterns (drop (suc k) rows))) (own_id row)
+    ++ row ∷ rows_of Patterns (drop (suc k) rows))) (own_id row)
     ≡ Some n = ap (λ rs. number_in (ids_of rs) (own_id row)) (sym parts) ∙ number in
     let l = row_inside (rows_of Patterns (take k rows)) (rows_of Patterns (drop (suc k) rows)) row n (each before)
     (each after_open) e b o in

@@ -9,6 +9,6 @@ mod patterns;
 mod times;
 
 pub use ids::{link_ids, node_ids, pattern_ids, tank_ids};
-pub use options::read_options;
-pub use patterns::read_patterns;
-pub use times::read_times;
+pub use options::options_in_force;
+pub use patterns::build_patterns;
+pub use times::times_in_force;

@@ -103,7 +103,12 @@ fn default_pattern<'a>(text: &Lines<'a>, lines: &[Line]) -> &'a [u8]
 }
 
 /// The options in force of a file without a fault, by its unit of flows and the numbers of its patterns.
-pub fn read_options(text: &Lines<'_>, lines: &[Line], unit: FlowUnit, patterns: &Names) -> Options
+pub fn options_in_force(
+    text: &Lines<'_>,
+    lines: &[Line],
+    unit: FlowUnit,
+    patterns: &Names,
+) -> Options
     requires lie { All (LiesIn text.now.text) lines.now }
     requires by_itself { NoneIs (IsWrongByItself (rows_at text.now.text lines.now)) }
     requires with_others { NoneIs (IsWrongWithOthers (rows_at text.now.text lines.now)) }

@@ -113,7 +113,7 @@ fn listed(alloc: Global, patterns: Vec<Pattern>) -> Result<List<Pattern>, OutOfM
 }
 
 /// The patterns of a file without a fault, in the order of their numbers.
-pub fn read_patterns(
+pub fn build_patterns(
     alloc: Global,
     text: &Lines<'_>,
     lines: &[Line],

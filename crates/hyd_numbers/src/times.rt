@@ -86,7 +86,7 @@ fn start_clock(text: &Lines<'_>, lines: &[Line]) -> u32
 
 /// The times in force of a file without a fault. The hydraulic step is at most those of patterns and reports, the step
 /// of rules at most the hydraulic one.
-pub fn read_times(text: &Lines<'_>, lines: &[Line]) -> Times
+pub fn times_in_force(text: &Lines<'_>, lines: &[Line]) -> Times
     requires lie { All (LiesIn text.now.text) lines.now }
     requires by_itself { NoneIs (IsWrongByItself (rows_at text.now.text lines.now)) }
     requires with_others { NoneIs (IsWrongWithOthers (rows_at text.now.text lines.now)) }

@@ -1,5 +1,5 @@
 -- The lines of a period, as the program makes them from a net's grid, from vectors below and above and from facts.
-use Rattle.std.specs.Prelude.{ℕ, ℤ, pos, ◌-ℤ◌, List, [], ◌∷◌, ◌++◌, map, slice_index_or}
+use Rattle.std.specs.Prelude.{ℕ, ℤ, ◌-ℤ◌, List, map, slice_index_or}
 use Rattle.hyd_spec.specs.Types.{Project, Tank, Link, LinkState}
 use Rattle.hyd_spec.specs.Law.{Shut}
 use Rattle.hyd_spec.specs.Lists.{joined}
@@ -10,6 +10,7 @@ use Rattle.hyd_spec.specs.declared.TankState.{TankState}
 use Rattle.hyd_spec.specs.declared.TankState.TheVariants.{Between}
 use Rattle.hyd_spec_certificates.specs.declared.LevelSpan.{LevelSpan}
 use Rattle.hyd_num.specs.declared.decimals.Span.{Span}
+use Rattle.hyd_spec_certificates.specs.Decided.{nowhere}
 use Rattle.hyd_facts.specs.OfPeriod.{levels_of, flows_of}
 use Rattle.hyd_spec_certificates.specs.Interval.{Interval, exactly, shifted}
 use Rattle.hyd_spec_certificates.specs.Grid.{Grid, GridLink, GridJunction}
@@ -41,20 +42,15 @@ reservoir_line network r height = ReservoirLine r (printed (quantity_in network 
 -- The line of tank number k at its levels, with its inflow and its state.
 abbrev pub tank_at : Project → ℕ → Tank → Interval → Interval → TankState → ReportLine
 tank_at network k tank level inflow state =
-    TankLine k (printed (quantity_in network Head) (shifted tank.bottom level)) (printed (quantity_in network Head) level)
+    TankLine k (printed (quantity_in network Head) (shifted tank.bottom level)) (printed
+    (quantity_in network Head) level)
     (printed (quantity_in network Flow) inflow) state
-
--- No levels, and no flows, of a tank that isn't there.
-abbrev pub no_levels : LevelSpan
-no_levels = record { lo = pos 0; hi = pos 0 }
-
-abbrev pub no_flows : Span
-no_flows = record { lo = pos 0; hi = pos 0 }
 
 -- The line of tank number k by the levels, the inflows and the states of all tanks.
 abbrev pub tank_line : Project → List LevelSpan → List Span → List TankState → ℕ → Tank → ReportLine
 tank_line network levels inflows states k tank =
-    tank_at network k tank (levels_of (slice_index_or levels k no_levels)) (flows_of (slice_index_or inflows k no_flows))
+    tank_at network k tank (slice_index_or (map levels_of levels) k nowhere) (slice_index_or
+    (map flows_of inflows) k nowhere)
     (slice_index_or states k Between)
 
 -- A link that isn't there is shut.

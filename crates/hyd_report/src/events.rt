@@ -1,6 +1,7 @@
 //! The lines of events.
 
-ghost use Rattle.std.specs.Prelude.{◌≡◌, IsTrue};
+ghost use Rattle.std.specs.Prelude.{◌≡◌, map, IsTrue, None};
+ghost use Rattle.hyd_spec.specs.Lists.{joined};
 ghost use Rattle.hyd_io.specs.Output.{OnCert};
 ghost use Rattle.hyd_net.specs.Sound.{Sound};
 ghost use Rattle.hyd_spec_reports.specs.ReportLine.{line_text};
@@ -33,7 +34,7 @@ fn event_text(what: EventKind) -> Text
 }
 
 /// Puts the line of an event at a time in seconds.
-pub(crate) fn put_event<D: Desk>(
+fn put_event<D: Desk>(
     project: &Project,
     time: u64,
     event: &Event,
@@ -60,4 +61,28 @@ pub(crate) fn put_event<D: Desk>(
         pen,
         desk,
     )
+}
+
+/// Puts the lines of events at a time in seconds.
+pub(crate) fn put_events<D: Desk>(
+    project: &Project,
+    time: u64,
+    events: &[Event],
+    pen: &mut Pen,
+    desk: &mut D,
+) -> Result<(), OutFault>
+    requires sound { Sound project.now }
+    requires ready { OnCert pen.old.to (IsTrue (D.ready desk.old)) }
+    requires unbroken { pen.old.fault ≡ None }
+    ensures { Puts D.files D.rest D.written D.printed D.target D.ready D.counts D.openings
+        (joined (map (λ event. line_text project.now (event_line time event)) events.now))
+        result pen.old pen.new desk.old desk.new }
+{
+    for i in 0..events.len() {
+        match put_event(project, time, &events[i], pen, desk) {
+            Ok(()) => {}
+            Err(fault) => return Err(fault),
+        }
+    }
+    Ok(())
 }

@@ -1,6 +1,7 @@
 //! Numbers, times and settings as words.
 
 ghost use Rattle.std.specs.Prelude.{◌≡◌, ◌+◌, ◌≤◌, ◌/◌, ◌%◌, ◌++◌, ◌<◌, ◌^◌, [], ◌∷◌, length, decimal};
+ghost use Rattle.std.specs.Fmt.{signed_decimal};
 ghost use Rattle.hyd_num.specs.Decimals.{last_digits, setting_text};
 ghost use Rattle.hyd_spec_reports.specs.ReportLine.{clock_text};
 
@@ -47,6 +48,16 @@ pub(crate) fn number(number: u64) -> Text
 {
     let mut text = Text::new();
     push_number(&mut text, number);
+    text
+}
+
+/// A number with its sign.
+pub(crate) fn signed(number: &i128) -> Text
+    ensures { result ≡ signed_decimal number.now }
+{
+    let mut digits = Buffer::new();
+    let mut text = Text::new();
+    text.push(digits.format(*number).as_bytes());
     text
 }
 

@@ -46,13 +46,13 @@ pub(crate) fn state_text(state: &LinkState) -> Text
 }
 
 /// The word of a tank's state.
-pub(crate) fn tank_word(state: &TankState) -> Text
-    ensures { result ≡ tank_word state.now }
+pub(crate) fn tank_word(state: &TankState) -> &'static [u8]
+    ensures { result.now ≡ tank_word state.now }
 {
     match state {
-        TankState::Empty => word(b"EMPTY"),
-        TankState::Between => word(b"BETWEEN"),
-        TankState::Full => word(b"FULL"),
+        TankState::Empty => b"EMPTY",
+        TankState::Between => b"BETWEEN",
+        TankState::Full => b"FULL",
     }
 }
 

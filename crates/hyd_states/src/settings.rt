@@ -40,8 +40,9 @@ fn diameter(text: &Lines<'_>, link: &Line) -> Decimal
     }
 }
 
-// Whether a throttled valve's capacity is out of range.
-fn is_refused_valve(diameter: Decimal, coefficient: Decimal, us: bool) -> bool
+/// Whether the capacity of a valve with a loss coefficient is out of range; a coefficient of 0 makes a linear law, and
+/// no capacity.
+pub fn is_refused_valve(diameter: Decimal, coefficient: Decimal, us: bool) -> bool
     requires diameter { IsDiameter diameter }
     requires coefficient { IsThrottleCoefficient coefficient }
     ensures { (result ≡ true) ↔ IsRefusedValve diameter.nano coefficient.nano us }

@@ -1,7 +1,7 @@
 use Rattle.std.proofs.Common.{to_z, of_z, FitsSigned, arith, sym, ◌∙◌}
 use Rattle.std.specs.Int.{w128}
 use Rattle.std.proofs.lemmas.Int.{ints, to_z-of_z}
-use Rattle.hyd_curves.proofs.ShapeLemmas.{AreTicks, small, walk_begins, walk_on, walk_ends, walk_alone, next_two}
+use Rattle.hyd_curves.proofs.ShapeLemmas.{AreTicks, small, walk_on, walk_ends, walk_alone, next_two}
 use Rattle.hyd_curves.proofs.volumes.volume_up_to.Goals as goal
 
 pub volume_between-requires-clause-first : goal.volume_between-requires-clause-first
@@ -46,7 +46,8 @@ loop-next-preserved c =
 
 pub returns-clause-value : goal.returns-clause-value
 returns-clause-value c =
-    walk_alone c.args.us c.args.points.now c.loop-next.left.now c.args.level (to_z w128 (of_z w128 c.loop-next.first.value))
+    walk_alone c.args.us c.args.points.now c.loop-next.left.now c.args.level (to_z w128 (of_z w128
+    c.loop-next.first.value))
     c.loop-next.first (rw (to_z-of_z w128 c.args.level c.ranges.level) at c.loop-next.invariant)
     c.in_default-split_first.ensures.cases
     (omega (arith, ints, (small c.loop-next.first _ c.loop-next.invariant.right).value))

@@ -1,4 +1,4 @@
-use Rattle.std.proofs.Common.{◌≡◌, arith, ℕ, List, position, get_or, sym, ap, ◌∙◌}
+use Rattle.std.proofs.Common.{arith, ℕ, List, position, sym, ap, ◌∙◌}
 use Rattle.std.specs.Str.{bytes_eq}
 use Rattle.hyd_lex.specs.declared.line.Line.{Line}
 use Rattle.hyd_lex.specs.declared.section.Section.TheVariants.{Junctions}
@@ -50,4 +50,5 @@ returns c =
     add_row (rows_at text lines) c.args.place _ names c.args.each.now.items c.in-Some.number _ c.row_widened.result
     c.requires.widened (row_at text lines c.args.place nothing c.requires.within)
     (sym c.is_patterns.ensures ∙ c.if-not-is_patterns.false)
-    there (omega (arith, number_inside names _ c.in-Some.number there, c.requires.widened.even)) c.index.ensures c.row_widened.ensures
+    there (omega (arith, number_inside names _ c.in-Some.number there, c.requires.widened.even)) c.index.ensures
+    c.row_widened.ensures

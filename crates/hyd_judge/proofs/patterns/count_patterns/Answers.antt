@@ -22,6 +22,7 @@ returns c =
     record {
       table = table_of_all text lines c.loop-place.place (is_of Patterns) c.loop-place.counted.table.names
           c.loop-place.counted.table.firsts.items c.loop-place.invariant.table c.loop-place-test.false;
-      found = found_fewer (rows_at text lines) (IsWrongIn Patterns (rows_at text lines)) c.loop-place.place (length lines)
+      found = found_fewer (rows_at text lines) (IsWrongIn Patterns (rows_at text lines)) c.loop-place.place
+          (length lines)
           c.loop-place.counted.found c.loop-place.invariant.found c.loop-place-test.false;
     }

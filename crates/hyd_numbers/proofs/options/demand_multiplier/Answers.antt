@@ -13,6 +13,6 @@ number_or-requires-clause-right c =
     let text = c.args.text.now.text in
     let lines = c.args.lines.now in
     of_line text lines Options (begins_both (codes "DEMAND") (codes "MULTIPLIER")) (λ words. needed number 2 words
-        ≡ None) c.last_line-line.result
+    ≡ None) c.last_line-line.result
     c.last_line-line.ensures.last (λ row found. multiplier_right (rows_at text lines) row
     (right_rows text lines c.requires.by_itself c.requires.with_others) found)

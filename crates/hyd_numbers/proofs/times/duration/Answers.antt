@@ -13,6 +13,6 @@ seconds_or-requires-clause-right c =
     let text = c.args.text.now.text in
     let lines = c.args.lines.now in
     of_line text lines Times (begins (codes "DURATION")) (λ words. time 0 1 words
-        ≡ None) c.last_line-line.result c.last_line-line.ensures.last
+    ≡ None) c.last_line-line.result c.last_line-line.ensures.last
     (λ row found. duration_right (rows_at text lines) row
     (right_rows text lines c.requires.by_itself c.requires.with_others) found)

@@ -12,6 +12,6 @@ seconds_or-requires-clause-right c =
     let text = c.args.text.now.text in
     let lines = c.args.lines.now in
     of_line text lines Times (begins_both c.args.key.now c.args.second.now) (λ words. time 0 2 words
-        ≡ None) c.last_line-line.result c.last_line-line.ensures.last
+    ≡ None) c.last_line-line.result c.last_line-line.ensures.last
     (λ row found. seconds_right (rows_at text lines) c.args.key.now c.args.second.now row
     (right_rows text lines c.requires.by_itself c.requires.with_others) c.requires.gives found)

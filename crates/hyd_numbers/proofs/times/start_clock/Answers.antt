@@ -13,6 +13,6 @@ clock_or_0-requires-clause-right c =
     let text = c.args.text.now.text in
     let lines = c.args.lines.now in
     of_line text lines Times (begins_both (codes "START") (codes "CLOCKTIME")) (λ words. clock 2 words
-        ≡ None) c.last_line-line.result c.last_line-line.ensures.last
+    ≡ None) c.last_line-line.result c.last_line-line.ensures.last
     (λ row found. start_right (rows_at text lines) row
     (right_rows text lines c.requires.by_itself c.requires.with_others) found)

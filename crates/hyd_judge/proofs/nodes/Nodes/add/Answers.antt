@@ -1,4 +1,4 @@
-use Rattle.std.proofs.Common.{take, sym, ◌∙◌, refl, arith}
+use Rattle.std.proofs.Common.{take, sym, ◌∙◌, arith}
 use Rattle.hyd_lex.specs.declared.line.Line.{Line}
 use Rattle.hyd_lex.specs.declared.section.Section.TheVariants.{Junctions, Curves, Patterns}
 use Rattle.hyd_spec_input.specs.Tables.{node_rows, rows_of}
@@ -33,14 +33,16 @@ node_fault-cause-requires-clause-even c =
     let rows = rows_at text c.args.lines.now in
     let tables = c.args.tables.now in
     record {
-      patterns = even text (rows_of Patterns rows) tables.patterns.now.table.names tables.patterns.now.table.firsts.items
+      patterns = even text (rows_of Patterns rows) tables.patterns.now.table.names
+          tables.patterns.now.table.firsts.items
           c.requires.tables.patterns.table;
       curves = even text (rows_of Curves rows) tables.curves.now.names tables.curves.now.firsts.items
           c.requires.tables.curves;
     }
 
 pub add-requires-2-clause-junctions : goal.add-requires-2-clause-junctions
-add-requires-2-clause-junctions c = omega (arith, c.requires.judged.counts.few_junctions, c.requires.within, c.requires.few)
+add-requires-2-clause-junctions c = omega
+    (arith, c.requires.judged.counts.few_junctions, c.requires.within, c.requires.few)
 
 pub returns : goal.returns
 unfolding nothing

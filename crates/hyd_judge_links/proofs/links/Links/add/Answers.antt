@@ -36,8 +36,8 @@ link_fault-cause-requires-clause-even c =
       nodes = even text (node_rows rows) tables.nodes.now.names tables.nodes.now.firsts.items c.requires.tables.nodes;
       curves = even text (rows_of Curves rows) tables.curves.now.names tables.curves.now.firsts.items
           c.requires.tables.curves;
-      patterns = even text (rows_of Patterns rows) tables.patterns.now.names tables.patterns.now.firsts.items
-          c.requires.tables.patterns;
+      patterns = even text (rows_of Patterns rows) tables.patterns.now.table.names
+          tables.patterns.now.table.firsts.items c.requires.tables.patterns.table;
     }
 
 pub returns : goal.returns

@@ -1,0 +1,5 @@
+pub mod NumberLemmas
+pub mod ControlLemmas
+pub mod ActionLemmas
+pub mod ClauseLemmas
+pub mod RightClauses

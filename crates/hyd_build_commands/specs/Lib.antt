@@ -1,0 +1,4 @@
+pub mod Rows
+pub mod Controls
+pub mod Values
+pub mod Clauses
