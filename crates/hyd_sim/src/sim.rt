@@ -66,10 +66,12 @@ impl Model for Sim {
 
 impl Sim {
     ghost use Rattle.std.specs.Prelude.{◌≡◌};
+    ghost use Rattle.hyd_sim.specs.View.{IsSim};
 
     /// The network that is run.
     pub fn project(&self) -> &Project
-        ensures { result.now ≡ self.now.project }
+        ensures project { result.now ≡ self.now.project }
+        ensures is_sim { IsSim self.now }
     {
         &self.project
     }
