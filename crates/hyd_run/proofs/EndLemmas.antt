@@ -1,12 +1,11 @@
 -- The beginning and the end of a run.
-use Rattle.std.proofs.Common.{◌≡◌, ℕ, ◌<◌, ◌≤◌, ◌^◌, List, [], Option, None, refl, sym, ap, subst, ◌∙◌, arith}
+use Rattle.std.proofs.Common.{◌≡◌, ℕ, ◌≤◌, List, [], Option, None, sym, ap, subst, ◌∙◌, arith}
 use Rattle.std.specs.Prelude.{IsTrue, Result, Ok, Err, IfOk, IfErr, OnOk}
 use Rattle.hyd_net.specs.Sound.{Sound}
 use Rattle.hyd_spec.specs.Types.{Project}
 use Rattle.hyd_spec_certificates.specs.Record.{Standing, initial_standing}
-use Rattle.hyd_spec_reports.specs.CertificateText.{end_line, header_line, version_of}
+use Rattle.hyd_spec_reports.specs.CertificateText.{end_line}
 use Rattle.hyd_spec_reports.specs.Headline.{Outcome, EndsSo, last_line, is_finished}
-use Rattle.hyd_spec.specs.Network.{junction_count, tank_count}
 use Rattle.hyd_cert.specs.Lines.{Header, header_text}
 use Rattle.hyd_io.specs.declared.output.Channel.{Channel}
 use Rattle.hyd_io.specs.declared.output.Channel.TheVariants.{Cert, Report}

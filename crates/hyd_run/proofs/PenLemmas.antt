@@ -1,7 +1,7 @@
 -- How texts that are put in at two pens follow one another.
-use Rattle.std.proofs.Common.{◌≡◌, ℕ, Bool, List, [], ◌++◌, Option, Some, None, refl, sym, subst, ◌∙◌, append-nil}
-use Rattle.std.proofs.Common.{append_assoc, arith, ◌⊎◌, inl, inr}
-use Rattle.std.specs.Prelude.{Result, Ok, Err, IfSome, IsSome, IsTrue, OnOk, OnErr}
+use Rattle.std.proofs.Common.{◌≡◌, ℕ, Bool, List, [], ◌++◌, Option, sym, subst, ◌∙◌, append-nil}
+use Rattle.std.proofs.Common.{append_assoc, ◌⊎◌, inl, inr}
+use Rattle.std.specs.Prelude.{Result, Ok, Err, IsTrue, OnOk, OnErr}
 use Rattle.hyd_io.specs.declared.desk.Faults.{Faults}
 use Rattle.hyd_io.specs.declared.desk.Openings.{Openings}
 use Rattle.hyd_io.specs.declared.output.OutFault.{OutFault}
@@ -9,7 +9,7 @@ use Rattle.hyd_io.specs.declared.output.Channel.{Channel}
 use Rattle.hyd_io.specs.declared.output.Channel.TheVariants.{Cert, Report}
 use Rattle.hyd_io.specs.Told.{Files, Moves, PutOut, append_known}
 use Rattle.hyd_io.specs.Output.{by_channel, OnCert, OnReport, HasOutCause, PenState}
-use Rattle.hyd_io.proofs.ToldLemmas.{moves_then, put_out_then, put_out_more, put_out_nothing, moves_nothing, moves_all}
+use Rattle.hyd_io.proofs.ToldLemmas.{moves_then, put_out_then, put_out_nothing, moves_all}
 use Rattle.hyd_report.specs.Putting.{Puts}
 use Rattle.hyd_run.specs.Pens.{Told, told, Moment, moment, AreOpen, LeavesRest, PutIn, IsCutOff, PutsIn}
 

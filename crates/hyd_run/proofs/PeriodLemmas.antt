@@ -1,11 +1,9 @@
 -- From a period that was done to what is found, and what its report needs.
-use Rattle.std.proofs.Common.{◌≡◌, ℕ, zero, suc, ◌+◌, ◌-◌, ◌<◌, ◌≤◌, ◌^◌, ℤ, pos, ◌+ℤ◌, ◌-ℤ◌, ◌≤ℤ◌, List, [], ◌∷◌}
-use Rattle.std.proofs.Common.{◌++◌, length, map, slice_get, slice_index_or, Some, refl, sym, ap, subst, ◌∙◌, arith}
-use Rattle.std.specs.Prelude.{All}
+use Rattle.std.proofs.Common.{◌≡◌, ℕ, zero, suc, ◌<◌, ◌^◌, ℤ, pos, ◌-ℤ◌, ◌≤ℤ◌, List, [], ◌∷◌}
+use Rattle.std.proofs.Common.{◌++◌, length, map, slice_get, Some, refl, sym, ap, subst, ◌∙◌, arith}
 use Rattle.std.proofs.lemmas.Int.{ints}
 use Rattle.std.proofs.lemmas.List.{length-map}
 use Rattle.std.proofs.lemmas.List.Elements.{All-from_get_or}
-use Rattle.hyd_num.specs.declared.decimals.Span.{Span}
 use Rattle.hyd_spec.specs.Types.{Project, Tank}
 use Rattle.hyd_spec.specs.Lists.{map_from}
 use Rattle.hyd_spec.specs.Assignment.{head_at}
@@ -14,7 +12,7 @@ use Rattle.hyd_spec_certificates.specs.declared.Problem.TheVariants.{Main, Pinne
 use Rattle.hyd_spec_certificates.specs.declared.Side.{Side}
 use Rattle.hyd_spec_certificates.specs.declared.Side.TheVariants.{Upper, Lower}
 use Rattle.hyd_spec_certificates.specs.Interval.{Interval}
-use Rattle.hyd_spec_certificates.specs.Grid.{Grid, GridJunction, fixed_heads, tank_intervals}
+use Rattle.hyd_spec_certificates.specs.Grid.{Grid, tank_intervals}
 use Rattle.hyd_spec_certificates.specs.Certificate.{IsCertificate}
 use Rattle.hyd_spec_certificates.specs.Record.{Record, Standing, Vectors, no_vectors}
 use Rattle.hyd_spec_certificates.specs.Valid.{AreCertificates, IsValid, LeadsOn, continues, finishes}
@@ -31,8 +29,6 @@ use Rattle.hyd_bounds.specs.Bounds.{TanksInOrder}
 use Rattle.hyd_facts.specs.OfPeriod.{AreFacts, levels_of, flows_of}
 use Rattle.hyd_facts.specs.declared.facts.Facts.{Facts}
 use Rattle.hyd_report.specs.Periods.{AreBounds, AreTankFacts}
-use Rattle.hyd_report.specs.Printing.{IsSmall}
-use Rattle.hyd_sim.specs.View.{IsSingle}
 
 -- ---- bounds
 

@@ -1,20 +1,20 @@
 -- Runs as far as they have gone, and what is put out of them.
-use Rattle.std.proofs.Common.{◌≡◌, ℕ, zero, suc, ◌+◌, ◌<◌, ◌^◌, List, [], ◌∷◌, ◌++◌, length, length-append, map}
-use Rattle.std.proofs.Common.{Option, Some, None, refl, sym, ap, subst, ◌∙◌, arith, append-nil, append_assoc, inl}
-use Rattle.std.proofs.Common.{inr, ◌⊎◌, Bool, true, false}
-use Rattle.std.specs.Prelude.{All, if◌then◌else◌, ⊤, ◌≤◌}
-use Rattle.std.specs.List.{AllByRecursion, list_any}
+use Rattle.std.proofs.Common.{◌≡◌, ℕ, ◌<◌, ◌^◌, List, [], ◌∷◌, ◌++◌, length, length-append, map}
+use Rattle.std.proofs.Common.{Option, Some, None, refl, sym, ap, subst, ◌∙◌, arith, append-nil, append_assoc}
+use Rattle.std.proofs.Common.{Bool, true, false}
+use Rattle.std.specs.Prelude.{All, if◌then◌else◌, ◌≤◌}
+use Rattle.std.specs.List.{AllByRecursion}
 use Rattle.std.proofs.lemmas.List.Elements.{All-push}
 use Rattle.hyd_net.specs.Sound.{Sound}
 use Rattle.hyd_spec.specs.Types.{Project}
 use Rattle.hyd_spec.specs.Lists.{joined}
 use Rattle.hyd_spec.specs.Network.{junction_count, tank_count}
-use Rattle.hyd_spec_certificates.specs.Record.{Record, Standing, initial_standing}
+use Rattle.hyd_spec_certificates.specs.Record.{Standing, initial_standing}
 use Rattle.hyd_spec_reports.specs.CertificateText.{IsRow, IsCertificateText, record_text, end_line, header_line}
-use Rattle.hyd_spec_reports.specs.CertificateText.{version_of, words}
-use Rattle.hyd_spec_reports.specs.ReportLine.{ReportLine, line_text, report_text}
-use Rattle.hyd_spec_reports.specs.Headline.{Found, IsFound, IsRun, IsRunFrom, Sharpness, IsSharpFound, Outcome}
-use Rattle.hyd_spec_reports.specs.Headline.{EndsSo, RunWrites, RunBreaksOff, rows_of, lines_of, last_line}
+use Rattle.hyd_spec_reports.specs.CertificateText.{version_of}
+use Rattle.hyd_spec_reports.specs.ReportLine.{line_text}
+use Rattle.hyd_spec_reports.specs.Headline.{Found, IsRun, IsRunFrom, Sharpness, IsSharpFound, Outcome}
+use Rattle.hyd_spec_reports.specs.Headline.{EndsSo, rows_of, lines_of, last_line}
 use Rattle.hyd_spec_reports.specs.Headline.{is_finished, certificate_so_far, report_so_far}
 use Rattle.hyd_spec_laws.proofs.Appending.{run_more}
 use Rattle.hyd_spec_histories.proofs.Running.{every_history}
@@ -24,12 +24,11 @@ use Rattle.hyd_cert.proofs.ReadingLemmas.{whole_reading}
 use Rattle.hyd_report.specs.Lines.{texts}
 use Rattle.hyd_report.proofs.Joining.{map-append}
 use Rattle.hyd_io.specs.declared.output.OutFault.{OutFault}
-use Rattle.hyd_io.specs.declared.output.Channel.TheVariants.{Cert, Report}
 use Rattle.hyd_io.specs.Told.{append_known, Moves, PutOut}
 use Rattle.hyd_io.proofs.ToldLemmas.{moves_whole}
 use Rattle.hyd_sim.specs.declared.settings.Settings.{Settings}
-use Rattle.hyd_run.specs.Pens.{Told, Moment, moment, PutIn, IsCutOff}
-use Rattle.hyd_run.specs.Runs.{sharpness_of, fresh, first_line, IsStep, IsSoFar, IsWhole, IsCutShort, IsPutOut}
+use Rattle.hyd_run.specs.Pens.{Moment, PutIn, IsCutOff}
+use Rattle.hyd_run.specs.Runs.{sharpness_of, first_line, IsStep, IsSoFar, IsWhole, IsCutShort, IsPutOut}
 use Rattle.hyd_run.specs.Runs.{IsBrokenOff}
 use Rattle.hyd_run.proofs.PenLemmas.{put-then, cut-then}
 

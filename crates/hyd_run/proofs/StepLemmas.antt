@@ -1,12 +1,11 @@
 -- What the steps of a run find and put in.
-use Rattle.std.proofs.Common.{◌≡◌, ℕ, suc, ◌-◌, ◌<◌, ◌≤◌, ◌^◌, Bool, true, false, List, [], length, map, Option}
-use Rattle.std.proofs.Common.{Some, None, refl, sym, ap, subst, ◌∙◌, arith}
-use Rattle.std.specs.Prelude.{IfSome, All}
+use Rattle.std.proofs.Common.{◌≡◌, ◌<◌, ◌^◌, true, false, length, Option}
+use Rattle.std.proofs.Common.{Some, refl, sym, ap, subst, ◌∙◌, arith}
+use Rattle.std.specs.Prelude.{IfSome}
 use Rattle.std.proofs.lemmas.List.{length-map}
 use Rattle.hyd_spec.specs.Types.{Project}
-use Rattle.hyd_spec.specs.Network.{junction_count, tank_count}
 use Rattle.hyd_spec_certificates.specs.Record.{Standing}
-use Rattle.hyd_spec_reports.specs.Headline.{Found, IsFound, EndsSo, Finished, Stopped}
+use Rattle.hyd_spec_reports.specs.Headline.{Found, EndsSo, Finished, Stopped}
 use Rattle.hyd_spec_reports.specs.Stops.{Stops}
 use Rattle.hyd_spec_reports.specs.declared.StopCause.{StopCause}
 use Rattle.hyd_cert.specs.RecordView.{row_of}

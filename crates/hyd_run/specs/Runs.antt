@@ -1,16 +1,15 @@
 -- A run that is put out as it goes: its certificate at one pen and its report at another.
 -- Source: this program's.
-use Rattle.std.specs.Prelude.{◌≡◌, suc, ◌<◌, ◌-◌, ◌^◌, ⊤, codes, decimal, MatchOption, ℕ, List, [], ◌∷◌, ◌++◌}
+use Rattle.std.specs.Prelude.{◌≡◌, suc, ◌<◌, ◌-◌, ◌^◌, ⊤, codes, decimal, MatchOption, ℕ, List, [], ◌∷◌}
 use Rattle.std.specs.Prelude.{length, All, Option, Some, None, Result, Ok, Err}
 use Rattle.std.specs.List.{AllByRecursion}
 use Rattle.hyd_spec.specs.Types.{Project}
 use Rattle.hyd_spec.specs.Network.{junction_count, tank_count}
 use Rattle.hyd_spec_certificates.specs.Record.{Standing}
-use Rattle.hyd_spec_reports.specs.CertificateText.{IsRow, record_text, end_line, line}
-use Rattle.hyd_spec_reports.specs.ReportLine.{ReportLine}
+use Rattle.hyd_spec_reports.specs.CertificateText.{IsRow, record_text, line}
 use Rattle.hyd_spec_reports.specs.Headline.{Found, IsFound, IsRun, Sharpness, IsSharpFound, Outcome, Finished}
-use Rattle.hyd_spec_reports.specs.Headline.{Stopped, EndsSo, RunWrites, RunBreaksOff, rows_of, last_line}
-use Rattle.hyd_spec_reports.specs.Headline.{is_finished, certificate_so_far, report_so_far}
+use Rattle.hyd_spec_reports.specs.Headline.{Stopped, EndsSo, RunWrites, RunBreaksOff, rows_of}
+use Rattle.hyd_spec_reports.specs.Headline.{certificate_so_far, report_so_far}
 use Rattle.hyd_report.specs.Lines.{texts}
 use Rattle.hyd_io.specs.declared.output.Channel.{Channel}
 use Rattle.hyd_io.specs.declared.output.OutFault.{OutFault}

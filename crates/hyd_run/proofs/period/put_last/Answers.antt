@@ -1,7 +1,6 @@
 -- The END line, and then the last line of the report.
-use Rattle.std.proofs.Common.{subst, sym, Bool}
+use Rattle.std.proofs.Common.{subst, sym}
 use Rattle.std.specs.Prelude.{IsTrue}
-use Rattle.hyd_spec_reports.specs.CertificateText.{end_line}
 use Rattle.hyd_run.proofs.PenLemmas.{on_any, both-put, first-cut}
 use Rattle.hyd_run.proofs.period.put_last.Goals as goal
 

@@ -1,6 +1,5 @@
 -- One step after another.
 use Rattle.std.proofs.Common.{◌∙◌}
-use Rattle.hyd_run.specs.Runs.{outcome_of}
 use Rattle.hyd_run.proofs.StepLemmas.{steps-more, steps-cut, steps-end, steps-over}
 use Rattle.hyd_run.proofs.steps.put_steps.Goals as goal
 

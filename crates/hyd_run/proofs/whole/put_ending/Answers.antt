@@ -1,6 +1,5 @@
 -- The run is whole with its last lines.
 use Rattle.std.proofs.Common.{sym, subst}
-use Rattle.hyd_spec.specs.Types.{Project}
 use Rattle.hyd_net.specs.Sound.{Sound}
 use Rattle.hyd_sim.specs.View.{standing_of}
 use Rattle.hyd_run.specs.Runs.{outcome_of}

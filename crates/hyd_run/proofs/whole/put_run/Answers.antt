@@ -1,5 +1,5 @@
 -- The front, the steps and the end.
-use Rattle.std.proofs.Common.{◌∙◌, ap, sym, subst}
+use Rattle.std.proofs.Common.{◌∙◌, ap}
 use Rattle.hyd_cert.specs.RecordView.{header_of}
 use Rattle.hyd_run.proofs.EndLemmas.{begun, begun-cut, ending-puts}
 use Rattle.hyd_sim.specs.View.{standing_of}
