@@ -15,7 +15,8 @@ use Rattle.hyd_cert.specs.declared.record.Record.{Record as Row}
 use Rattle.hyd_facts.specs.declared.facts.Facts.{Facts}
 use Rattle.hyd_graph.specs.NetView.{NetView}
 use Rattle.hyd_facts.specs.OfPeriod.{AreFacts}
-use Rattle.hyd_graph.specs.GridOf.{grid_of}
+use Rattle.hyd_graph.specs.GridOf.{grid_of, states_of}
+use Rattle.hyd_graph.specs.Settings.{AreStates}
 use Rattle.hyd_sim.specs.View.{SimView, standing_at, standing_of}
 use Rattle.hyd_sim.specs.declared.settings.Settings.{Settings}
 use Rattle.hyd_sim.specs.declared.steps.Step.{Step}
@@ -34,13 +35,15 @@ IsSharp network settings standing grid row next =
     (AreTight network grid row ⊎ IsNarrow settings.width standing row next)
 
 -- the period of a number was done, from the states that links were commanded to be in: its record is valid at the
--- standing before and leads on to the one after, the net is that of the period, the facts are its own, and the record is
--- as sharp as the settings ask
+-- standing before and leads on to the one after, the net is that of the period, with links in the states of the facts,
+-- the facts are its own, and the record is as sharp as the settings ask
 pub record IsDone (network : Project) (settings : Settings) (number : ℕ) (commanded : List LinkState) (net : NetView)
     (row : Row) (facts : Facts) : Type 0 where
   pub valid : IsValid network (standing_at number commanded false) (grid_of net) (row_of row)
       (standing_at (number + 1) commanded true)
   pub facts_are : AreFacts network (grid_of net) (standing_at number commanded false) (row_of row) facts
+  pub states : AreStates network (states_of net)
+  pub links : states_of net ≡ facts.links.list
   pub sharp : IsSharp network settings (standing_at number commanded false) (grid_of net) (row_of row)
       (standing_at (number + 1) commanded true)
 
@@ -48,6 +51,8 @@ pub record IsDone (network : Project) (settings : Settings) (number : ℕ) (comm
 pub record IsPeriod (before now : SimView) : Type 0 where
   pub valid : IsValid now.project (standing_of before) (grid_of now.net) (row_of now.row) (standing_of now)
   pub facts : AreFacts now.project (grid_of now.net) (standing_of before) (row_of now.row) now.facts
+  pub states : AreStates now.project (states_of now.net)
+  pub links : states_of now.net ≡ now.facts.links.list
   pub sharp : IsSharp now.project now.settings (standing_of before) (grid_of now.net) (row_of now.row)
       (standing_of now)
   pub stopped : now.stopped ≡ None

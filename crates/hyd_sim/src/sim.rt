@@ -66,12 +66,29 @@ impl Model for Sim {
 
 impl Sim {
     ghost use Rattle.std.specs.Prelude.{◌≡◌};
+    ghost use Rattle.hyd_sim.specs.View.{IsSim, standing_of};
 
     /// The network that is run.
     pub fn project(&self) -> &Project
-        ensures { result.now ≡ self.now.project }
+        ensures project { result.now ≡ self.now.project }
+        ensures is_sim { IsSim self.now }
     {
         &self.project
+    }
+
+    /// How many periods were done.
+    pub fn number(&self) -> u32
+        ensures { result ≡ (standing_of self.now).number }
+    {
+        self.number
+    }
+
+    /// When the next period begins, in seconds.
+    pub fn time(&self) -> u32
+        ensures { result ≡ (standing_of self.now).time }
+    {
+        // Today a run has one period, at its start.
+        0
     }
 
     /// The network of the last period.

@@ -34,5 +34,5 @@ returns g c =
     text c.put_parts.result c.args.pen.now c.put_parts.new.pen c.args.desk.now c.put_parts.new.desk)
     c.args.link c.flow_box-flow.result _ c.status_of-status.result place.0 place.1 c.flow_box-flow.ensures.flow
     (link_word network net c.args.link below above c.status_of-status.result place.0 c.requires.of c.requires.states
-    c.requires.in_range place.1 c.status_of-status.ensures)
+    c.requires.in_range place.1 c.status_of-status.ensures.word)
     c.print_flows-flow.ensures c.put_parts.ensures

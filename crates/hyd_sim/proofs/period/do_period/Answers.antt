@@ -13,6 +13,7 @@ use Rattle.hyd_cert.specs.Lines.{Header}
 use Rattle.hyd_cert.specs.RecordView.{row_of}
 use Rattle.hyd_cert.specs.Vectors.{behind_two}
 use Rattle.hyd_graph.specs.GridOf.{grid_of}
+use Rattle.hyd_graph.specs.Settings.{AreStates}
 use Rattle.hyd_graph.proofs.Counts.{junctions_count}
 use Rattle.hyd_vectors.specs.Room.{Room}
 use Rattle.hyd_sim.specs.View.{standing_at}
@@ -76,6 +77,8 @@ returns-clause-done g c =
       facts_are = facts-of network number commanded c.start_links.new.links grid (row_of row) c.put_facts.new.facts
           c.requires.single stays.length_is c.put_facts.ensures.bare c.start_links.ensures.links
           (ap (λ (view : ListView Change). view.list) c.put_facts.ensures.changes ∙ c.start_links.ensures.changes);
+      states = subst (AreStates network) (sym c.in_default.ensures.states) c.start_links.ensures.states;
+      links = c.in_default.ensures.states ∙ sym c.put_facts.ensures.bare.links_are;
       sharp = sharp-of network c.args.settings standing grid (length net.tanks) (row_of row) next of.each_tank refl
           refl has;
     }

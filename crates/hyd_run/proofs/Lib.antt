@@ -1,0 +1,5 @@
+pub mod PenLemmas
+pub mod PeriodLemmas
+pub mod RunLemmas
+pub mod StepLemmas
+pub mod EndLemmas

@@ -1,0 +1,128 @@
+-- From a period that was done to what is found, and what its report needs.
+use Rattle.std.proofs.Common.{◌≡◌, ℕ, zero, suc, ◌<◌, ◌^◌, ℤ, pos, ◌-ℤ◌, ◌≤ℤ◌, List, [], ◌∷◌}
+use Rattle.std.proofs.Common.{◌++◌, length, map, slice_get, Some, refl, sym, ap, subst, ◌∙◌, arith}
+use Rattle.std.proofs.lemmas.Int.{ints}
+use Rattle.std.proofs.lemmas.List.{length-map}
+use Rattle.std.proofs.lemmas.List.Elements.{All-from_get_or}
+use Rattle.hyd_spec.specs.Types.{Project, Tank}
+use Rattle.hyd_spec.specs.Lists.{map_from}
+use Rattle.hyd_spec.specs.Assignment.{head_at}
+use Rattle.hyd_spec.specs.Network.{junction_count, tank_count}
+use Rattle.hyd_spec_certificates.specs.declared.Problem.TheVariants.{Main, Pinned}
+use Rattle.hyd_spec_certificates.specs.declared.Side.{Side}
+use Rattle.hyd_spec_certificates.specs.declared.Side.TheVariants.{Upper, Lower}
+use Rattle.hyd_spec_certificates.specs.Interval.{Interval}
+use Rattle.hyd_spec_certificates.specs.Grid.{Grid, tank_intervals}
+use Rattle.hyd_spec_certificates.specs.Certificate.{IsCertificate}
+use Rattle.hyd_spec_certificates.specs.Record.{Record, Standing, Vectors, no_vectors}
+use Rattle.hyd_spec_certificates.specs.Valid.{AreCertificates, IsValid, LeadsOn, continues, finishes}
+use Rattle.hyd_spec_certificates.specs.Decided.{inflow_of_tank}
+use Rattle.hyd_spec_reports.specs.CertificateText.{IsRow, IsVector as IsRowVector}
+use Rattle.hyd_spec_laws.specs.Laws.{IsSteady}
+use Rattle.hyd_spec_nesting.proofs.TwoSides.{heads_below_plus}
+use Rattle.hyd_graph.specs.GridOf.{grid_of}
+use Rattle.hyd_graph.specs.NetView.{NetView}
+use Rattle.hyd_graph.specs.Periods.{IsNetOf}
+use Rattle.hyd_graph.proofs.Counts.{junctions_count}
+use Rattle.hyd_graph.proofs.Sounding.{long_zipped}
+use Rattle.hyd_bounds.specs.Bounds.{TanksInOrder}
+use Rattle.hyd_facts.specs.OfPeriod.{AreFacts, levels_of, flows_of}
+use Rattle.hyd_facts.specs.declared.facts.Facts.{Facts}
+use Rattle.hyd_report.specs.Periods.{AreBounds, AreTankFacts}
+
+-- ---- bounds
+
+ends-in-order : (k : ℕ) (tanks : List Interval) → ((n : ℕ) (x : Interval) → slice_get tanks n ≡ Some x → x.lo ≤ℤ x.hi)
+    → (m : ℕ) → (head_at (map_from (λ (i : ℕ) (x : Interval). x.lo) k tanks) m -ℤ head_at (map_from (λ (i : ℕ) (x :
+    Interval). x.hi) k tanks) m) ≤ℤ pos 0
+ends-in-order k [] order m = omega (arith, ints)
+ends-in-order k (x ∷ tanks) order zero = let le = order 0 x refl in omega (arith, ints, le)
+ends-in-order k (x ∷ tanks) order (suc m) = ends-in-order (suc k) tanks (λ n y at. order (suc n) y at) m
+
+fixed-in-order : (reservoirs xs ys : List ℤ) → ((m : ℕ) → (head_at xs m -ℤ head_at ys m) ≤ℤ pos 0)
+    → (m : ℕ) → (head_at (reservoirs ++ xs) m -ℤ head_at (reservoirs ++ ys) m) ≤ℤ pos 0
+fixed-in-order [] xs ys within m = within m
+fixed-in-order (r ∷ reservoirs) xs ys within zero = omega (arith, ints)
+fixed-in-order (r ∷ reservoirs) xs ys within (suc m) = fixed-in-order reservoirs xs ys within m
+
+-- certificates are bounds of a net whose tanks' intervals are in order
+pub bounds-of : (network : Project) (net : NetView) (row : Record) → IsNetOf network net → IsSteady (grid_of net)
+    → TanksInOrder (grid_of net) → AreCertificates network (grid_of net) row → AreBounds net row
+bounds-of network net row of steady order certificates =
+    let under : IsCertificate (grid_of net) Main Lower row.main.lower = certificates.each Main Lower tt in
+    let over : IsCertificate (grid_of net) Main Upper row.main.upper = certificates.each Main Upper tt in
+    let count = junctions_count net.junctions net.demands (of.each_demand ∙ long_zipped _ _ _ of.junctions) in
+    record {
+      lower = record { one_each = under.one_each ∙ count; in_box = under.in_box };
+      upper = record { one_each = over.one_each ∙ count; in_box = over.in_box };
+      ordered = λ m. heads_below_plus (grid_of net) steady Main Main row.main.upper row.main.lower (pos 0) over under
+          (omega (arith, ints))
+          (λ k. (let f = fixed-in-order (grid_of net).reservoirs
+          (map_from (λ (i : ℕ) (x : Interval). x.lo) 0 (grid_of net).tanks)
+          (map_from (λ (i : ℕ) (x : Interval). x.hi) 0 (grid_of net).tanks)
+          (ends-in-order 0 (grid_of net).tanks order) k in omega (arith, ints, f))) m;
+    }
+
+-- ---- networks without tanks
+
+pub no-order : (network : Project) (levels : List Interval) (grid : Grid) → network.tanks.list ≡ []
+    → grid.tanks ≡ tank_intervals network.tanks.list levels → TanksInOrder grid
+no-order network levels grid none are =
+    subst (λ (xs : List Interval). (k : ℕ) (x : Interval) → slice_get xs k ≡ Some x → x.lo ≤ℤ x.hi)
+    (sym (are ∙ ap (λ (ts : List Tank). tank_intervals ts levels) none)) (λ k x at. absurd (cc))
+
+pub no-tank-facts : (network : Project) (grid : Grid) (standing : Standing) (row : Record) (facts : Facts)
+    → network.tanks.list ≡ [] → standing.levels ≡ [] → standing.tanks ≡ [] → AreFacts network grid standing row facts
+    → AreTankFacts network facts
+no-tank-facts network grid standing row facts none levels tanks are =
+    let empty : tank_count network ≡ 0 = ap length none in
+    let flows : map flows_of facts.inflows.list ≡ [] =
+    are.inflows ∙ ap (map_from (λ (k : ℕ) (tank : Tank). inflow_of_tank network grid row k) 0) none in
+    let no_flow : length facts.inflows.list ≡ 0 = sym (length-map facts.inflows.list flows_of) ∙ ap length flows in
+    record {
+      levels = sym (length-map facts.levels.list levels_of) ∙ (ap length (are.levels ∙ levels) ∙ sym empty);
+      inflows = no_flow ∙ sym empty;
+      states = ap length (are.tanks ∙ tanks) ∙ sym empty;
+      small = λ k d inside. absurd (omega (arith, inside, no_flow));
+    }
+
+-- ---- records that a certificate can hold
+
+pub row-fits : (network : Project) (grid : Grid) (row : Record) → length grid.junctions ≡ junction_count network
+    → AreCertificates network grid row → row.number < 2 ^ 32 → row.time < 2 ^ 32 → row.length < 2 ^ 32
+    → IsRow (junction_count network) (tank_count network) row
+row-fits network grid row count certificates number time seconds = record {
+  number_fits = number;
+  time_fits = time;
+  length_fits = seconds;
+  main_upper = fits (certificates.each Main Upper tt);
+  main_lower = fits (certificates.each Main Lower tt);
+  pinned_each = certificates.pinned_each;
+  pinned_upper = All-from_get_or (λ (v : Vectors). IsRowVector (junction_count network) v.upper) row.pinned no_vectors
+      (λ k inside. fits (certificates.each (Pinned k) Upper (inside-of k inside)));
+  pinned_lower = All-from_get_or (λ (v : Vectors). IsRowVector (junction_count network) v.lower) row.pinned no_vectors
+      (λ k inside. fits (certificates.each (Pinned k) Lower (inside-of k inside)));
+}
+  where
+    fits : {problem : _} {side : Side} {u : List ℤ} → IsCertificate grid problem side u
+        → IsRowVector (junction_count network) u
+    fits is = record { one_each = is.one_each ∙ count; in_box = is.in_box }
+
+    inside-of : (k : ℕ) → k < length row.pinned → k < tank_count network
+    inside-of k inside = let e = certificates.pinned_each in omega (arith, inside, e)
+
+pub grid-count : (network : Project) (net : NetView) → IsNetOf network net
+    → length (grid_of net).junctions ≡ junction_count network
+grid-count network net of =
+    let same = long_zipped _ _ _ of.junctions in
+    junctions_count net.junctions net.demands (of.each_demand ∙ same) ∙ sym same
+
+-- ---- the number of the next standing
+
+pub number-next : (network : Project) (standing : Standing) (grid : Grid) (row : Record) (next : Standing)
+    → IsValid network standing grid row next → next.number ≡ suc standing.number
+number-next network standing grid row next valid = by valid.leads_on
+  where
+    by : LeadsOn network grid standing row next → next.number ≡ suc standing.number
+    by (continues c) = c.number
+    by (finishes f) = ap (λ (s : Standing). s.number) f.next_is

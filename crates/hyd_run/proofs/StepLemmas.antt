@@ -1,0 +1,203 @@
+-- What the steps of a run find and put in.
+use Rattle.std.proofs.Common.{◌≡◌, ◌<◌, ◌^◌, true, false, length, Option}
+use Rattle.std.proofs.Common.{Some, refl, sym, ap, subst, ◌∙◌, arith}
+use Rattle.std.specs.Prelude.{IfSome}
+use Rattle.std.proofs.lemmas.List.{length-map}
+use Rattle.hyd_spec.specs.Types.{Project}
+use Rattle.hyd_spec_certificates.specs.Record.{Standing}
+use Rattle.hyd_spec_reports.specs.Headline.{Found, EndsSo, Finished, Stopped}
+use Rattle.hyd_spec_reports.specs.Stops.{Stops}
+use Rattle.hyd_spec_reports.specs.declared.StopCause.{StopCause}
+use Rattle.hyd_cert.specs.RecordView.{row_of}
+use Rattle.hyd_graph.specs.GridOf.{grid_of, states_of}
+use Rattle.hyd_graph.specs.Periods.{ends_of, IsNetOf}
+use Rattle.hyd_report.specs.Periods.{AreTankFacts, lines_of}
+use Rattle.hyd_report.proofs.ReportLemmas.{length-links_of, lines_are_report}
+use Rattle.hyd_bounds.specs.Bounds.{TanksInOrder}
+use Rattle.hyd_io.specs.declared.output.OutFault.{OutFault}
+use Rattle.hyd_sim.specs.View.{SimView, IsSim, standing_of}
+use Rattle.hyd_sim.specs.Steps.{IsPeriod}
+use Rattle.hyd_sim.specs.declared.settings.Settings.{Settings}
+use Rattle.hyd_net.specs.Sound.{Sound}
+use Rattle.hyd_spec_certificates.specs.Valid.{AreCertificates}
+use Rattle.hyd_spec_reports.specs.CertificateText.{record_text}
+use Rattle.hyd_cert.specs.declared.record.Record.{Record as Row}
+use Rattle.hyd_facts.specs.declared.facts.Facts.{Facts}
+use Rattle.hyd_graph.specs.NetView.{NetView}
+use Rattle.hyd_graph.specs.Settings.{AreStates}
+use Rattle.hyd_report.specs.Lines.{texts}
+use Rattle.hyd_run.specs.Pens.{Moment, PutIn, IsCutOff}
+use Rattle.hyd_run.specs.Runs.{sharpness_of, IsStep, IsSoFar, IsCutShort, DidPeriod, LostPeriod, IsOver, periods_left}
+use Rattle.hyd_spec_reports.specs.Headline.{Outcome}
+use Rattle.hyd_run.proofs.PeriodLemmas.{no-order, no-tank-facts, row-fits, grid-count, number-next}
+use Rattle.hyd_run.proofs.RunLemmas.{so-far-more, so-far-cut}
+
+-- what a period found
+abbrev pub found-of : SimView → SimView → Found
+found-of before now = record {
+  standing = standing_of before;
+  grid = grid_of now.net;
+  row = row_of now.row;
+  lines = lines_of now.project (grid_of now.net) (states_of now.net) (row_of now.row) now.facts;
+  next = standing_of now;
+}
+
+module _ (before now : SimView) (is : IsSim now) (period : IsPeriod before now) where
+  pub in-order : TanksInOrder (grid_of now.net)
+  in-order = no-order now.project (standing_of before).levels (grid_of now.net) is.single.no_tanks
+      period.valid.is_grid.tank_heads
+
+  pub tank-facts : AreTankFacts now.project now.facts
+  tank-facts = no-tank-facts now.project (grid_of now.net) (standing_of before) (row_of now.row) now.facts
+      is.single.no_tanks refl refl
+      period.facts
+
+  each-link : length (grid_of now.net).links ≡ length now.project.links.list
+  each-link =
+      let ends : length now.net.ends ≡ length now.project.links.list =
+      ap length is.net.ends ∙ length-map now.project.links.list ends_of in
+      length-links_of now.net.ends now.net.settings now.net.own (is.net.each_setting ∙ sym ends) (is.net.each_own ∙
+      sym ends) ∙ ends
+
+  pub step-of : now.row.number < 2 ^ 32 → now.row.time < 2 ^ 32 → now.row.length < 2 ^ 32
+      → IsStep now.project (sharpness_of now.settings) (standing_of before) (standing_of now) (found-of before now)
+  step-of number time seconds = record {
+    begins = refl;
+    leaves = refl;
+    is_found = record {
+      valid = period.valid;
+      report = lines_are_report now.project (grid_of now.net) (states_of now.net) (standing_of before) (row_of
+          now.row) now.facts
+          period.facts tank-facts period.links each-link;
+    };
+    sharp = period.sharp;
+    fits = row-fits now.project (grid_of now.net) (row_of now.row) (grid-count now.project now.net is.net)
+        period.valid.certificates
+        number time seconds;
+    number = number-next now.project (standing_of before) (grid_of now.net) (row_of now.row) (standing_of now)
+        period.valid;
+  }
+
+  pub fewer-left : periods_left now < periods_left before
+  fewer-left =
+      let next = number-next now.project (standing_of before) (grid_of now.net) (row_of now.row) (standing_of now)
+      period.valid in
+      let few = is.few in
+      omega (arith, next, few)
+
+-- a run that is over has finished
+pub over-finished : (before now : SimView) (moment : Moment) → before.finished ≡ true → now ≡ before
+    → IsOver Finished before now moment moment
+over-finished before now moment finished same = record {
+  stays = ap standing_of same;
+  ends_so = ap (λ (s : SimView). s.finished) same ∙ finished;
+  nothing = refl;
+}
+
+-- or its cause holds
+pub over-stopped : (before now : SimView) (cause : StopCause) (moment : Moment) → IsSim now → now.stopped ≡ Some cause
+    → standing_of now ≡ standing_of before → IsOver (Stopped cause) before now moment moment
+over-stopped before now cause moment is stopped same = record {
+  stays = same;
+  ends_so = subst (λ (o : Option StopCause). IfSome o (λ (c : StopCause). (now.finished ≡ false)
+      × Stops now.project (standing_of now) now.settings.rounds c)) stopped is.stopped;
+  nothing = refl;
+}
+
+-- ---- steps of one run
+
+pub steps-more : (network : Project) (settings : Settings) (before now : SimView) (start m n : Moment)
+    → now.project ≡ network
+    → now.settings ≡ settings → DidPeriod before now m n
+    → IsSoFar network (sharpness_of settings) (standing_of before) start m
+    → IsSoFar network (sharpness_of settings) (standing_of now) start n
+steps-more network settings before now start m n project same did =
+    subst (λ (p : Project). IsSoFar p (sharpness_of settings) (standing_of before) start m
+    → IsSoFar p (sharpness_of settings) (standing_of now) start n) project
+    (subst (λ (s : Settings). IsSoFar now.project (sharpness_of s) (standing_of before) start m
+    → IsSoFar now.project (sharpness_of s) (standing_of now) start n) same
+    (so-far-more now.project (sharpness_of now.settings) (standing_of before) (standing_of now) start m n did.found
+    did.step
+    did.put))
+
+pub steps-cut : (network : Project) (settings : Settings) (fault : OutFault) (before now : SimView) (start m n :
+    Moment) → now.project ≡ network
+    → now.settings ≡ settings → LostPeriod fault before now m n
+    → IsSoFar network (sharpness_of settings) (standing_of before) start m
+    → IsCutShort network settings fault start n
+steps-cut network settings fault before now start m n project same lost =
+    subst (λ (p : Project). IsSoFar p (sharpness_of settings) (standing_of before) start m
+    → IsCutShort p settings fault start n) project
+    (subst (λ (s : Settings). IsSoFar now.project (sharpness_of s) (standing_of before) start m
+    → IsCutShort now.project s fault start n) same
+    (so-far-cut now.project now.settings fault (standing_of before) (standing_of now) start m n lost.found lost.step
+    lost.cut))
+
+-- the end of a run
+pub steps-end : (network : Project) (settings : Settings) (outcome : Outcome) (before now : SimView) (m n : Moment)
+    → now.project ≡ network
+    → now.settings ≡ settings → IsOver outcome before now m n
+    → EndsSo network (standing_of now) settings.rounds outcome
+steps-end network settings outcome before now m n project same over =
+    subst (λ (p : Project). EndsSo p (standing_of now) settings.rounds outcome) project
+    (subst (λ (s : Settings). EndsSo now.project (standing_of now) s.rounds outcome) same over.ends_so)
+
+pub steps-over : (network : Project) (settings : Settings) (outcome : Outcome) (before now : SimView) (start m n :
+    Moment)
+    → IsOver outcome before now m n → IsSoFar network (sharpness_of settings) (standing_of before) start m
+    → IsSoFar network (sharpness_of settings) (standing_of now) start n
+steps-over network settings outcome before now start m n over so_far =
+    subst (λ (s : Standing). IsSoFar network (sharpness_of settings) s start n) (sym over.stays)
+    (subst (λ (x : Moment). IsSoFar network (sharpness_of settings) (standing_of before) start x) (sym over.nothing)
+    so_far)
+
+-- ---- a period that was put in
+
+module _ (before now : SimView) (is : IsSim now) (period : IsPeriod before now) (project : Project) (net : NetView)
+    (row : Row) (facts : Facts)
+    (p : project ≡ now.project) (n : net ≡ now.net) (r : row ≡ now.row) (f : facts ≡ now.facts) where
+  pub sound-there : Sound project
+  sound-there = rw p is.sound
+
+  pub net-there : IsNetOf project net
+  net-there = rw (p, n) is.net
+
+  pub states-there : AreStates project (states_of net)
+  states-there = rw (p, n) period.states
+
+  pub certificates-there : AreCertificates project (grid_of net) (row_of row)
+  certificates-there = rw (p, n, r) period.valid.certificates
+
+  pub order-there : TanksInOrder (grid_of net)
+  order-there = rw n (in-order before now is period)
+
+  pub tanks-there : AreTankFacts project facts
+  tanks-there = rw (p, f) (tank-facts before now is period)
+
+  pub links-there : states_of net ≡ facts.links.list
+  links-there = rw (n, f) period.links
+
+  step-there : row.number < 2 ^ 32 → row.time < 2 ^ 32 → row.length < 2 ^ 32
+      → IsStep now.project (sharpness_of now.settings) (standing_of before) (standing_of now) (found-of before now)
+  step-there number time seconds = step-of before now is period (rw r at number) (rw r at time) (rw r at seconds)
+
+  pub did-there : (m o : Moment) → row.number < 2 ^ 32 → row.time < 2 ^ 32 → row.length < 2 ^ 32
+      → PutIn (record_text (row_of row)) (texts project (lines_of project (grid_of net) (states_of net) (row_of row)
+      facts)) m o
+      → DidPeriod before now m o
+  did-there m o number time seconds put = record {
+    found = found-of before now;
+    step = step-there number time seconds;
+    fewer = fewer-left before now is period;
+    put = rw (p, n, r, f) at put;
+  }
+
+  pub lost-there : (fault : OutFault) (m o : Moment) → row.number < 2 ^ 32 → row.time < 2 ^ 32 → row.length < 2 ^ 32
+      → IsCutOff fault (record_text (row_of row)) (texts project (lines_of project (grid_of net) (states_of net)
+      (row_of row) facts)) m o
+      → LostPeriod fault before now m o
+  lost-there fault m o number time seconds cut = record {
+    found = found-of before now;
+    step = step-there number time seconds;
+    cut = rw (p, n, r, f) at cut;
+  }

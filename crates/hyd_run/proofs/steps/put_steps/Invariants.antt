@@ -1,0 +1,26 @@
+use Rattle.std.proofs.Common.{◌≡◌}
+use Rattle.hyd_sim.specs.View.{standing_of}
+use Rattle.hyd_run.specs.Pens.{Moment, moment, told, AreOpen}
+use Rattle.hyd_run.specs.Runs.{sharpness_of, IsSoFar, periods_left}
+use Rattle.hyd_run.proofs.steps.put_steps.Given as goal
+
+-- whatever was put in before as a run so far is one still
+abbrev pub invariant-loop-end : goal.invariant-loop-end
+invariant-loop-end g l =
+    let D = g.D.Desk in
+    record {
+      project : l.sim.project ≡ l.fn.sim.project;
+      settings : l.sim.settings ≡ l.fn.sim.settings;
+      unbroken : AreOpen (moment l.certificate l.report
+          (told D.files D.rest D.written D.printed D.target D.ready D.counts D.openings l.desk));
+      so_far : (start : Moment)
+          → IsSoFar l.fn.sim.project (sharpness_of l.fn.sim.settings) (standing_of l.fn.sim) start
+          (moment l.fn.certificate l.fn.report
+          (told D.files D.rest D.written D.printed D.target D.ready D.counts D.openings l.fn.desk))
+          → IsSoFar l.fn.sim.project (sharpness_of l.fn.sim.settings) (standing_of l.sim) start
+          (moment l.certificate l.report
+          (told D.files D.rest D.written D.printed D.target D.ready D.counts D.openings l.desk));
+    }
+
+abbrev pub decreases-loop-end : goal.decreases-loop-end
+decreases-loop-end g l = periods_left l.sim

@@ -1,0 +1,155 @@
+-- A run that is put out as it goes: its certificate at one pen and its report at another.
+-- Source: this program's.
+use Rattle.std.specs.Prelude.{◌≡◌, suc, ◌<◌, ◌-◌, ◌^◌, ⊤, codes, decimal, MatchOption, ℕ, List, [], ◌∷◌}
+use Rattle.std.specs.Prelude.{length, All, Option, Some, None, Result, Ok, Err}
+use Rattle.std.specs.List.{AllByRecursion}
+use Rattle.hyd_spec.specs.Types.{Project}
+use Rattle.hyd_spec.specs.Network.{junction_count, tank_count}
+use Rattle.hyd_spec_certificates.specs.Record.{Standing}
+use Rattle.hyd_spec_reports.specs.CertificateText.{IsRow, record_text, line}
+use Rattle.hyd_spec_reports.specs.Headline.{Found, IsFound, IsRun, Sharpness, IsSharpFound, Outcome, Finished}
+use Rattle.hyd_spec_reports.specs.Headline.{Stopped, EndsSo, RunWrites, RunBreaksOff, rows_of}
+use Rattle.hyd_spec_reports.specs.Headline.{certificate_so_far, report_so_far}
+use Rattle.hyd_report.specs.Lines.{texts}
+use Rattle.hyd_io.specs.declared.output.Channel.{Channel}
+use Rattle.hyd_io.specs.declared.output.OutFault.{OutFault}
+use Rattle.hyd_io.specs.Output.{PenState}
+use Rattle.hyd_io.specs.Told.{append_known}
+use Rattle.hyd_sim.specs.declared.settings.Settings.{Settings}
+use Rattle.hyd_sim.specs.View.{SimView, standing_of}
+use Rattle.hyd_run.specs.Pens.{Told, Moment, PutIn, IsCutOff}
+use Rattle.hyd_run.specs.declared.outcome.RunEnd.{RunEnd}
+use Rattle.hyd_run.specs.declared.outcome.RunEnd.TheVariants.{Finished as EndFinished, Stopped as EndStopped}
+
+-- ---- what is asked of a run, and how it ends
+
+-- How sharp the settings ask a run to be.
+abbrev pub sharpness_of : Settings → Sharpness
+sharpness_of settings = record { width = settings.width; tight = settings.tight }
+
+-- How a run ended.
+abbrev pub outcome_of : RunEnd → Outcome
+outcome_of EndFinished = Finished
+outcome_of (EndStopped cause) = Stopped cause
+
+-- A pen on a channel that holds nothing and has no fault.
+abbrev pub fresh : Channel → PenState
+fresh to = record { to = to; fault = None; held = [] }
+
+-- The whole certificate of a run was written and its whole report printed.
+pub record IsPutOut (network : Project) (settings : Settings) (outcome : Outcome) (before now : Told) : Type 0 where
+  pub certificate : List ℕ
+  pub report : List ℕ
+  pub writes : RunWrites network settings.rounds (sharpness_of settings) outcome certificate report
+  pub written : now.written ≡ append_known before.written certificate
+  pub printed : now.printed ≡ append_known before.printed report
+
+-- A fault broke a run off: what was written and printed are fronts of the certificate and of the report of a run as
+-- far as it went.
+pub record IsBrokenOff (network : Project) (settings : Settings) (before now : Told) : Type 0 where
+  pub certificate : List ℕ
+  pub report : List ℕ
+  pub breaks_off : RunBreaksOff network settings.rounds (sharpness_of settings) certificate report
+  pub written : now.written ≡ append_known before.written certificate
+  pub printed : now.printed ≡ append_known before.printed report
+
+-- ---- a run as far as it has gone
+
+-- The first line of a report.
+abbrev pub first_line : List ℕ
+first_line = line (codes "HYD" ∷ (decimal 1 ∷ []))
+
+-- The record of what was found is one that a certificate can hold.
+abbrev pub IsRowFound : Project → Found → Type 0
+IsRowFound network found = IsRow (junction_count network) (tank_count network) found.row
+
+-- What a step found: the period that was due, as sharp as was asked for.
+pub record IsStep (network : Project) (sharpness : Sharpness) (before next : Standing) (found : Found) : Type 0 where
+  pub begins : found.standing ≡ before
+  pub leaves : found.next ≡ next
+  pub is_found : IsFound network found
+  pub sharp : IsSharpFound network sharpness found
+  pub fits : IsRowFound network found
+  pub number : next.number ≡ suc before.number
+
+-- What was found so far is a run that leaves a standing, as sharp as was asked for, with one record for each period
+-- that was done,
+-- and its certificate and its report as far as they go were put in at the pens.
+pub record IsSoFar (network : Project) (sharpness : Sharpness) (left : Standing) (before now : Moment) : Type 0 where
+  pub founds : List Found
+  pub is_run : IsRun network founds left
+  pub sharp : AllByRecursion (IsSharpFound network sharpness) founds
+  pub fit : All (IsRow (junction_count network) (tank_count network)) (rows_of founds)
+  pub each : length founds ≡ left.number
+  pub put : PutIn (certificate_so_far network founds None) (report_so_far network left founds None) before now
+
+-- So it is, and the run's end is known and was put in too.
+pub record IsWhole (network : Project) (settings : Settings) (outcome : Outcome) (before now : Moment) : Type 0 where
+  pub founds : List Found
+  pub left : Standing
+  pub is_run : IsRun network founds left
+  pub sharp : AllByRecursion (IsSharpFound network (sharpness_of settings)) founds
+  pub fit : All (IsRow (junction_count network) (tank_count network)) (rows_of founds)
+  pub few : length founds < 2 ^ 32
+  pub ends_so : EndsSo network left settings.rounds outcome
+  pub put : PutIn (certificate_so_far network founds (Some outcome)) (report_so_far network left founds (Some
+      outcome)) before now
+
+-- A fault cut a run off, whose end is known or isn't.
+pub record IsCutShort (network : Project) (settings : Settings) (fault : OutFault) (before now : Moment) : Type 0
+  where
+    pub founds : List Found
+    pub left : Standing
+    pub is_run : IsRun network founds left
+    pub sharp : AllByRecursion (IsSharpFound network (sharpness_of settings)) founds
+    pub last : Option Outcome
+    pub ends_so : MatchOption last ⊤ (EndsSo network left settings.rounds)
+    pub cut : IsCutOff fault (certificate_so_far network founds last) (report_so_far network left founds last) before
+        now
+
+-- ---- a step
+
+-- How many periods may still be due: today a run has one.
+abbrev pub periods_left : SimView → ℕ
+periods_left sim = 1 - sim.number
+
+-- A period was due and was found, and its record and its report were put in at the pens.
+pub record DidPeriod (sim now : SimView) (before after : Moment) : Type 0 where
+  pub found : Found
+  pub step : IsStep now.project (sharpness_of now.settings) (standing_of sim) (standing_of now) found
+  pub fewer : periods_left now < periods_left sim
+  pub put : PutIn (record_text found.row) (texts now.project found.lines) before after
+
+-- It was found, and a fault cut its record and its report off.
+pub record LostPeriod (fault : OutFault) (sim now : SimView) (before after : Moment) : Type 0 where
+  pub found : Found
+  pub step : IsStep now.project (sharpness_of now.settings) (standing_of sim) (standing_of now) found
+  pub cut : IsCutOff fault (record_text found.row) (texts now.project found.lines) before after
+
+-- The run is over, at a standing that stays, and nothing was put in.
+pub record IsOver (outcome : Outcome) (sim now : SimView) (before after : Moment) : Type 0 where
+  pub stays : standing_of now ≡ standing_of sim
+  pub ends_so : EndsSo now.project (standing_of now) now.settings.rounds outcome
+  pub nothing : after ≡ before
+
+-- What a step does.
+abbrev pub StepPuts : Result (Option RunEnd) OutFault → SimView → SimView → Moment → Moment → Type 0
+StepPuts (Ok None) sim now before after = DidPeriod sim now before after
+StepPuts (Ok (Some end)) sim now before after = IsOver (outcome_of end) sim now before after
+StepPuts (Err fault) sim now before after = LostPeriod fault sim now before after
+
+-- What the steps of a run do: whatever was put in before them as a run so far is one still when they are over, or is
+-- cut short.
+abbrev pub StepsPut : Result RunEnd OutFault → SimView → SimView → Moment → Moment → Type 0
+StepsPut (Ok end) sim now before after =
+    EndsSo sim.project (standing_of now) sim.settings.rounds (outcome_of end) × ((start : Moment)
+    → IsSoFar sim.project (sharpness_of sim.settings) (standing_of sim) start before
+    → IsSoFar sim.project (sharpness_of sim.settings) (standing_of now) start after)
+StepsPut (Err fault) sim now before after = (start : Moment)
+    → IsSoFar sim.project (sharpness_of sim.settings) (standing_of sim) start before
+    → IsCutShort sim.project sim.settings fault start after
+
+-- What a run does before the pens are emptied.
+abbrev pub RunPuts : Result RunEnd OutFault → Project → Settings → Moment → Moment → Type 0
+RunPuts (Ok end) network settings before after = IsWhole network settings (outcome_of end) before after
+RunPuts (Err fault) network settings before after = IsCutShort network settings fault before after

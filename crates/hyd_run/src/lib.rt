@@ -1,0 +1,13 @@
+//! A run of a network from its first step to its last line, put out as it goes: the certificate through one pen and
+//! the report
+//! through another.
+#![tactic(auto)]
+
+mod outcome;
+mod pens;
+mod period;
+mod steps;
+mod whole;
+
+pub use outcome::RunEnd;
+pub use whole::run;
