@@ -165,7 +165,7 @@ none_of_text text t (Some fault) e none = tt
 
 pub fault_read : (text t : List ℕ) (found : Option InpFault) (fault : InpFault) → t ≡ text → length text ≤ 2 ^ 26
     → found ≡ Some fault → IfSome found (λ f. IsFaultOf (items_of t) f.line f.cause)
-        → IsFault text fault.line fault.cause
+    → IsFault text fault.line fault.cause
 fault_read text t found fault e short is faulty =
     let P : Option InpFault → Type 0 = λ o. IfSome o (λ f. IsFaultOf (items_of t) f.line f.cause) in
     let here : IsFaultOf (items_of t) fault.line fault.cause = subst P is faulty in

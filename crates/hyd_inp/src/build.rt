@@ -164,11 +164,7 @@ fn build_parts(
 }
 
 /// Builds the network of a file without a fault.
-pub(crate) fn build(
-    alloc: Global,
-    text: &Lines<'_>,
-    lines: &[Line],
-) -> Result<Project, OutOfMemory>
+pub(crate) fn build(alloc: Global, text: &Lines<'_>, lines: &[Line]) -> Result<Project, OutOfMemory>
     requires few { length lines.now ≤ 2 ^ 26 }
     requires lie { All (LiesIn text.now.text) lines.now }
     requires by_itself { NoneIs (IsWrongByItself (rows_at text.now.text lines.now)) }

@@ -21,7 +21,7 @@ build-requires-clause-with_others c = among_read c.args.text.now c.new-reader.re
 pub returns-clause-sound : goal.returns-clause-sound
 returns-clause-sound c = sound_read c.args.text.now c.new-reader.result.text c.as_slice-lines.result.now
     c.in_ok-gathered.gathered.lines.items c.in_ok-project.project c.new-reader.ensures.text
-        c.as_slice-lines.ensures.value
+    c.as_slice-lines.ensures.value
     c.in_ok-gathered.ensures.rows
     (none_read c.new-reader.result.text c.in_ok-fault.field-0 c.in_default.is c.in_ok-fault.ensures.none)
-        c.in_ok-project.ensures
+    c.in_ok-project.ensures
