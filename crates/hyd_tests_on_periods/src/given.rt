@@ -56,19 +56,46 @@ pub(crate) enum Order {
     Run(i64),
 }
 
+// An open link of a kind, if it isn't a pump.
+fn opened(kind: &LinkKind) -> Option<LinkState>
+    ensures can { IfSome result (λ state. CanHave kind.now state) }
+    ensures made { (unit : FlowUnit) → IfSome result (λ state. IsStateMade unit state) }
+{
+    match kind {
+        LinkKind::Pipe(_) => Some(LinkState::Open),
+        LinkKind::CheckPipe(_) => Some(LinkState::Open),
+        LinkKind::Pump { .. } => None,
+        LinkKind::CurvePump { .. } => None,
+        LinkKind::Tcv { .. } => Some(LinkState::Open),
+        LinkKind::Fcv { .. } => Some(LinkState::Open),
+        LinkKind::Gpv { .. } => Some(LinkState::Open),
+    }
+}
+
+// A link of a kind at a speed, if it is a pump.
+fn running(kind: &LinkKind, nano: i64) -> Option<LinkState>
+    ensures can { IfSome result (λ state. CanHave kind.now state) }
+    ensures made { (unit : FlowUnit) → IfSome result (λ state. IsStateMade unit state) }
+{
+    if nano < 1 || nano > 10_000_000_000 {
+        return None;
+    }
+    match kind {
+        LinkKind::Pump { .. } => Some(LinkState::Speed(nano)),
+        LinkKind::CurvePump { .. } => Some(LinkState::Speed(nano)),
+        _ => None,
+    }
+}
+
 // The state that an order asks of a link of a kind, if that is one that it can have.
 fn state_by(kind: &LinkKind, order: Order) -> Option<LinkState>
     ensures can { IfSome result (λ state. CanHave kind.now state) }
     ensures made { (unit : FlowUnit) → IfSome result (λ state. IsStateMade unit state) }
 {
-    match (order, kind) {
-        (Order::Close, _) => Some(LinkState::Closed),
-        (Order::Run(nano), LinkKind::Pump { .. } | LinkKind::CurvePump { .. })
-            if 1 <= nano && nano <= 10_000_000_000 => { Some(LinkState::Speed(nano)) }
-        (Order::Open, LinkKind::Pipe(_) | LinkKind::CheckPipe(_)) => Some(LinkState::Open),
-        (Order::Open, LinkKind::Tcv { .. } | LinkKind::Fcv { .. }) => Some(LinkState::Open),
-        (Order::Open, LinkKind::Gpv { .. }) => Some(LinkState::Open),
-        _ => None,
+    match order {
+        Order::Open => opened(kind),
+        Order::Close => Some(LinkState::Closed),
+        Order::Run(nano) => running(kind, nano),
     }
 }
 
@@ -127,7 +154,10 @@ pub(crate) fn set(
     ensures stays { IsNetOf project.now net.new }
     ensures ordered { IfSome result (λ answer. OnOk answer (TanksInOrder (grid_of net.new))) }
 {
-    if tanks.len() != project.tanks.len() || !are_levels(project, levels) {
+    if tanks.len() != project.tanks.len() {
+        return None;
+    }
+    if !are_levels(project, levels) {
         return None;
     }
     Some(net.set_period(project, time, states, levels, tanks))

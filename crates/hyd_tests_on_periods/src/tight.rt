@@ -559,8 +559,10 @@ fn leaps_lead_on_where_rounds_creep(rt: HostRuntime) -> Result<(), Fail> {
 #[test]
 fn without_a_source_rounds_are_spent(rt: HostRuntime) -> Result<(), Fail> {
     let net = net_at(rt.alloc(), NO_SOURCE, 0, &[])?;
-    let (found, _heads) = swept(rt.alloc(), &net, Problem::Main, Side::Upper, 200)?;
-    assert_eq!(rt; found, Swept::RoundsSpent);
+    for side in [Side::Upper, Side::Lower] {
+        let (found, _heads) = swept(rt.alloc(), &net, Problem::Main, side, 200)?;
+        assert_eq!(rt; found, Swept::RoundsSpent);
+    }
     Ok(())
 }
 
