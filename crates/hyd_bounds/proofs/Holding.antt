@@ -30,7 +30,8 @@ use Rattle.hyd_bounds.specs.Bounds.{IsSpan}
 use Rattle.hyd_bounds.specs.Holding.{interval_of, HoldsFlow, HoldsOutflow, HoldsInflow, HoldsStatus}
 
 -- what lies in an interval lies in its span
-in-span : (S : ℕ) (span : Span) (interval : Interval) (z : ℤ) → IsSpan span interval → LiesIn S interval z → LiesIn S (interval_of span) z
+in-span : (S : ℕ) (span : Span) (interval : Interval) (z : ℤ) → IsSpan span interval → LiesIn S interval z
+    → LiesIn S (interval_of span) z
 in-span S span interval z is lies = record {
   low = subst (λ (x : ℤ). at_scale S x ≤ℤ z) (sym is.lo_is) lies.low;
   high = subst (λ (x : ℤ). z ≤ℤ at_scale S x) (sym is.hi_is) lies.high;
@@ -44,29 +45,40 @@ link-at (x ∷ links) (suc l) lt = link-at links l (omega (arith, lt))
 
 module _ (grid : Grid) where
   pub holds-flow : (below above : List ℤ) (l : ℕ) (span : Span) → l < length grid.links
-      → IfSome (slice_get grid.links l) (λ (link : GridLink). IsSpan span (flow_box link (all_heads grid Main Lower below) (all_heads grid Main Upper above)))
+      → IfSome (slice_get grid.links l) (λ (link : GridLink). IsSpan span (flow_box link (all_heads grid Main Lower
+      below) (all_heads grid Main Upper above)))
       → HoldsFlow grid below above l span
   holds-flow below above l span lt box network S time intervals levels tanks links assignment compared under over =
       let at = link-at grid.links l lt in
-      let is = subst (λ (o : Option GridLink). IfSome o (λ (link : GridLink). IsSpan span (flow_box link (all_heads grid Main Lower below) (all_heads grid Main Upper above)))) at.1 box in
+      let is = subst (λ (o : Option GridLink). IfSome o (λ (link : GridLink). IsSpan span (flow_box link (all_heads
+      grid Main Lower below) (all_heads grid Main Upper above)))) at.1 box in
       in-span S span _ _ is (flow_lies network S time intervals levels tanks links assignment grid _ _ compared
-      (heads_between network S time intervals levels tanks links assignment grid below above compared under over) l at.0 at.1)
+      (heads_between network S time intervals levels tanks links assignment grid below above compared under over) l
+      at.0 at.1)
 
   pub holds-outflow : (j : ℕ) (low high : ℤ) (span : Span) → j < length grid.junctions
-      → IfSome (slice_get grid.junctions j) (λ (junction : GridJunction). IsSpan span (out_box junction low high)) → HoldsOutflow grid j low high span
-  holds-outflow j low high span lt box network S time intervals levels tanks links assignment below above compared under over low_is high_is =
+      → IfSome (slice_get grid.junctions j) (λ (junction : GridJunction). IsSpan span (out_box junction low high))
+      → HoldsOutflow grid j low high span
+  holds-outflow j low high span lt box network S time intervals levels tanks links assignment below above compared
+      under over low_is high_is =
       let at = item-at grid.junctions j lt in
-      let is = subst (λ (o : Option GridJunction). IfSome o (λ (junction : GridJunction). IsSpan span (out_box junction low high))) at.1 box in
+      let is = subst (λ (o : Option GridJunction). IfSome o (λ (junction : GridJunction). IsSpan span (out_box junction
+      low high))) at.1 box in
       let here : IsSpan span (out_box at.0 (head_at below j) (head_at above j)) = rw (low_is, high_is) is in
-      in-span S span _ _ here (outflow_lies network S time intervals levels tanks links assignment grid below above compared under over j at.0 at.1)
+      in-span S span _ _ here (outflow_lies network S time intervals levels tanks links assignment grid below above
+      compared under over j at.0 at.1)
 
-  pub holds-inflow : (k node count : ℕ) (below above : List ℤ) (span : Span) → length grid.junctions ≡ count → node ≡ count + length grid.reservoirs + k
+  pub holds-inflow : (k node count : ℕ) (below above : List ℤ) (span : Span) → length grid.junctions ≡ count
+      → node ≡ count + length grid.reservoirs + k
       → IsSpan span (inflow_box grid k node below above) → HoldsInflow grid k below above span
-  holds-inflow k node count below above span each node_is box network S time intervals levels tanks links assignment compared under over =
-      let long = one_each network S time intervals levels tanks links assignment grid (Pinned k) Lower below compared under in
+  holds-inflow k node count below above span each node_is box network S time intervals levels tanks links assignment
+      compared under over =
+      let long = one_each network S time intervals levels tanks links assignment grid (Pinned k) Lower below compared
+      under in
       let heads = compared.assigned.head_each in
       let own = under.one_each in
-      let reservoirs = ap (λ (xs : List ℤ). length xs) compared.is_grid.reservoirs ∙ length-map network.reservoirs.list (reservoir_head network time) in
+      let reservoirs = ap (λ (xs : List ℤ). length xs) compared.is_grid.reservoirs ∙ length-map network.reservoirs.list
+      (reservoir_head network time) in
       let same : node ≡ tank_node network k = omega (arith, long, heads, own, each, reservoirs, node_is) in
       in-span S span _ _ (subst (λ (n : ℕ). IsSpan span (inflow_box grid k n below above)) same box)
       (inflow_lies network S time intervals levels tanks links assignment grid k below above compared under over)
@@ -75,14 +87,31 @@ module _ (grid : Grid) where
   difference-lies : (S : ℕ) (below above heads : List ℤ) (link : GridLink) → LieBetween S below above heads
       → LiesIn S (difference link below above) (head_at heads link.from -ℤ head_at heads link.to)
   difference-lies S below above heads link between = record {
-    low = let l = (between link.from).low in let h = (between link.to).high in omega (arith, ints, l, h, times_minus S (head_at below link.from) (head_at above link.to));
-    high = let l = (between link.to).low in let h = (between link.from).high in omega (arith, ints, l, h, times_minus S (head_at above link.from) (head_at below link.to));
+    low = let l = (between link.from).low in let h = (between link.to).high in omega (
+      arith,
+      ints,
+      l,
+      h,
+      times_minus S
+          (head_at below link.from) (head_at above link.to),
+    );
+    high = let l = (between link.to).low in let h = (between link.from).high in omega (
+      arith,
+      ints,
+      l,
+      h,
+      times_minus S
+          (head_at above link.from) (head_at below link.to),
+    );
   }
 
-  pub holds-status : (below above : List ℤ) (us : Bool) (bends : List (ListView HeadPoint)) (kind : LinkKind) (state : LinkState) (link : GridLink) (word : StatusWord)
-      → word ≡ status_of us bends kind state (difference link (all_heads grid Main Lower below) (all_heads grid Main Upper above))
+  pub holds-status : (below above : List ℤ) (us : Bool) (bends : List (ListView HeadPoint)) (kind : LinkKind) (state :
+      LinkState) (link : GridLink) (word : StatusWord)
+      → word ≡ status_of us bends kind state (difference link (all_heads grid Main Lower below) (all_heads grid Main
+      Upper above))
       → HoldsStatus grid below above us bends kind state link word
-  holds-status below above us bends kind state link word is network S time intervals levels tanks links assignment unit patterns compared under over made sizes =
+  holds-status below above us bends kind state link word is network S time intervals levels tanks links assignment unit
+      patterns compared under over made sizes =
       let heads = node_heads network S time levels assignment.heads in
       let d = difference link (all_heads grid Main Lower below) (all_heads grid Main Upper above) in
       let x = head_at heads link.from -ℤ head_at heads link.to in

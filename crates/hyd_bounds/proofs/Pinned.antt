@@ -30,14 +30,18 @@ ends-within false x w order room wide = omega (arith, ints, order, room)
 same-number : (p k : ℕ) → (p == k) ≡ true → p ≡ k
 same-number p k e = grind (arith, ints)
 
-tanks-within : (p k : ℕ) (tanks : List Interval) (w : ℤ) → pos 0 ≤ℤ w → ((n : ℕ) (x : Interval) → slice_get tanks n ≡ Some x → x.lo ≤ℤ x.hi)
+tanks-within : (p k : ℕ) (tanks : List Interval) (w : ℤ) → pos 0 ≤ℤ w → ((n : ℕ) (x : Interval)
+    → slice_get tanks n ≡ Some x → x.lo ≤ℤ x.hi)
     → ((n : ℕ) (x : Interval) → slice_get tanks n ≡ Some x → p ≡ k + n → width x ≤ℤ w)
     → (m : ℕ) → (head_at (ends Lower p k tanks) m -ℤ head_at (ends Upper p k tanks) m) ≤ℤ w
 tanks-within p k [] w room order wide m = omega (arith, ints, room)
 tanks-within p k (x ∷ tanks) w room order wide zero =
     ends-within (p == k) x w (order 0 x refl) room (λ e. wide 0 x refl (let s = same-number p k e in omega (arith, s)))
 tanks-within p k (x ∷ tanks) w room order wide (suc m) =
-    tanks-within p (suc k) tanks w room (λ n y at. order (suc n) y at) (λ n y at e. wide (suc n) y at (omega (arith, e))) m
+    tanks-within p (suc k) tanks w room (λ n y at. order (suc n) y at) (λ n y at e. wide (suc n) y at (omega (
+      arith,
+      e,
+    ))) m
 
 after-reservoirs : (reservoirs xs ys : List ℤ) (w : ℤ) → pos 0 ≤ℤ w → ((m : ℕ) → (head_at xs m -ℤ head_at ys m) ≤ℤ w)
     → (m : ℕ) → (head_at (reservoirs ++ xs) m -ℤ head_at (reservoirs ++ ys) m) ≤ℤ w
@@ -60,15 +64,25 @@ wide grid k lt order =
     let w = width-of grid k at.0 at.1 in
     omega (arith, ints, le, w)
 
-pub pinned-fixed : (grid : Grid) (k : ℕ) → k < length grid.tanks → TanksInOrder grid → FixedWithin grid (Pinned k) (Pinned k) (tank_width grid k)
+pub pinned-fixed : (grid : Grid) (k : ℕ) → k < length grid.tanks → TanksInOrder grid
+    → FixedWithin grid (Pinned k) (Pinned k) (tank_width grid k)
 pinned-fixed grid k lt order =
-    after-reservoirs grid.reservoirs (ends Lower k 0 grid.tanks) (ends Upper k 0 grid.tanks) (tank_width grid k) (wide grid k lt order)
+    after-reservoirs grid.reservoirs (ends Lower k 0 grid.tanks) (ends Upper k 0 grid.tanks) (tank_width grid k) (wide
+    grid k lt order)
     (tanks-within k 0 grid.tanks (tank_width grid k) (wide grid k lt order) order
-    (λ n x at e. (let w = width-of grid n x at in let f = ap (tank_width grid) (let g : k ≡ n = omega (arith, e) in g) in omega (arith, ints, w, f))))
+    (λ n x at e. (let w = width-of grid n x at in let f = ap (tank_width grid) (let g : k ≡ n = omega (arith, e) in g)
+    in omega (arith, ints, w, f))))
 
-pub pinned-order : (grid : Grid) → IsSteady grid → (k : ℕ) (below above : List ℤ) → k < length grid.tanks → TanksInOrder grid
+pub pinned-order : (grid : Grid) → IsSteady grid → (k : ℕ) (below above : List ℤ) → k < length grid.tanks
+    → TanksInOrder grid
     → IsCertificate grid (Pinned k) Lower below → IsCertificate grid (Pinned k) Upper above
     → AreInOrder (tank_width grid k) (all_heads grid (Pinned k) Lower below) (all_heads grid (Pinned k) Upper above)
 pinned-order grid steady k below above lt order under over =
     heads_below_plus grid steady (Pinned k) (Pinned k) above below (tank_width grid k) over under (wide grid k lt order)
-    (λ m. (let f = pinned-fixed grid k lt order m in omega (arith, ints, f, one_times (head_at (fixed_heads grid (Pinned k) Upper) m))))
+    (λ m. (let f = pinned-fixed grid k lt order m in omega (
+      arith,
+      ints,
+      f,
+      one_times (head_at (fixed_heads grid
+          (Pinned k) Upper) m),
+    )))

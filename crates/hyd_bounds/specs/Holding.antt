@@ -1,5 +1,5 @@
--- What the calls hold: at every scale, the flows of every assignment of a period whose tank levels lie in the intervals of
--- its grid, and what is so at its heads.
+-- What the calls hold: at every scale, the flows of every assignment of a period whose tank levels lie in the
+-- intervals of its grid, and what is so at its heads.
 -- Source: this program's, from the bounds of heads (Rheinboldt 1970).
 use Rattle.std.specs.Prelude.{◌≡◌, Bool, ℕ, ℤ, ◌+ℤ◌, ◌-ℤ◌, List}
 use Rattle.hyd_num.specs.declared.decimals.Span.{Span}
@@ -34,8 +34,8 @@ HoldsFlow grid below above link span = (network : Project) (S time : ℕ) (inter
 
 -- where two such certificates have these heads at a junction, its demand flow and emitter flow together lie in a span
 abbrev pub HoldsOutflow : Grid → ℕ → ℤ → ℤ → Span → Type 0
-HoldsOutflow grid junction low high span = (network : Project) (S time : ℕ) (intervals : List Interval) (levels : List ℤ)
-    (tanks : List TankState) (links : List LinkState) (assignment : Assignment) (below above : List ℤ)
+HoldsOutflow grid junction low high span = (network : Project) (S time : ℕ) (intervals : List Interval)
+    (levels : List ℤ) (tanks : List TankState) (links : List LinkState) (assignment : Assignment) (below above : List ℤ)
     → IsCompared network S time intervals levels tanks links assignment grid
     → IsCertificate grid Main Lower below → IsCertificate grid Main Upper above
     → head_at below junction ≡ low → head_at above junction ≡ high
@@ -49,14 +49,15 @@ HoldsInflow grid tank below above span = (network : Project) (S time : ℕ) (int
     → IsCertificate grid (Pinned tank) Lower below → IsCertificate grid (Pinned tank) Upper above
     → LiesIn S (interval_of span) (tank_inflow network tank assignment.flows)
 
--- between two certificates with all tanks alike a status word holds of a link in its state, where its numbers are made of
--- the file's and are in range
+-- between two certificates with all tanks alike a status word holds of a link in its state, where its numbers are made
+-- of the file's and are in range
 abbrev pub HoldsStatus
     : Grid → List ℤ → List ℤ → Bool → List (ListView HeadPoint) → LinkKind → LinkState → GridLink → StatusWord → Type 0
-HoldsStatus grid below above us bends kind state link word = (network : Project) (S time : ℕ) (intervals : List Interval)
-    (levels : List ℤ) (tanks : List TankState) (links : List LinkState) (assignment : Assignment)
+HoldsStatus grid below above us bends kind state link word = (network : Project) (S time : ℕ)
+    (intervals : List Interval) (levels : List ℤ) (tanks : List TankState) (links : List LinkState) (assignment : Assignment)
     (unit : FlowUnit) (patterns : List Pattern)
     → IsCompared network S time intervals levels tanks links assignment grid
     → IsCertificate grid Main Lower below → IsCertificate grid Main Upper above
-    → IsKindMade unit kind → HasSizes unit patterns bends kind → let heads = node_heads network S time levels assignment.heads in
+    → IsKindMade unit kind → HasSizes unit patterns bends kind
+    → let heads = node_heads network S time levels assignment.heads in
     StatusHolds us bends word kind state S (head_at heads link.from -ℤ head_at heads link.to)

@@ -8,3 +8,4 @@ mod sections;
 mod stages;
 
 pub use first::first_by_itself;
+pub use stages::{first_word, is_acting, is_rule, is_rules, next_stage, stage_by};

@@ -16,7 +16,7 @@ use hyd_opts::{or_empty, rule_word};
 use hyd_spec_input::{RuleWord, Stage};
 
 /// What a line of a rule is, by its first word.
-pub(crate) fn first_word(text: &Lines<'_>, line: &Line) -> Option<RuleWord>
+pub fn first_word(text: &Lines<'_>, line: &Line) -> Option<RuleWord>
     requires { LiesIn text.now.text line.now }
     ensures { result ≡ begins_with (words_at text.now line.now) }
 {
@@ -50,8 +50,8 @@ pub(crate) fn check_order(stage: Stage, first: Option<RuleWord>) -> Result<(), C
     }
 }
 
-// The stage after a line of rules.
-fn stage_by(stage: Stage, first: Option<RuleWord>) -> Stage
+/// The stage after a line of rules, by its first word.
+pub fn stage_by(stage: Stage, first: Option<RuleWord>) -> Stage
     ensures { result ≡ rules.stage_by stage first }
 {
     match first {
@@ -65,14 +65,14 @@ fn stage_by(stage: Stage, first: Option<RuleWord>) -> Stage
 }
 
 /// Whether a row is a line of rules.
-pub(crate) fn is_rules(text: &Lines<'_>, line: &Line) -> bool
+pub fn is_rules(text: &Lines<'_>, line: &Line) -> bool
     ensures { result ≡ is_of Rules (row_of text.now.text line.now) }
 {
     line.section == Section::Rules
 }
 
 /// The stage after a row of any section.
-pub(crate) fn next_stage(text: &Lines<'_>, line: &Line, stage: Stage) -> Stage
+pub fn next_stage(text: &Lines<'_>, line: &Line, stage: Stage) -> Stage
     requires { LiesIn text.now.text line.now }
     ensures { result ≡ stage_with stage (row_of text.now.text line.now) }
 {
@@ -83,7 +83,7 @@ pub(crate) fn next_stage(text: &Lines<'_>, line: &Line, stage: Stage) -> Stage
 }
 
 /// An AND line holds an action.
-pub(crate) fn is_acting(stage: Stage) -> bool
+pub fn is_acting(stage: Stage) -> bool
     ensures { result ≡ rules.is_acting stage }
 {
     match stage {
@@ -94,7 +94,7 @@ pub(crate) fn is_acting(stage: Stage) -> bool
 }
 
 /// The line names a rule.
-pub(crate) fn is_rule(first: Option<RuleWord>) -> bool
+pub fn is_rule(first: Option<RuleWord>) -> bool
     ensures { result ≡ rules.is_rule first }
 {
     match first {

@@ -5,3 +5,5 @@ pub mod Positions
 pub mod Ranking
 pub mod Starting
 pub mod Unseen
+pub mod Truths
+pub mod Settled

@@ -5,3 +5,4 @@ pub mod Premises
 pub mod Room
 pub mod Starts
 pub mod Verdicts
+pub mod Truths

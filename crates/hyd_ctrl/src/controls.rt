@@ -1,14 +1,15 @@
 //! The start of a period: pump patterns and simple controls.
 #![tactic(auto)]
 
-ghost use Rattle.std.specs.Prelude.{◌≡◌, ◌+◌, ◌≤◌, ◌++◌, length, map, is_some, IfSome, IfErr, OnOk, OnErr};
+ghost use Rattle.std.specs.Prelude.{◌≡◌, ◌+◌, ◌≤◌, ◌<◌, ℕ, ℤ, List, ◌++◌, length, map, is_some, IfSome, IfErr, OnOk, OnErr};
 ghost use Rattle.hyd_net.specs.Sound.{Sound};
 ghost use Rattle.hyd_spec.specs.Network.{tank_count};
-ghost use Rattle.hyd_spec.specs.Start.{speed_state, is_pattern_boundary, patterned_state, patterned, control_acts, controlled, started};
+ghost use Rattle.hyd_spec.specs.Start.{speed_state, is_pattern_boundary, patterned_state, patterned, control_acts, controlled, started, acts_at};
 ghost use Rattle.hyd_spec_certificates.specs.Decided.{acts_on, control_truth};
 ghost use Rattle.hyd_spec_certificates.specs.Valid.{ControlsAreDecided};
 ghost use Rattle.hyd_spec_reports.specs.Report.{control_changes, start_changes};
 ghost use Rattle.hyd_spec_reports.specs.Stops.{is_open_control};
+ghost use Rattle.hyd_spec_laws.specs.Laws.{LevelsLie};
 ghost use Rattle.hyd_ctrl.specs.Verdicts.{verdict_of};
 ghost use Rattle.hyd_ctrl.specs.Instants.{level_interval};
 ghost use Rattle.hyd_ctrl.specs.Starts.{pattern_of, HasPatternThere, IsTankThere, IsLevelOf, IsFirstOpen};
@@ -192,6 +193,7 @@ fn carry_out(
 /// Manual, chapter 3, controls): each pump with a pattern takes its multiplier as speed at time 0 and where a step of
 /// the patterns begins, and then the simple controls are carried out in order, a later one overriding. ABOVE means at
 /// least, and BELOW at most. A row is appended for each control that changes the state of its link. It takes no memory.
+/// The links are then as they start at all exact levels of the intervals, at every scale.
 ///
 /// Fails with [`LevelOpen`] exactly where both ends of a tank's level interval disagree on a level control; links and
 /// changes are then as before.
@@ -211,6 +213,8 @@ pub fn settle(
     ensures decided { OnOk result (ControlsAreDecided project.now (map level_interval levels.now)) }
     ensures links { OnOk result (links.new
         ≡ started project.now time (acts_on (map level_interval levels.now)) links.old) }
+    ensures holds { (S : ℕ) (exact : List ℤ) → 0 < S → LevelsLie S (map level_interval levels.now) exact
+        → OnOk result (links.new ≡ started project.now time (acts_at S exact) links.old) }
     ensures rows { OnOk result (changes.new.list ≡ changes.old.list
         ++ start_changes project.now time (acts_on (map level_interval levels.now)) links.old) }
     ensures spare { OnOk result (changes.old.spare + length changes.old.list

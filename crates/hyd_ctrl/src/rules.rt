@@ -1,14 +1,17 @@
 //! Rules at an instant.
 #![tactic(auto)]
 
-ghost use Rattle.std.specs.Prelude.{◌≡◌, ◌<◌, List, [], ◌∷◌, length, map, position, slice_get, IsSome};
+ghost use Rattle.std.specs.Prelude.{◌≡◌, ◌<◌, ℕ, List, [], ◌∷◌, length, map, position, slice_get, IsSome};
 ghost use Rattle.std.specs.List.{All};
 ghost use Rattle.hyd_net.specs.Sound.{Sound};
 ghost use Rattle.hyd_spec.specs.Types as types;
 ghost use Rattle.hyd_spec.specs.Network.{nodes_before_tanks, tank_count};
 ghost use Rattle.hyd_spec_certificates.specs.Verdict as logic;
-ghost use Rattle.hyd_spec_certificates.specs.Decided.{IsTruthBetween};
+ghost use Rattle.hyd_spec.specs.Rules.{Readings, rule_holds};
+ghost use Rattle.hyd_spec_certificates.specs.Decided.{rule_between, IsTruthBetween};
+ghost use Rattle.hyd_spec_histories.specs.Agreement.{AreBetween};
 ghost use Rattle.hyd_ctrl.specs.Verdicts.{verdict_of};
+ghost use Rattle.hyd_ctrl.specs.Truths.{IsTruthOf, IsKnownAs};
 ghost use Rattle.hyd_ctrl.specs.Instants.{IsInstant, IsBounded, flow_interval, level_interval, lower_readings, upper_readings};
 ghost use Rattle.hyd_ctrl.specs.Premises.{IsSoundRule, is_open, rule_there, IsTruthThere, premise_of};
 
@@ -105,6 +108,19 @@ fn open_truth(instant: &Instant<'_>, rule: &Rule) -> Truth
     }
 }
 
+// What is known of a rule, with the clause by which it is open.
+fn rule_truth(instant: &Instant<'_>, rule: &Rule) -> Truth
+    requires instant { IsInstant instant.now }
+    requires rule { IsSoundRule instant.now.project.now rule.now }
+    ensures { IsTruthThere instant.now rule.now result }
+{
+    match rule_verdict(instant, rule) {
+        Verdict::Yes => Truth::True,
+        Verdict::No => Truth::False,
+        Verdict::Unknown => open_truth(instant, rule),
+    }
+}
+
 /// What is known of a rule at an instant of a period (EPANET 2.2 User Manual, [RULES]): that it is true, that it is
 /// false, whatever the exact values are, or that it is open, with the first of its clauses that is open by itself.
 /// Rules are counted from 0.
@@ -134,6 +150,23 @@ pub fn decide(
         → IsTruthBetween project.now time
         (lower_readings low.now (map flow_interval flows.now) (map level_interval levels.now) links.now)
         (upper_readings high.now (map flow_interval flows.now) (map level_interval levels.now) links.now) each result }
+
+    // What is decided is so of the rule at whatever lies between, at every scale.
+    ensures holds { (each : types.Rule) → slice_get project.now.rules.list rule ≡ Some each
+        → (S : ℕ) (x : Readings) → 0 < S → AreBetween S
+        (lower_readings low.now (map flow_interval flows.now) (map level_interval levels.now) links.now) x
+        (upper_readings high.now (map flow_interval flows.now) (map level_interval levels.now) links.now)
+        → IsTruthOf result (rule_holds project.now S time x each) }
+
+    // And it is decided so by each two readings between.
+    ensures nests { (each : types.Rule) → slice_get project.now.rules.list rule ≡ Some each
+        → (lower upper : Readings) → AreBetween 1
+        (lower_readings low.now (map flow_interval flows.now) (map level_interval levels.now) links.now) lower
+        (upper_readings high.now (map flow_interval flows.now) (map level_interval levels.now) links.now)
+        → AreBetween 1
+        (lower_readings low.now (map flow_interval flows.now) (map level_interval levels.now) links.now) upper
+        (upper_readings high.now (map flow_interval flows.now) (map level_interval levels.now) links.now)
+        → IsKnownAs result (rule_between project.now time lower upper each) }
 {
     let instant = Instant {
         project,
@@ -145,9 +178,5 @@ pub fn decide(
         links,
     };
     let rule = &project.rules.as_slice()[rule as usize];
-    match rule_verdict(&instant, rule) {
-        Verdict::Yes => Truth::True,
-        Verdict::No => Truth::False,
-        Verdict::Unknown => open_truth(&instant, rule),
-    }
+    rule_truth(&instant, rule)
 }

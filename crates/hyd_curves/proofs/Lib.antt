@@ -1,1 +1,10 @@
+pub mod NamedLemmas
 pub mod PointLemmas
+pub mod TankRowLemmas
+pub mod TurnLemmas
+pub mod BendLemmas
+pub mod CapacityLemmas
+pub mod JudgedLemmas
+pub mod LineLemmas
+pub mod PumpLemmas
+pub mod ShapeLemmas

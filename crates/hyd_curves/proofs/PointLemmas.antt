@@ -1,6 +1,6 @@
 -- The points of curves, one row further.
 use Rattle.std.proofs.Common.{◌≡◌, All, ◌+◌, ◌<◌, ◌≤◌, ◌++◌, ℕ, Bool, true, false, List, [], ◌∷◌, map, filter, length, take, drop, position, Option, Some, None, slice_get, refl, sym, ap, ◌∙◌, subst, arith, ◌==◌, true≢false, get_or, inl, inr, append-nil, append_assoc, length-append, nat_lt, ltb-true, ltb-false}
-use Rattle.std.specs.Prelude.{slice_set, slice_index_or}
+use Rattle.std.specs.Prelude.{slice_set}
 use Rattle.std.specs.Str.{bytes_eq}
 use Rattle.std.specs.Cmp.Lexicographic.{bytes_decides}
 use Rattle.std.proofs.lemmas.Bool.{cases_Bool}
@@ -13,7 +13,6 @@ use Rattle.hyd_lex.specs.declared.line.Line.{Line}
 use Rattle.hyd_lex.specs.declared.section.Section.{Section}
 use Rattle.hyd_lex.specs.declared.section.Section.TheVariants.{Curves}
 use Rattle.hyd_net.specs.ListView.{ListView}
-use Rattle.hyd_net.specs.declared.cause.Cause.{Cause}
 use Rattle.hyd_spec_input.specs.ByItself as itself
 use Rattle.hyd_spec_input.specs.ByItself.{IsWrongByItself}
 use Rattle.hyd_spec_input.specs.DataRows as row_form

@@ -2,10 +2,19 @@
 //! theirs (EPANET 2.2 User Manual, [CURVES]).
 #![tactic(auto)]
 
+mod bends;
 mod judged;
+mod lines;
 mod points;
+mod pumps;
+mod shapes;
 mod tanks;
+mod ticks;
+mod valves;
+mod volumes;
 
+pub use bends::{Bends, gather_bends};
 pub use judged::{Verdict, Verdicts, judge_curves};
 pub use points::{CurvePoint, Points, gather_points};
+pub use shapes::{Shapes, gather_shapes};
 pub use tanks::tank_curve_fault;

@@ -1,10 +1,9 @@
 -- Rows of pressures, one row further.
-use Rattle.std.proofs.Common.{◌≡◌, ◌+◌, ℕ, ◌⊎◌, Bool, true, false, List, [], ◌∷◌, take, slice_get, Option, Some, None, refl, sym, ap, ◌∙◌, subst, inl, inr, ◌==◌, true≢false}
+use Rattle.std.proofs.Common.{◌≡◌, ◌+◌, ℕ, ◌⊎◌, Bool, true, false, List, [], ◌∷◌, take, slice_get, Option, Some, None, refl, sym, ◌∙◌, subst, inl, inr, ◌==◌, true≢false}
 use Rattle.std.specs.Prelude.{codes}
 use Rattle.std.proofs.lemmas.Bool.{cases_Bool}
 use Rattle.hyd_num.specs.declared.units.FlowUnit.{FlowUnit}
 use Rattle.hyd_lex.specs.Bytes.{is_keyword}
-use Rattle.hyd_lex.specs.Headings.{is_one_of}
 use Rattle.hyd_lex.specs.Lines.{Row, Reading, row_of}
 use Rattle.hyd_lex.specs.declared.line.Line.{Line}
 use Rattle.hyd_lex.specs.declared.section.Section.{Section}
@@ -12,7 +11,7 @@ use Rattle.hyd_lex.specs.declared.section.Section.TheVariants.{Options}
 use Rattle.hyd_spec_input.specs.ByItself as itself
 use Rattle.hyd_spec_input.specs.ByItself.{IsWrongByItself}
 use Rattle.hyd_spec_input.specs.Capacities.{IsRefusedIn}
-use Rattle.hyd_spec_input.specs.Columns.{or_else, unless, first, of_needed, needed, ends, one_of, number, not_negative, word, amount, word_is, is_option_of, is_option_keyword, word_is_of}
+use Rattle.hyd_spec_input.specs.Columns.{first, of_needed, needed, ends, one_of, number, not_negative, word, word_is, is_option_of, is_option_keyword}
 use Rattle.hyd_spec_input.specs.Faults.{NoneIs}
 use Rattle.hyd_spec_input.specs.InForce as force
 use Rattle.hyd_spec_input.specs.InForce.{begins, option_row}

@@ -1,5 +1,5 @@
 -- The emitters, one row further.
-use Rattle.std.proofs.Common.{◌≡◌, ◌+◌, ℕ, Bool, true, false, List, [], ◌∷◌, take, slice_get, Option, Some, None, refl, sym, ap, ◌∙◌, arith, ◌==◌, true≢false}
+use Rattle.std.proofs.Common.{◌≡◌, ◌+◌, ℕ, Bool, true, false, List, take, slice_get, Option, Some, None, refl, sym, ◌∙◌, ◌==◌, true≢false}
 use Rattle.hyd_num.specs.declared.units.FlowUnit.{FlowUnit}
 use Rattle.hyd_lex.specs.Lines.{Row}
 use Rattle.hyd_lex.specs.declared.section.Section.{Section}
@@ -48,7 +48,8 @@ from_row : (section : Section) (rows : List Row) (acting : Bool) (row : Row) →
 from_row Emitters rows acting row h refused = refused
 from_row _ rows acting row h refused = absurd (true≢false (sym h))
 
-pub skip_row : (rows : List Row) (k : ℕ) (row : Row) (found : Option Found) → HasFound rows (IsWrongIn Emitters rows) k found
+pub skip_row : (rows : List Row) (k : ℕ) (row : Row) (found : Option Found) → HasFound rows
+    (IsWrongIn Emitters rows) k found
     → slice_get rows k ≡ Some row → is_of Emitters row ≡ false → HasFound rows (IsWrongIn Emitters rows) (k + 1) found
 skip_row rows k row found before is other =
     found_skip rows (IsWrongIn Emitters rows) k found before (other_section Emitters rows k row is other)
@@ -60,7 +61,8 @@ pub add_row : (rows : List Row) (k : ℕ) (row : Row) (found : Option Found) (un
     → HasFound rows (IsWrongIn Emitters rows) (k + 1) (kept found k row.number cause)
 add_row rows k row found unit cause before is member u then =
     let acting = others.holds_action (take k rows) row in
-    let here : IsFaultThen (known_junction rows (word 0 row.words)) (IsRefusedEmitter (amount 1 row.words) (force.unit rows)) cause =
+    let here : IsFaultThen (known_junction rows (word 0 row.words)) (IsRefusedEmitter (amount 1 row.words)
+    (force.unit rows)) cause =
     rw (← u) then in
     let verdict : IsVerdict (IsWrongIn Emitters rows k) cause =
     verdict_with_capacity Emitters rows k row (known_junction rows (word 0 row.words)) cause is member

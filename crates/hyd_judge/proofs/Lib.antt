@@ -1,6 +1,7 @@
 pub mod BoundLemmas
 pub mod DemandLemmas
 pub mod EmitterLemmas
+pub mod ExtremeLemmas
 pub mod DistinctLemmas
 pub mod CurveLemmas
 pub mod NodeLemmas

@@ -19,16 +19,17 @@ use Rattle.hyd_tables.specs.Found.{kept}
 use Rattle.hyd_tables.specs.Tables.{AreFirsts}
 use Rattle.hyd_tables.proofs.FoundLemmas.{filter_more, filter_same, found_skip, found_kept}
 use Rattle.hyd_tables.proofs.TableLemmas.{even}
-use Rattle.hyd_judge.specs.Patterns.{ArePatterns, most_counted}
+use Rattle.hyd_judge.specs.Patterns.{AreCounted, most_counted}
 use Rattle.hyd_tables.specs.Sections.{IsWrongIn}
-use Rattle.hyd_judge.specs.declared.patterns.Patterns.{Patterns}
+use Rattle.hyd_judge.specs.declared.patterns.Counted.{Counted}
 use Rattle.hyd_judge.proofs.DistinctLemmas.{distinct_more}
 use Rattle.hyd_tables.proofs.SectionLemmas.{verdict_without_capacity, other_section}
 
 -- ---- counts up to one above the most that are allowed
 
 -- the words behind the first, counted up to a number
-pub behind_first : (words : List (List ℕ)) → min (length words) 1000002 - 1 ≡ min (length (multipliers words)) most_counted
+pub behind_first : (words : List (List ℕ)) → min (length words) 1000002 - 1 ≡ min (length
+    (multipliers words)) most_counted
 behind_first words =
     let n : length (multipliers words) ≡ length words - 1 = length-map (drop 1 words) nano_of ∙ length-drop 1 words in
     grind (arith, n)
@@ -59,9 +60,9 @@ no_capacity : (section : Section) (rows : List Row) (acting : Bool) (row : Row) 
 no_capacity InPatterns rows acting row h refused = refused
 no_capacity _ rows acting row h refused = absurd (true≢false (sym h))
 
-pub skip_row : (text : List ℕ) (rows : List Row) (k : ℕ) (row : Row) (patterns : Patterns)
-    → ArePatterns text rows k patterns → slice_get rows k ≡ Some row → is_of InPatterns row ≡ false
-    → ArePatterns text rows (k + 1) patterns
+pub skip_row : (text : List ℕ) (rows : List Row) (k : ℕ) (row : Row) (patterns : Counted)
+    → AreCounted text rows k patterns → slice_get rows k ≡ Some row → is_of InPatterns row ≡ false
+    → AreCounted text rows (k + 1) patterns
 skip_row text rows k row patterns before is other =
     let same : rows_of InPatterns (take (k + 1) rows) ≡ rows_of InPatterns (take k rows) =
     filter_same (is_of InPatterns) rows k row is other in
@@ -75,8 +76,8 @@ skip_row text rows k row patterns before is other =
           (other_section InPatterns rows k row is other);
     }
 
-pub add_row : (text : List ℕ) (rows : List Row) (k : ℕ) (row : Row) (patterns next : Patterns) (new : Bool)
-    (more : ℕ) (fault : Option Cause) → ArePatterns text rows k patterns → slice_get rows k ≡ Some row
+pub add_row : (text : List ℕ) (rows : List Row) (k : ℕ) (row : Row) (patterns next : Counted) (new : Bool)
+    (more : ℕ) (fault : Option Cause) → AreCounted text rows k patterns → slice_get rows k ≡ Some row
     → is_of InPatterns row ≡ true
     → AreFirsts text (rows_of InPatterns (take k rows) ++ row ∷ []) next.table.names next.table.firsts.items
     → new ≡ not (has_id (own_id row) (rows_of InPatterns (take k rows)))
@@ -84,7 +85,7 @@ pub add_row : (text : List ℕ) (rows : List Row) (k : ℕ) (row : Row) (pattern
     → length next.table.names ≤ length patterns.table.names + 1
     → more ≡ min (length (multipliers row.words)) most_counted → next.count ≡ min (patterns.count + more) most_counted
     → fault ≡ first (passes 1000 8 (length next.table.firsts.items) ∷ passes 1000000 8 next.count ∷ [])
-    → next.found ≡ kept patterns.found k row.number fault → ArePatterns text rows (k + 1) next
+    → next.found ≡ kept patterns.found k row.number fault → AreCounted text rows (k + 1) next
 add_row text rows k row patterns next new more fault before is member table e names longer m n f found =
     let all : rows_of InPatterns (take (k + 1) rows) ≡ rows_of InPatterns (take k rows) ++ row ∷ [] =
     filter_more (is_of InPatterns) rows k row is member in
@@ -95,7 +96,8 @@ add_row text rows k row patterns next new more fault before is member table e na
     (length next.table.names) new before.distinct e names) in
     let lines : length next.table.firsts.items ≡ distinct (rows_of InPatterns (take (k + 1) rows)) =
     sym (even text _ next.table.names next.table.firsts.items table) ∙ ids in
-    let counted : passes 1000000 8 next.count ≡ passes 1000000 8 (multiplier_count (rows_of InPatterns (take (k + 1) rows))) =
+    let counted : passes 1000000 8 next.count ≡ passes 1000000 8 (multiplier_count (rows_of InPatterns (take
+    (k + 1) rows))) =
     passes_alike (multiplier_count (rows_of InPatterns (take (k + 1) rows))) next.count count in
     let verdict : fault ≡ others.row_fault rows k row =
     f ∙ rw (lines, counted) (sym (fault_is row.section rows k row member)) in

@@ -4,3 +4,5 @@ pub mod InForce
 pub mod Nodes
 pub mod Demands
 pub mod Options
+pub mod Extremes
+pub mod JudgedNodes

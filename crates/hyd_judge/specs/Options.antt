@@ -39,7 +39,8 @@ IsBound words = word_is_of 0 bound_words words ≡ true → needed number 2 word
 
 abbrev pub pressure_fault : FlowUnit → ℤ → Option Cause
 pressure_fault unit nano =
-    unless (le_z (pressure_numerator (is_us_unit unit) nano) (pos (10 ^ 17 * pressure_denominator (is_us_unit unit)))) Range
+    unless (le_z (pressure_numerator (is_us_unit unit) nano) (pos (10 ^ 17 * pressure_denominator
+    (is_us_unit unit)))) Range
 
 -- what is asked of the two pressures at a line
 abbrev pub apart_fault : Pressures → ℕ → Option Cause

@@ -25,8 +25,8 @@ const MOST_POINTS: usize = 100_000;
 /// The curves of a file, and the first row of [CURVES] that is wrong with the others.
 #[derive(Drop)]
 pub struct Curves {
-    /// How many points all rows have.
-    pub count: usize,
+    // How many points all rows have.
+    count: usize,
     pub table: Table,
     pub found: Option<Found>,
 }

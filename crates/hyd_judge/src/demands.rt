@@ -24,10 +24,11 @@ use hyd_tables::{Found, Table, flow_fault, kept, limit, unknown_junction, unknow
 
 const MOST_DEMANDS: usize = 100_000;
 
-/// The demands of a file: how many rows there are, and the first row of [DEMANDS] that is wrong with the others.
+/// The first row of [DEMANDS] that is wrong with the others.
 #[derive(Debug, Clone, Copy, PartialEq, Eq, Drop)]
 pub struct Demands {
-    pub count: usize,
+    // How many rows there are.
+    count: usize,
     pub found: Option<Found>,
 }
 

@@ -5,14 +5,21 @@
 mod curves;
 mod demands;
 mod emitters;
+mod extremes;
+mod junctions;
+mod node_tables;
 mod nodes;
 mod options;
 mod patterns;
+mod reservoirs;
+mod tanks;
 mod units;
 
 pub use curves::{Curves, judge_curves};
 pub use demands::{Demands, judge_demands};
 pub use emitters::judge_emitters;
+pub use extremes::Extremes;
+pub use node_tables::NodeTables;
 pub use nodes::{Nodes, judge_nodes};
 pub use options::{Pressures, judge_options, last_option_of, pressures_in_force};
 pub use patterns::{Patterns, judge_patterns};

@@ -4,35 +4,36 @@
 ghost use Rattle.std.specs.Prelude.{◌≡◌, ◌<◌, ◌+◌, ◌^◌, ◌==◌, ◌||◌, List, None, length, IfOk, OnOk};
 ghost use Rattle.std.specs.List.{All};
 ghost use Rattle.hyd_lex.specs.Lines.{LiesIn, Row};
-ghost use Rattle.hyd_lex.specs.declared.section.Section.TheVariants.{Junctions as InJunctions, Patterns};
 ghost use Rattle.hyd_opts.specs.Judged.{words_at};
 ghost use Rattle.hyd_spec_input.specs.ByItself.{IsWrongByItself};
 ghost use Rattle.hyd_spec_input.specs.Faults.{NoneIs};
-ghost use Rattle.hyd_spec_input.specs.InForce as force;
-ghost use Rattle.hyd_spec_input.specs.NetworkRows as row;
-ghost use Rattle.hyd_spec_input.specs.Tables.{place as section_place, rows_of, node_rows};
+ghost use Rattle.hyd_spec_input.specs.Tables.{place as section_place, node_rows};
 ghost use Rattle.hyd_tables.specs.Found.{HasFound, rows_at};
-ghost use Rattle.hyd_tables.specs.Tables.{IsTable, IsEven};
-ghost use Rattle.hyd_tables.specs.Ranges as range;
-ghost use Rattle.hyd_judge.specs.Nodes.{AreNodes, junction_fault as fault_of_junction};
-ghost use Rattle.hyd_tables.specs.Sections.{IsWrongIn};
+ghost use Rattle.hyd_tables.specs.Tables.{IsTable};
+ghost use Rattle.hyd_judge.specs.JudgedNodes as judged;
+ghost use Rattle.hyd_judge.specs.JudgedNodes.{AreNodes, IsWrongNode, AreEven, AreTables};
 
+use crate::junctions::junction_fault;
+use crate::node_tables::NodeTables;
+use crate::reservoirs::reservoir_fault;
+use crate::tanks::tank_fault;
 use hyd_lex::{Line, Lines, Section};
 use hyd_net::{Cause, OutOfMemory};
-use hyd_num::FlowUnit;
-use hyd_rows::{JunctionRow, read_junction};
-use hyd_tables::{
-    Found, Table, flow_fault, head_fault, is_junctions, kept, limit, unknown_pattern,
-};
+use hyd_tables::{Found, Table, kept};
 use std::alloc::Global;
 
-const MOST_JUNCTIONS: usize = 10_000;
+// How many nodes there are of each kind.
+#[derive(Debug, Clone, Copy, PartialEq, Eq, Drop)]
+struct Counts {
+    junctions: usize,
+    reservoirs: usize,
+    tanks: usize,
+}
 
-/// The nodes of a file, and the first row of [JUNCTIONS] that is wrong with the others.
+/// The nodes of a file, and the first of their rows that is wrong with the others.
 #[derive(Drop)]
 pub struct Nodes {
-    /// How many junctions there are.
-    pub junctions: usize,
+    counts: Counts,
     /// The IDs of junctions, reservoirs and tanks.
     pub table: Table,
     pub found: Option<Found>,
@@ -50,44 +51,57 @@ fn is_node(section: Section) -> bool
     }
 }
 
-// What is wrong with the quantities of a junction.
-fn range_fault(row: &JunctionRow<'_>, unit: FlowUnit) -> Option<Cause>
-    ensures { result ≡ range.junction_ranges unit row.now.elevation.nano row.now.base.nano }
-{
-    match head_fault(row.elevation, unit) {
-        Some(cause) => Some(cause),
-        None => flow_fault(row.base, unit),
+impl Counts {
+    // One more of a section.
+    fn add(&mut self, section: Section)
+        requires junctions { self.old.junctions < 2 ^ 31 }
+        requires reservoirs { self.old.reservoirs < 2 ^ 31 }
+        requires tanks { self.old.tanks < 2 ^ 31 }
+        ensures { self.new ≡ judged.counted section self.old }
+    {
+        match section {
+            Section::Junctions => self.junctions += 1,
+            Section::Reservoirs => self.reservoirs += 1,
+            Section::Tanks => self.tanks += 1,
+            _ => {}
+        }
     }
 }
 
-// What is wrong with a junction, where it is the first row with its ID or not.
-fn junction_fault(
+// What is wrong with a row of nodes that is right by itself.
+fn node_fault(
     text: &Lines<'_>,
     line: &Line,
-    count: usize,
+    counts: Counts,
     new: bool,
-    patterns: &Table,
-    unit: FlowUnit,
+    tables: &NodeTables<'_>,
 ) -> Option<Cause>
     requires lies { LiesIn text.now.text line.now }
-    requires even { IsEven patterns.now }
-    requires right { row.junction (words_at text.now line.now) ≡ None }
-    ensures { (rows : List Row) → IsTable text.now.text (rows_of Patterns rows) patterns.now
-        → result ≡ fault_of_junction rows unit count new (words_at text.now line.now) }
+    requires even { AreEven tables.now }
+    requires right { judged.node_alone line.now.section (words_at text.now line.now) ≡ None }
+    ensures { (rows : List Row) → AreTables text.now.text rows tables.now
+        → result ≡ judged.fault_among line.now.section rows tables.now.unit counts new (words_at text.now line.now) }
 {
-    let Ok(row) = read_junction(text, line) else {
-        return None;
-    };
-    if let Some(cause) = limit(MOST_JUNCTIONS, 4, count) {
-        return Some(cause);
+    match line.section {
+        Section::Junctions => junction_fault(
+            text,
+            line,
+            counts.junctions,
+            new,
+            &tables.patterns.table,
+            tables.unit,
+        ),
+        Section::Reservoirs => reservoir_fault(
+            text,
+            line,
+            counts.reservoirs,
+            new,
+            tables.patterns,
+            tables.unit,
+        ),
+        Section::Tanks => tank_fault(text, line, counts.tanks, new, tables),
+        _ => None,
     }
-    if !new {
-        return Some(Cause::DuplicateId);
-    }
-    if let Some(cause) = unknown_pattern(text, patterns, row.pattern) {
-        return Some(cause);
-    }
-    range_fault(&row, unit)
 }
 
 impl Nodes {
@@ -97,15 +111,13 @@ impl Nodes {
         text: &Lines<'_>,
         lines: &[Line],
         place: usize,
-        patterns: &Table,
-        unit: FlowUnit,
+        tables: &NodeTables<'_>,
     ) -> Result<(), OutOfMemory>
         requires within { place < length lines.now }
         requires few { length lines.now < 2 ^ 31 }
         requires lie { All (LiesIn text.now.text) lines.now }
         requires right { NoneIs (IsWrongByItself (rows_at text.now.text lines.now)) }
-        requires patterns { IsTable text.now.text (rows_of Patterns (rows_at text.now.text lines.now)) patterns.now }
-        requires unit { unit ≡ force.unit (rows_at text.now.text lines.now) }
+        requires tables { AreTables text.now.text (rows_at text.now.text lines.now) tables.now }
         requires judged { AreNodes text.now.text (rows_at text.now.text lines.now) place self.old }
         ensures { OnOk result (AreNodes text.now.text (rows_at text.now.text lines.now) (place + 1) self.new) }
     {
@@ -114,44 +126,45 @@ impl Nodes {
             return Ok(());
         }
         let new = self.table.add(text, line)?;
-        if !is_junctions(line.section) {
-            return Ok(());
-        }
-        self.junctions += 1;
-        let cause = junction_fault(text, line, self.junctions, new, patterns, unit);
+        self.counts.add(line.section);
+        let cause = node_fault(text, line, self.counts, new, tables);
         self.found = kept(self.found, place, line.number, cause);
         Ok(())
     }
 }
 
-/// The nodes of a file whose rows are right by themselves, and its first row of [JUNCTIONS] that is wrong with the
-/// others: the first with more than 10,000 junctions up to it (Limit 4), an ID that an earlier node has (DuplicateId), a
-/// pattern that isn't there (UnknownName), an elevation above 10^17 head ticks up or down or a demand above 10^15 flow
-/// ticks either way (Range).
+/// The nodes of a file whose rows are right by themselves, and the first row of [JUNCTIONS], [RESERVOIRS] or [TANKS]
+/// that is wrong with the others. It is the first with more than 10,000 junctions (Limit 4), 1,000 reservoirs (Limit 5)
+/// or 32 tanks (Limit 6) up to it, an ID that an earlier node has (DuplicateId), a pattern or volume curve that isn't
+/// there (UnknownName), and else out of range (Range): a head, elevation or highest level above 10^17 head ticks up or
+/// down, a head that is so times a multiplier of its pattern, a demand above 10^15 flow ticks either way, levels less
+/// than a hundredth of a foot apart, or a volume curve that doesn't cover them.
 pub fn judge_nodes(
     alloc: Global,
     text: &Lines<'_>,
     lines: &[Line],
-    patterns: &Table,
-    unit: FlowUnit,
+    tables: &NodeTables<'_>,
 ) -> Result<Nodes, OutOfMemory>
     requires few { length lines.now < 2 ^ 31 }
     requires lie { All (LiesIn text.now.text) lines.now }
     requires right { NoneIs (IsWrongByItself (rows_at text.now.text lines.now)) }
-    requires patterns { IsTable text.now.text (rows_of Patterns (rows_at text.now.text lines.now)) patterns.now }
-    requires unit { unit ≡ force.unit (rows_at text.now.text lines.now) }
+    requires tables { AreTables text.now.text (rows_at text.now.text lines.now) tables.now }
     ensures table { IfOk result (λ nodes.
         IsTable text.now.text (node_rows (rows_at text.now.text lines.now)) nodes.table) }
     ensures found { IfOk result (λ nodes. HasFound (rows_at text.now.text lines.now)
-        (IsWrongIn InJunctions (rows_at text.now.text lines.now)) (length lines.now) nodes.found) }
+        (IsWrongNode (rows_at text.now.text lines.now)) (length lines.now) nodes.found) }
 {
     let mut nodes = Nodes {
-        junctions: 0,
+        counts: Counts {
+            junctions: 0,
+            reservoirs: 0,
+            tanks: 0,
+        },
         table: Table::new(alloc),
         found: None,
     };
     for place in 0..lines.len() {
-        nodes.add(text, lines, place, patterns, unit)?;
+        nodes.add(text, lines, place, tables)?;
     }
     Ok(nodes)
 }

@@ -1,2 +1,5 @@
 pub mod NameLemmas
 pub mod RightRows
+pub mod LastLines
+pub mod LinesInForce
+pub mod PatternLemmas

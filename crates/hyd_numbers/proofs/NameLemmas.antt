@@ -1,5 +1,5 @@
 -- New names, one name more, and names that occur once.
-use Rattle.std.proofs.Common.{◌≡◌, ◌+◌, ◌≤◌, ℕ, Bool, true, false, ◌||◌, List, [], ◌∷◌, ◌++◌, map, length, filter, take, slice_get, Option, Some, None, Contains, refl, sym, ap, ◌∙◌, subst, arith, inl, inr, true≢false, append-nil, append_assoc}
+use Rattle.std.proofs.Common.{◌≡◌, ◌+◌, ◌≤◌, ℕ, Bool, true, false, ◌||◌, List, [], ◌∷◌, ◌++◌, map, length, take, slice_get, Some, Contains, refl, sym, ap, ◌∙◌, subst, arith, inl, inr, true≢false, append_assoc}
 use Rattle.std.specs.Prelude.{◌↔◌, if◌then◌else◌}
 use Rattle.std.specs.List.{list_any}
 use Rattle.std.specs.Str.{bytes_eq}
@@ -13,7 +13,7 @@ use Rattle.hyd_lex.specs.declared.section.Section.TheVariants.{Junctions, Reserv
 use Rattle.hyd_spec_input.specs.Network.{is_among, new_names, node_ids, tank_ids, link_ids}
 use Rattle.hyd_spec_input.specs.Tables.{is_of, rows_of, own_id}
 use Rattle.hyd_tables.proofs.FoundLemmas.{filter_more, filter_same}
-use Rattle.hyd_spec_networks.proofs.Occurs.{same_name, itself, when, occurs, occurs_append, Once}
+use Rattle.hyd_spec_networks.proofs.Occurs.{itself, when, occurs, occurs_append, Once}
 use Rattle.hyd_spec_networks.proofs.Faultless.{AreRight}
 use Rattle.hyd_spec_networks.proofs.Names.{own_ids, node_ids_are, link_ids_are, tank_ids_are, nodes_once, links_once}
 
@@ -24,7 +24,8 @@ abbrev pub with_name : Bool → List (List ℕ) → List ℕ → List (List ℕ)
 with_name true names name = names
 with_name false names name = names ++ name ∷ []
 
-with_first : (b : Bool) (id name : List ℕ) (names : List (List ℕ)) → id ∷ with_name b names name ≡ with_name b (id ∷ names) name
+with_first : (b : Bool) (id name : List ℕ) (names : List (List ℕ))
+    → id ∷ with_name b names name ≡ with_name b (id ∷ names) name
 with_first true id name names = refl
 with_first false id name names = refl
 
@@ -34,8 +35,9 @@ turned true false c = refl
 turned false true c = refl
 turned false false c = refl
 
-one_more : (name : List ℕ) (seen names : List (List ℕ))
-    → new_names seen (names ++ name ∷ []) ≡ with_name (is_among name seen || is_among name (new_names seen names)) (new_names seen names) name
+pub one_more : (name : List ℕ) (seen names : List (List ℕ))
+    → new_names seen (names ++ name ∷ []) ≡ with_name (is_among name seen || is_among name (new_names seen names))
+    (new_names seen names) name
 one_more name seen [] = elim (cases_Bool (is_among name seen)) [
   | inl t ↦ rw t refl
   | inr f ↦ rw f refl
@@ -43,7 +45,8 @@ one_more name seen [] = elim (cases_Bool (is_among name seen)) [
 one_more name seen (id ∷ ids) = elim (cases_Bool (is_among id seen)) [
   | inl t ↦ rw t (one_more name seen ids)
   | inr f ↦ rw f (ap (λ more. id ∷ more) (one_more name (id ∷ seen) ids)
-      ∙ with_first (is_among name (id ∷ seen) || is_among name (new_names (id ∷ seen) ids)) id name (new_names (id ∷ seen) ids)
+      ∙ with_first (is_among name (id ∷ seen) || is_among name (new_names (id ∷ seen) ids)) id name (new_names
+      (id ∷ seen) ids)
       ∙ ap (λ b. with_name b (id ∷ new_names (id ∷ seen) ids) name)
       (turned (bytes_eq name id) (is_among name seen) (is_among name (new_names (id ∷ seen) ids))))
 ]
@@ -65,13 +68,16 @@ among_both name (x ∷ xs) ys = ap (λ b. bytes_eq name x || b) (among_both name
 new_or_old : (name : List ℕ) (ids : List (List ℕ)) (added : Bool) → ((added ≡ false) ↔ Contains ids name)
     → (b : Bool) → is_among name ids ≡ b → (if added then ids ++ name ∷ [] else ids) ≡ with_name b ids name
 new_or_old name ids added present true e =
-    let old : added ≡ false = present.1 (Contains-from_any (λ x y h. (bytes_decides x y).0 h) name ids (sym (among_is name ids) ∙ e)) in
+    let old : added ≡ false = present.1 (Contains-from_any (λ x y h. (bytes_decides x y).0 h) name ids (sym
+    (among_is name ids) ∙ e)) in
     rw old refl
 new_or_old name ids true present false e = refl
 new_or_old name ids false present false e =
-    absurd (true≢false (sym (list_any-from_Contains nat_list_eq_equiv name ids (present.0 refl)) ∙ sym (among_is name ids) ∙ e))
+    absurd (true≢false (sym (list_any-from_Contains nat_list_eq_equiv name ids (present.0 refl))
+    ∙ sym (among_is name ids) ∙ e))
 
-with_append : (b : Bool) (before names : List (List ℕ)) (name : List ℕ) → with_name b (before ++ names) name ≡ before ++ with_name b names name
+with_append : (b : Bool) (before names : List (List ℕ)) (name : List ℕ)
+    → with_name b (before ++ names) name ≡ before ++ with_name b names name
 with_append true before names name = refl
 with_append false before names name = append_assoc before names (name ∷ [])
 
@@ -87,15 +93,18 @@ added_more name before names ids after added present is e =
 
 -- ---- the IDs of a section, one row further
 
-pub section_more : (section : Section) (rows : List Row) (k : ℕ) (row : Row) (before ids after : List (List ℕ)) (added : Bool)
+pub section_more : (section : Section) (rows : List Row) (k : ℕ) (row : Row) (before ids after : List (List ℕ))
+    (added : Bool)
     → slice_get rows k ≡ Some row → is_of section row ≡ true
-    → ((added ≡ false) ↔ Contains ids (own_id row)) → ids ≡ before ++ new_names before (map own_id (rows_of section (take k rows)))
+    → ((added ≡ false) ↔ Contains ids (own_id row)) → ids ≡ before
+    ++ new_names before (map own_id (rows_of section (take k rows)))
     → after ≡ (if added then ids ++ own_id row ∷ [] else ids)
     → after ≡ before ++ new_names before (map own_id (rows_of section (take (k + 1) rows)))
 section_more section rows k row before ids after added at member present is e =
     added_more (own_id row) before (map own_id (rows_of section (take k rows))) ids after added present is e
     ∙ ap (λ names. before ++ new_names before names)
-    (sym (ap (map own_id) (filter_more (is_of section) rows k row at member) ∙ map-append own_id (rows_of section (take k rows)) (row ∷ [])))
+    (sym (ap (map own_id) (filter_more (is_of section) rows k row at member)
+    ∙ map-append own_id (rows_of section (take k rows)) (row ∷ [])))
 
 pub section_same : (section : Section) (rows : List Row) (k : ℕ) (row : Row) (before ids : List (List ℕ))
     → slice_get rows k ≡ Some row → is_of section row ≡ false
@@ -118,7 +127,8 @@ record AreFresh (seen ids : List (List ℕ)) : Type 0 where
   once : Once ids
   unseen : (name : List ℕ) → is_among name seen ≡ true → occurs name ids ≤ 0
 
-fresh_rest : (seen : List (List ℕ)) (id : List ℕ) (ids : List (List ℕ)) → AreFresh seen (id ∷ ids) → AreFresh (id ∷ seen) ids
+fresh_rest : (seen : List (List ℕ)) (id : List ℕ) (ids : List (List ℕ)) → AreFresh seen (id ∷ ids)
+    → AreFresh (id ∷ seen) ids
 fresh_rest seen id ids fresh = record {
   once = λ name. omega (arith, fresh.once name);
   unseen = λ name e. elim (cases_Bool (bytes_eq name id)) [
@@ -127,9 +137,11 @@ fresh_rest seen id ids fresh = record {
   ];
 }
 
-first_unseen : (seen : List (List ℕ)) (id : List ℕ) (ids : List (List ℕ)) → AreFresh seen (id ∷ ids) → is_among id seen ≡ false
+first_unseen : (seen : List (List ℕ)) (id : List ℕ) (ids : List (List ℕ)) → AreFresh seen (id ∷ ids)
+    → is_among id seen ≡ false
 first_unseen seen id ids fresh = elim (cases_Bool (is_among id seen)) [
-  | inl t ↦ (let one : when (bytes_eq id id) 1 ≡ 1 = rw (itself id) refl in absurd (omega (arith, one, fresh.unseen id t)))
+  | inl t ↦ (let one : when (bytes_eq id id) 1 ≡ 1 = rw (itself id) refl in absurd (omega
+      (arith, one, fresh.unseen id t)))
   | inr f ↦ f
 ]
 

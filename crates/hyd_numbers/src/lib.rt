@@ -3,5 +3,12 @@
 #![tactic(auto)]
 
 mod ids;
+mod in_force;
+mod options;
+mod patterns;
+mod times;
 
 pub use ids::{link_ids, node_ids, pattern_ids, tank_ids};
+pub use options::options_in_force;
+pub use patterns::build_patterns;
+pub use times::times_in_force;

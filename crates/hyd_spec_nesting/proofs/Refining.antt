@@ -171,7 +171,7 @@ group-refines f g [] all = refl
 group-refines f g (c ∷ group) all = either-refines (f c) (some_holds (map f group)) (g c) (some_holds (map g group))
     all.0 (group-refines f g group all.1)
 
-groups-refine : (f g : Clause → Verdict) (groups : List (List Clause))
+pub groups-refine : (f g : Clause → Verdict) (groups : List (List Clause))
     → AllByRecursion (AllByRecursion (λ (c : Clause). Refines (f c) (g c))) groups
     → Refines (all_hold (map (λ group. some_holds (map f group)) groups))
     (all_hold (map (λ group. some_holds (map g group)) groups))

@@ -107,11 +107,11 @@ ends_right rows p right of =
 -- ---- pipes
 
 -- a pipe's numbers, in billionths
-record PipeNumbers (words : List (List ℕ)) : Type 0 where
-  long : Lies (pos 1) (units (10 ^ 6)) (amount 3 words)
-  across : Lies (pos 1) (units (10 ^ 4)) (amount 4 words)
-  rough : Lies (pos 1) (units 10) (amount 5 words)
-  fittings : IsUpTo (10 ^ 6) (alone.pipe_minor words)
+pub record PipeNumbers (words : List (List ℕ)) : Type 0 where
+  pub long : Lies (pos 1) (units (10 ^ 6)) (amount 3 words)
+  pub across : Lies (pos 1) (units (10 ^ 4)) (amount 4 words)
+  pub rough : Lies (pos 1) (units 10) (amount 5 words)
+  pub fittings : IsUpTo (10 ^ 6) (alone.pipe_minor words)
 
 no_minor : IsUpTo (10 ^ 6) (pos 0)
 no_minor = record { at_least = omega (arith, ints); at_most = omega (arith, ints) }
@@ -125,7 +125,7 @@ minor_right words e = elim (cases_Bool (alone.has_status_alone words)) [
       within (pos 0) (units (10 ^ 6)) w right))
 ]
 
-pipe_numbers : (words : List (List ℕ)) → alone.pipe words ≡ None → PipeNumbers words
+pub pipe_numbers : (words : List (List ℕ)) → alone.pipe words ≡ None → PipeNumbers words
 pipe_numbers words e =
     let each = all_none (alone.link_ends words ∷ needed (above_0_to (10 ^ 6)) 3 words ∷ needed (above_0_to (10 ^ 4)) 4
     words
@@ -169,9 +169,9 @@ pipe_kind rows p row (Gpv bend) e is = absurd is
 -- ---- pumps
 
 -- the curve of a pump is there, and in range
-record CurveRight (rows : List Row) (name : List ℕ) : Type 0 where
-  shape : is_pump_curve (curve_named rows name) ≡ true
-  range : others.pump_curve_range rows name ≡ None
+pub record CurveRight (rows : List Row) (name : List ℕ) : Type 0 where
+  pub shape : is_pump_curve (curve_named rows name) ≡ true
+  pub range : others.pump_curve_range rows name ≡ None
 
 curve_right : (rows : List Row) (o : Option (List ℕ)) → is_there o ≡ true → others.curve_of_pump rows o ≡ None
     → CurveRight rows (or_empty o)
@@ -243,7 +243,7 @@ speeds_right rows name e = all_by ℤ (IsUpTo 10) is_speed (λ m t. lies (pos 0)
     (multipliers_of rows name) e
 
 -- the curve of a pump as it is used
-straight_range : (rows : List Row) (name : List ℕ) → is_bent (curve_named rows name) ≡ false
+pub straight_range : (rows : List Row) (name : List ℕ) → is_bent (curve_named rows name) ≡ false
     → others.pump_curve_range rows name ≡ None
     → (are_flows (unit rows) (curve_named rows name) ≡ true) × (has_shutoff (us rows) (curve_named rows name) ≡ true)
 straight_range rows name bent e =
@@ -261,11 +261,11 @@ bent_range rows name bent e =
     (omega (arith, long, length-map (curve_named rows name) (head_point (unit rows) (us rows))))
     (unless_none _ _ test)
 
-record PumpRight (rows : List Row) (row : Row) : Type 0 where
-  curve : CurveRight rows (or_empty (alone.pump_curve row.words))
-  speeds : All (IsUpTo 10) (multipliers_of rows (alone.pump_pattern row.words))
+pub record PumpRight (rows : List Row) (row : Row) : Type 0 where
+  pub curve : CurveRight rows (or_empty (alone.pump_curve row.words))
+  pub speeds : All (IsUpTo 10) (multipliers_of rows (alone.pump_pattern row.words))
 
-pump_right : (rows : List Row) (k : ℕ) (row : Row) → AreRight rows → slice_get rows k ≡ Some row
+pub pump_right : (rows : List Row) (k : ℕ) (row : Row) → AreRight rows → slice_get rows k ≡ Some row
     → is_of Pumps row ≡ true → PumpRight rows row
 pump_right rows k row right is of =
     let own = all_none (alone.link_ends row.words ∷ alone.pump_pairs alone.none_earlier (drop 3 row.words)

@@ -339,7 +339,7 @@ speed_in_range : (o : Option (List ℕ)) → ((w : List ℕ) → o ≡ Some w �
 speed_in_range None each = refl
 speed_in_range (Some w) each = in_range is_speed w (each w refl)
 
-pump_speed_right : (rows : List Row) (k : ℕ) (row : Row) → AreRight rows → slice_get rows k ≡ Some row
+pub pump_speed_right : (rows : List Row) (k : ℕ) (row : Row) → AreRight rows → slice_get rows k ≡ Some row
     → is_of Pumps row ≡ true → is_speed (pump_speed row.words) ≡ true
 pump_speed_right rows k row right at of =
     let own = all_none (alone.link_ends row.words ∷ pump_pairs alone.none_earlier (drop 3 row.words)
@@ -347,7 +347,7 @@ pump_speed_right rows k row right at of =
     speed_in_range (pump_speed_word row.words) (λ w is. speed_word alone.none_earlier (drop 3 row.words) w own.1.0 is)
 
 -- a valve's setting as the state that is asked for
-valve_range : (rows : List Row) (k : ℕ) (row : Row) → AreRight rows → slice_get rows k ≡ Some row
+pub valve_range : (rows : List Row) (k : ℕ) (row : Row) → AreRight rows → slice_get rows k ≡ Some row
     → is_of Valves row ≡ true → is_general row.words ≡ false
     → state_range rows row (amount 5 row.words) ≡ None
 valve_range rows k row right at of general =

@@ -1,1 +1,4 @@
 pub mod StateLemmas
+pub mod SettingLemmas
+pub mod RightLinks
+pub mod RangeLemmas

@@ -1,22 +1,24 @@
 -- Links whose states are asked for.
-use Rattle.std.specs.Prelude.{◌≡◌, ℕ, ◌^◌, Bool, true, false, ◌&&◌, not, List, [], ◌∷◌, Option, Some, None, ℤ, pos, ◌≤ℤ◌, if◌then◌else◌}
+use Rattle.std.specs.Prelude.{◌≡◌, ◌^◌, Bool, true, false, ◌&&◌, not, [], ◌∷◌, Option, None, ℤ, pos, ◌≤ℤ◌}
 use lib.Signed.{le_z}
 use Rattle.hyd_num.specs.declared.decimals.Decimal.{Decimal}
+use Rattle.hyd_num.specs.Quantity.{is_us_unit}
 use Rattle.hyd_num.specs.declared.units.FlowUnit.{FlowUnit}
 use Rattle.hyd_lex.specs.Lines.{Row}
 use Rattle.hyd_lex.specs.declared.section.Section.TheVariants.{Pipes, Pumps, Valves}
-use Rattle.hyd_opts.specs.Meanings.{IsAsked}
 use Rattle.hyd_opts.specs.declared.controls.Asked.{Asked}
-use Rattle.hyd_opts.specs.declared.controls.Asked.TheVariants.{Open, Closed, Number}
+use Rattle.hyd_opts.specs.declared.controls.Asked.TheVariants.{Number}
 use Rattle.hyd_spec_input.specs.ByItself.{section_fault}
-use Rattle.hyd_spec_input.specs.Capacities.{IsRefusedSetting}
-use Rattle.hyd_spec_input.specs.Columns.{or_else, first, unless, units}
-use Rattle.hyd_spec_input.specs.InForce as force
+use Rattle.hyd_spec_input.specs.Capacities.{IsRefusedValve}
+use Rattle.hyd_spec_input.specs.Columns.{amount, or_else, first, unless, units}
 use Rattle.hyd_spec_input.specs.NetworkRows.{has_check_valve, is_throttle, is_general}
+use Rattle.hyd_spec_input.specs.Project.{IsOpenValve}
 use Rattle.hyd_spec_input.specs.Tables.{is_link}
-use Rattle.hyd_spec_input.specs.WithOthers.{set_link, is_speed}
+use Rattle.hyd_spec_input.specs.WithOthers.{is_speed}
 use Rattle.hyd_net.specs.declared.cause.Cause.{Cause}
 use Rattle.hyd_net.specs.declared.cause.Cause.TheVariants.{Syntax, Range, Unsupported}
+use Rattle.hyd_net.specs.declared.links.LinkState.{LinkState}
+use Rattle.hyd_net.specs.declared.links.LinkState.TheVariants.{Open, Speed, Throttle}
 use Rattle.hyd_tables.specs.Ranges.{flow_fault}
 use Rattle.hyd_states.specs.declared.types.LinkType.{LinkType}
 use Rattle.hyd_states.specs.declared.types.LinkType.TheVariants.{Pipe, CheckPipe, Pump, Tcv, Fcv, Gpv}
@@ -85,21 +87,30 @@ pub record IsThrottleCoefficient (number : Decimal) : Type 0 where
   pub not_negative : pos 0 ≤ℤ number.nano
   pub at_most : number.nano ≤ℤ units (10 ^ 6)
 
--- a word of a file with this unit asks this of a link, and nothing is wrong with it, its capacity aside
-pub record IsAllowed (unit : FlowUnit) (link : Row) (asked : Asked) : Type 0 where
-  pub rows : List Row
-  pub unit_is : unit ≡ force.unit rows
-  pub word : List ℕ
-  pub asked_is : IsAsked word asked
-  pub between : Option Cause
-  pub right : set_link rows (Some link) word between ≡ None
+-- OPEN: of a pump, speed 1
+abbrev pub open_state : LinkType → LinkState
+open_state Pump = Speed (units 1)
+open_state _ = Open
+
+-- a throttle control valve of a diameter, throttled to a coefficient, both in billionths
+abbrev pub IsThrottled : Bool → ℤ → ℤ → LinkState → Type 0
+IsThrottled us diameter nano (Throttle coefficient law) = (coefficient ≡ nano) × IsOpenValve us diameter nano law
+IsThrottled us diameter nano _ = ⊥
+
+-- nothing is wrong with a state that is asked of a link, its capacity aside
+pub record IsAllowed (unit : FlowUnit) (row : Row) (asked : Asked) : Type 0 where
+  pub link : LinkType
+  pub type_is : IsType row link
+  pub right : type_fault unit link asked None ≡ None
+
+-- the capacity of a throttle's setting is out of range; no other state has a capacity of its own
+abbrev pub IsRefusedAsked : FlowUnit → Row → LinkType → Asked → Type 0
+IsRefusedAsked unit row Tcv (Number number) = IsRefusedValve (amount 3 row.words) number.nano (is_us_unit unit)
+IsRefusedAsked unit row _ _ = ⊥
 
 -- nor is its capacity out of range
-pub record IsSettable (unit : FlowUnit) (link : Row) (asked : Asked) : Type 0 where
-  pub rows : List Row
-  pub unit_is : unit ≡ force.unit rows
-  pub word : List ℕ
-  pub asked_is : IsAsked word asked
-  pub between : Option Cause
-  pub right : set_link rows (Some link) word between ≡ None
-  pub free : IsRefusedSetting rows (Some link) word → ⊥
+pub record IsSettable (unit : FlowUnit) (row : Row) (asked : Asked) : Type 0 where
+  pub link : LinkType
+  pub type_is : IsType row link
+  pub right : type_fault unit link asked None ≡ None
+  pub free : IsRefusedAsked unit row link asked → ⊥

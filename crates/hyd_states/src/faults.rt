@@ -1,13 +1,13 @@
 //! What is wrong with a state that a word asks of a link.
 #![tactic(auto)]
 
-ghost use Rattle.std.specs.Prelude.{◌≡◌, ℕ, List, Some};
+ghost use Rattle.std.specs.Prelude.{◌≡◌, ℕ, List, Some, IfNone};
 ghost use Rattle.hyd_lex.specs.Lines.{LiesIn, Row, row_of};
 ghost use Rattle.hyd_opts.specs.Meanings.{IsAsked};
 ghost use Rattle.hyd_spec_input.specs.InForce as force;
 ghost use Rattle.hyd_spec_input.specs.WithOthers as others;
 ghost use Rattle.hyd_states.specs.States as states;
-ghost use Rattle.hyd_states.specs.States.{IsRightLink};
+ghost use Rattle.hyd_states.specs.States.{IsRightLink, IsAllowed};
 
 use crate::types::{LinkType, link_type};
 use hyd_lex::{Line, Lines};
@@ -78,12 +78,7 @@ fn range_fault(link: LinkType, asked: Asked, unit: FlowUnit) -> Option<Cause>
 }
 
 // What is wrong with a state that is asked of a link of a type.
-fn type_fault(
-    link: LinkType,
-    asked: Asked,
-    between: Option<Cause>,
-    unit: FlowUnit,
-) -> Option<Cause>
+fn type_fault(link: LinkType, asked: Asked, between: Option<Cause>, unit: FlowUnit) -> Option<Cause>
     ensures { result ≡ states.type_fault unit link asked between }
 {
     if !takes(link, asked) {
@@ -110,8 +105,9 @@ pub fn state_fault(
 ) -> Option<Cause>
     requires lies { LiesIn text.now.text link.now }
     requires right { IsRightLink (row_of text.now.text link.now) }
-    ensures { (rows : List Row) (word : List ℕ) → unit ≡ force.unit rows → IsAsked word asked
+    ensures fault { (rows : List Row) (word : List ℕ) → unit ≡ force.unit rows → IsAsked word asked
         → result ≡ others.set_link rows (Some (row_of text.now.text link.now)) word between }
+    ensures allowed { IfNone result (IsAllowed unit (row_of text.now.text link.now) asked) }
 {
     type_fault(link_type(text, link), asked, between, unit)
 }

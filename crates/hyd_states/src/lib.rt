@@ -7,5 +7,7 @@ mod settings;
 mod types;
 
 pub use faults::state_fault;
-pub use settings::{is_refused, link_state};
+pub use settings::{
+    is_refused, is_refused_valve, limit_state, link_state, speed_state, throttle_state, valve_law,
+};
 pub use types::{LinkType, link_type};

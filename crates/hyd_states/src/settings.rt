@@ -2,6 +2,7 @@
 #![tactic(auto)]
 
 ghost use Rattle.std.specs.Prelude.{◌≡◌, ◌↔◌, ℕ, true, None, List, Some};
+ghost use Rattle.hyd_num.specs.Quantity as quantity;
 ghost use Rattle.hyd_lex.specs.Lines.{LiesIn, Row, row_of};
 ghost use Rattle.hyd_opts.specs.Judged.{words_at};
 ghost use Rattle.hyd_opts.specs.Meanings.{IsAsked};
@@ -10,9 +11,10 @@ ghost use Rattle.hyd_spec_input.specs.Capacities.{IsRefusedSetting, IsRefusedVal
 ghost use Rattle.hyd_spec_input.specs.Columns.{amount};
 ghost use Rattle.hyd_spec_input.specs.InForce as force;
 ghost use Rattle.hyd_spec_input.specs.NetworkRows as row;
-ghost use Rattle.hyd_spec_input.specs.Project.{IsState, IsOpenValve};
+ghost use Rattle.hyd_spec_input.specs.Project as project;
+ghost use Rattle.hyd_spec_input.specs.Project.{IsState, IsNumberState, IsOpenValve};
 ghost use Rattle.hyd_states.specs.States as states;
-ghost use Rattle.hyd_states.specs.States.{IsRightLink, IsAllowed, IsSettable, IsThrottleCoefficient};
+ghost use Rattle.hyd_states.specs.States.{IsRightLink, IsAllowed, IsSettable, IsThrottleCoefficient, IsThrottled};
 
 use crate::types::{LinkType, link_type};
 use hyd_lex::{Line, Lines};
@@ -22,6 +24,8 @@ use hyd_opts::Asked;
 use hyd_resist::valve_capacity;
 use hyd_rows::read_valve;
 use hyd_units::flow_ticks;
+
+const ONE: i64 = 1_000_000_000;
 
 // The diameter of a valve.
 fn diameter(text: &Lines<'_>, link: &Line) -> Decimal
@@ -36,8 +40,9 @@ fn diameter(text: &Lines<'_>, link: &Line) -> Decimal
     }
 }
 
-// Whether a throttled valve's capacity is out of range.
-fn is_refused_valve(diameter: Decimal, coefficient: Decimal, us: bool) -> bool
+/// Whether the capacity of a valve with a loss coefficient is out of range; a coefficient of 0 makes a linear law, and
+/// no capacity.
+pub fn is_refused_valve(diameter: Decimal, coefficient: Decimal, us: bool) -> bool
     requires diameter { IsDiameter diameter }
     requires coefficient { IsThrottleCoefficient coefficient }
     ensures { (result ≡ true) ↔ IsRefusedValve diameter.nano coefficient.nano us }
@@ -45,11 +50,14 @@ fn is_refused_valve(diameter: Decimal, coefficient: Decimal, us: bool) -> bool
     if coefficient.nano == 0 {
         return false;
     }
-    valve_capacity(diameter, coefficient, us).is_err()
+    match valve_capacity(diameter, coefficient, us) {
+        Ok(_) => false,
+        Err(_) => true,
+    }
 }
 
-// The law of a valve with a loss coefficient.
-fn valve_law(diameter: Decimal, coefficient: Decimal, us: bool) -> OpenValve
+/// The law of a valve with a loss coefficient: linear at 0.
+pub fn valve_law(diameter: Decimal, coefficient: Decimal, us: bool) -> OpenValve
     requires diameter { IsDiameter diameter }
     requires coefficient { IsThrottleCoefficient coefficient }
     requires free { ¬ IsRefusedValve diameter.nano coefficient.nano us }
@@ -76,14 +84,14 @@ pub fn is_refused(text: &Lines<'_>, link: &Line, asked: Asked, unit: FlowUnit) -
     let Asked::Number(number) = asked else {
         return false;
     };
-    if link_type(text, link) != LinkType::Tcv {
-        return false;
+    match link_type(text, link) {
+        LinkType::Tcv => is_refused_valve(diameter(text, link), number, unit.is_us()),
+        _ => false,
     }
-    is_refused_valve(diameter(text, link), number, unit.is_us())
 }
 
-// A speed; speed 0 is closed.
-fn speed_state(number: Decimal) -> LinkState
+/// A speed as the state of a pump; speed 0 is closed.
+pub fn speed_state(number: Decimal) -> LinkState
     requires { states.speed_fault number.nano ≡ None }
     ensures { result ≡ project.speed_state number.nano }
 {
@@ -93,8 +101,8 @@ fn speed_state(number: Decimal) -> LinkState
     LinkState::Speed(number.nano as i64)
 }
 
-// A greatest flow.
-fn limit_state(number: Decimal, unit: FlowUnit) -> LinkState
+/// A greatest flow as the state of a flow control valve.
+pub fn limit_state(number: Decimal, unit: FlowUnit) -> LinkState
     requires { states.limit_fault unit number.nano ≡ None }
     ensures { result ≡ LinkState.Limit number.nano (quantity.flow_ticks unit number.nano) }
 {
@@ -105,10 +113,41 @@ fn limit_state(number: Decimal, unit: FlowUnit) -> LinkState
 }
 
 // OPEN; of a pump, speed 1.
-fn open_state(link: LinkType) -> LinkState {
+fn open_state(link: LinkType) -> LinkState
+    ensures { result ≡ states.open_state link }
+{
     match link {
-        LinkType::Pump => LinkState::Speed(1_000_000_000),
+        LinkType::Pump => LinkState::Speed(ONE),
         _ => LinkState::Open,
+    }
+}
+
+/// A loss coefficient as the state of a throttle control valve.
+pub fn throttle_state(text: &Lines<'_>, link: &Line, number: Decimal, us: bool) -> LinkState
+    requires lies { LiesIn text.now.text link.now }
+    requires right { row.valve (words_at text.now link.now) ≡ None }
+    requires coefficient { IsThrottleCoefficient number }
+    requires free { ¬ IsRefusedValve (amount 3 (words_at text.now link.now)) number.nano us }
+    ensures { IsThrottled us (amount 3 (words_at text.now link.now)) number.nano result }
+{
+    LinkState::Throttle {
+        nano: number.nano as i64,
+        law: valve_law(diameter(text, link), number, us),
+    }
+}
+
+// A number as the state of a link.
+fn number_state(text: &Lines<'_>, link: &Line, number: Decimal, unit: FlowUnit) -> LinkState
+    requires lies { LiesIn text.now.text link.now }
+    requires right { IsRightLink (row_of text.now.text link.now) }
+    requires settable { IsSettable unit (row_of text.now.text link.now) (Asked.Number number) }
+    ensures { (rows : List Row) → unit ≡ force.unit rows
+        → IsNumberState rows (row_of text.now.text link.now) number.nano result }
+{
+    match link_type(text, link) {
+        LinkType::Pump => speed_state(number),
+        LinkType::Tcv => throttle_state(text, link, number, unit.is_us()),
+        _ => limit_state(number, unit),
     }
 }
 
@@ -120,5 +159,9 @@ pub fn link_state(text: &Lines<'_>, link: &Line, asked: Asked, unit: FlowUnit) -
     ensures { (rows : List Row) (word : List ℕ) → unit ≡ force.unit rows → IsAsked word asked
         → IsState rows (row_of text.now.text link.now) word result }
 {
-    LinkState::Open
+    match asked {
+        Asked::Open => open_state(link_type(text, link)),
+        Asked::Closed => LinkState::Closed,
+        Asked::Number(number) => number_state(text, link, number, unit),
+    }
 }

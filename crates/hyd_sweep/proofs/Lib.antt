@@ -2,3 +2,4 @@ pub mod Ends
 pub mod Values
 pub mod Walking
 pub mod Turns
+pub mod Striding

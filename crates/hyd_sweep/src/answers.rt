@@ -23,6 +23,7 @@ pub enum Swept {
         /// Its number among the junctions, counted from 0.
         junction: u32,
     },
-    /// So many rounds of raises exist, and their result is no certificate.
+    /// So many rounds of raises exist, and their result is no certificate. The heads are a start as far out as it, or
+    /// farther.
     RoundsSpent,
 }

@@ -42,7 +42,9 @@ fn raise_each(
 }
 
 /// Raises the junctions of an order one after another, each from the heads that the ones before it left, up to the
-/// first that has no value.
+/// first that has no value. From a start this leads to a start, which is the tight vector where every junction suits;
+/// and where one had no value there is no certificate. An order of n parts that each name every junction leads as far
+/// as n rounds, or farther.
 pub fn follow(
     net: &Net,
     problem: Problem,

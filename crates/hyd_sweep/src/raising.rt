@@ -132,7 +132,8 @@ fn value(
 }
 
 /// Raises junction i: puts it to the nearest head in the box, its own or farther out, at which it passes with the other
-/// heads as they are. A held junction is put to its head, and has no value where its own lies beyond that.
+/// heads as they are. A held junction is put to its head, and has no value where its own lies beyond that. The balance
+/// of the junction is tried at 64 heads at most, which no clause says.
 pub fn raise(
     net: &Net,
     problem: Problem,

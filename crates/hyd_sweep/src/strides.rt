@@ -1,14 +1,18 @@
 //! Leaps along the way of a round, in strides of several lengths.
 #![tactic(auto)]
 
-ghost use Rattle.std.specs.Prelude.{◌≡◌, ◌<◌, ◌≤◌, length, All};
+ghost use Rattle.std.specs.Prelude.{◌≡◌, ◌<◌, ◌≤◌, ◌+◌, ◌-◌, ◌*◌, ◌^◌, ◌-ℤ◌, ◌≤ℤ◌, ℕ, pos, suc, length, unsigned_abs, All, if◌then◌else◌};
+ghost use Rattle.hyd_spec.specs.Assignment.{head_at};
 ghost use Rattle.hyd_spec_certificates.specs.Certificate.{IsInBox};
+ghost use Rattle.hyd_spec_laws.specs.Sides.{along};
 ghost use Rattle.hyd_graph.specs.GridOf.{grid_of};
 ghost use Rattle.hyd_graph.specs.Nets.{HasProblem};
 ghost use Rattle.hyd_sweep.specs.Sweeps.{HoldsInBox};
 ghost use Rattle.hyd_sweep.specs.Leaps.{LeadsOn};
+ghost use Rattle.hyd_sweep.specs.Strides.{IsStride, reach, LiesWithin};
 
 use crate::leaps::leap;
+use hyd_check::head_of;
 use hyd_graph::Net;
 use hyd_spec_certificates::{HeldJunction, Problem, Side};
 
@@ -16,22 +20,28 @@ use hyd_spec_certificates::{HeldJunction, Problem, Side};
 const TRIES: u32 = 40;
 
 // The longest stride. All strides after a round are together less than 2^20 times as long as the round's way.
-const LONGEST: i64 = 1 << 18;
+const LONGEST: u64 = 1 << 18;
 
 // The shortest stride is an eighth of the round's way.
-const PARTS: i64 = 8;
+const PARTS: u64 = 8;
+
+// Farther than from one end of the box to the other, in head ticks.
+const PAST_BOX: u128 = 3_000_000_000_000_000_000;
 
 /// How far the next leap goes: so many parts of the way that a round went.
 #[derive(Clone, Copy, Drop)]
 pub(crate) struct Stride {
-    times: i64,
-    parts: i64,
+    times: u64,
+    parts: u64,
     grows: bool,
 }
 
 impl Stride {
     /// As far again as the round.
-    pub(crate) fn new() -> Stride {
+    pub(crate) fn new() -> Stride
+        ensures stride { IsStride result }
+        ensures reach { reach result 40 ≤ 2 ^ 20 - 1 }
+    {
         Stride {
             times: 1,
             parts: 1,
@@ -39,58 +49,98 @@ impl Stride {
         }
     }
 
-    // The stride after this one: twice as long up to the first that is refused, then half as long each time.
-    fn after(&self, leapt: bool) -> Stride {
-        let grows = self.grows && leapt && self.times < LONGEST;
-        if grows {
-            return Stride {
-                times: self.times.saturating_mul(2),
-                parts: self.parts,
-                grows,
-            };
-        }
+    // Half as long a stride.
+    fn shorter(self) -> Stride
+        requires { IsStride self }
+        ensures stride { IsStride result }
+        ensures times { (left : ℕ) → reach result left ≤ self.times + suc left }
+    {
         if self.times > 1 {
             return Stride {
                 times: self.times / 2,
                 parts: self.parts,
-                grows,
+                grows: false,
             };
         }
         Stride {
             times: self.times,
             parts: self.parts.saturating_mul(2),
-            grows,
+            grows: false,
         }
     }
 
+    // The stride after this one: twice as long up to the first that is refused, then half as long each time.
+    fn after(self, leapt: bool) -> Stride
+        requires { IsStride self }
+        ensures stride { IsStride result }
+        ensures reach { (left : ℕ) → (if leapt then self.times else 0) + reach result left ≤ reach self (suc left) }
+    {
+        let grows = self.grows && leapt && self.times <= LONGEST / 2;
+        if grows {
+            return Stride {
+                times: self.times * 2,
+                parts: self.parts,
+                grows,
+            };
+        }
+        self.shorter()
+    }
+
+    // So far on along a way, in ticks, or past the box in any case.
+    fn ticks(self, way: u64) -> u64
+        requires { IsStride self }
+        ensures within { result ≤ 3 * 10 ^ 18 }
+        ensures most { result ≤ self.times * way }
+    {
+        let ticks = u128::from(self.times) * u128::from(way) / u128::from(self.parts);
+        ticks.min(PAST_BOX) as u64
+    }
+
     // A head so far on.
-    fn head(&self, from: i64, way: i64) -> i64 {
-        from.saturating_add(way.saturating_mul(self.times) / self.parts.max(1))
+    fn head(self, side: Side, from: i64, way: i64) -> i64
+        requires stride { IsStride self }
+        requires in_box { IsInBox from }
+        ensures { (along side result -ℤ along side from) ≤ℤ pos (self.times * unsigned_abs way) }
+    {
+        let ticks = self.ticks(way.unsigned_abs()) as i64;
+        match side {
+            Side::Upper => from + ticks,
+            Side::Lower => from - ticks,
+        }
     }
 }
 
 /// Puts the way of each head from an earlier vector, which is replaced by it.
-pub(crate) fn put_ways(u: &[i64], ways: &mut [i64])
-    requires { length ways.old ≡ length u.now }
-    ensures { length ways.new ≡ length ways.old }
+pub(crate) fn put_ways(net: &Net, u: &[i64], ways: &mut [i64])
+    requires one_each { length u.now ≡ length net.now.junctions }
+    requires ways_each { length ways.old ≡ length u.now }
+    requires in_box { All IsInBox u.now }
+    requires earlier_in_box { All IsInBox ways.old }
+    ensures each { length ways.new ≡ length ways.old }
+    ensures ways { (i : ℕ) → i < length u.now → head_at ways.new i ≡ (head_at u.now i -ℤ head_at ways.old i) }
 {
-    for i in 0..ways.len() {
-        ways[i] = u[i].saturating_sub(ways[i]);
+    for i in 0..net.junctions() {
+        ways[i as usize] = head_of(u, i) - head_of(ways, i);
     }
 }
 
 // Proposes the vector that is a stride on from u.
-fn propose(u: &[i64], ways: &[i64], stride: Stride, to: &mut [i64])
+fn propose(net: &Net, side: Side, u: &[i64], ways: &[i64], stride: Stride, to: &mut [i64])
+    requires one_each { length u.now ≡ length net.now.junctions }
     requires ways_each { length ways.now ≡ length u.now }
     requires to_each { length to.old ≡ length u.now }
-    ensures { length to.new ≡ length to.old }
+    requires in_box { All IsInBox u.now }
+    requires stride { IsStride stride }
+    ensures each { length to.new ≡ length to.old }
+    ensures near { LiesWithin side stride.times ways.now u.now to.new }
 {
-    for i in 0..to.len() {
-        to[i] = stride.head(u[i], ways[i]);
+    for i in 0..net.junctions() {
+        to[i as usize] = stride.head(side, head_of(u, i), head_of(ways, i));
     }
 }
 
-/// Leaps on along the ways of a round, in strides that grow while they are leaps, and shrink then.
+/// Leaps on along the ways of a round, in strides that grow while they are leaps, and shrink then. All leaps together
+/// go less than 2^20 times as far as the ways.
 pub(crate) fn leap_on(
     net: &Net,
     problem: Problem,
@@ -109,16 +159,17 @@ pub(crate) fn leap_on(
     requires pinned { HasProblem net.now problem }
     requires held_in_box { HoldsInBox held }
     ensures leads { LeadsOn held (grid_of net.now) problem side u.old u.new }
+    ensures near { LiesWithin side (2 ^ 20 - 1) ways.now u.old u.new }
     ensures to_each { length to.new ≡ length to.old }
     ensures heads_each { length heads.new ≡ length heads.old }
 {
     let _junctions = net.junctions();
     let mut stride = Stride::new();
-    for _tries in 0..TRIES {
+    for tried in 0..TRIES {
         if stride.parts > PARTS {
             return;
         }
-        propose(u, ways, stride, to);
+        propose(net, side, u, ways, stride, to);
         let leapt = leap(net, problem, side, held, u, to, heads);
         stride = stride.after(leapt);
     }

@@ -7,6 +7,7 @@ ghost use Rattle.hyd_spec_certificates.specs.Climbing.{IsStart};
 ghost use Rattle.hyd_graph.specs.GridOf.{grid_of};
 ghost use Rattle.hyd_graph.specs.Nets.{HasProblem};
 ghost use Rattle.hyd_sweep.specs.Sweeps.{SweepGives, HoldsInBox};
+ghost use Rattle.hyd_sweep.specs.Strides.{SweepGoes};
 
 use crate::answers::Swept;
 use crate::rounds::{round, suits_everywhere};
@@ -17,7 +18,8 @@ use std::alloc::{AllocError as OutOfMemory, Global};
 use std::marker::Model;
 
 /// At most so many rounds in file order toward the tight vector, from heads that every certificate lies beyond, with
-/// leaps after each. Three vectors are lent for them, of which nothing is kept.
+/// leaps after each: all of these together move each head less than 2^20 times as far as the round did. Three vectors
+/// are lent for them, of which nothing is kept.
 pub fn tighten_by_leaps(
     net: &Net,
     problem: Problem,
@@ -35,7 +37,8 @@ pub fn tighten_by_leaps(
     requires ways_each { length ways.old ≡ length u.old }
     requires to_each { length to.old ≡ length u.old }
     requires heads_each { length heads.old ≡ length u.old }
-    ensures { SweepGives held (grid_of net.now) problem side rounds u.old u.new result }
+    ensures sweep { SweepGives held (grid_of net.now) problem side rounds u.old u.new result }
+    ensures goes { SweepGoes held (grid_of net.now) problem side rounds u.old u.new result }
 {
     let _junctions = net.junctions();
     for spent in 0..rounds {
@@ -46,7 +49,7 @@ pub fn tighten_by_leaps(
         if let Some(junction) = round(net, problem, side, held, u) {
             return Swept::NoCertificate { junction };
         }
-        put_ways(u, ways);
+        put_ways(net, u, ways);
         leap_on(net, problem, side, held, u, ways, to, heads);
     }
     if suits_everywhere(net, problem, side, held, u) {
@@ -112,6 +115,7 @@ impl Sweeper {
         requires pinned { HasProblem net.now problem }
         requires held_in_box { HoldsInBox held }
         ensures sweep { SweepGives held (grid_of net.now) problem side rounds u.old u.new result }
+        ensures goes { SweepGoes held (grid_of net.now) problem side rounds u.old u.new result }
         ensures keeps { self.new ≡ self.old }
     {
         tighten_by_leaps(
@@ -140,6 +144,7 @@ impl Sweeper {
         requires start { IsStart None (grid_of net.now) problem Upper u.old }
         requires pinned { HasProblem net.now problem }
         ensures sweep { SweepGives None (grid_of net.now) problem Upper rounds u.old u.new result }
+        ensures goes { SweepGoes None (grid_of net.now) problem Upper rounds u.old u.new result }
         ensures keeps { self.new ≡ self.old }
     {
         self.tighten(net, problem, Side::Upper, None, u, rounds)
@@ -152,6 +157,7 @@ impl Sweeper {
         requires start { IsStart None (grid_of net.now) problem Lower u.old }
         requires pinned { HasProblem net.now problem }
         ensures sweep { SweepGives None (grid_of net.now) problem Lower rounds u.old u.new result }
+        ensures goes { SweepGoes None (grid_of net.now) problem Lower rounds u.old u.new result }
         ensures keeps { self.new ≡ self.old }
     {
         self.tighten(net, problem, Side::Lower, None, u, rounds)

@@ -1,5 +1,5 @@
 -- Target levels of a tank with a volume curve, as volumes in parts.
-use Rattle.std.proofs.Common.{◌≡◌, ℕ, ◌*◌, ◌^◌, ◌<◌, ◌≤◌, ◌↔◌, ◌⊎◌, ℤ, pos, neg_ℤ, ◌+ℤ◌, ◌-ℤ◌, ◌*ℤ◌, ◌≤ℤ◌, ◌<ℤ◌, Bool, true, false, ◌||◌, ◌&&◌, List, unsigned_abs, inl, inr, refl, sym, ap, subst, ◌∙◌, arith, IsTrue, to_z, of_z, w64}
+use Rattle.std.proofs.Common.{◌≡◌, ℕ, ◌<◌, ◌↔◌, ◌⊎◌, ℤ, pos, neg_ℤ, ◌+ℤ◌, ◌-ℤ◌, ◌*ℤ◌, ◌≤ℤ◌, ◌<ℤ◌, Bool, true, false, ◌||◌, ◌&&◌, List, inl, inr, refl, sym, ap, subst, ◌∙◌, arith, IsTrue, to_z, of_z, w64}
 use Rattle.std.specs.Prelude.{int_le, if◌then◌else◌}
 use Rattle.std.specs.Int.{int_min, w128}
 use Rattle.std.proofs.Math.IntN.{*ℤ_comm}
@@ -8,14 +8,14 @@ use Rattle.hyd_spec.specs.Scale.{is_same_number}
 use Rattle.hyd_lemmas.proofs.Trials.{or-left, or-right}
 use Rattle.hyd_spec_laws.proofs.RisingLines.{value-den}
 use Rattle.hyd_num.proofs.Integers.{times_plus, times_neg, times_rises, times_one}
-use Rattle.hyd_num.specs.Rational.{Rational, floor, ceiling, whole, is_at_most}
-use Rattle.hyd_net.specs.Curves.{value_at, volume_at, volume_knots, IsVolumeCurve}
+use Rattle.hyd_num.specs.Rational.{Rational, floor, ceiling, is_at_most}
+use Rattle.hyd_net.specs.Curves.{value_at, volume_at, volume_knots}
 use Rattle.hyd_spec.specs.Types.{Tank, VolumePoint}
-use Rattle.hyd_spec.specs.Tank.{Stock, Curve, Bounds, level_bounds, content_bounds, exact_content, placed, level_on_curve, level_at_volume, carried_level, reaches, is_bound, has_reached}
+use Rattle.hyd_spec.specs.Tank.{Stock, Curve, Bounds, level_bounds, content_bounds, exact_content, level_on_curve, level_at_volume, carried_level, reaches, has_reached}
 use Rattle.hyd_lemmas.proofs.Integers.{exchanged, floor_low, floor_greatest, ceiling_high, ceiling_least}
 use Rattle.hyd_spec_laws.specs.Laws.{IsVessel, in_parts}
 use Rattle.hyd_spec_laws.proofs.Leading.{one_times, one-within}
-use Rattle.hyd_spec_laws.proofs.Levelling.{level-fits-at, carried-some, curve-some, exact-some}
+use Rattle.hyd_spec_laws.proofs.Levelling.{level-fits-at, carried-some, curve-some}
 use Rattle.hyd_spec_laws.proofs.Outflows.{le-yes}
 use Rattle.hyd_spec_laws.proofs.Placing.{le-from, above-yes, above-from, below-yes, below-from, placed-is, placed-most, placed-least}
 use Rattle.hyd_spec_laws.proofs.Targets.{falling_target, at_maximum, risen_to}
@@ -23,7 +23,7 @@ use Rattle.hyd_spec_certificates.specs.FirstSeconds.{IsFirstSecond}
 use Rattle.hyd_tank.specs.declared.content.Bounds.{Bounds as Limits}
 use Rattle.hyd_tank.specs.declared.curve.Mixed.{Mixed}
 use Rattle.hyd_tank.specs.declared.seconds.Target.{Target}
-use Rattle.hyd_tank.specs.Contents.{bounds_of, IsFirstMeeting}
+use Rattle.hyd_tank.specs.Contents.{IsFirstMeeting}
 use Rattle.hyd_tank.specs.Curve.{value_of, times_value}
 use Rattle.hyd_tank.proofs.Values.{start_is}
 use Rattle.hyd_tank.proofs.Meeting.{first_like}

@@ -1,6 +1,6 @@
 -- How full a tank is at a level, and at both ends of an interval.
 use Rattle.std.proofs.Common.{◌≡◌, ℤ, pos, ◌+ℤ◌, ◌-ℤ◌, ◌*ℤ◌, ◌≤ℤ◌, ◌<ℤ◌, Bool, false, refl, ap, ◌∙◌, arith, Some, None}
-use Rattle.std.specs.Prelude.{Option, int_le, if◌then◌else◌}
+use Rattle.std.specs.Prelude.{int_le, if◌then◌else◌}
 use Rattle.std.proofs.lemmas.Int.{ints}
 use Rattle.hyd_spec.specs.Types.{Tank}
 use Rattle.hyd_spec.specs.Scale.{at_scale}

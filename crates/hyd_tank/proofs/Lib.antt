@@ -8,3 +8,4 @@ pub mod Values
 pub mod Walking
 pub mod Basins
 pub mod Aims
+pub mod Keeping

@@ -1,5 +1,5 @@
 -- Tanks of sound networks.
-use Rattle.std.proofs.Common.{◌≡◌, ℕ, ◌*◌, ◌^◌, ◌<◌, ◌≤◌, ℤ, pos, negsuc, ◌+ℤ◌, ◌*ℤ◌, ◌≤ℤ◌, ◌<ℤ◌, Bool, true, false, List, length, unsigned_abs, refl, sym, ap, subst, ◌∙◌, arith}
+use Rattle.std.proofs.Common.{◌≡◌, ℕ, ◌*◌, ◌^◌, ◌<◌, ◌≤◌, ℤ, pos, negsuc, ◌*ℤ◌, ◌≤ℤ◌, Bool, true, false, List, length, refl, sym, ap, subst, ◌∙◌, arith}
 use Rattle.std.specs.Prelude.{Option, Some, None, is_some, if◌then◌else◌, slice_get, IfSome, MatchOption}
 use Rattle.std.specs.Option.{option_map_or}
 use Rattle.std.proofs.lemmas.Int.{ints}
@@ -19,7 +19,7 @@ use Rattle.hyd_spec_certificates.specs.Stocks.{Stocks, next_stocks, carried_stoc
 use Rattle.hyd_spec_certificates.specs.FirstSeconds.{IsEarliestSecond, IsLatestSecond}
 use Rattle.hyd_spec_laws.proofs.Levelling.{next_within, volumes_within}
 use Rattle.hyd_spec_laws.specs.Laws.{IsVessel}
-use Rattle.hyd_spec_laws.proofs.Vessels.{IsSoundTank, sound_tank, shape_of, vessels}
+use Rattle.hyd_spec_laws.proofs.Vessels.{IsSoundTank, sound_tank, shape_of}
 use Rattle.hyd_tank.specs.declared.spans.Stock.{Stock}
 use Rattle.hyd_tank.specs.Spans.{stocks_of, stocks_at, AreHeld, cylinder, IsTankOfRange, IsCylinder, IsBasin, IsTankOf}
 use Rattle.hyd_tank.proofs.Contents.{some_parts}

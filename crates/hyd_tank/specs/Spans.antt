@@ -1,5 +1,5 @@
 -- What the spans and stocks of the calls stand for, and what is asked of them.
-use Rattle.std.specs.Prelude.{◌≡◌, ◌*◌, ◌^◌, ◌≤◌, ℕ, ℤ, pos, ◌<ℤ◌, ◌≤ℤ◌, unsigned_abs, None, List, ◌<◌, length, MatchOption}
+use Rattle.std.specs.Prelude.{◌≡◌, ◌*◌, ◌^◌, ◌≤◌, ℤ, pos, ◌<ℤ◌, ◌≤ℤ◌, unsigned_abs, None, List, ◌<◌, length, MatchOption}
 use Rattle.hyd_num.specs.declared.decimals.Span.{Span}
 use Rattle.hyd_net.specs.Ranges.{Lies}
 use Rattle.hyd_net.specs.Sizes.{IsShapeOf}
@@ -29,6 +29,10 @@ stocks_of stock = record { level = levels_of stock.level; volume = volumes_of st
 -- the stocks of a tank without a volume curve at these levels
 abbrev pub stocks_at : LevelSpan → Stocks
 stocks_at level = record { level = levels_of level; volume = exactly (pos 0) }
+
+-- its stocks at an interval of levels
+abbrev pub with_levels : Interval → Stocks
+with_levels level = record { level = level; volume = exactly (pos 0) }
 
 -- one stock of it
 abbrev pub level_stock : ℤ → OneStock

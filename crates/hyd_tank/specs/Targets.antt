@@ -1,5 +1,5 @@
 -- Targets of a tank with a volume curve, as volumes.
-use Rattle.std.specs.Prelude.{◌≡◌, ◌⊎◌, ℕ, ◌*◌, ◌^◌, ◌≤◌, ℤ, pos, ◌+ℤ◌, ◌*ℤ◌, ◌≤ℤ◌, Bool, true, false, IsTrue, ◌↔◌, unsigned_abs, ⊤, List, length, ◌-◌}
+use Rattle.std.specs.Prelude.{◌≡◌, ◌⊎◌, ℕ, ◌^◌, ◌≤◌, ℤ, pos, ◌+ℤ◌, ◌*ℤ◌, ◌≤ℤ◌, Bool, true, false, IsTrue, ◌↔◌, unsigned_abs, ⊤, List, length, ◌-◌}
 use Rattle.std.specs.List.{HoldsAt}
 use Rattle.hyd_spec.specs.Types.{Tank, VolumePoint}
 use Rattle.hyd_spec.specs.Tank.{Stock, Curve, content_bounds, has_reached}

@@ -1,14 +1,15 @@
 //! Tanks without a volume curve: their levels after some seconds, and when these reach a target.
 #![tactic(auto)]
 
-ghost use Rattle.std.specs.Prelude.{◌≡◌, ◌*◌, ◌^◌, ◌<◌, ◌≤◌, pos, unsigned_abs, ℕ, ℤ, Bool};
+ghost use Rattle.std.specs.Prelude.{◌≡◌, ◌*◌, ◌^◌, ◌<◌, ◌≤◌, ◌≤ℤ◌, pos, unsigned_abs, ℕ, ℤ, Bool};
 ghost use Rattle.hyd_net.specs.Ranges.{Lies};
-ghost use Rattle.hyd_spec.specs.Tank.{level_bounds, has_reached};
+ghost use Rattle.hyd_spec.specs.Tank.{level_bounds, has_reached, carried_level, IsNextStock};
+ghost use Rattle.hyd_spec_certificates.specs.Interval.{Interval};
 ghost use Rattle.hyd_spec_certificates.specs.Stocks.{contents_after, next_stocks, carried_levels};
 ghost use Rattle.hyd_spec_certificates.specs.FirstSeconds.{IsFirstSecond, IsEarliestSecond, IsLatestSecond};
-ghost use Rattle.hyd_spec_laws.specs.Laws.{IsWithin};
+ghost use Rattle.hyd_spec_laws.specs.Laws.{LiesIn, LiesAround, IsInside, IsWithin};
 ghost use Rattle.hyd_tank.specs.Contents.{bounds_of, AreBounds, IsMotion};
-ghost use Rattle.hyd_tank.specs.Spans.{levels_of, inflows_of, stocks_at, level_stock, cylinder, IsInflow, IsTankOfRange, IsCylinder};
+ghost use Rattle.hyd_tank.specs.Spans.{levels_of, inflows_of, stocks_at, with_levels, level_stock, cylinder, IsInflow, IsTankOfRange, IsCylinder};
 
 use crate::content::{Bounds, Motion, held_after, in_parts, lower_content, upper_content};
 use crate::seconds::first_meeting;
@@ -95,6 +96,17 @@ pub fn next_level(tank: &Tank, level: LevelSpan, inflow: Span, seconds: u32) -> 
     ensures value { levels_of result
         ≡ (next_stocks (cylinder tank.now) tank.now (stocks_at level) (inflows_of inflow) seconds).level }
     ensures bounded { IsWithin (level_bounds tank.now) (levels_of result) }
+    ensures ordered { level.lo ≤ℤ level.hi → result.lo ≤ℤ result.hi }
+
+    // Each level with which a next period may begin lies in it, at every scale.
+    ensures holds { (S : ℕ) (z q next : ℤ) → 0 < S → LiesIn S (levels_of level) z → LiesIn S (inflows_of inflow) q
+        → IsNextStock S (cylinder tank.now) tank.now (level_stock z) q seconds (level_stock next)
+        → LiesIn S (levels_of result) next }
+
+    // It lies in those of wider levels under a wider inflow.
+    ensures nests { (wider more : Interval) → IsInside (levels_of level) wider → IsInside (inflows_of inflow) more
+        → IsInside (levels_of result)
+        (next_stocks (cylinder tank.now) tank.now (with_levels wider) more seconds).level }
 {
     levels_after(tank, level, inflow, seconds, WIDENING)
 }
@@ -107,6 +119,15 @@ pub fn level_at(tank: &Tank, level: LevelSpan, inflow: Span, seconds: u32) -> Le
     requires seconds { seconds ≤ 10 ^ 8 }
     ensures value { levels_of result ≡ carried_levels (cylinder tank.now) tank.now (stocks_at level) (inflows_of inflow) seconds }
     ensures bounded { IsWithin (level_bounds tank.now) (levels_of result) }
+    ensures ordered { level.lo ≤ℤ level.hi → result.lo ≤ℤ result.hi }
+
+    // Each carried level lies in it, at every scale.
+    ensures holds { (S : ℕ) (z q : ℤ) → 0 < S → LiesIn S (levels_of level) z → LiesIn S (inflows_of inflow) q
+        → LiesAround S (levels_of result) (carried_level S (cylinder tank.now) tank.now (level_stock z) q seconds) }
+
+    // It lies in those of wider levels under a wider inflow.
+    ensures nests { (wider more : Interval) → IsInside (levels_of level) wider → IsInside (inflows_of inflow) more
+        → IsInside (levels_of result) (carried_levels (cylinder tank.now) tank.now (with_levels wider) more seconds) }
 {
     levels_after(tank, level, inflow, seconds, 0)
 }
@@ -135,10 +156,8 @@ fn first_from(tank: &Tank, level: i64, inflow: i128, target: i64, rising: bool, 
     }
 }
 
-/// The earliest and the latest first second, from 1 on, at which a level of the interval has reached a target (head
-/// ticks): risen to it or fallen to it. Each is the cap where it is reached at no second up to the cap. The tank is one
-/// without a volume curve, of a sound project.
-pub fn first_second(
+// The first seconds of both ends of a level interval: the earlier, and the later.
+fn first_seconds(
     tank: &Tank,
     level: LevelSpan,
     inflow: Span,
@@ -156,4 +175,39 @@ pub fn first_second(
     let low = first_from(tank, level.lo, inflow.lo, target, rising, cap);
     let high = first_from(tank, level.hi, inflow.hi, target, rising, cap);
     if rising { (high, low) } else { (low, high) }
+}
+
+/// The earliest and the latest first second, from 1 on, at which a level of the interval has reached a target (head
+/// ticks): risen to it or fallen to it. Each is the cap where it is reached at no second up to the cap. The tank is one
+/// without a volume curve, of a sound project.
+pub fn first_second(
+    tank: &Tank,
+    level: LevelSpan,
+    inflow: Span,
+    target: i64,
+    rising: bool,
+    cap: u32,
+) -> (u32, u32)
+    requires tank { IsCylinder tank.now }
+    requires level { IsWithin (level_bounds tank.now) (levels_of level) }
+    requires inflow { IsInflow inflow }
+    requires target { unsigned_abs target ≤ 2 * 10 ^ 17 }
+    ensures earliest { IsEarliestSecond (cylinder tank.now) tank.now (stocks_at level) (inflows_of inflow) target rising cap result.0 }
+    ensures latest { IsLatestSecond (cylinder tank.now) tank.now (stocks_at level) (inflows_of inflow) target rising cap result.1 }
+    ensures ordered { level.lo ≤ℤ level.hi → result.0 ≤ result.1 }
+
+    // The first second of each level of the interval under each inflow lies between them, at every scale.
+    ensures holds { (S : ℕ) (z q : ℤ) (first : ℕ) → 0 < S → LiesIn S (levels_of level) z
+        → LiesIn S (inflows_of inflow) q
+        → IsFirstSecond (has_reached S (cylinder tank.now) tank.now (level_stock z) q rising target) cap first
+        → (result.0 ≤ first) × (first ≤ result.1) }
+
+    // They lie between those of wider levels under a wider inflow.
+    ensures nests { (wider more : Interval) (sooner later : ℕ) → IsInside (levels_of level) wider
+        → IsInside (inflows_of inflow) more
+        → IsEarliestSecond (cylinder tank.now) tank.now (with_levels wider) more target rising cap sooner
+        → IsLatestSecond (cylinder tank.now) tank.now (with_levels wider) more target rising cap later
+        → (sooner ≤ result.0) × (result.1 ≤ later) }
+{
+    first_seconds(tank, level, inflow, target, rising, cap)
 }

@@ -7,9 +7,9 @@ ghost use Rattle.hyd_net.specs.Sound.{Sound};
 ghost use Rattle.hyd_spec.specs.Types.{Tank};
 ghost use Rattle.hyd_spec.specs.Tank.{Stock as OneStock, shape_points, walls_of, has_reached, carried_level, IsNextStock};
 ghost use Rattle.hyd_spec_certificates.specs.Interval.{Interval};
-ghost use Rattle.hyd_spec_certificates.specs.Stocks.{Stocks, next_stocks, carried_stocks, carried_levels, may_reach, must_reach};
+ghost use Rattle.hyd_spec_certificates.specs.Stocks.{Stocks, next_stocks, carried_stocks, may_reach, must_reach};
 ghost use Rattle.hyd_spec_certificates.specs.FirstSeconds.{IsFirstSecond, IsEarliestSecond, IsLatestSecond};
-ghost use Rattle.hyd_spec_laws.specs.Laws.{LiesIn, LiesAround, StockLies, IsInside, AreInside};
+ghost use Rattle.hyd_spec_laws.specs.Laws.{LiesIn, LiesAround, StockLies, IsInside, AreInside, HasStock};
 ghost use Rattle.hyd_tank.specs.Spans.{inflows_of, levels_of, stocks_of, IsInflow, AreHeld, IsTankOf};
 
 use crate::curved::{carried_from, first_from, next_from};
@@ -112,6 +112,7 @@ pub fn next_stock(project: &Project, tank: u32, stock: Stock, inflow: Span, seco
         → stocks_of result ≡ next_stocks (walls_of project.now each) each (stocks_of stock) (inflows_of inflow) seconds }
     ensures held { (each : Tank) → slice_get project.now.tanks.list tank ≡ Some each
         → AreHeld (walls_of project.now each) each (stocks_of result) }
+    ensures ordered { HasStock (stocks_of stock) → HasStock (stocks_of result) }
 
     // Each stock with which a next period may begin lies in it, at every scale.
     ensures holds { (each : Tank) → slice_get project.now.tanks.list tank ≡ Some each
@@ -136,6 +137,9 @@ pub fn stock_at(project: &Project, tank: u32, stock: Stock, inflow: Span, second
     requires seconds { seconds ≤ 10 ^ 8 }
     ensures value { (each : Tank) → slice_get project.now.tanks.list tank ≡ Some each
         → stocks_of result ≡ carried_stocks (walls_of project.now each) each (stocks_of stock) (inflows_of inflow) seconds }
+    ensures held { (each : Tank) → slice_get project.now.tanks.list tank ≡ Some each
+        → AreHeld (walls_of project.now each) each (stocks_of result) }
+    ensures ordered { HasStock (stocks_of stock) → HasStock (stocks_of result) }
 
     // Each carried level lies in it, at every scale.
     ensures holds { (each : Tank) → slice_get project.now.tanks.list tank ≡ Some each
@@ -145,7 +149,7 @@ pub fn stock_at(project: &Project, tank: u32, stock: Stock, inflow: Span, second
     // It lies in those of a wider stock under a wider inflow.
     ensures nests { (each : Tank) → slice_get project.now.tanks.list tank ≡ Some each
         → (wider : Stocks) (more : Interval) → AreInside (stocks_of stock) wider → IsInside (inflows_of inflow) more
-        → IsInside (levels_of result.level) (carried_levels (walls_of project.now each) each wider more seconds) }
+        → AreInside (stocks_of result) (carried_stocks (walls_of project.now each) each wider more seconds) }
 {
     carried_of(project, &tank_at(project, tank), stock, inflow, seconds)
 }
@@ -172,6 +176,7 @@ pub fn first_stock(
         → IsEarliestSecond (walls_of project.now each) each (stocks_of stock) (inflows_of inflow) target rising cap result.0 }
     ensures latest { (each : Tank) → slice_get project.now.tanks.list tank ≡ Some each
         → IsLatestSecond (walls_of project.now each) each (stocks_of stock) (inflows_of inflow) target rising cap result.1 }
+    ensures ordered { HasStock (stocks_of stock) → result.0 ≤ result.1 }
 
     // The first second of each stock of the interval under each inflow lies between them, at every scale.
     ensures holds { (each : Tank) → slice_get project.now.tanks.list tank ≡ Some each

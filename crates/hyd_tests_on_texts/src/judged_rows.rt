@@ -1,21 +1,27 @@
 //! Rows of small texts that are wrong with the others, with what an independent reader says; counts above their limits.
 #![tactic(auto)]
 
-ghost use Rattle.std.specs.Prelude.{◌<◌, ◌^◌, length};
+ghost use Rattle.std.specs.Prelude.{◌≡◌, ◌<◌, ◌^◌, length};
 ghost use Rattle.std.specs.List.{All};
 ghost use Rattle.hyd_lex.specs.Lines.{LiesIn};
-ghost use Rattle.hyd_lex.specs.declared.section.Section.TheVariants.{Patterns};
+ghost use Rattle.hyd_lex.specs.declared.section.Section.TheVariants.{Curves as InCurves, Patterns as InPatterns};
 ghost use Rattle.hyd_spec_input.specs.ByItself.{IsWrongByItself};
 ghost use Rattle.hyd_spec_input.specs.Faults.{NoneIs};
-ghost use Rattle.hyd_spec_input.specs.Tables.{rows_of};
+ghost use Rattle.hyd_spec_input.specs.InForce as force;
+ghost use Rattle.hyd_judge.specs.JudgedNodes.{AreTables};
+ghost use Rattle.hyd_judge.specs.Patterns.{ArePatterns};
+ghost use Rattle.hyd_spec_input.specs.Tables.{rows_of, node_rows};
 ghost use Rattle.hyd_tables.specs.Found.{rows_at};
 ghost use Rattle.hyd_tables.specs.Tables.{IsTable};
 
 use hyd_by_itself::first_by_itself;
+use hyd_curves::gather_points;
 use hyd_judge::{
-    judge_curves, judge_demands, judge_nodes, judge_patterns, last_option, unit_in_force,
+    NodeTables, Patterns, judge_curves, judge_demands, judge_emitters, judge_nodes, judge_options,
+    judge_patterns, last_option, unit_in_force,
 };
 use hyd_lex::{Line, Lines};
+use hyd_num::FlowUnit;
 use hyd_tables::{Found, Table, gather, least};
 use std::alloc::Global;
 use std::fmt::Write;
@@ -23,46 +29,95 @@ use std::test::Fail;
 
 const GREATEST_TEXT: usize = 67_108_864;
 
-/// The first wrong row of junctions and demands.
-fn of_junctions_and_demands(
-    alloc: Global,
+/// The first wrong row of demands, emitters and options.
+fn of_demands_and_more(
     reader: &Lines<'_>,
     lines: &[Line],
+    nodes: &Table,
     patterns: &Table,
-) -> Result<Option<Found>, Fail>
+    unit: FlowUnit,
+) -> Option<Found>
     requires few { length lines.now < 2 ^ 31 }
     requires lie { All (LiesIn reader.now.text) lines.now }
     requires right { NoneIs (IsWrongByItself (rows_at reader.now.text lines.now)) }
-    requires patterns { IsTable reader.now.text (rows_of Patterns (rows_at reader.now.text lines.now)) patterns.now }
+    requires nodes { IsTable reader.now.text (node_rows (rows_at reader.now.text lines.now)) nodes.now }
+    requires patterns { IsTable reader.now.text (rows_of InPatterns (rows_at reader.now.text lines.now)) patterns.now }
+    requires unit { unit ≡ force.unit (rows_at reader.now.text lines.now) }
 {
-    let unit = unit_in_force(reader, lines);
-    let nodes = judge_nodes(alloc, reader, lines, patterns, unit)?;
-    let demands = judge_demands(reader, lines, &nodes.table, patterns, unit);
-    Ok(least(nodes.found, demands.found))
+    let demands = judge_demands(reader, lines, nodes, patterns, unit);
+    let emitters = judge_emitters(reader, lines, nodes, unit);
+    let options = judge_options(reader, lines, unit);
+    least(demands.found, least(emitters, options))
 }
 
-/// The first wrong row of patterns, junctions and demands.
-fn of_patterns_and_more(
+/// The first wrong row of nodes, demands, emitters and options.
+fn of_nodes_and_more(
     alloc: Global,
     reader: &Lines<'_>,
     lines: &[Line],
+    tables: &NodeTables<'_>,
 ) -> Result<Option<Found>, Fail>
     requires few { length lines.now < 2 ^ 31 }
     requires lie { All (LiesIn reader.now.text) lines.now }
     requires right { NoneIs (IsWrongByItself (rows_at reader.now.text lines.now)) }
+    requires tables { AreTables reader.now.text (rows_at reader.now.text lines.now) tables.now }
+{
+    let nodes = judge_nodes(alloc, reader, lines, tables)?;
+    let patterns = &tables.patterns.table;
+    let found = of_demands_and_more(reader, lines, &nodes.table, patterns, tables.unit);
+    Ok(least(nodes.found, found))
+}
+
+/// The first wrong row of nodes, demands, emitters and options, by the patterns and curves of a file.
+fn of_all_but_patterns_and_curves(
+    alloc: Global,
+    reader: &Lines<'_>,
+    lines: &[Line],
+    patterns: &Patterns,
+    curves: &Table,
+) -> Result<Option<Found>, Fail>
+    requires few { length lines.now < 2 ^ 31 }
+    requires lie { All (LiesIn reader.now.text) lines.now }
+    requires right { NoneIs (IsWrongByItself (rows_at reader.now.text lines.now)) }
+    requires patterns { ArePatterns reader.now.text (rows_at reader.now.text lines.now) patterns.now }
+    requires curves { IsTable reader.now.text (rows_of InCurves (rows_at reader.now.text lines.now)) curves.now }
+{
+    let points = gather_points(alloc, reader, lines, curves)?;
+    let tables = NodeTables {
+        patterns,
+        curves,
+        points: &points,
+        unit: unit_in_force(reader, lines),
+    };
+    of_nodes_and_more(alloc, reader, lines, &tables)
+}
+
+/// The first wrong row of all but curves.
+fn of_all_but_curves(
+    alloc: Global,
+    reader: &Lines<'_>,
+    lines: &[Line],
+    curves: &Table,
+) -> Result<Option<Found>, Fail>
+    requires few { length lines.now < 2 ^ 31 }
+    requires lie { All (LiesIn reader.now.text) lines.now }
+    requires right { NoneIs (IsWrongByItself (rows_at reader.now.text lines.now)) }
+    requires curves { IsTable reader.now.text (rows_of InCurves (rows_at reader.now.text lines.now)) curves.now }
 {
     let patterns = judge_patterns(alloc, reader, lines)?;
-    let found = of_junctions_and_demands(alloc, reader, lines, &patterns.table)?;
+    let found = of_all_but_patterns_and_curves(alloc, reader, lines, &patterns, curves)?;
     Ok(least(patterns.found, found))
 }
 
-/// The first wrong row of curves.
-fn of_curves(alloc: Global, reader: &Lines<'_>, lines: &[Line]) -> Result<Option<Found>, Fail>
+/// The first row that is wrong with the others.
+fn first_among(alloc: Global, reader: &Lines<'_>, lines: &[Line]) -> Result<Option<Found>, Fail>
     requires few { length lines.now < 2 ^ 31 }
     requires lie { All (LiesIn reader.now.text) lines.now }
+    requires right { NoneIs (IsWrongByItself (rows_at reader.now.text lines.now)) }
 {
     let curves = judge_curves(alloc, reader, lines)?;
-    Ok(curves.found)
+    let found = of_all_but_curves(alloc, reader, lines, &curves.table)?;
+    Ok(least(curves.found, found))
 }
 
 /// The first wrong row, by itself or with the others.
@@ -73,9 +128,7 @@ fn first_wrong(alloc: Global, reader: &Lines<'_>, lines: &[Line]) -> Result<Opti
     if let Some(found) = first_by_itself(reader, lines) {
         return Ok(Some(found));
     }
-    let found = of_patterns_and_more(alloc, reader, lines)?;
-    let of_curves = of_curves(alloc, reader, lines)?;
-    Ok(least(found, of_curves))
+    first_among(alloc, reader, lines)
 }
 
 /// The line and the cause of the first wrong row of a text, or else its unit of flows.

@@ -75,4 +75,8 @@ pub returns-clause-holds : goal.returns-clause-holds
 returns-clause-holds c =
     let each = c.links-links.ensures.each in
     let given = c.requires.in_range in
-    holds-flow (grid_of c.args.net.now) c.args.low.now c.args.high.now c.args.link c.between.result (omega (arith, each, given)) (returns-clause-flow c)
+    holds-flow (grid_of c.args.net.now) c.args.low.now c.args.high.now c.args.link c.between.result (omega (
+      arith,
+      each,
+      given,
+    )) (returns-clause-flow c)

@@ -63,5 +63,6 @@ returns-clause-small_hi c =
 pub returns-clause-holds : goal.returns-clause-holds
 returns-clause-holds c =
     let net = c.args.net.now in
-    holds-inflow (grid_of net) c.args.tank (tank_node_of net c.args.tank) (length net.junctions) c.args.low.now c.args.high.now _ c.junctions-junctions.ensures.each
+    holds-inflow (grid_of net) c.args.tank (tank_node_of net c.args.tank) (length net.junctions) c.args.low.now
+    c.args.high.now _ c.junctions-junctions.ensures.each
     (omega arith) (returns-clause-inflow c)

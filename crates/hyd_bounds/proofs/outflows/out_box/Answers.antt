@@ -58,4 +58,5 @@ pub returns-clause-holds : goal.returns-clause-holds
 returns-clause-holds c =
     let each = c.junctions-junctions.ensures.each in
     let given = c.requires.in_range in
-    holds-outflow (grid_of c.args.net.now) c.args.junction c.args.low c.args.high _ (omega (arith, each, given)) (returns-clause-outflow c)
+    holds-outflow (grid_of c.args.net.now) c.args.junction c.args.low c.args.high _ (omega (arith, each, given))
+    (returns-clause-outflow c)

@@ -42,4 +42,5 @@ returns-clause-word c us bends kind state place can state_is own_is place_is =
 
 pub returns-clause-holds : goal.returns-clause-holds
 returns-clause-holds c us bends kind state place can state_is own_is place_is =
-    holds-status (grid_of c.args.net.now) c.args.low.now c.args.high.now us bends kind state place _ (returns-clause-word c us bends kind state place can state_is own_is place_is)
+    holds-status (grid_of c.args.net.now) c.args.low.now c.args.high.now us bends kind state place _
+    (returns-clause-word c us bends kind state place can state_is own_is place_is)

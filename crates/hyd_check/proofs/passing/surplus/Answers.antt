@@ -36,7 +36,8 @@ returns-in-Upper-clause-value c =
     let margin : c.from-needed.result ≡ c.margin.result = (let k : to_z w64 (of_z w64 c.margin.result) ≡ c.margin.result = omega (arith, ints) in c.from-needed.ensures ∙ k) in
     let range = c.margin.type_inv in
     let small = c.net_outflow-outflow.ensures.small in
-    upper-surplus grid c.args.problem c.args.side c.args.u.now c.args.i c.args.head c.net_outflow-outflow.result c.margin.result _ c.in-Upper.is
+    upper-surplus grid c.args.problem c.args.side c.args.u.now c.args.i c.args.head c.net_outflow-outflow.result
+    c.margin.result _ c.in-Upper.is
     value c.margin.ensures (omega (arith, ints, margin, range, small))
 
 pub returns-in-Lower-clause-value : goal.returns-in-Lower-clause-value
@@ -47,5 +48,6 @@ returns-in-Lower-clause-value c =
     let margin : c.from-needed.result ≡ c.margin.result = (let k : to_z w64 (of_z w64 c.margin.result) ≡ c.margin.result = omega (arith, ints) in c.from-needed.ensures ∙ k) in
     let range = c.margin.type_inv in
     let small = c.net_outflow-outflow.ensures.small in
-    lower-surplus grid c.args.problem c.args.side c.args.u.now c.args.i c.args.head c.net_outflow-outflow.result c.margin.result _ c.in-Lower.is
+    lower-surplus grid c.args.problem c.args.side c.args.u.now c.args.i c.args.head c.net_outflow-outflow.result
+    c.margin.result _ c.in-Lower.is
     value c.margin.ensures (omega (arith, ints, margin, range, small))

@@ -1,5 +1,4 @@
-use Rattle.std.proofs.Common.{ap, ◌∙◌, ℕ, List, length, subst}
-use Rattle.hyd_lex.specs.declared.line.Line.{Line}
+use Rattle.std.proofs.Common.{ap, ℕ, length, subst}
 use Rattle.hyd_tables.specs.Found.{rows_at}
 use Rattle.hyd_curves.specs.Points.{AreEmpty}
 use Rattle.hyd_curves.proofs.PointLemmas.{before_rows, after_rows}

@@ -1,5 +1,5 @@
 use Rattle.hyd_tables.specs.Found.{rows_at}
-use Rattle.hyd_judge.specs.Nodes.{AreNodes}
+use Rattle.hyd_judge.specs.JudgedNodes.{AreNodes}
 use Rattle.hyd_judge.proofs.nodes.judge_nodes.Given as goal
 
 abbrev pub invariant-loop-place : goal.invariant-loop-place

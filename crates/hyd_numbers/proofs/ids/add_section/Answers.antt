@@ -1,4 +1,4 @@
-use Rattle.std.proofs.Common.{sym, ap, ◌∙◌, arith}
+use Rattle.std.proofs.Common.{sym, ◌∙◌, arith}
 use Rattle.hyd_lex.specs.declared.line.Line.{Line}
 use Rattle.hyd_lex.specs.declared.section.Section.TheVariants.{Junctions}
 use Rattle.hyd_tables.specs.Found.{rows_at}
@@ -14,7 +14,8 @@ unfolding nothing
 loop-line-preserved-then-not-is_of c =
     let text = c.args.text.now.text in
     let lines = c.args.lines.now in record {
-      names = section_same c.args.section (rows_at text lines) c.loop-line.line-index _ c.args.names.now c.loop-line.names
+      names = section_same c.args.section (rows_at text lines) c.loop-line.line-index _ c.args.names.now
+          c.loop-line.names
           (row_at text lines c.loop-line.line-index nothing c.loop-line-test.true)
           (sym c.is_of.ensures ∙ c.if-not-is_of.true) c.loop-line.invariant.names;
       few = omega (arith, c.loop-line.invariant.few);
@@ -25,7 +26,8 @@ unfolding nothing
 loop-line-preserved c =
     let text = c.args.text.now.text in
     let lines = c.args.lines.now in record {
-      names = section_more c.args.section (rows_at text lines) c.loop-line.line-index _ c.args.names.now c.loop-line.names
+      names = section_more c.args.section (rows_at text lines) c.loop-line.line-index _ c.args.names.now
+          c.loop-line.names
           c.add.new.self c.in_ok-add.field-0
           (row_at text lines c.loop-line.line-index nothing c.loop-line-test.true)
           (sym c.is_of.ensures ∙ c.if-not-is_of.false)

@@ -25,7 +25,8 @@ loop-spent-preserved c =
     let start = c.loop-spent.invariant.start in
     let gives = subst (λ (r : Option ℕ). RoundGives held grid problem side c.loop-spent.u c.round.new.u r) c.in_default.is c.round.ensures in
     record {
-      start = round-start held grid c.junctions-junctions.ensures.steady problem side c.loop-spent.u c.round.new.u gives start;
+      start = round-start held grid c.junctions-junctions.ensures.steady problem side c.loop-spent.u c.round.new.u
+          gives start;
       rounds = subst (λ (n : ℕ). HasRounds held grid problem side n c.args.u.now c.round.new.u) (let e : suc c.loop-spent.spent ≡ c.loop-spent.spent + 1 = omega arith in e)
           (round-more held grid c.junctions-junctions.ensures.steady problem side c.loop-spent.spent c.args.u.now c.loop-spent.u c.round.new.u start.one_each c.loop-spent.invariant.rounds gives);
     }

@@ -4,15 +4,23 @@ use Rattle.hyd_graph.specs.GridOf.{grid_of}
 use Rattle.hyd_spec_certificates.specs.Climbing.{HasRounds}
 use Rattle.hyd_spec_raises.proofs.Sweeping.{has-begins, has-on}
 use Rattle.hyd_sweep.specs.Sweeps.{RoundGives}
+use Rattle.hyd_sweep.specs.Strides.{AreLeapingRounds, no_round, one_round}
+use Rattle.hyd_sweep.proofs.Striding.{goes-on}
 use Rattle.std.specs.Prelude.{Option}
 use Rattle.hyd_sweep.proofs.Walking.{round-more, round-start, sweep-none, sweep-spent}
 use Rattle.hyd_sweep.proofs.sweeper.tighten_by_leaps.Goals as goal
 
 pub loop-spent-init : goal.loop-spent-init
-loop-spent-init c = record { start = c.requires.start; rounds = has-begins c.args.held (grid_of c.args.net.now) c.junctions-junctions.ensures.steady c.args.problem c.args.side c.args.u.now c.requires.start.one_each }
+loop-spent-init c = record {
+  start = c.requires.start;
+  way = no_round;
+  rounds = has-begins c.args.held (grid_of
+      c.args.net.now) c.junctions-junctions.ensures.steady c.args.problem c.args.side c.args.u.now
+      c.requires.start.one_each;
+}
 
-pub returns-in-Some : goal.returns-in-Some
-returns-in-Some c =
+pub returns-in-Some-clause-sweep : goal.returns-in-Some-clause-sweep
+returns-in-Some-clause-sweep c =
     sweep-none c.args.held (grid_of c.args.net.now) c.junctions-junctions.ensures.steady c.args.problem c.args.side c.args.rounds c.args.u.now c.loop-spent.u c.round.new.u c.in-Some.junction c.loop-spent.invariant.start
     (subst (λ (r : Option ℕ). RoundGives c.args.held (grid_of c.args.net.now) c.args.problem c.args.side c.loop-spent.u c.round.new.u r) c.in-Some.is c.round.ensures)
 
@@ -24,24 +32,39 @@ loop-spent-preserved c =
     let side = c.args.side in
     let start = c.loop-spent.invariant.start in
     let gives = subst (λ (r : Option ℕ). RoundGives held grid problem side c.loop-spent.u c.round.new.u r) c.in_default.is c.round.ensures in
-    let next = round-start held grid c.junctions-junctions.ensures.steady problem side c.loop-spent.u c.round.new.u gives start in
+    let next = round-start held grid c.junctions-junctions.ensures.steady problem side c.loop-spent.u c.round.new.u
+    gives start in
     let rounds = round-more held grid c.junctions-junctions.ensures.steady problem side c.loop-spent.spent c.args.u.now c.loop-spent.u c.round.new.u start.one_each c.loop-spent.invariant.rounds gives in
     let leads = c.leap_on.ensures.leads in
     record {
       start = leads.start next;
+      way = subst (λ (n : ℕ). AreLeapingRounds held grid problem side n c.args.u.now c.leap_on.new.u) (let e : suc
+          c.loop-spent.spent ≡ c.loop-spent.spent + 1 = omega arith in e)
+          (one_round c.loop-spent.invariant.way gives leads
+          (goes-on side c.loop-spent.u c.round.new.u c.leap_on.new.u c.put_ways.new.ways c.copy_from_slice.new.self
+          c.copy_from_slice.ensures.after c.put_ways.ensures.ways c.leap_on.ensures.near));
       rounds = subst (λ (n : ℕ). HasRounds held grid problem side n c.args.u.now c.leap_on.new.u) (let e : suc c.loop-spent.spent ≡ c.loop-spent.spent + 1 = omega arith in e)
           (has-on held grid c.junctions-junctions.ensures.steady problem side (suc c.loop-spent.spent) c.args.u.now c.round.new.u c.leap_on.new.u rounds leads.beyond next.one_each);
     }
+
+pub put_ways-requires-clause-in_box : goal.put_ways-requires-clause-in_box
+put_ways-requires-clause-in_box c =
+    let held = c.args.held in
+    let grid = grid_of c.args.net.now in
+    let gives = subst (λ (r : Option ℕ). RoundGives held grid c.args.problem c.args.side c.loop-spent.u c.round.new.u r) c.in_default.is c.round.ensures in
+    (round-start held grid c.junctions-junctions.ensures.steady c.args.problem c.args.side c.loop-spent.u c.round.new.u
+    gives c.loop-spent.invariant.start).in_box
 
 pub leap_on-requires-clause-in_box : goal.leap_on-requires-clause-in_box
 leap_on-requires-clause-in_box c =
     let held = c.args.held in
     let grid = grid_of c.args.net.now in
     let gives = subst (λ (r : Option ℕ). RoundGives held grid c.args.problem c.args.side c.loop-spent.u c.round.new.u r) c.in_default.is c.round.ensures in
-    (round-start held grid c.junctions-junctions.ensures.steady c.args.problem c.args.side c.loop-spent.u c.round.new.u gives c.loop-spent.invariant.start).in_box
+    (round-start held grid c.junctions-junctions.ensures.steady c.args.problem c.args.side c.loop-spent.u c.round.new.u
+    gives c.loop-spent.invariant.start).in_box
 
-pub returns-else-suits_everywhere-2 : goal.returns-else-suits_everywhere-2
-returns-else-suits_everywhere-2 c =
+pub returns-else-suits_everywhere-2-clause-sweep : goal.returns-else-suits_everywhere-2-clause-sweep
+returns-else-suits_everywhere-2-clause-sweep c =
     let held = c.args.held in
     let grid = grid_of c.args.net.now in
     let all : c.loop-spent.spent ≡ c.args.rounds = (let a = c.loop-spent-test.false in let b = c.loop-spent.auto.spent-end in omega (arith, a, b)) in

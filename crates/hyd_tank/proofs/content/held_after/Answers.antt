@@ -2,7 +2,7 @@ use Rattle.std.proofs.Common.{◌∙◌, unsigned_abs, arith, SFits}
 use Rattle.std.specs.Int.{w128}
 use Rattle.std.proofs.lemmas.Int.{ints, to_z-of_z, fits_signed_from_abs}
 use Rattle.hyd_num.proofs.Integers.{times_rises}
-use Rattle.hyd_tank.proofs.Contents.{parts_from, parts_are, parts_small, held_is}
+use Rattle.hyd_tank.proofs.Contents.{parts_from, parts_are, held_is}
 use Rattle.hyd_tank.proofs.content.held_after.Goals as goal
 
 pub clamp-requires : goal.clamp-requires

@@ -1,4 +1,4 @@
-use Rattle.std.proofs.Common.{◌≡◌, ◌+ℤ◌, arith, refl, rules, sym, ◌∙◌, to_z, of_z, w64, SFits}
+use Rattle.std.proofs.Common.{◌+ℤ◌, arith, refl, rules, sym, ◌∙◌, w64, SFits}
 use Rattle.std.specs.Int.{w128, int_min}
 use Rattle.std.proofs.lemmas.Int.{ints, to_z-of_z}
 use Rattle.hyd_num.specs.Rational.{ceiling}

@@ -1,4 +1,4 @@
-use Rattle.std.proofs.Common.{◌≡◌, ◌-ℤ◌, ◌*ℤ◌, pos, ℤ, refl, ap, ◌∙◌, sym, arith, to_z, of_z, w64}
+use Rattle.std.proofs.Common.{◌≡◌, ◌-ℤ◌, ◌*ℤ◌, pos, ℤ, ap, ◌∙◌, arith, to_z, of_z, w64}
 use Rattle.std.specs.Int.{w128, int_min}
 use Rattle.std.proofs.lemmas.Int.{ints, clamps, to_z-of_z}
 use Rattle.hyd_spec_laws.proofs.Outflows.{le-yes, le-no}

@@ -1,6 +1,6 @@
-use Rattle.std.proofs.Common.{◌≡◌, ◌∙◌, pos, subst, arith, to_z, of_z, w64, SFits, ℤ}
+use Rattle.std.proofs.Common.{◌≡◌, ◌∙◌, subst, arith, to_z, of_z, w64, ℤ}
 use Rattle.std.specs.Int.{w128}
-use Rattle.std.proofs.lemmas.Int.{ints, to_z-of_z}
+use Rattle.std.proofs.lemmas.Int.{ints}
 use Rattle.hyd_net.specs.Curves.{value_at, volume_knots}
 use Rattle.hyd_tank.specs.Curve.{value_of}
 use Rattle.hyd_tank.proofs.Basins.{volumes_are}

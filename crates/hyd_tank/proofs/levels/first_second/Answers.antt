@@ -1,34 +1,47 @@
-use Rattle.std.proofs.Common.{rules, w64, SFits}
-use Rattle.std.specs.Int.{w128}
+use Rattle.std.proofs.Common.{ℤ, subst, w64}
 use Rattle.std.proofs.lemmas.Int.{to_z-of_z}
-use Rattle.hyd_tank.specs.Spans.{cylinder, stocks_at, inflows_of}
-use Rattle.hyd_tank.proofs.Reaching.{earliest_up, latest_up, earliest_down, latest_down}
+use Rattle.hyd_spec_certificates.specs.FirstSeconds.{IsEarliestSecond, IsLatestSecond}
+use Rattle.hyd_spec_laws.proofs.Deciding.{seconds_hold, seconds_nest}
+use Rattle.hyd_tank.specs.Spans.{cylinder, stocks_at, with_levels, level_stock, inflows_of}
+use Rattle.hyd_tank.proofs.Tanks.{cylinder_vessel}
+use Rattle.hyd_tank.proofs.Keeping.{level_lies, levels_inside, level_there, seconds_ordered}
 use Rattle.hyd_tank.proofs.levels.first_second.Goals as goal
 
-pub returns-then-rising-clause-earliest : goal.returns-then-rising-clause-earliest
-returns-then-rising-clause-earliest c =
-    let level : SFits w64 c.args.level.hi = search rules in
-    let inflow : SFits w128 c.args.inflow.hi = search rules in
-    earliest_up (cylinder c.args.tank.now) c.args.tank.now (stocks_at c.args.level) (inflows_of c.args.inflow) c.args.target c.args.cap c.first_from-high.result c.args.rising c.if-rising.true
-    (rw (to_z-of_z w64 c.args.target c.ranges.target, to_z-of_z w64 c.args.level.hi level, to_z-of_z w128 c.args.inflow.hi inflow) at c.first_from-high.ensures)
+pub returns-clause-earliest : goal.returns-clause-earliest
+returns-clause-earliest c =
+    let tank = c.args.tank.now in
+    subst (λ (z : ℤ). IsEarliestSecond (cylinder tank) tank (stocks_at c.args.level) (inflows_of c.args.inflow) z
+    c.args.rising c.args.cap c.first_seconds.result.0)
+    (to_z-of_z w64 c.args.target c.ranges.target) c.first_seconds.ensures.earliest
 
-pub returns-then-rising-clause-latest : goal.returns-then-rising-clause-latest
-returns-then-rising-clause-latest c =
-    let level : SFits w64 c.args.level.lo = search rules in
-    let inflow : SFits w128 c.args.inflow.lo = search rules in
-    latest_up (cylinder c.args.tank.now) c.args.tank.now (stocks_at c.args.level) (inflows_of c.args.inflow) c.args.target c.args.cap c.first_from-low.result c.args.rising c.if-rising.true
-    (rw (to_z-of_z w64 c.args.target c.ranges.target, to_z-of_z w64 c.args.level.lo level, to_z-of_z w128 c.args.inflow.lo inflow) at c.first_from-low.ensures)
+pub returns-clause-latest : goal.returns-clause-latest
+returns-clause-latest c =
+    let tank = c.args.tank.now in
+    subst (λ (z : ℤ). IsLatestSecond (cylinder tank) tank (stocks_at c.args.level) (inflows_of c.args.inflow) z
+    c.args.rising c.args.cap c.first_seconds.result.1)
+    (to_z-of_z w64 c.args.target c.ranges.target) c.first_seconds.ensures.latest
 
-pub returns-else-rising-clause-earliest : goal.returns-else-rising-clause-earliest
-returns-else-rising-clause-earliest c =
-    let level : SFits w64 c.args.level.lo = search rules in
-    let inflow : SFits w128 c.args.inflow.lo = search rules in
-    earliest_down (cylinder c.args.tank.now) c.args.tank.now (stocks_at c.args.level) (inflows_of c.args.inflow) c.args.target c.args.cap c.first_from-low.result c.args.rising c.if-rising.false
-    (rw (to_z-of_z w64 c.args.target c.ranges.target, to_z-of_z w64 c.args.level.lo level, to_z-of_z w128 c.args.inflow.lo inflow) at c.first_from-low.ensures)
+pub returns-clause-ordered : goal.returns-clause-ordered
+returns-clause-ordered c = λ order.
+    let tank = c.args.tank.now in
+    seconds_ordered (cylinder tank) tank (stocks_at c.args.level) (inflows_of c.args.inflow) c.args.target
+    c.args.rising c.args.cap c.first_seconds.result.0 c.first_seconds.result.1
+    (cylinder_vessel tank c.requires.tank) (level_there c.args.level order) c.args.inflow.ordered
+    (returns-clause-earliest c) (returns-clause-latest c)
 
-pub returns-else-rising-clause-latest : goal.returns-else-rising-clause-latest
-returns-else-rising-clause-latest c =
-    let level : SFits w64 c.args.level.hi = search rules in
-    let inflow : SFits w128 c.args.inflow.hi = search rules in
-    latest_down (cylinder c.args.tank.now) c.args.tank.now (stocks_at c.args.level) (inflows_of c.args.inflow) c.args.target c.args.cap c.first_from-high.result c.args.rising c.if-rising.false
-    (rw (to_z-of_z w64 c.args.target c.ranges.target, to_z-of_z w64 c.args.level.hi level, to_z-of_z w128 c.args.inflow.hi inflow) at c.first_from-high.ensures)
+pub returns-clause-holds : goal.returns-clause-holds
+returns-clause-holds c = λ S z q first some lies flow is.
+    let tank = c.args.tank.now in
+    seconds_hold S (cylinder tank) tank (stocks_at c.args.level) (inflows_of c.args.inflow) c.args.target c.args.rising
+    c.args.cap (level_stock z) q c.first_seconds.result.0 c.first_seconds.result.1 first some
+    (cylinder_vessel tank c.requires.tank) (level_lies S c.args.level z lies) flow (returns-clause-earliest c)
+    (returns-clause-latest c) is
+
+pub returns-clause-nests : goal.returns-clause-nests
+returns-clause-nests c = λ wider more sooner later inside flow early late.
+    let tank = c.args.tank.now in
+    seconds_nest (cylinder tank) tank (stocks_at c.args.level) (with_levels wider) (inflows_of c.args.inflow) more
+    c.args.target c.args.rising c.args.cap
+    c.first_seconds.result.0 c.first_seconds.result.1 sooner later (cylinder_vessel tank c.requires.tank)
+    (levels_inside c.args.level wider inside) flow
+    (returns-clause-earliest c) (returns-clause-latest c) early late

@@ -1,4 +1,4 @@
-use Rattle.std.proofs.Common.{ℤ, List, sym, subst, to_z, of_z, w64}
+use Rattle.std.proofs.Common.{ℤ, List, sym, subst, w64}
 use Rattle.std.proofs.lemmas.Int.{to_z-of_z}
 use Rattle.hyd_spec.specs.Types.{VolumePoint}
 use Rattle.hyd_spec.specs.Tank.{Walls, Curve}

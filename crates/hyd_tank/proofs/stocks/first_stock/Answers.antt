@@ -1,4 +1,4 @@
-use Rattle.std.proofs.Common.{ℤ, subst, to_z, of_z, w64}
+use Rattle.std.proofs.Common.{ℤ, subst, w64}
 use Rattle.std.proofs.lemmas.Int.{to_z-of_z}
 use Rattle.hyd_spec.specs.Types.{Tank}
 use Rattle.hyd_spec.specs.Tank.{walls_of}
@@ -6,6 +6,7 @@ use Rattle.hyd_spec_certificates.specs.FirstSeconds.{IsEarliestSecond, IsLatestS
 use Rattle.hyd_spec_laws.proofs.Deciding.{seconds_hold, seconds_nest}
 use Rattle.hyd_spec_laws.proofs.Vessels.{vessels}
 use Rattle.hyd_tank.specs.Spans.{stocks_of, inflows_of}
+use Rattle.hyd_tank.proofs.Keeping.{seconds_ordered}
 use Rattle.hyd_tank.proofs.Tanks.{tank_of, of_each}
 use Rattle.hyd_tank.proofs.stocks.first_stock.Goals as goal
 
@@ -38,3 +39,11 @@ pub returns-clause-nests : goal.returns-clause-nests
 returns-clause-nests c = λ each at wider more sooner later inside flow e l.
     seconds_nest (walls_of c.args.project.now each) each (stocks_of c.args.stock) wider (inflows_of c.args.inflow) more c.args.target c.args.rising c.args.cap c.first_of.result.0 c.first_of.result.1 sooner later
     (vessels c.args.project.now c.requires.sound c.args.tank each at) inside flow (returns-clause-earliest c each at) (returns-clause-latest c each at) e l
+
+pub returns-clause-ordered : goal.returns-clause-ordered
+returns-clause-ordered c = λ has.
+    let each = c.tank_at.result in
+    seconds_ordered (walls_of c.args.project.now each) each (stocks_of c.args.stock) (inflows_of c.args.inflow)
+    c.args.target c.args.rising c.args.cap c.first_of.result.0 c.first_of.result.1
+    (vessels c.args.project.now c.requires.sound c.args.tank each c.tank_at.ensures) has c.args.inflow.ordered
+    (returns-clause-earliest c each c.tank_at.ensures) (returns-clause-latest c each c.tank_at.ensures)

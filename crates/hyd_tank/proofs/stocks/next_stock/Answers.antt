@@ -2,8 +2,8 @@ use Rattle.std.proofs.Common.{◌≡◌, sym, subst}
 use Rattle.hyd_spec.specs.Types.{Tank}
 use Rattle.hyd_spec.specs.Tank.{walls_of}
 use Rattle.hyd_spec_certificates.specs.Stocks.{Stocks, next_stocks}
-use Rattle.hyd_spec_laws.specs.Laws.{StockLies, AreInside}
-use Rattle.hyd_spec_laws.proofs.Levelling.{next_lies, next_inside}
+use Rattle.hyd_spec_laws.specs.Laws.{StockLies, AreInside, HasStock}
+use Rattle.hyd_spec_laws.proofs.Levelling.{next_lies, next_inside, next_has}
 use Rattle.hyd_spec_laws.proofs.Vessels.{vessels}
 use Rattle.hyd_tank.specs.Spans.{stocks_of, inflows_of, AreHeld}
 use Rattle.hyd_tank.proofs.Tanks.{tank_of, of_each, next_held}
@@ -37,3 +37,10 @@ returns-clause-nests c = λ each at wider more inside flow.
     let walls = walls_of c.args.project.now each in
     subst (λ (x : Stocks). AreInside x (next_stocks walls each wider more c.args.seconds)) (sym (returns-clause-value c each at))
     (next_inside walls each (stocks_of c.args.stock) wider (inflows_of c.args.inflow) more c.args.seconds (vessels c.args.project.now c.requires.sound c.args.tank each at) inside flow)
+
+pub returns-clause-ordered : goal.returns-clause-ordered
+returns-clause-ordered c = λ has.
+    let each = c.tank_at.result in
+    subst HasStock (sym (returns-clause-value c each c.tank_at.ensures))
+    (next_has (walls_of c.args.project.now each) each (stocks_of c.args.stock) (inflows_of c.args.inflow) c.args.seconds
+    (vessels c.args.project.now c.requires.sound c.args.tank each c.tank_at.ensures) has c.args.inflow.ordered)

@@ -1,12 +1,13 @@
-use Rattle.std.proofs.Common.{◌≡◌, ℕ, sym, subst, ap, ◌∙◌}
+use Rattle.std.proofs.Common.{◌≡◌, sym, subst, ap, ◌∙◌}
 use Rattle.hyd_spec.specs.Types.{Tank}
 use Rattle.hyd_spec.specs.Tank.{walls_of, carried_level}
 use Rattle.hyd_spec_certificates.specs.Interval.{Interval}
-use Rattle.hyd_spec_certificates.specs.Stocks.{Stocks, carried_stocks, carried_levels}
-use Rattle.hyd_spec_laws.specs.Laws.{LiesAround, IsInside}
-use Rattle.hyd_spec_laws.proofs.Levelling.{carried_lies, carried_inside}
+use Rattle.hyd_spec_certificates.specs.Stocks.{Stocks, carried_stocks}
+use Rattle.hyd_spec_laws.specs.Laws.{LiesAround, AreInside, HasStock}
+use Rattle.hyd_spec_laws.proofs.Levelling.{carried_lies}
 use Rattle.hyd_spec_laws.proofs.Vessels.{vessels}
-use Rattle.hyd_tank.specs.Spans.{stocks_of, inflows_of}
+use Rattle.hyd_tank.specs.Spans.{stocks_of, inflows_of, AreHeld}
+use Rattle.hyd_tank.proofs.Keeping.{carried_held, carried_has, carried_stocks_inside}
 use Rattle.hyd_tank.proofs.Tanks.{tank_of, of_each, carried_is}
 use Rattle.hyd_tank.proofs.stocks.stock_at.Goals as goal
 
@@ -31,6 +32,22 @@ returns-clause-holds c = λ each at S one q some lies flow.
 pub returns-clause-nests : goal.returns-clause-nests
 returns-clause-nests c = λ each at wider more inside flow.
     let walls = walls_of c.args.project.now each in
-    let value = ap (λ (x : Stocks). x.level) (returns-clause-value c each at) ∙ carried_is walls each (stocks_of c.args.stock) (inflows_of c.args.inflow) c.args.seconds in
-    subst (λ (x : Interval). IsInside x (carried_levels walls each wider more c.args.seconds)) (sym value)
-    (carried_inside walls each (vessels c.args.project.now c.requires.sound c.args.tank each at) (stocks_of c.args.stock) wider (inflows_of c.args.inflow) more c.args.seconds inside flow)
+    subst (λ (x : Stocks). AreInside x (carried_stocks walls each wider more c.args.seconds)) (sym
+    (returns-clause-value c each at))
+    (carried_stocks_inside walls each (stocks_of c.args.stock) wider (inflows_of c.args.inflow) more c.args.seconds
+    (vessels c.args.project.now c.requires.sound c.args.tank each at) inside flow)
+
+pub returns-clause-held : goal.returns-clause-held
+returns-clause-held c = λ each at.
+    let walls = walls_of c.args.project.now each in
+    subst (AreHeld walls each) (sym (returns-clause-value c each at))
+    (carried_held walls each (stocks_of c.args.stock) (inflows_of c.args.inflow) c.args.seconds (vessels
+    c.args.project.now c.requires.sound c.args.tank each at))
+
+pub returns-clause-ordered : goal.returns-clause-ordered
+returns-clause-ordered c = λ has.
+    let each = c.tank_at.result in
+    subst HasStock (sym (returns-clause-value c each c.tank_at.ensures))
+    (carried_has (walls_of c.args.project.now each) each (stocks_of c.args.stock) (inflows_of c.args.inflow)
+    c.args.seconds
+    (vessels c.args.project.now c.requires.sound c.args.tank each c.tank_at.ensures) has c.args.inflow.ordered)

@@ -1,4 +1,4 @@
-use Rattle.std.proofs.Common.{◌≡◌, ℕ, List, Option, Some, None, position, get_or, sym, ap, ◌∙◌, refl}
+use Rattle.std.proofs.Common.{◌≡◌, ℕ, List, Some, None, position, get_or, sym, ap, ◌∙◌, refl}
 use Rattle.std.specs.Str.{bytes_eq}
 use Rattle.hyd_lex.specs.Lines.{row_of}
 use Rattle.hyd_lex.specs.declared.line.Line.{Line}

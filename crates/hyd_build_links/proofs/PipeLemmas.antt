@@ -1,0 +1,54 @@
+-- What a pipe is made of.
+use Rattle.std.proofs.Common.{◌≡◌, ℕ, Bool, true, false, List, sym, ◌∙◌, inl, inr, if◌then◌else◌}
+use Rattle.std.proofs.lemmas.Bool.{cases_Bool}
+use Rattle.hyd_num.specs.Chain.{IsMade}
+use Rattle.hyd_num.specs.declared.capacities.Capacity.{Capacity}
+use Rattle.hyd_num.specs.declared.capacities.Origin.TheVariants.{Pipe}
+use Rattle.hyd_lex.specs.Lines.{Row}
+use Rattle.hyd_rows.specs.Rows.{IsPipeRow, pipe_status}
+use Rattle.hyd_rows.specs.declared.pipes.PipeRow.{PipeRow}
+use Rattle.hyd_rows.specs.declared.pipes.PipeStatus.{PipeStatus}
+use Rattle.hyd_rows.specs.declared.pipes.PipeStatus.TheVariants.{Open, Closed, CheckValve}
+use Rattle.hyd_spec_input.specs.Columns.{amount}
+use Rattle.hyd_spec_input.specs.NetworkRows.{has_check_valve, is_closed_pipe, pipe_minor}
+use Rattle.hyd_spec_input.specs.Project.{IsPipeOf}
+use Rattle.hyd_spec_input.specs.WithOthers as others
+
+pub pipe_made : (rows : List Row) (row : Row) (us : Bool) (pipe : PipeRow) (cap : Capacity) → us ≡ others.us rows
+    → IsPipeRow row.words pipe → IsMade cap
+    → cap.origin ≡ Pipe pipe.length pipe.diameter pipe.roughness pipe.minor us
+    → IsPipeOf (others.us rows) (amount 3 row.words) (amount 4 row.words) (amount 5 row.words) (pipe_minor row.words)
+    cap
+pipe_made rows row us pipe cap u is made origin = record {
+  made = made;
+  l = pipe.length;
+  l_is = is.length;
+  d = pipe.diameter;
+  d_is = is.diameter;
+  n = pipe.roughness;
+  n_is = is.roughness;
+  k = pipe.minor;
+  k_is = is.minor;
+  origin = rw (← u) origin;
+}
+
+-- ---- statuses
+
+other_status : (closed : Bool) → (if closed then Closed else Open) ≡ CheckValve → ⊥
+other_status true e = let x : ⊥ = cc in x
+other_status false e = let x : ⊥ = cc in x
+
+pub checks : (words : List (List ℕ)) (status : PipeStatus) → status ≡ pipe_status words → status ≡ CheckValve
+    → has_check_valve words ≡ true
+checks words status is e = elim (cases_Bool (has_check_valve words)) [
+  | inl t ↦ t
+  | inr f ↦ (let g : status ≡ (if is_closed_pipe words then Closed else Open) = rw f at is in
+      absurd (other_status (is_closed_pipe words) (sym g ∙ e)))
+]
+
+pub checks_not : (words : List (List ℕ)) (status : PipeStatus) → status ≡ pipe_status words
+    → (status ≡ CheckValve → ⊥) → has_check_valve words ≡ false
+checks_not words status is other = elim (cases_Bool (has_check_valve words)) [
+  | inl t ↦ (let g : status ≡ CheckValve = rw t at is in absurd (other g))
+  | inr f ↦ f
+]

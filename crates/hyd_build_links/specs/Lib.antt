@@ -1,0 +1,4 @@
+pub mod Sources
+pub mod Pumps
+pub mod Statuses
+pub mod Built

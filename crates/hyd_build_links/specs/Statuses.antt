@@ -1,0 +1,26 @@
+-- The last rows of [STATUS] that name each link.
+use Rattle.std.specs.Prelude.{◌≡◌, ℕ, List, Option, Some, None, length, take, slice_index_or, IfSome}
+use Rattle.std.specs.List.{All}
+use Rattle.std.specs.Option.{option_map}
+use Rattle.hyd_lex.specs.Lines.{Row, LiesIn, row_of}
+use Rattle.hyd_lex.specs.declared.line.Line.{Line}
+use Rattle.hyd_lex.specs.declared.section.Section.TheVariants.{Status}
+use Rattle.hyd_spec_input.specs.Network.{number_in, last_naming}
+use Rattle.hyd_spec_input.specs.Tables.{rows_of}
+
+-- the row of a line that may be there
+abbrev pub row_in : List ℕ → Option Line → Option Row
+row_in text line = option_map (row_of text) line
+
+-- so many, all without a line
+pub record AreNone (last : List (Option Line)) (count : ℕ) : Type 0 where
+  pub count_is : length last ≡ count
+  pub none : All (λ (line : Option Line). line ≡ None) last
+
+-- for each name that has a number, the line of its last row of [STATUS] among the first rows
+pub record AreStatuses (text : List ℕ) (rows : List Row) (k : ℕ) (names : List (List ℕ))
+    (last : List (Option Line)) : Type 0 where
+  pub even : length last ≡ length names
+  pub lie : All (λ (line : Option Line). IfSome line (LiesIn text)) last
+  pub named : (name : List ℕ) (number : ℕ) → number_in names name ≡ Some number
+      → row_in text (slice_index_or last number None) ≡ last_naming name (rows_of Status (take k rows))

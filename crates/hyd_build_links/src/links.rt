@@ -1,0 +1,139 @@
+//! All links.
+#![tactic(auto)]
+
+ghost use Rattle.std.specs.Prelude.{◌≡◌, ◌<◌, ◌+◌, ◌++◌, List, true, length, IfOk, OnOk};
+ghost use Rattle.hyd_lex.specs.Lines.{Row, row_of};
+ghost use Rattle.hyd_spec_input.specs.Project.{IsKind, IsLink, Match, numbered_links};
+ghost use Rattle.hyd_spec_input.specs.Tables.{place as section_place, is_link, rows_of};
+ghost use Rattle.hyd_build_links.specs.Sources.{IsRightSource, IsRowOf, rows_from};
+ghost use Rattle.hyd_build_links.specs.Statuses.{AreStatuses};
+ghost use Rattle.hyd_build_links.specs.Built.{AreBuilt, is_link_section};
+
+use crate::numbers::number;
+use crate::pipes::pipe_kind;
+use crate::pumps::pump_kind;
+use crate::source::LinkSource;
+use crate::starts::start_of;
+use crate::statuses::gather_statuses;
+use crate::valves::valve_kind;
+use hyd_lex::{Line, Lines, Section};
+use hyd_net::{Link, LinkKind, OutOfMemory};
+use hyd_opts::or_empty;
+use std::alloc::Global;
+
+// What the link of a row is.
+fn kind_of(text: &Lines<'_>, line: &Line, source: &LinkSource<'_>) -> LinkKind
+    requires { IsRowOf is_link text.now.text source.now line.now }
+    ensures { IsKind (rows_from text.now.text source.now) (row_of text.now.text line.now) result }
+{
+    match line.section {
+        Section::Pipes => pipe_kind(text, line, source),
+        Section::Pumps => pump_kind(text, line, source),
+        _ => valve_kind(text, line, source),
+    }
+}
+
+// The link of a row.
+fn link_of(text: &Lines<'_>, line: &Line, source: &LinkSource<'_>, last: &[Option<Line>]) -> Link
+    requires row { IsRowOf is_link text.now.text source.now line.now }
+    requires statuses { AreStatuses text.now.text (rows_from text.now.text source.now) (length source.now.lines.now)
+        source.now.links.now.names last.now }
+    ensures { IsLink (rows_from text.now.text source.now) (row_of text.now.text line.now) result }
+{
+    Link {
+        from: number(source.nodes, or_empty(text, line, 1)),
+        to: number(source.nodes, or_empty(text, line, 2)),
+        kind: kind_of(text, line, source),
+        start: start_of(text, line, source, last),
+    }
+}
+
+fn number_of(section: Section) -> u8
+    ensures { result ≡ section_place section }
+{
+    match section {
+        Section::Junctions => 0,
+        Section::Reservoirs => 1,
+        Section::Tanks => 2,
+        Section::Pipes => 3,
+        Section::Pumps => 4,
+        Section::Valves => 5,
+        Section::Demands => 6,
+        Section::Emitters => 7,
+        Section::Curves => 8,
+        Section::Patterns => 9,
+        Section::Status => 10,
+        Section::Controls => 11,
+        Section::Rules => 12,
+        Section::Options => 13,
+        Section::Times => 14,
+    }
+}
+
+// The next row, where it is one of a section.
+fn add(
+    links: &mut hyd_net::List<Link>,
+    text: &Lines<'_>,
+    section: Section,
+    place: usize,
+    source: &LinkSource<'_>,
+    last: &[Option<Line>],
+) -> Result<(), OutOfMemory>
+    requires within { place < length source.now.lines.now }
+    requires right { IsRightSource text.now.text source.now }
+    requires section { is_link_section section ≡ true }
+    requires statuses { AreStatuses text.now.text (rows_from text.now.text source.now) (length source.now.lines.now)
+        source.now.links.now.names last.now }
+    ensures { (before : List Row)
+        → AreBuilt (rows_from text.now.text source.now) before section place links.old.list
+        → OnOk result (AreBuilt (rows_from text.now.text source.now) before section (place + 1) links.new.list) }
+{
+    let line = &source.lines[place];
+    if number_of(line.section) != number_of(section) {
+        return Ok(());
+    }
+    links.push(link_of(text, line, source, last))?;
+    Ok(())
+}
+
+// Appends the links of a section, in the order of their rows.
+fn add_section(
+    links: &mut hyd_net::List<Link>,
+    text: &Lines<'_>,
+    section: Section,
+    source: &LinkSource<'_>,
+    last: &[Option<Line>],
+) -> Result<(), OutOfMemory>
+    requires right { IsRightSource text.now.text source.now }
+    requires section { is_link_section section ≡ true }
+    requires statuses { AreStatuses text.now.text (rows_from text.now.text source.now) (length source.now.lines.now)
+        source.now.links.now.names last.now }
+    ensures { (before : List Row) → Match (IsLink (rows_from text.now.text source.now)) before links.old.list
+        → OnOk result (Match (IsLink (rows_from text.now.text source.now))
+        (before ++ rows_of section (rows_from text.now.text source.now)) links.new.list) }
+{
+    for place in 0..source.lines.len() {
+        add(links, text, section, place, source, last)?;
+    }
+    Ok(())
+}
+
+/// The links of a file whose rows are right by themselves and with the others: pipes, then pumps, then valves, each in
+/// the order of its rows. A link starts in the state of the last row of [STATUS] that names it, else in that of its own
+/// row.
+pub fn build_links(
+    alloc: Global,
+    text: &Lines<'_>,
+    source: &LinkSource<'_>,
+) -> Result<hyd_net::List<Link>, OutOfMemory>
+    requires { IsRightSource text.now.text source.now }
+    ensures { IfOk result (λ links. Match (IsLink (rows_from text.now.text source.now))
+        (numbered_links (rows_from text.now.text source.now)) links.list) }
+{
+    let last = gather_statuses(alloc, text, source.lines, source.links)?;
+    let mut links = hyd_net::List::new(alloc);
+    add_section(&mut links, text, Section::Pipes, source, last.as_slice())?;
+    add_section(&mut links, text, Section::Pumps, source, last.as_slice())?;
+    add_section(&mut links, text, Section::Valves, source, last.as_slice())?;
+    Ok(links)
+}

@@ -1,0 +1,50 @@
+//! Pipes.
+#![tactic(auto)]
+
+ghost use Rattle.std.specs.Prelude.{◌≡◌, List};
+ghost use Rattle.hyd_lex.specs.Lines.{Row, row_of};
+ghost use Rattle.hyd_lex.specs.declared.section.Section.TheVariants.{Pipes};
+ghost use Rattle.hyd_resist.specs.Ranges.{IsLength, IsDiameter, IsRoughness, IsMinorCoefficient};
+ghost use Rattle.hyd_rows.specs.Rows.{IsPipeRow};
+ghost use Rattle.hyd_spec_input.specs.Capacities.{IsRefusedPipe};
+ghost use Rattle.hyd_spec_input.specs.Project.{IsPipeKind};
+ghost use Rattle.hyd_spec_input.specs.Tables.{is_of};
+ghost use Rattle.hyd_spec_input.specs.WithOthers as others;
+ghost use Rattle.hyd_build_links.specs.Sources.{IsRowOf, rows_from};
+
+use crate::source::LinkSource;
+use hyd_lex::{Line, Lines};
+use hyd_net::LinkKind;
+use hyd_resist::pipe_capacity;
+use hyd_rows::{PipeRow, PipeStatus, read_pipe};
+
+/// What a pipe is whose capacity is in range.
+pub(crate) fn pipe_of(pipe: &PipeRow<'_>, us: bool) -> LinkKind
+    requires length { IsLength pipe.now.length }
+    requires diameter { IsDiameter pipe.now.diameter }
+    requires roughness { IsRoughness pipe.now.roughness }
+    requires minor { IsMinorCoefficient pipe.now.minor }
+    requires free { ¬ IsRefusedPipe pipe.now.length.nano pipe.now.diameter.nano pipe.now.roughness.nano
+        pipe.now.minor.nano us }
+    ensures { (rows : List Row) (row : Row) → us ≡ others.us rows → IsPipeRow row.words pipe.now
+        → IsPipeKind rows row result }
+{
+    let Ok(cap) = pipe_capacity(pipe.length, pipe.diameter, pipe.roughness, pipe.minor, us) else {
+        unreachable!()
+    };
+    match pipe.status {
+        PipeStatus::CheckValve => LinkKind::CheckPipe(cap),
+        _ => LinkKind::Pipe(cap),
+    }
+}
+
+/// What the pipe of a row is.
+pub(crate) fn pipe_kind(text: &Lines<'_>, line: &Line, source: &LinkSource<'_>) -> LinkKind
+    requires { IsRowOf (is_of Pipes) text.now.text source.now line.now }
+    ensures { IsPipeKind (rows_from text.now.text source.now) (row_of text.now.text line.now) result }
+{
+    let Ok(pipe) = read_pipe(text, line) else {
+        unreachable!()
+    };
+    pipe_of(&pipe, source.unit.is_us())
+}

@@ -1,0 +1,36 @@
+//! Valves.
+#![tactic(auto)]
+
+ghost use Rattle.hyd_lex.specs.Lines.{row_of};
+ghost use Rattle.hyd_lex.specs.declared.section.Section.TheVariants.{Valves};
+ghost use Rattle.hyd_spec_input.specs.Project.{IsValveKind};
+ghost use Rattle.hyd_spec_input.specs.Tables.{is_of};
+ghost use Rattle.hyd_build_links.specs.Sources.{IsRowOf, rows_from};
+
+use crate::numbers::number;
+use crate::source::LinkSource;
+use hyd_lex::{Line, Lines};
+use hyd_net::LinkKind;
+use hyd_rows::{ValveSetting, read_valve};
+use hyd_states::valve_law;
+
+/// What the valve of a row is.
+pub(crate) fn valve_kind(text: &Lines<'_>, line: &Line, source: &LinkSource<'_>) -> LinkKind
+    requires { IsRowOf (is_of Valves) text.now.text source.now line.now }
+    ensures { IsValveKind (rows_from text.now.text source.now) (row_of text.now.text line.now) result }
+{
+    let Ok(valve) = read_valve(text, line) else {
+        unreachable!()
+    };
+    match valve.setting {
+        ValveSetting::Throttle(_) => LinkKind::Tcv {
+            valve: valve_law(valve.diameter, valve.minor, source.unit.is_us()),
+        },
+        ValveSetting::Curve(curve) => LinkKind::Gpv {
+            bend: number(source.bends, curve),
+        },
+        ValveSetting::Flow(_) => LinkKind::Fcv {
+            valve: valve_law(valve.diameter, valve.minor, source.unit.is_us()),
+        },
+    }
+}

@@ -1,0 +1,7 @@
+pub mod RightLemmas
+pub mod ReservoirLemmas
+pub mod TankLemmas
+pub mod GatherLemmas
+pub mod DemandLemmas
+pub mod EmitterLemmas
+pub mod JunctionLemmas

@@ -1,0 +1,5 @@
+use Rattle.hyd_build_nodes.specs.Gathered.{AreEmpty}
+use Rattle.hyd_build_nodes.proofs.demands.empty_lists.Given as goal
+
+abbrev pub invariant-loop : goal.invariant-loop
+invariant-loop l = AreEmpty l.lists.items l.counter

@@ -1,0 +1,6 @@
+use Rattle.hyd_tables.specs.Found.{rows_at}
+use Rattle.hyd_build_nodes.specs.Gathered.{AreEmitters}
+use Rattle.hyd_build_nodes.proofs.emitters.gather_emitters.Given as goal
+
+abbrev pub invariant-loop-place : goal.invariant-loop-place
+invariant-loop-place l = AreEmitters (rows_at l.text.text l.lines) l.place l.nodes.names l.emitters.items

@@ -1,0 +1,107 @@
+//! Reservoirs.
+#![tactic(auto)]
+
+ghost use Rattle.std.specs.Prelude.{◌≡◌, ◌<◌, ◌≤◌, ◌+◌, ◌*◌, ◌^◌, ◌==◌, None, length, take, unsigned_abs, IfOk, OnOk};
+ghost use Rattle.std.specs.List.{All};
+ghost use Rattle.hyd_num.specs.Quantity as quantity;
+ghost use Rattle.hyd_num.specs.Quantity.{is_us_unit};
+ghost use Rattle.hyd_lex.specs.Lines.{LiesIn, row_of};
+ghost use Rattle.hyd_lex.specs.declared.section.Section.TheVariants.{Reservoirs};
+ghost use Rattle.hyd_opts.specs.Judged.{words_at};
+ghost use Rattle.hyd_spec_input.specs.ByItself.{IsWrongByItself};
+ghost use Rattle.hyd_spec_input.specs.Columns.{amount};
+ghost use Rattle.hyd_spec_input.specs.Faults.{NoneIs, IsWrongWithOthers};
+ghost use Rattle.hyd_spec_input.specs.InForce as force;
+ghost use Rattle.hyd_spec_input.specs.Network.{pattern_ids};
+ghost use Rattle.hyd_spec_input.specs.NetworkRows as row;
+ghost use Rattle.hyd_spec_input.specs.Project.{Match, IsReservoir};
+ghost use Rattle.hyd_spec_input.specs.Tables.{place as section_place, rows_of};
+ghost use Rattle.hyd_tables.specs.Found.{rows_at};
+ghost use Rattle.hyd_build_nodes.specs.Built.{IsReservoirOf};
+
+use crate::quantities::{head_of, number_named};
+use hyd_lex::{Line, Lines, Section};
+use hyd_net::{List, Names, OutOfMemory, Reservoir};
+use hyd_num::FlowUnit;
+use hyd_rows::read_reservoir;
+use std::alloc::Global;
+
+fn is_reservoirs(section: Section) -> bool
+    ensures { result ≡ (section_place section == 1) }
+{
+    match section {
+        Section::Reservoirs => true,
+        _ => false,
+    }
+}
+
+// The reservoir of a row.
+fn reservoir_of(text: &Lines<'_>, line: &Line, patterns: &Names, unit: FlowUnit) -> Reservoir
+    requires lies { LiesIn text.now.text line.now }
+    requires right { row.reservoir (words_at text.now line.now) ≡ None }
+    requires head { unsigned_abs (quantity.head_ticks (is_us_unit unit) (amount 1 (words_at text.now line.now)))
+        ≤ 2 * 10 ^ 17 }
+    ensures { IsReservoirOf unit patterns.now (words_at text.now line.now) result }
+{
+    match read_reservoir(text, line) {
+        Ok(row) => Reservoir {
+            head: head_of(row.head, unit),
+            pattern: number_named(patterns, row.pattern),
+        },
+        Err(_) => Reservoir {
+            head: 0,
+            pattern: None,
+        },
+    }
+}
+
+// The next row.
+fn add_row(
+    list: &mut List<Reservoir>,
+    text: &Lines<'_>,
+    lines: &[Line],
+    place: usize,
+    patterns: &Names,
+    unit: FlowUnit,
+) -> Result<(), OutOfMemory>
+    requires within { place < length lines.now }
+    requires lie { All (LiesIn text.now.text) lines.now }
+    requires by_itself { NoneIs (IsWrongByItself (rows_at text.now.text lines.now)) }
+    requires with_others { NoneIs (IsWrongWithOthers (rows_at text.now.text lines.now)) }
+    requires patterns { patterns.now ≡ pattern_ids (rows_at text.now.text lines.now) }
+    requires unit { unit ≡ force.unit (rows_at text.now.text lines.now) }
+    requires built { Match (IsReservoir (rows_at text.now.text lines.now))
+        (rows_of Reservoirs (take place (rows_at text.now.text lines.now))) list.old.list }
+    ensures { OnOk result (Match (IsReservoir (rows_at text.now.text lines.now))
+        (rows_of Reservoirs (take (place + 1) (rows_at text.now.text lines.now))) list.new.list) }
+{
+    let line = &lines[place];
+    if !is_reservoirs(line.section) {
+        return Ok(());
+    }
+    list.push(reservoir_of(text, line, patterns, unit))?;
+    Ok(())
+}
+
+/// The reservoirs of a file without a fault, in the order of their rows, where `patterns` numbers its patterns.
+pub fn build_reservoirs(
+    alloc: Global,
+    text: &Lines<'_>,
+    lines: &[Line],
+    patterns: &Names,
+    unit: FlowUnit,
+) -> Result<List<Reservoir>, OutOfMemory>
+    requires lie { All (LiesIn text.now.text) lines.now }
+    requires by_itself { NoneIs (IsWrongByItself (rows_at text.now.text lines.now)) }
+    requires with_others { NoneIs (IsWrongWithOthers (rows_at text.now.text lines.now)) }
+    requires patterns { patterns.now ≡ pattern_ids (rows_at text.now.text lines.now) }
+    requires unit { unit ≡ force.unit (rows_at text.now.text lines.now) }
+    ensures { IfOk result (λ list. Match (IsReservoir (rows_at text.now.text lines.now))
+        (rows_of Reservoirs (rows_at text.now.text lines.now)) list.list) }
+{
+    let mut list = List::new(alloc);
+    for place in 0..lines.len() {
+        add_row(&mut list, text, lines, place, patterns, unit)?;
+    }
+    Ok(list)
+}

@@ -1,0 +1,9 @@
+use Rattle.hyd_num.specs.Quantity.{is_us_unit}
+use Rattle.hyd_spec_input.specs.Curves.{has_flow, is_slower, head_point}
+use Rattle.hyd_curves.proofs.TurnLemmas.{turned}
+use Rattle.hyd_curves.proofs.pumps.fall_in_turn.Goals as goal
+
+pub loop-point-preserved : goal.loop-point-preserved
+loop-point-preserved c =
+    turned has_flow is_slower (head_point c.args.unit (is_us_unit c.args.unit)) c.args.points.now c.loop-point.left.now
+    c.in-Some.rest.now c.in-Some.point.now c.in-Some.ensures.cases.0 c.if-not-passes.ensures c.loop-point.invariant

@@ -1,0 +1,2 @@
+pub mod OfPeriod
+pub mod Room

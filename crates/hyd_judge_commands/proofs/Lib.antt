@@ -1,0 +1,6 @@
+pub mod CommandLemmas
+pub mod ControlLemmas
+pub mod PartLemmas
+pub mod RuleLemmas
+pub mod RuleCounting
+pub mod StatusLemmas

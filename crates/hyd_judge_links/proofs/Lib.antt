@@ -1,0 +1,2 @@
+pub mod ValveLemmas
+pub mod LinkLemmas

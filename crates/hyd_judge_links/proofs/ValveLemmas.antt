@@ -1,0 +1,47 @@
+-- Verdicts on valves with a capacity.
+use Rattle.std.proofs.Common.{◌≡◌, ℕ, Bool, true, false, List, Option, None, Some, refl, sym, inl, inr, ◌⊎◌, true≢false}
+use Rattle.hyd_num.specs.declared.units.FlowUnit.{FlowUnit}
+use Rattle.hyd_lex.specs.Lines.{Row}
+use Rattle.hyd_net.specs.declared.cause.Cause.{Cause}
+use Rattle.hyd_spec_input.specs.Capacities.{IsRefusedValve}
+use Rattle.hyd_spec_input.specs.Columns.{or_else, amount}
+use Rattle.hyd_spec_input.specs.NetworkRows.{is_throttle, is_general, valve_minor}
+use Rattle.hyd_tables.proofs.SectionLemmas.{fault_then_alike}
+use Rattle.hyd_tables.specs.Ranges.{flow_fault}
+use Rattle.hyd_tables.specs.Sections.{IsCapacityFault, IsFaultThen}
+use Rattle.hyd_judge_links.specs.Links.{setting_fault, IsRefusedValveOf}
+
+-- the verdict on a throttle control valve
+pub throttle_verdict : (rows : List Row) (unit : FlowUnit) (words : List (List ℕ)) (us : Bool) (cause : Option Cause)
+    → is_throttle words ≡ true → is_general words ≡ false
+    → IsCapacityFault (IsRefusedValve (amount 3 words) (valve_minor words) us ⊎ IsRefusedValve (amount 3 words)
+    (amount 5 words) us) cause
+    → IsFaultThen (setting_fault rows unit words) (IsRefusedValveOf us words) cause
+throttle_verdict rows unit words us cause t g refused =
+    rw (t, g) (fault_then_alike None
+    (IsRefusedValve (amount 3 words) (valve_minor words) us ⊎ IsRefusedValve (amount 3 words) (amount 5 words) us)
+    ((false ≡ false) × (IsRefusedValve (amount 3 words) (valve_minor words) us
+    ⊎ ((true ≡ true) × IsRefusedValve (amount 3 words) (amount 5 words) us)))
+    cause
+    (λ w. elim w [ inl a ↦ (refl, inl a) | inr b ↦ (refl, inr (refl, b)) ])
+    (λ w. elim w.1 [ inl a ↦ inl a | inr b ↦ inr b.1 ])
+    refused)
+
+or_last : (fault : Option Cause) → or_else fault None ≡ fault
+or_last None = refl
+or_last (Some cause) = refl
+
+-- the verdict on a flow control valve
+pub flow_verdict : (rows : List Row) (unit : FlowUnit) (words : List (List ℕ)) (us : Bool) (cause : Option Cause)
+    → is_throttle words ≡ false → is_general words ≡ false
+    → IsFaultThen (flow_fault unit (amount 5 words)) (IsRefusedValve (amount 3 words) (valve_minor words) us) cause
+    → IsFaultThen (setting_fault rows unit words) (IsRefusedValveOf us words) cause
+flow_verdict rows unit words us cause t g refused =
+    rw (t, g, or_last (flow_fault unit (amount 5 words)))
+    (fault_then_alike (flow_fault unit (amount 5 words)) (IsRefusedValve (amount 3 words) (valve_minor words) us)
+    ((false ≡ false) × (IsRefusedValve (amount 3 words) (valve_minor words) us
+    ⊎ ((false ≡ true) × IsRefusedValve (amount 3 words) (amount 5 words) us)))
+    cause
+    (λ w. (refl, inl w))
+    (λ w. elim w.1 [ inl a ↦ a | inr b ↦ absurd (true≢false (sym b.0)) ])
+    refused)

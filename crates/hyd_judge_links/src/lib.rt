@@ -1,0 +1,13 @@
+//! The rows of links judged among all rows of an input file (EPANET 2.2 User Manual, appendix C, [PIPES], [PUMPS] and
+//! [VALVES]): their count, IDs, ends, curves, patterns and settings, and last their capacities.
+#![tactic(auto)]
+
+mod ends;
+mod links;
+mod pipes;
+mod pumps;
+mod tables;
+mod valves;
+
+pub use links::{Links, judge_links};
+pub use tables::LinkTables;

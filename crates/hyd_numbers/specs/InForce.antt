@@ -1,0 +1,23 @@
+-- Lines in force.
+use Rattle.std.specs.Prelude.{◌≡◌, ℕ, Bool, true, List, Option, Some, None}
+use Rattle.std.specs.Option.{option_map}
+use Rattle.hyd_lex.specs.Lines.{Row, row_of}
+use Rattle.hyd_lex.specs.declared.line.Line.{Line}
+use Rattle.hyd_spec_input.specs.Columns.{word_is}
+use Rattle.hyd_spec_input.specs.InForce.{begins, begins_both}
+use Rattle.hyd_spec_input.specs.Moments.{time}
+use Rattle.hyd_spec_input.specs.OptionRows.{time_line}
+
+-- the row of a line that may be there
+abbrev pub row_in : List ℕ → Option Line → Option Row
+row_in text line = option_map (row_of text) line
+
+-- a row begins with one word, or with two
+abbrev pub begins_with : List ℕ → Option (List ℕ) → Row → Bool
+begins_with key None = begins key
+begins_with key (Some second) = begins_both key second
+
+-- a line of times that begins with these two words gives a time behind them
+abbrev pub GivesTime : List ℕ → List ℕ → Type 0
+GivesTime key second = (words : List (List ℕ)) → time_line words ≡ None → word_is 0 key words ≡ true
+    → word_is 1 second words ≡ true → time 0 2 words ≡ None

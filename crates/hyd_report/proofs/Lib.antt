@@ -1,0 +1,8 @@
+pub mod ChangeLemmas
+pub mod Joining
+pub mod LineLemmas
+pub mod LinkLemmas
+pub mod LoopLemmas
+pub mod PrintLemmas
+pub mod PutLemmas
+pub mod ReportLemmas

@@ -1,0 +1,15 @@
+use Rattle.std.proofs.Common.{take}
+use Rattle.std.specs.Prelude.{Ok}
+use Rattle.hyd_spec.specs.Lists.{map_from}
+use Rattle.hyd_graph.specs.GridOf.{grid_of, states_of}
+use Rattle.hyd_spec_certificates.specs.Grid.{all_heads}
+use Rattle.hyd_spec_certificates.specs.declared.Problem.TheVariants.{Main}
+use Rattle.hyd_spec_certificates.specs.declared.Side.TheVariants.{Upper, Lower}
+use Rattle.hyd_report.specs.Putting.{Puts}
+use Rattle.hyd_report.specs.Lines.{texts, link_line}
+use Rattle.hyd_report.proofs.links.put_links.Given as goal
+
+-- the lines of the links so far were put
+abbrev pub invariant-loop-l : goal.invariant-loop-l
+invariant-loop-l g l = Puts g.D.Desk.files g.D.Desk.rest g.D.Desk.written g.D.Desk.printed g.D.Desk.target g.D.Desk.ready g.D.Desk.counts g.D.Desk.openings
+    (texts l.project (map_from (link_line l.project (grid_of l.net) (all_heads (grid_of l.net) Main Lower l.lower) (all_heads (grid_of l.net) Main Upper l.upper) (states_of l.net)) 0 (take l.l l.project.links.list))) (Ok tt) l.fn.pen l.pen l.fn.desk l.desk

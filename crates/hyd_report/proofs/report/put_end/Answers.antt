@@ -1,0 +1,25 @@
+-- Events, and then the changes by rules.
+use Rattle.std.proofs.Common.{◌+◌, drop, refl}
+use Rattle.hyd_spec_reports.specs.Report.{change_line, event_line}
+use Rattle.hyd_report.specs.Words.{before_rules}
+use Rattle.hyd_report.proofs.LineLemmas.{end_text}
+use Rattle.hyd_report.proofs.PutLemmas.{puts_then, puts_cut, puts_same}
+use Rattle.hyd_report.proofs.report.put_end.Goals as goal
+
+pub returns-in-Err : goal.returns-in-Err
+returns-in-Err g c =
+    let facts = c.args.facts.now in
+    let end = facts.time + facts.length in
+    puts_same _ _ _ _ _ _ _
+    (end_text c.args.project.now event_line change_line c.end_of-time.result end c.as_slice.result.now facts.events.list
+    (drop (before_rules facts.changes.list) facts.changes.list) (drop (before_rules facts.changes.list) facts.changes.list) c.end_of-time.ensures c.as_slice.ensures refl)
+    (puts_cut _ _ c.in-Err.fault _ _ _ _ c.in-Err.ensures)
+
+pub returns : goal.returns
+returns g c =
+    let facts = c.args.facts.now in
+    let end = facts.time + facts.length in
+    puts_same _ _ _ _ _ _ _
+    (end_text c.args.project.now event_line change_line c.end_of-time.result end c.as_slice.result.now facts.events.list
+    c.by_rules.result.now (drop (before_rules facts.changes.list) facts.changes.list) c.end_of-time.ensures c.as_slice.ensures c.by_rules.ensures)
+    (puts_then _ _ _ _ _ _ _ _ _ c.in-Ok.ensures c.put_changes.ensures)

@@ -1,0 +1,17 @@
+-- The changes by controls alone.
+use Rattle.std.proofs.Common.{take}
+use Rattle.hyd_spec_reports.specs.Report.{change_line}
+use Rattle.hyd_report.specs.Words.{before_rules}
+use Rattle.hyd_report.proofs.LineLemmas.{items_text}
+use Rattle.hyd_report.proofs.PutLemmas.{puts_then, puts_cut, puts_same}
+use Rattle.hyd_report.proofs.report.put_start.Goals as goal
+
+pub returns-in-Err : goal.returns-in-Err
+returns-in-Err g c = puts_cut _ _ c.in-Err.fault _ _ _ _ c.in-Err.ensures
+
+pub returns : goal.returns
+returns g c =
+    let facts = c.args.facts.now in
+    puts_same _ _ _ _ _ _ _
+    (items_text c.args.project.now change_line c.from.result facts.time c.by_controls.result.now (take (before_rules facts.changes.list) facts.changes.list) c.from.ensures c.by_controls.ensures)
+    (puts_then _ _ _ _ _ _ _ _ _ c.in-Ok.ensures c.put_changes.ensures)

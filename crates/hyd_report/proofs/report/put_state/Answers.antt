@@ -1,0 +1,90 @@
+-- One part after another.
+use Rattle.std.proofs.Common.{◌≡◌, ◌++◌, ◌∙◌, List, ℕ, ℤ, pos, sym, subst}
+use Rattle.hyd_spec.specs.Lists.{map_from}
+use Rattle.hyd_spec_certificates.specs.Decided.{heads_below, heads_above}
+use Rattle.hyd_spec_certificates.specs.Grid.{fixed_heads}
+use Rattle.hyd_spec_certificates.specs.declared.Problem.TheVariants.{Main}
+use Rattle.hyd_spec_certificates.specs.declared.Side.TheVariants.{Upper, Lower}
+use Rattle.hyd_spec_reports.specs.ReportLine.{TimeLine}
+use Rattle.hyd_cert.specs.RecordView.{row_of}
+use Rattle.hyd_graph.specs.GridOf.{grid_of, states_of}
+use Rattle.hyd_bounds.specs.Bounds.{AreInOrder}
+use Rattle.hyd_report.specs.Lines.{texts, reservoir_line, tank_line, link_line}
+use Rattle.hyd_report.proofs.LineLemmas.{in_order, state_text}
+use Rattle.hyd_report.proofs.PutLemmas.{puts_then, puts_cut, puts_same, puts_ready}
+use Rattle.hyd_report.proofs.report.put_state.Goals as goal
+
+pub put_junctions-requires-clause-ordered : goal.put_junctions-requires-clause-ordered
+put_junctions-requires-clause-ordered g c =
+    let grid = grid_of c.args.net.now in
+    let row = row_of c.args.row.now in
+    let bounds = c.requires.bounds in
+    subst (λ (l : List ℤ). AreInOrder (pos 0) l c.vector-upper.result.now) (sym c.vector-lower.ensures)
+    (subst (λ (u : List ℤ). AreInOrder (pos 0) row.main.lower u) (sym c.vector-upper.ensures)
+    (in_order row.main.lower row.main.upper (fixed_heads grid Main Lower) (fixed_heads grid Main Upper)
+    (bounds.lower.one_each ∙ sym bounds.upper.one_each) bounds.ordered))
+
+pub put_junctions-requires-clause-ready : goal.put_junctions-requires-clause-ready
+put_junctions-requires-clause-ready g c = puts_ready _ _ _ _ _ _ (c.in-Ok.ensures c.args.project.now) c.requires.ready
+
+pub put_junctions-requires-clause-unbroken : goal.put_junctions-requires-clause-unbroken
+put_junctions-requires-clause-unbroken g c = (c.in-Ok.ensures c.args.project.now).no_fault
+
+pub put_reservoirs-requires-clause-ready : goal.put_reservoirs-requires-clause-ready
+put_reservoirs-requires-clause-ready g c =
+    puts_ready _ _ _ _ _ _ c.in-Ok-put_junctions.ensures (puts_ready _ _ _ _ _ _ (c.in-Ok.ensures c.args.project.now) c.requires.ready)
+
+pub put_tanks_and_links-requires-clause-ready : goal.put_tanks_and_links-requires-clause-ready
+put_tanks_and_links-requires-clause-ready g c =
+    puts_ready _ _ _ _ _ _ c.in-Ok-put_reservoirs.ensures (puts_ready _ _ _ _ _ _ c.in-Ok-put_junctions.ensures
+    (puts_ready _ _ _ _ _ _ (c.in-Ok.ensures c.args.project.now) c.requires.ready))
+
+pub returns-in-Err : goal.returns-in-Err
+returns-in-Err g c = puts_cut _ _ c.in-Err.fault _ _ _ _ (c.in-Err.ensures c.args.project.now)
+
+pub returns-in-Err-put_junctions : goal.returns-in-Err-put_junctions
+returns-in-Err-put_junctions g c =
+    let net = c.args.net.now in
+    let network = c.args.project.now in
+    let row = row_of c.args.row.now in
+    let facts = c.args.facts.now in
+    let rs = map_from (reservoir_line network) 0 (grid_of net).reservoirs in
+    let tls = map_from (tank_line network facts.levels.list facts.inflows.list facts.tanks.list) 0 network.tanks.list
+    ++ map_from (link_line network (grid_of net) (heads_below (grid_of net) row) (heads_above (grid_of net) row) (states_of net)) 0 network.links.list in
+    puts_same _ _ _ _ _ _ _
+    (state_text network (TimeLine facts.time) c.vector-lower.result.now row.main.lower c.vector-upper.result.now row.main.upper (grid_of net).junctions rs tls
+    c.vector-lower.ensures c.vector-upper.ensures)
+    (puts_then _ _ _ _ _ _ _ _ _ (c.in-Ok.ensures network)
+    (puts_cut _ (texts network rs ++ texts network tls) c.in-Err-put_junctions.fault _ _ _ _ c.in-Err-put_junctions.ensures))
+
+pub returns-in-Err-put_reservoirs : goal.returns-in-Err-put_reservoirs
+returns-in-Err-put_reservoirs g c =
+    let net = c.args.net.now in
+    let network = c.args.project.now in
+    let row = row_of c.args.row.now in
+    let facts = c.args.facts.now in
+    let rs = map_from (reservoir_line network) 0 (grid_of net).reservoirs in
+    let tls = map_from (tank_line network facts.levels.list facts.inflows.list facts.tanks.list) 0 network.tanks.list
+    ++ map_from (link_line network (grid_of net) (heads_below (grid_of net) row) (heads_above (grid_of net) row) (states_of net)) 0 network.links.list in
+    puts_same _ _ _ _ _ _ _
+    (state_text network (TimeLine facts.time) c.vector-lower.result.now row.main.lower c.vector-upper.result.now row.main.upper (grid_of net).junctions rs tls
+    c.vector-lower.ensures c.vector-upper.ensures)
+    (puts_then _ _ _ _ _ _ _ _ _ (c.in-Ok.ensures network)
+    (puts_then _ _ _ _ _ _ _ _ _ c.in-Ok-put_junctions.ensures
+    (puts_cut _ (texts network tls) c.in-Err-put_reservoirs.fault _ _ _ _ c.in-Err-put_reservoirs.ensures)))
+
+pub returns : goal.returns
+returns g c =
+    let net = c.args.net.now in
+    let network = c.args.project.now in
+    let row = row_of c.args.row.now in
+    let facts = c.args.facts.now in
+    let rs = map_from (reservoir_line network) 0 (grid_of net).reservoirs in
+    let tls = map_from (tank_line network facts.levels.list facts.inflows.list facts.tanks.list) 0 network.tanks.list
+    ++ map_from (link_line network (grid_of net) (heads_below (grid_of net) row) (heads_above (grid_of net) row) (states_of net)) 0 network.links.list in
+    puts_same _ _ _ _ _ _ _
+    (state_text network (TimeLine facts.time) c.vector-lower.result.now row.main.lower c.vector-upper.result.now row.main.upper (grid_of net).junctions rs tls
+    c.vector-lower.ensures c.vector-upper.ensures)
+    (puts_then _ _ _ _ _ _ _ _ _ (c.in-Ok.ensures network)
+    (puts_then _ _ _ _ _ _ _ _ _ c.in-Ok-put_junctions.ensures
+    (puts_then _ _ _ _ _ _ _ _ _ c.in-Ok-put_reservoirs.ensures c.put_tanks_and_links.ensures)))

@@ -1,0 +1,5 @@
+pub mod Lines
+pub mod Periods
+pub mod Printing
+pub mod Putting
+pub mod Words

@@ -1,0 +1,127 @@
+//! The lines of junctions.
+
+ghost use Rattle.std.specs.Prelude.{◌≡◌, ◌<◌, ◌≤◌, ◌^◌, ◌≤ℤ◌, ◌-ℤ◌, pos, length, unsigned_abs, slice_get, IsTrue, IfSome, None};
+ghost use Rattle.hyd_io.specs.Output.{OnCert};
+ghost use Rattle.hyd_net.specs.Sound.{Sound};
+ghost use Rattle.hyd_spec.specs.Lists.{map_from};
+ghost use Rattle.hyd_spec_certificates.specs.Certificate.{IsInBox};
+ghost use Rattle.hyd_spec_certificates.specs.Grid.{all_heads};
+ghost use Rattle.hyd_spec_certificates.specs.Interval.{Interval};
+ghost use Rattle.hyd_spec_certificates.specs.declared.Problem.TheVariants.{Main};
+ghost use Rattle.hyd_spec_certificates.specs.declared.Side.TheVariants.{Upper, Lower};
+ghost use Rattle.hyd_spec_reports.specs.ReportLine.{JunctionLine, line_text};
+ghost use Rattle.hyd_graph.specs.GridOf.{grid_of};
+ghost use Rattle.hyd_bounds.specs.Bounds.{IsVector, AreInOrder};
+ghost use Rattle.hyd_report.specs.Putting.{Puts};
+ghost use Rattle.hyd_report.specs.Printing.{ArePrinted};
+ghost use Rattle.hyd_report.specs.Lines.{texts, junction_between, junction_line};
+
+use crate::ids::node_id;
+use crate::pieces::put_pieces;
+use crate::printed::{Ends, print_flows, print_heads, print_pressures};
+use hyd_bounds::out_box;
+use hyd_graph::Net;
+use hyd_io::{Desk, OutFault, Pen};
+use hyd_net::Project;
+
+/// Puts the line of a junction by its heads, its elevation and its outflow.
+fn put_parts<D: Desk>(
+    project: &Project,
+    junction: u32,
+    head: &Ends,
+    pressure: &Ends,
+    outflow: &Ends,
+    pen: &mut Pen,
+    desk: &mut D,
+) -> Result<(), OutFault>
+    requires sound { Sound project.now }
+    requires ready { OnCert pen.old.to (IsTrue (D.ready desk.old)) }
+    ensures { (h p o : Interval) → ArePrinted h head.now → ArePrinted p pressure.now → ArePrinted o outflow.now
+        → Puts D.files D.rest D.written D.printed D.target D.ready D.counts D.openings
+        (line_text project.now (JunctionLine junction h p o)) result pen.old pen.new desk.old desk.new }
+{
+    put_pieces(
+        &[
+            b"JUNCTION ".as_slice(),
+            node_id(project, junction as usize),
+            b" head ",
+            head.low.bytes(),
+            b" ",
+            head.high.bytes(),
+            b" pressure ",
+            pressure.low.bytes(),
+            b" ",
+            pressure.high.bytes(),
+            b" outflow ",
+            outflow.low.bytes(),
+            b" ",
+            outflow.high.bytes(),
+            b"\n",
+        ],
+        pen,
+        desk,
+    )
+}
+
+/// Puts the line of a junction between two of its heads, in head ticks.
+fn put_junction<D: Desk>(
+    project: &Project,
+    net: &Net,
+    junction: u32,
+    lower: &i64,
+    upper: &i64,
+    pen: &mut Pen,
+    desk: &mut D,
+) -> Result<(), OutFault>
+    requires sound { Sound project.now }
+    requires in_range { junction < length net.now.junctions }
+    requires lower { IsInBox lower.now }
+    requires upper { IsInBox upper.now }
+    requires ordered { lower.now ≤ℤ upper.now }
+    requires ready { OnCert pen.old.to (IsTrue (D.ready desk.old)) }
+    ensures { IfSome (slice_get (grid_of net.now).junctions junction) (λ here.
+        Puts D.files D.rest D.written D.printed D.target D.ready D.counts D.openings
+        (line_text project.now (junction_between project.now junction here lower.now upper.now)) result pen.old pen.new desk.old desk.new) }
+{
+    let flow = out_box(net, junction, *lower, *upper);
+    let head = print_heads(project, *lower, *upper);
+    let pressure = print_pressures(project, *lower, *upper, net.elevation(junction));
+    let outflow = print_flows(project, &flow);
+    put_parts(project, junction, &head, &pressure, &outflow, pen, desk)
+}
+
+/// Puts the lines of all junctions, by vectors of heads below and above.
+pub(crate) fn put_junctions<D: Desk>(
+    project: &Project,
+    net: &Net,
+    lower: &[i64],
+    upper: &[i64],
+    pen: &mut Pen,
+    desk: &mut D,
+) -> Result<(), OutFault>
+    requires sound { Sound project.now }
+    requires lower { IsVector net.now lower.now }
+    requires upper { IsVector net.now upper.now }
+    requires ordered { AreInOrder (pos 0) lower.now upper.now }
+    requires ready { OnCert pen.old.to (IsTrue (D.ready desk.old)) }
+    requires unbroken { pen.old.fault ≡ None }
+    ensures { Puts D.files D.rest D.written D.printed D.target D.ready D.counts D.openings
+        (texts project.now (map_from (junction_line project.now lower.now upper.now) 0 (grid_of net.now).junctions))
+        result pen.old pen.new desk.old desk.new }
+{
+    for j in 0..net.junctions() {
+        match put_junction(
+            project,
+            net,
+            j,
+            &lower[j as usize],
+            &upper[j as usize],
+            pen,
+            desk,
+        ) {
+            Ok(()) => {}
+            Err(fault) => return Err(fault),
+        }
+    }
+    Ok(())
+}

@@ -1,0 +1,125 @@
+//! The lines of links.
+
+ghost use Rattle.std.specs.Prelude.{◌≡◌, ◌<◌, pos, length, slice_get, IsTrue, IfSome, None};
+ghost use Rattle.hyd_io.specs.Output.{OnCert};
+ghost use Rattle.hyd_net.specs.Sound.{Sound};
+ghost use Rattle.hyd_spec.specs.Lists.{map_from};
+ghost use Rattle.hyd_spec_certificates.specs.Grid.{all_heads};
+ghost use Rattle.hyd_spec_certificates.specs.Interval.{Interval};
+ghost use Rattle.hyd_spec_certificates.specs.declared.Problem.TheVariants.{Main};
+ghost use Rattle.hyd_spec_certificates.specs.declared.Side.TheVariants.{Upper, Lower};
+ghost use Rattle.hyd_spec_reports.specs.ReportLine.{LinkLine, line_text};
+ghost use Rattle.hyd_graph.specs.GridOf.{grid_of, states_of};
+ghost use Rattle.hyd_graph.specs.Periods.{IsNetOf};
+ghost use Rattle.hyd_graph.specs.Settings.{AreStates};
+ghost use Rattle.hyd_bounds.specs.Bounds.{IsVector, AreInOrder};
+ghost use Rattle.hyd_report.specs.Putting.{Puts};
+ghost use Rattle.hyd_report.specs.Printing.{ArePrinted};
+ghost use Rattle.hyd_report.specs.Lines.{texts, link_line};
+
+use crate::ids::link_id;
+use crate::pieces::put_pieces;
+use crate::printed::{Ends, print_flows};
+use crate::states::status_word;
+use hyd_bounds::{flow_box, status_of};
+use hyd_graph::Net;
+use hyd_io::{Desk, OutFault, Pen};
+use hyd_net::Project;
+use hyd_spec_reports::StatusWord;
+
+/// Puts the line of a link by its printed flow and its status.
+fn put_parts<D: Desk>(
+    project: &Project,
+    link: u32,
+    flow: &Ends,
+    status: StatusWord,
+    pen: &mut Pen,
+    desk: &mut D,
+) -> Result<(), OutFault>
+    requires sound { Sound project.now }
+    requires ready { OnCert pen.old.to (IsTrue (D.ready desk.old)) }
+    ensures { (f : Interval) → ArePrinted f flow.now
+        → Puts D.files D.rest D.written D.printed D.target D.ready D.counts D.openings
+        (line_text project.now (LinkLine link f status)) result pen.old pen.new desk.old desk.new }
+{
+    let status = status_word(status);
+    put_pieces(
+        &[
+            b"LINK ".as_slice(),
+            link_id(project, link),
+            b" flow ",
+            flow.low.bytes(),
+            b" ",
+            flow.high.bytes(),
+            b" status ",
+            status.bytes(),
+            b"\n",
+        ],
+        pen,
+        desk,
+    )
+}
+
+/// Puts the line of a link, by vectors of heads below and above.
+fn put_link<D: Desk>(
+    project: &Project,
+    net: &Net,
+    link: u32,
+    lower: &[i64],
+    upper: &[i64],
+    pen: &mut Pen,
+    desk: &mut D,
+) -> Result<(), OutFault>
+    requires sound { Sound project.now }
+    requires of { IsNetOf project.now net.now }
+    requires states { AreStates project.now (states_of net.now) }
+    requires in_range { link < length project.now.links.list }
+    requires lower { IsVector net.now lower.now }
+    requires upper { IsVector net.now upper.now }
+    requires ordered { AreInOrder (pos 0) (all_heads (grid_of net.now) Main Lower lower.now)
+        (all_heads (grid_of net.now) Main Upper upper.now) }
+    requires ready { OnCert pen.old.to (IsTrue (D.ready desk.old)) }
+    ensures { IfSome (slice_get project.now.links.list link) (λ here.
+        Puts D.files D.rest D.written D.printed D.target D.ready D.counts D.openings
+        (line_text project.now (link_line project.now (grid_of net.now) (all_heads (grid_of net.now) Main Lower lower.now)
+        (all_heads (grid_of net.now) Main Upper upper.now) (states_of net.now) link here))
+        result pen.old pen.new desk.old desk.new) }
+{
+    let _links = net.links();
+    let flow = flow_box(net, link, lower, upper);
+    let status = status_of(net, link, lower, upper);
+    let flow = print_flows(project, &flow);
+    put_parts(project, link, &flow, status, pen, desk)
+}
+
+/// Puts the lines of all links, by vectors of heads below and above.
+pub(crate) fn put_links<D: Desk>(
+    project: &Project,
+    net: &Net,
+    lower: &[i64],
+    upper: &[i64],
+    pen: &mut Pen,
+    desk: &mut D,
+) -> Result<(), OutFault>
+    requires sound { Sound project.now }
+    requires of { IsNetOf project.now net.now }
+    requires states { AreStates project.now (states_of net.now) }
+    requires lower { IsVector net.now lower.now }
+    requires upper { IsVector net.now upper.now }
+    requires ordered { AreInOrder (pos 0) (all_heads (grid_of net.now) Main Lower lower.now)
+        (all_heads (grid_of net.now) Main Upper upper.now) }
+    requires ready { OnCert pen.old.to (IsTrue (D.ready desk.old)) }
+    requires unbroken { pen.old.fault ≡ None }
+    ensures { Puts D.files D.rest D.written D.printed D.target D.ready D.counts D.openings
+        (texts project.now (map_from (link_line project.now (grid_of net.now) (all_heads (grid_of net.now) Main Lower lower.now)
+        (all_heads (grid_of net.now) Main Upper upper.now) (states_of net.now)) 0 project.now.links.list))
+        result pen.old pen.new desk.old desk.new }
+{
+    for l in 0..net.links() {
+        match put_link(project, net, l, lower, upper, pen, desk) {
+            Ok(()) => {}
+            Err(fault) => return Err(fault),
+        }
+    }
+    Ok(())
+}

@@ -1,0 +1,4 @@
+pub mod Bare
+pub mod Sharp
+pub mod View
+pub mod Steps

@@ -1,0 +1,60 @@
+-- What a step of a run gives.
+-- Source: this program's.
+use Rattle.std.specs.Prelude.{◌≡◌, ◌⊎◌, ℕ, ◌+◌, ℤ, Bool, true, false, List, Option, Some, None, MatchBool}
+use Rattle.hyd_spec.specs.Types.{Project, LinkState}
+use Rattle.hyd_spec.specs.Lists.{Each}
+use Rattle.hyd_spec_certificates.specs.declared.Problem.{Problem}
+use Rattle.hyd_spec_certificates.specs.declared.Side.{Side}
+use Rattle.hyd_spec_certificates.specs.Grid.{Grid}
+use Rattle.hyd_spec_certificates.specs.Certificate.{IsTight}
+use Rattle.hyd_spec_certificates.specs.Narrow.{IsNarrow}
+use Rattle.hyd_spec_certificates.specs.Record.{Record, Standing, vector_of}
+use Rattle.hyd_spec_certificates.specs.Valid.{IsProblem, IsValid}
+use Rattle.hyd_cert.specs.RecordView.{row_of}
+use Rattle.hyd_cert.specs.declared.record.Record.{Record as Row}
+use Rattle.hyd_facts.specs.declared.facts.Facts.{Facts}
+use Rattle.hyd_graph.specs.NetView.{NetView}
+use Rattle.hyd_facts.specs.OfPeriod.{AreFacts}
+use Rattle.hyd_graph.specs.GridOf.{grid_of}
+use Rattle.hyd_sim.specs.View.{SimView, standing_at, standing_of}
+use Rattle.hyd_sim.specs.declared.settings.Settings.{Settings}
+use Rattle.hyd_sim.specs.declared.steps.Step.{Step}
+use Rattle.hyd_sim.specs.declared.steps.Step.TheVariants.{Period, Finished, Stop}
+
+-- all vectors of a record are the tight ones
+abbrev pub AreTight : Project → Grid → Record → Type 0
+AreTight network grid row = (problem : Problem) (side : Side) → IsProblem network problem
+    → IsTight grid problem side (vector_of row problem side)
+
+-- a record is as sharp as the settings ask: where they ask for tight vectors these are tight, else they are or the
+-- record is narrow
+abbrev pub IsSharp : Project → Settings → Standing → Grid → Record → Standing → Type 0
+IsSharp network settings standing grid row next =
+    MatchBool settings.tight (AreTight network grid row)
+    (AreTight network grid row ⊎ IsNarrow settings.width standing row next)
+
+-- the period of a number was done, from the states that links were commanded to be in: its record is valid at the
+-- standing before and leads on to the one after, the net is that of the period, the facts are its own, and the record is
+-- as sharp as the settings ask
+pub record IsDone (network : Project) (settings : Settings) (number : ℕ) (commanded : List LinkState) (net : NetView)
+    (row : Row) (facts : Facts) : Type 0 where
+  pub valid : IsValid network (standing_at number commanded false) (grid_of net) (row_of row)
+      (standing_at (number + 1) commanded true)
+  pub facts_are : AreFacts network (grid_of net) (standing_at number commanded false) (row_of row) facts
+  pub sharp : IsSharp network settings (standing_at number commanded false) (grid_of net) (row_of row)
+      (standing_at (number + 1) commanded true)
+
+-- a step did a period, and the run stands behind it
+pub record IsPeriod (before now : SimView) : Type 0 where
+  pub valid : IsValid now.project (standing_of before) (grid_of now.net) (row_of now.row) (standing_of now)
+  pub facts : AreFacts now.project (grid_of now.net) (standing_of before) (row_of now.row) now.facts
+  pub sharp : IsSharp now.project now.settings (standing_of before) (grid_of now.net) (row_of now.row)
+      (standing_of now)
+  pub stopped : now.stopped ≡ None
+
+-- what a step gives: a period that was done; or the run is over and nothing changed; or it stopped by a cause, which
+-- holds at its standing, and the standing stays
+abbrev pub StepGives : SimView → SimView → Step → Type 0
+StepGives before now Period = IsPeriod before now
+StepGives before now Finished = (before.finished ≡ true) × (now ≡ before)
+StepGives before now (Stop cause) = (now.stopped ≡ Some cause) × (standing_of now ≡ standing_of before)
