@@ -149,7 +149,8 @@ fn inflow(net: &Net, tank: u32, low: &[i64], high: &[i64]) -> Option<(i128, i128
 }
 
 // The word of a link.
-fn word(net: &Net, link: u32, low: &[i64], high: &[i64]) -> Option<StatusWord> {
+fn word(net: &Net, number: usize, low: &[i64], high: &[i64]) -> Option<StatusWord> {
+    let link = u32::try_from(number).ok()?;
     if link >= net.links() || !are_certificates(net, Problem::Main, low, high) {
         return None;
     }
@@ -188,7 +189,7 @@ fn words_of_links(rt: HostRuntime) -> Result<(), Fail> {
         let net = net_at(rt.alloc(), network.0, 0, network.1)?;
         let (low, high) = (vector(network.2, 1), vector(network.2, 0));
         for (link, expected) in words.iter().enumerate() {
-            let answer = word(&net, link as u32, low, high);
+            let answer = word(&net, link, low, high);
             assert_eq!(rt; answer, Some(*expected), "link {link} of network {place}");
         }
     }
