@@ -1,2 +1,5 @@
 pub mod Rows
 pub mod Controls
+pub mod Values
+pub mod Clauses
+pub mod Rules

@@ -1,9 +1,10 @@
 -- Rows of commands of a file without a fault.
-use Rattle.std.specs.Prelude.{◌≡◌, List, Some, None}
+use Rattle.std.specs.Prelude.{◌≡◌, ℕ, List, Some, None}
 use Rattle.hyd_lex.specs.Lines.{Row}
 use Rattle.hyd_spec_input.specs.Capacities.{IsRefusedSetting}
 use Rattle.hyd_spec_input.specs.Columns.{word}
 use Rattle.hyd_spec_input.specs.ControlRows as row_form
+use Rattle.hyd_spec_input.specs.RuleRows as form
 use Rattle.hyd_spec_input.specs.Tables.{link_named}
 use Rattle.hyd_spec_input.specs.WithOthers.{set_link, control_node, control_tank, control_level}
 
@@ -17,3 +18,11 @@ pub record IsRightControl (rows : List Row) (row : Row) : Type 0 where
   pub tank : control_tank rows row ≡ None
   pub level : control_level rows row ≡ None
   pub free : IsRefusedSetting rows (Some link) (word 2 row.words) → ⊥
+
+-- the words of an action are right in both phases
+pub record IsRightAction (rows : List Row) (words : List (List ℕ)) : Type 0 where
+  pub by_itself : form.action words ≡ None
+  pub link : Row
+  pub named : link_named rows (word 2 words) ≡ Some link
+  pub set : set_link rows (Some link) (word 5 words) None ≡ None
+  pub free : IsRefusedSetting rows (Some link) (word 5 words) → ⊥

@@ -31,6 +31,7 @@ use Rattle.hyd_spec_networks.proofs.LinkKinds.{not_of}
 use Rattle.hyd_spec_networks.proofs.LinkStates.{valve_range}
 use Rattle.hyd_spec_networks.proofs.Names.{row_named, link_new}
 use Rattle.hyd_spec_networks.proofs.Occurs.{same_name}
+use Rattle.hyd_states.proofs.StateLemmas as states
 use Rattle.hyd_states.specs.States.{IsRightLink, IsSettable, IsThrottled, limit_fault}
 use Rattle.hyd_tables.proofs.SectionLemmas.{all_rows}
 use Rattle.hyd_states.proofs.RightLinks.{right_link}
@@ -139,15 +140,8 @@ pub settable : (text : List ℕ) (from : LinkSource) (line status : Line) → Is
     → IsSettable from.unit (row_of text line) asked
 settable text from line status at e asked is =
     let facts = status_facts text from line status at e in
-    record {
-      rows = rows_from text from;
-      unit_is = at.right.unit_is;
-      word = word 1 (row_of text status).words;
-      asked_is = is;
-      between = None;
-      right = facts.set;
-      free = facts.free;
-    }
+    states.settable (rows_from text from) (row_of text line) (word 1 (row_of text status).words) from.unit asked None
+    at.of at.right.unit_is is facts.set facts.free
 
 -- the last row that names a link, among all rows
 pub last_is : (text : List ℕ) (from : LinkSource) (line : Line) (id : List ℕ) (last : Option Row)

@@ -37,7 +37,8 @@ pub ends_are : (unit : FlowUnit) (points rest front : List CurvePoint) (first la
     → (le_z (pos 0) (flow_ticks unit first.x.nano) && le_z (pos 0) (head_ticks (is_us_unit unit) last.y.nano))
     ≡ begins_and_ends (bend unit points)
 ends_are unit points rest front first last e f =
-    let start : at_start (λ (p : HeadPoint). le_z (pos 0) p.flow) (bend unit points) ≡ le_z (pos 0) (flow_ticks unit first.x.nano) =
+    let start : at_start (λ (p : HeadPoint). le_z (pos 0) p.flow) (bend unit points) ≡ le_z (pos 0) (flow_ticks unit
+    first.x.nano) =
     rw e refl in
     let end : at_end (λ (p : HeadPoint). le_z (pos 0) p.head) (bend unit points)
     ≡ le_z (pos 0) (head_ticks (is_us_unit unit) last.y.nano) =
@@ -48,7 +49,7 @@ ends_are unit points rest front first last e f =
 -- ---- the first two points
 
 -- a head is at least the last one
-lifted : (a : HeadPoint) (points : List HeadPoint) → in_turn is_slower (a ∷ points) ≡ true
+pub lifted : (a : HeadPoint) (points : List HeadPoint) → in_turn is_slower (a ∷ points) ≡ true
     → at_end (λ (p : HeadPoint). le_z (pos 0) p.head) (a ∷ points) ≡ true → pos 0 ≤ℤ a.head
 lifted a [] falls end = at_most (pos 0) a.head end
 lifted a (b ∷ points) falls end =
@@ -133,7 +134,8 @@ two_begin unit (i ∷ []) a b x y l e f p q turns ends = absurd (omega arith)
 two_begin unit (i ∷ j ∷ []) a b x y l e f p q turns ends = absurd (omega arith)
 two_begin unit (i ∷ j ∷ k ∷ points) a b x y l e f p q turns ends =
     begins (head_point unit (is_us_unit unit) (point_in i)) (head_point unit (is_us_unit unit) (point_in j))
-    (head_point unit (is_us_unit unit) (point_in k)) (bend unit points) x y (rw e at p) (rw f at q) (sym turns) (sym ends)
+    (head_point unit (is_us_unit unit) (point_in k)) (bend unit points) x y (rw e at p) (rw f at q) (sym turns) (sym
+    ends)
 
 -- ---- curves of valves
 

@@ -65,7 +65,8 @@ three : (unit : FlowUnit) (a b c : CurvePoint) → pump_fault unit (points_in (a
     → ThreeRight unit (points_in (a ∷ b ∷ c ∷ [])) a b
 three unit a b c right =
     let points = points_in (a ∷ b ∷ c ∷ []) in
-    let both = both_pass (curve.is_pump_curve points) (curve.are_flows unit points && curve.has_shutoff (is_us_unit unit) points) _ _ right in
+    let both = both_pass (curve.is_pump_curve points) (curve.are_flows unit points && curve.has_shutoff (is_us_unit
+    unit) points) _ _ right in
     let shape = and_parts (int_eq a.x.nano (pos 0) && (lt_z (pos 0) b.x.nano && lt_z b.x.nano c.x.nano))
     ((lt_z b.y.nano a.y.nano && lt_z c.y.nano b.y.nano)
     && int_eq ((a.y.nano -ℤ c.y.nano) *ℤ square b.x.nano) ((a.y.nano -ℤ b.y.nano) *ℤ square c.x.nano)) both.0 in
@@ -77,10 +78,16 @@ three unit a b c right =
     let ranges = and_parts (curve.are_flows unit points) (curve.has_shutoff (is_us_unit unit) points) both.1 in
     let flows = and_parts (is_flow unit a.x.nano) (is_flow unit b.x.nano && (is_flow unit c.x.nano && true)) ranges.0 in
     let flow = and_parts (is_flow unit b.x.nano) (is_flow unit c.x.nano && true) flows.1 in
-    let most = and_parts (le_z (neg_ℤ (pos (10 ^ 15))) (flow_ticks unit b.x.nano)) (le_z (flow_ticks unit b.x.nano) (pos (10 ^ 15))) flow.0 in
-    let heads = and_parts (is_within (10 ^ 16) (head_ticks (is_us_unit unit) a.y.nano)) (le_z (a.y.nano -ℤ b.y.nano) (pos (10 ^ 21))) ranges.1 in
+    let most = and_parts (le_z (neg_ℤ (pos (10 ^ 15))) (flow_ticks unit b.x.nano)) (le_z (flow_ticks unit b.x.nano)
+    (pos (10 ^ 15))) flow.0 in
+    let heads = and_parts (is_within (10 ^ 16) (head_ticks (is_us_unit unit) a.y.nano)) (le_z (a.y.nano -ℤ b.y.nano)
+    (pos (10 ^ 21))) ranges.1 in
     record {
-      flow = record { positive = below (pos 0) b.x.nano first.0; at_most = at_most (flow_ticks unit b.x.nano) (pos (10 ^ 15)) most.1 };
+      flow = record {
+        positive = below (pos 0) b.x.nano first.0;
+        at_most = at_most (flow_ticks unit b.x.nano) (pos
+            (10 ^ 15)) most.1;
+      };
       falls = below b.y.nano a.y.nano drops.0;
       small = at_most (a.y.nano -ℤ b.y.nano) (pos (10 ^ 21)) heads.1;
       straight = refl;

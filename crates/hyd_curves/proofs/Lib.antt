@@ -1,6 +1,7 @@
 pub mod NamedLemmas
 pub mod PointLemmas
 pub mod TankRowLemmas
+pub mod BendRowLemmas
 pub mod TurnLemmas
 pub mod BendLemmas
 pub mod CapacityLemmas

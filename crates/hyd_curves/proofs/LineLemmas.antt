@@ -95,7 +95,12 @@ high_is a b most less forward falls above =
     let w : ℕ = x.den in
     let wide : pos w ≡ b.place -ℤ a.place = sym (width_is a b (pos 0) less) in
     let back : pos 0 ≤ℤ ((b.value -ℤ a.value) *ℤ (pos 0 -ℤ (pos 1 *ℤ a.place))) =
-    both_below (b.value -ℤ a.value) (pos 0 -ℤ (pos 1 *ℤ a.place)) (omega (arith, ints, falls)) (omega (arith, ints, one_times a.place, forward)) in
+    both_below (b.value -ℤ a.value) (pos 0 -ℤ (pos 1 *ℤ a.place)) (omega (arith, ints, falls)) (omega (
+      arith,
+      ints,
+      one_times a.place,
+      forward,
+    )) in
     let up : (pos w *ℤ (most +ℤ pos 1)) ≤ℤ (pos w *ℤ a.value) =
     times_rises w (most +ℤ pos 1) a.value (omega (arith, ints, above)) in
     let one : 1 * w ≡ w = omega arith in

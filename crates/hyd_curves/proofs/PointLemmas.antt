@@ -68,7 +68,12 @@ no_points lists k none =
     elim (cases_Bool (nat_lt k (length lists))) [
       | inl t ↦ (let l : k < length lists = ltb-true k (length lists) t in
           get_or-map points_of lists k d [] l ∙ ap points_in (none k d l))
-      | inr f ↦ get_or-eq_default (each lists) [] (omega (arith, length-map lists points_of, ltb-false k (length lists) f))
+      | inr f ↦ get_or-eq_default (each lists) [] (omega (
+        arith,
+        length-map lists points_of,
+        ltb-false k (length
+            lists) f,
+      ))
     ]
 
 none_listed : (lists : List (ListView CurvePoint)) (count : ℕ) → AreEmpty lists count → (found : Option ℕ)
@@ -95,8 +100,10 @@ not_named name row t = (bytes_decides name (own_id row)).0 t
 one_name : (names : List (List ℕ)) (a b : List ℕ) (k : ℕ) → position (bytes_eq a) names ≡ Some k
     → position (bytes_eq b) names ≡ Some k → a ≡ b
 one_name names a b k p q =
-    let x : a ≡ get_or names k [] = (bytes_decides a (get_or names k [])).0 (position-Some (bytes_eq a) names k [] p).1 in
-    let y : b ≡ get_or names k [] = (bytes_decides b (get_or names k [])).0 (position-Some (bytes_eq b) names k [] q).1 in
+    let x : a ≡ get_or names k [] = (bytes_decides a (get_or names k [])).0 (position-Some (bytes_eq a) names k []
+    p).1 in
+    let y : b ≡ get_or names k [] = (bytes_decides b (get_or names k [])).0 (position-Some (bytes_eq b) names k []
+    q).1 in
     x ∙ sym y
 
 -- ---- the points of a curve, one row further
@@ -138,7 +145,8 @@ list_more rows k row names before after number point name is member there p more
           let g : Some found ≡ Some number = f ∙ rw e there in
           let n : found ≡ number = cc in
           rw n (more.here ∙ ap (λ (ps : List Point). ps ++ point ∷ []) (rw n at was)
-          ∙ ap (λ (q : Point). curve_named (take k rows) name ++ q ∷ []) p ∙ sym (more_here rows k row name is member t)))
+          ∙ ap (λ (q : Point). curve_named (take k rows) name ++ q ∷ []) p ∙ sym (more_here rows k row name is
+          member t)))
       | inr o ↦ more.others found (λ n.
           let e : name ≡ own_id row = one_name names name (own_id row) found (sym f) (there ∙ ap Some (sym n)) in
           true≢false (sym ((bytes_decides name (own_id row)).1 e) ∙ o))
@@ -156,7 +164,8 @@ add_row rows k row names points next number point before is member there p more 
       even = omega (arith, a, b, more.even, before.even);
       points_are = record {
         named = λ name.
-            list_more rows k row names (each points.lists.items) (each next.lists.items) number point name is member there
+            list_more rows k row names (each points.lists.items) (each next.lists.items) number point name is member
+            there
             p more (number_in names name) refl (before.points_are.named name);
       };
     }
@@ -217,7 +226,8 @@ number_is_there text rows k row names firsts table is member none =
     let no : row_with (own_id row) (rows_of Curves rows) ≡ None =
     not_found text (rows_of Curves rows) names firsts (own_id row) table none in
     let there : has_id (own_id row) (rows_of Curves rows) ≡ true = has_more (is_of Curves) rows k row is member in
-    let gone : has_id (own_id row) (rows_of Curves rows) ≡ false = has_id-is (own_id row) (rows_of Curves rows) ∙ rw no refl in
+    let gone : has_id (own_id row) (rows_of Curves rows) ≡ false = has_id-is (own_id row) (rows_of Curves rows) ∙ rw
+    no refl in
     true≢false (sym there ∙ gone)
 
 -- ---- all rows

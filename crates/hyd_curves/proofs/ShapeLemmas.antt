@@ -43,15 +43,18 @@ pub ends_are : (us : Bool) (minimum maximum : ℤ) (points rest front : List Cur
     && (le_z (shape_point us first).level minimum && le_z maximum (shape_point us last).level))
     ≡ between_ends minimum maximum (shape us points)
 ends_are us minimum maximum points rest front first last e f =
-    let low : at_start (λ (p : VolumePoint). le_z (pos 0) p.volume) (shape us points) ≡ le_z (pos 0) (shape_point us first).volume =
+    let low : at_start (λ (p : VolumePoint). le_z (pos 0) p.volume) (shape us points) ≡ le_z (pos 0) (shape_point us
+    first).volume =
     rw e refl in
     let high : at_end (λ (p : VolumePoint). le_z p.volume (pos (10 ^ 18))) (shape us points)
     ≡ le_z (shape_point us last).volume (pos (10 ^ 18)) =
     ap (λ (ps : List CurvePoint). at_end (λ (p : VolumePoint). le_z p.volume (pos (10 ^ 18))) (shape us ps)) f
     ∙ last_is (λ (p : VolumePoint). le_z p.volume (pos (10 ^ 18))) (volume_point us) front last in
-    let start : at_start (λ (p : VolumePoint). le_z p.level minimum) (shape us points) ≡ le_z (shape_point us first).level minimum =
+    let start : at_start (λ (p : VolumePoint). le_z p.level minimum) (shape us points) ≡ le_z (shape_point us
+    first).level minimum =
     rw e refl in
-    let end : at_end (λ (p : VolumePoint). le_z maximum p.level) (shape us points) ≡ le_z maximum (shape_point us last).level =
+    let end : at_end (λ (p : VolumePoint). le_z maximum p.level) (shape us points) ≡ le_z maximum (shape_point us
+    last).level =
     ap (λ (ps : List CurvePoint). at_end (λ (p : VolumePoint). le_z maximum p.level) (shape us ps)) f
     ∙ last_is (λ (p : VolumePoint). le_z maximum p.level) (volume_point us) front last in
     sym (rw (low, high, start, end) refl)
@@ -62,8 +65,10 @@ abbrev pub point_of : Ticks → VolumePoint
 point_of ticks = record { level = ticks.place; volume = ticks.value }
 
 -- the volume is by a point and those after it, all of them right
-pub record IsWalked (us : Bool) (points : List CurvePoint) (level : ℤ) (first : Ticks) (left : List CurvePoint) : Type 0 where
-  pub value : value_from 1 (knot_of first) (volume_knots (shape us left)) level ≡ value_at 1 (volume_knots (shape us points)) level
+pub record IsWalked (us : Bool) (points : List CurvePoint) (level : ℤ) (first : Ticks) (left : List CurvePoint) :
+    Type 0 where
+  pub value : value_from 1 (knot_of first) (volume_knots (shape us left)) level
+      ≡ value_at 1 (volume_knots (shape us points)) level
   pub right : IsRight (point_of first ∷ shape us left)
 
 -- ---- what is asked of neighbours
@@ -182,7 +187,8 @@ pub walk_ends : (us : Bool) (points left later : List CurvePoint) (level result 
     → result ≡ floor (between 1 (knot_of first) (knot_of second) level) → result ≡ volume_at (shape us points) level
 walk_ends us points left later level result first second point walked e t h r =
     r ∙ ap floor (sym (reached us (knot_of first) (knot_of second) later level h)
-    ∙ ap (λ (ps : List VolumePoint). value_from 1 (knot_of first) (volume_knots ps) level) (two_are us left later point second e t)
+    ∙ ap (λ (ps : List VolumePoint). value_from 1 (knot_of first) (volume_knots ps) level) (two_are us left later
+    point second e t)
     ∙ walked.value)
 
 -- the two points that the walk stands at
@@ -202,7 +208,8 @@ pub walk_alone : (us : Bool) (points left : List CurvePoint) (level result : ℤ
     → result ≡ volume_at (shape us points) level
 walk_alone us points left level result first walked e r =
     let P : List CurvePoint → Type 0 =
-    λ ps. value_from 1 (knot_of first) (volume_knots (shape us ps)) level ≡ value_at 1 (volume_knots (shape us points)) level in
+    λ ps. value_from 1 (knot_of first) (volume_knots (shape us ps)) level ≡ value_at 1 (volume_knots (shape us
+    points)) level in
     r ∙ sym (floor_whole first.value) ∙ ap floor (subst P (no_items left e) walked.value)
 
 -- ---- the curve of a tank
@@ -230,7 +237,8 @@ covered_small minimum maximum points right covered order =
     let first = first_passes level_passes (λ p. le_z p.level minimum) points all ends.0 in
     let last = last_passes level_passes (λ p. le_z maximum p.level) points all ends.1 in
     let low : neg_ℤ (pos (10 ^ 17)) ≤ℤ first.0.level =
-    at_most _ _ (and_parts (le_z (neg_ℤ (pos (10 ^ 17))) first.0.level) (le_z first.0.level (pos (10 ^ 17))) first.1).0 in
+    at_most _ _ (and_parts (le_z (neg_ℤ (pos (10 ^ 17))) first.0.level) (le_z first.0.level (pos (10 ^ 17)))
+    first.1).0 in
     let high : last.0.level ≤ℤ pos (10 ^ 17) =
     at_most _ _ (and_parts (le_z (neg_ℤ (pos (10 ^ 17))) last.0.level) (le_z last.0.level (pos (10 ^ 17))) last.1).1 in
     let from : first.0.level ≤ℤ minimum = at_most _ _ first.2 in

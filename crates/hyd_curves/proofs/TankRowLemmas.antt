@@ -1,5 +1,5 @@
 -- The volume curves that tanks name, one row further.
-use Rattle.std.proofs.Common.{◌≡◌, All, ◌+◌, ◌<◌, ◌≤◌, ◌++◌, ◌^◌, ◌==◌, ℕ, Bool, true, false, List, [], ◌∷◌, map, length, take, slice_get, get_or, Option, Some, None, pos, refl, sym, ap, ◌∙◌, subst, arith, true≢false, append-nil, inl, if◌then◌else◌, ℤ, ◌+ℤ◌, ◌-ℤ◌}
+use Rattle.std.proofs.Common.{◌≡◌, All, ◌+◌, ◌<◌, ◌≤◌, ◌++◌, ◌^◌, ◌==◌, ℕ, Bool, true, false, List, [], ◌∷◌, length, take, slice_get, get_or, Option, Some, None, pos, refl, sym, ap, ◌∙◌, subst, arith, true≢false, append-nil, inl, if◌then◌else◌, ℤ, ◌+ℤ◌, ◌-ℤ◌}
 use Rattle.std.specs.Prelude.{◌&&◌, nat_le}
 use Rattle.std.specs.List.{flat_map, list_all}
 use Rattle.std.proofs.lemmas.Bool.{and_parts}
@@ -32,6 +32,8 @@ use Rattle.hyd_tables.proofs.FoundLemmas.{filter_more, filter_same}
 use Rattle.hyd_tables.specs.Found.{rows_at}
 use Rattle.hyd_tables.proofs.SectionLemmas.{none_of, all_rows}
 use Rattle.hyd_lex.specs.declared.line.Line.{Line}
+use Rattle.hyd_spec_input.specs.InForce as force
+use Rattle.hyd_curves.specs.Asked.{tank_curve_fault}
 use Rattle.hyd_curves.specs.Named.{IsSmallVolume, AreShapes, AreShapesAt, with_name}
 use Rattle.hyd_curves.specs.Points.{points_in, point_in}
 use Rattle.hyd_curves.specs.Shapes.{IsRight, level_passes, begins_and_ends}
@@ -72,17 +74,18 @@ right_small (a ∷ b ∷ points) right =
 
 -- ---- a tank's row among all rows
 
-behind_none : (fault next : Option Cause) → or_else fault next ≡ None → next ≡ None
+pub behind_none : (fault next : Option Cause) → or_else fault next ≡ None → next ≡ None
 behind_none None next e = e
 behind_none (Some cause) next e = absurd (let x : ⊥ = cc in x)
 
-here_none : (fault next : Option Cause) → or_else fault next ≡ None → fault ≡ None
+pub here_none : (fault next : Option Cause) → or_else fault next ≡ None → fault ≡ None
 here_none None next e = refl
 here_none (Some cause) next e = absurd (let x : ⊥ = cc in x)
 
 seventh : (a b c d e f g : Option Cause) → first (a ∷ b ∷ c ∷ d ∷ e ∷ f ∷ g ∷ []) ≡ None → g ≡ None
 seventh a b c d e f g h =
-    here_none g None (behind_none f _ (behind_none e _ (behind_none d _ (behind_none c _ (behind_none b _ (behind_none a _ h))))))
+    here_none g None (behind_none f _ (behind_none e _ (behind_none d _ (behind_none c _ (behind_none b _
+    (behind_none a _ h))))))
 
 fault_is : (section : Section) (rows : List Row) (k : ℕ) (row : Row) → (place section == 2) ≡ true
     → others.section_fault section rows k row ≡ others.tank rows k row
@@ -94,14 +97,16 @@ curve_passes : (rows : List Row) (k : ℕ) (row : Row) → NoneIs (IsWrongWithOt
     → slice_get rows k ≡ Some row → is_of Tanks row ≡ true
     → others.volume_curve rows row (tank_curve row.words) ≡ None
 curve_passes rows k row right is member =
-    seventh (others.passes 32 6 (length (rows_of Tanks (take (k + 1) rows)))) (others.new_in (node_rows (take k rows)) row)
-    (others.known_curve rows (tank_curve row.words)) (others.head rows (amount 1 row.words)) (others.levels_apart rows row)
+    seventh (others.passes 32 6 (length (rows_of Tanks (take (k + 1) rows)))) (others.new_in (node_rows (take k
+    rows)) row)
+    (others.known_curve rows (tank_curve row.words)) (others.head rows (amount 1 row.words)) (others.levels_apart
+    rows row)
     (others.head rows (amount 1 row.words +ℤ amount 4 row.words)) (others.volume_curve rows row (tank_curve row.words))
     (sym (fault_is row.section rows k row member)
     ∙ none_of (others.row_fault rows k row)
     (λ cause f. right k cause (record { row = row; row_is = is; fault = inl f })))
 
-passes : (b : Bool) (cause : Cause) → unless b cause ≡ None → b ≡ true
+pub passes : (b : Bool) (cause : Cause) → unless b cause ≡ None → b ≡ true
 passes true cause e = refl
 passes false cause e = absurd (let x : ⊥ = cc in x)
 
@@ -149,13 +154,15 @@ more_names : (rows : List Row) (k : ℕ) (row : Row) (added : List (List ℕ)) �
     → shape_names (take (k + 1) rows) ≡ new_names [] (names_in (rows_of Tanks (take k rows)) ++ added)
 more_names rows k row added is member e =
     ap (λ (rs : List Row). new_names [] (names_in rs)) (filter_more (is_of Tanks) rows k row is member)
-    ∙ ap (new_names []) (flat_map-append (λ (r : Row). as_list (tank_curve r.words)) (rows_of Tanks (take k rows)) (row ∷ [])
+    ∙ ap (new_names []) (flat_map-append (λ (r : Row). as_list (tank_curve r.words)) (rows_of Tanks (take k rows))
+    (row ∷ [])
     ∙ ap (λ (ns : List (List ℕ)). names_in (rows_of Tanks (take k rows)) ++ ns) (append-nil _ ∙ e))
 
 pub skip_row : (rows : List Row) (k : ℕ) (row : Row) (shapes : Shapes) → AreShapesAt rows k shapes
     → slice_get rows k ≡ Some row → is_of Tanks row ≡ false → AreShapesAt rows (k + 1) shapes
 skip_row rows k row shapes before is other = record {
-  names = before.names ∙ sym (ap (λ (rs : List Row). new_names [] (names_in rs)) (filter_same (is_of Tanks) rows k row is other));
+  names = before.names ∙ sym (ap (λ (rs : List Row). new_names [] (names_in rs)) (filter_same (is_of Tanks) rows k
+      row is other));
   few = omega (arith, before.few);
   lists = before.lists;
 }
@@ -170,7 +177,7 @@ none_row rows k row shapes before is member none = record {
   lists = before.lists;
 }
 
-length_with : (there : Bool) (names : List (List ℕ)) (name : List ℕ)
+pub length_with : (there : Bool) (names : List (List ℕ)) (name : List ℕ)
     → length (if there then names else names ++ name ∷ []) ≤ length names + 1
 length_with true names name = omega arith
 length_with false names name = omega (arith, length-append names (name ∷ []))
@@ -181,7 +188,8 @@ pub named_row : (rows : List Row) (k : ℕ) (row : Row) (name : List ℕ) (shape
     → AreShapesAt rows (k + 1) next
 named_row rows k row name shapes next before is member e names lists = record {
   names = names ∙ ap (λ (ns : List (List ℕ)). with_name ns name) before.names
-      ∙ sym (more_names rows k row (name ∷ []) is member (ap as_list e) ∙ one_name_more (names_in (rows_of Tanks (take k rows))) name);
+      ∙ sym (more_names rows k row (name ∷ []) is member (ap as_list e) ∙ one_name_more (names_in (rows_of Tanks
+      (take k rows))) name);
   few = omega (arith, before.few, ap length names, length_with (is_among name shapes.names) shapes.names name);
   lists = lists;
 }
@@ -199,7 +207,8 @@ pub no_shapes : (rows : List Row) (shapes : Shapes) → shapes.names ≡ [] → 
     → AreShapesAt rows 0 shapes
 no_shapes rows shapes e f = record { names = e; few = omega (arith, ap length e); lists = rw (e, f) tt }
 
-pub all_shapes : (text : List ℕ) (lines : List Line) (k : ℕ) (shapes : Shapes) → AreShapesAt (rows_at text lines) k shapes
+pub all_shapes : (text : List ℕ) (lines : List Line) (k : ℕ) (shapes : Shapes) → AreShapesAt (rows_at text lines) k
+    shapes
     → length lines ≤ k
     → (shapes.names ≡ shape_names (rows_at text lines))
     × Match (λ (name : List ℕ) (list : ListView VolumePoint). list.list ≡ shape_points (rows_at text lines) name)
@@ -208,6 +217,15 @@ all_shapes text lines k shapes at l =
     let rows = rows_at text lines in
     let names : shapes.names ≡ shape_names rows = at.names ∙ ap shape_names (all_rows text lines k l) in (
       names,
-      subst (λ (ns : List (List ℕ)). Match (λ (name : List ℕ) (list : ListView VolumePoint). list.list ≡ shape_points rows name)
+      subst (λ (ns : List (List ℕ)). Match (λ (name : List ℕ) (list : ListView VolumePoint). list.list ≡
+          shape_points rows name)
           ns shapes.lists.list) names at.lists,
     )
+
+-- ---- what a tank's row asks of its curve, in the unit in force
+
+pub volume_curve_is : (rows : List Row) (row : Row) (name : Option (List ℕ))
+    → tank_curve_fault rows (force.unit rows) (amount 3 row.words) (amount 4 row.words) name
+    ≡ others.volume_curve rows row name
+volume_curve_is rows row None = refl
+volume_curve_is rows row (Some name) = refl

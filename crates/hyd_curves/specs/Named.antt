@@ -18,7 +18,8 @@ with_name names name = if is_among name names then names else names ++ name ∷ 
 
 -- each list has the points of its name
 abbrev pub AreShapes : List Row → Shapes → Type 0
-AreShapes rows shapes = Match (λ (name : List ℕ) (list : ListView VolumePoint). list.list ≡ shape_points rows name) shapes.names
+AreShapes rows shapes = Match (λ (name : List ℕ) (list : ListView VolumePoint). list.list ≡ shape_points rows name)
+    shapes.names
     shapes.lists.list
 
 -- the volume curves that the tanks of the first k rows name

@@ -18,7 +18,8 @@ pub record IsSmallHead (point : HeadPoint) : Type 0 where
 
 -- each list has the points of its name
 abbrev pub AreBends : List Row → Bends → Type 0
-AreBends rows bends = Match (λ (name : List ℕ) (list : ListView HeadPoint). list.list ≡ bend_points rows name) bends.names
+AreBends rows bends = Match (λ (name : List ℕ) (list : ListView HeadPoint). list.list ≡ bend_points rows name)
+    bends.names
     bends.lists.list
 
 -- the names are these, each where it first stands, and at most so many

@@ -133,8 +133,8 @@ impl Verdicts {
     }
 
     /// What is wrong with the curve that a pump names: Unsupported 4 where it isn't of one point with flow and head
-    /// above 0, of three on a parabola with flows from 0 that rise and heads that fall, or of four and more; Range where
-    /// flows or heads are out of range. A name that no curve has is one of no points.
+    /// above 0, of three on a parabola with flows from 0 that rise and heads that fall, or of four and more; Range
+    /// where flows or heads are out of range. A name that no curve has is one of no points.
     pub fn pump_curve_fault(&self, curves: &Table, name: Option<&[u8]>) -> Option<Cause>
         ensures { (rows : List Row) → AreVerdicts rows curves.now.names self.now
             → result ≡ others.curve_of_pump rows (text_of name.entry) }

@@ -180,7 +180,8 @@ fn begins_low(first: Ticks, second: Ticks) -> bool
     requires second { IsPumpPoint second }
     requires rises { first.place <ℤ second.place }
     requires falls { second.value <ℤ first.value }
-    ensures { result ≡ is_at_most (curve_form.on_line 1 (knot_of first) (knot_of second) (pos 0)) (whole (pos (10 ^ 16))) }
+    ensures { result ≡ is_at_most (curve_form.on_line 1 (knot_of first) (knot_of second) (pos 0))
+        (whole (pos (10 ^ 16))) }
 {
     if first.value > GREATEST_SHUTOFF {
         return false;

@@ -26,10 +26,13 @@ volumes_of span = record { lo = span.lo; hi = span.hi }
 abbrev pub flows_of : Span → Interval
 flows_of span = record { lo = span.lo; hi = span.hi }
 
--- The facts are those of the period of a record that begins at a standing: its time and length, the stocks and the states of its
--- tanks at the start, their inflows by the record, the states of links after the controls of the start, what these controls change
+-- The facts are those of the period of a record that begins at a standing: its time and length, the stocks and the
+-- states of its
+-- tanks at the start, their inflows by the record, the states of links after the controls of the start, what these
+-- controls change
 -- there and then what its end brings.
-pub record AreFacts (network : Project) (grid : Grid) (standing : Standing) (row : Record) (facts : Facts) : Type 0 where
+pub record AreFacts (network : Project) (grid : Grid) (standing : Standing) (row : Record)
+    (facts : Facts) : Type 0 where
   pub time : facts.time ≡ standing.time
   pub length : facts.length ≡ row.length
   pub levels : map levels_of facts.levels.list ≡ standing.levels

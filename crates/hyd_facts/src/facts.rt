@@ -4,9 +4,8 @@ ghost use Rattle.std.specs.Prelude.{◌≡◌, ◌≤◌, [], length, IfOk};
 ghost use Rattle.hyd_net.specs.Sound.{Sound};
 
 use hyd_ctrl::Changes;
-use hyd_net::{List, Project};
+use hyd_net::{LinkState, List, Project};
 use hyd_num::Span;
-use hyd_net::LinkState;
 use hyd_spec::TankState;
 use hyd_spec_certificates::LevelSpan;
 use hyd_spec_reports::Event;

@@ -1,2 +1,3 @@
 pub mod Families
 pub mod Whole
+pub mod TableRows

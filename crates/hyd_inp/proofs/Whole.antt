@@ -19,6 +19,10 @@ use Rattle.hyd_tables.specs.declared.found.Found.{Found}
 use Rattle.hyd_tables.specs.Found.{HasFound, rows_at}
 use Rattle.hyd_tables.proofs.FoundLemmas.{first_of, none_of}
 use Rattle.hyd_inp.specs.Sources.{is_source}
+use Rattle.hyd_net.specs.Sound.{Sound}
+use Rattle.hyd_net.specs.declared.project.Project.{Project}
+use Rattle.hyd_spec_input.specs.Project.{IsProject}
+use Rattle.hyd_spec_networks.proofs.Parts.{all_right}
 use Rattle.hyd_inp.specs.declared.fault.InpFault.{InpFault}
 
 -- ---- none is wrong
@@ -156,3 +160,41 @@ pub none_of_text : (text t : List ℕ) (found : Option InpFault) → t ≡ text 
     → IfNone found (HasNoFault text)
 none_of_text text t None e none = subst HasNoFault e none
 none_of_text text t (Some fault) e none = tt
+
+-- ---- the whole reader
+
+pub fault_read : (text t : List ℕ) (found : Option InpFault) (fault : InpFault) → t ≡ text → length text ≤ 2 ^ 26
+    → found ≡ Some fault → IfSome found (λ f. IsFaultOf (items_of t) f.line f.cause)
+        → IsFault text fault.line fault.cause
+fault_read text t found fault e short is faulty =
+    let P : Option InpFault → Type 0 = λ o. IfSome o (λ f. IsFaultOf (items_of t) f.line f.cause) in
+    let here : IsFaultOf (items_of t) fault.line fault.cause = subst P is faulty in
+    let Q : List ℕ → Type 0 = λ x. IsFaultOf (items_of x) fault.line fault.cause in
+    inr (short, subst Q e here)
+
+pub none_read : (t : List ℕ) (found : Option InpFault) → found ≡ None → IfNone found (HasNoFault t) → HasNoFault t
+none_read t found is none =
+    let P : Option InpFault → Type 0 = λ o. IfNone o (HasNoFault t) in subst P is none
+
+rows_read : (text t : List ℕ) (lines items : List Line) → t ≡ text → lines ≡ items
+    → rows_at text items ≡ rows_in (items_of text) → rows_in (items_of t) ≡ rows_at t lines
+rows_read text t lines items e same rows =
+    ap (λ x. rows_in (items_of x)) e ∙ sym (ap (λ x. rows_at x lines) e ∙ ap (rows_at text) same ∙ rows)
+
+pub alone_read : (text t : List ℕ) (lines items : List Line) → t ≡ text → lines ≡ items
+    → rows_at text items ≡ rows_in (items_of text) → HasNoFault t → NoneIs (IsWrongByItself (rows_at t lines))
+alone_read text t lines items e same rows none =
+    let P : List Row → Type 0 = λ rs. NoneIs (IsWrongByItself rs) in
+    subst P (rows_read text t lines items e same rows) none.by_itself
+
+pub among_read : (text t : List ℕ) (lines items : List Line) → t ≡ text → lines ≡ items
+    → rows_at text items ≡ rows_in (items_of text) → HasNoFault t → NoneIs (IsWrongWithOthers (rows_at t lines))
+among_read text t lines items e same rows none =
+    let P : List Row → Type 0 = λ rs. NoneIs (IsWrongWithOthers rs) in
+    subst P (rows_read text t lines items e same rows) none.with_others
+
+pub sound_read : (text t : List ℕ) (lines items : List Line) (p : Project) → t ≡ text → lines ≡ items
+    → rows_at text items ≡ rows_in (items_of text) → HasNoFault t → IsProject (rows_at t lines) p → Sound p
+sound_read text t lines items p e same rows none is =
+    let P : List Row → Type 0 = λ rs. IsProject rs p in
+    all_right t p none (subst P (sym (rows_read text t lines items e same rows)) is)

@@ -3,15 +3,36 @@
 
 ghost use Rattle.std.specs.Prelude.{◌≡◌};
 ghost use Rattle.hyd_spec_input.specs.Faults as faults;
+ghost use Rattle.hyd_inp.specs.declared.fault.InpRefused.TheVariants.{OutOfMemory as NoMemory};
 
 use hyd_lex::LexCause;
-use hyd_net::Cause;
+use hyd_net::{Cause, OutOfMemory};
+use thiserror::Error;
 
 /// The fault of a text: its line, counted from 1, or 0 where the text as a whole is meant, and what is wrong.
 #[derive(Debug, Clone, Copy, PartialEq, Eq, Drop)]
 pub struct InpFault {
     pub line: u32,
     pub cause: Cause,
+}
+
+/// Why a text gave no network.
+#[derive(Debug, Clone, Copy, PartialEq, Eq, Drop, Error)]
+pub enum InpRefused {
+    /// There was no memory for the network.
+    #[error("out of memory")]
+    OutOfMemory,
+    /// The text has a fault.
+    #[error("a fault in the text")]
+    Fault(InpFault),
+}
+
+impl From<OutOfMemory> for InpRefused {
+    ghost from_gives = { λ _ e. e ≡ NoMemory };
+
+    fn from(_error: OutOfMemory) -> InpRefused {
+        InpRefused::OutOfMemory
+    }
 }
 
 /// The cause of a line that breaks a rule of lines: Limit 2 where it is too long, else Syntax.

@@ -16,12 +16,12 @@ use hyd_net::{Cause, OutOfMemory};
 use hyd_tables::gather;
 use std::alloc::Global;
 
-// The most bytes of a text.
-const LONGEST: usize = 67_108_864;
+/// The most bytes of a text.
+pub(crate) const LONGEST: usize = 67_108_864;
 
-// The fault of a text of at most 64 MiB: its first row that is wrong by itself, the fault that ends its rows, its first
-// row that is wrong with the others, what it lacks.
-fn fault_of(
+/// The fault of a text of at most 64 MiB: its first row that is wrong by itself, the fault that ends its rows, its first
+/// row that is wrong with the others, what it lacks.
+pub(crate) fn fault_of(
     alloc: Global,
     text: &Lines<'_>,
     lines: &[Line],

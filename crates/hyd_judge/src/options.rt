@@ -225,8 +225,7 @@ fn further(
 
 /// Of a file whose rows are right by themselves, its first row of [OPTIONS] that is wrong with the others (Range): a
 /// minimum or required pressure above 10^17 head ticks or, where demands depend on pressure, the later of the two lines
-/// in force where the required pressure isn't a tenth of a unit above the minimum at least. Rows of [TIMES] are never
-/// wrong with the others.
+/// in force where the required pressure isn't a tenth of a unit above the minimum at least.
 pub fn judge_options(text: &Lines<'_>, lines: &[Line], unit: FlowUnit) -> Option<Found>
     requires lie { All (LiesIn text.now.text) lines.now }
     requires right { NoneIs (IsWrongByItself (rows_at text.now.text lines.now)) }

@@ -59,9 +59,10 @@ fn status_fault(
     }
 }
 
-/// Of a file whose rows are right by themselves, its first row of [STATUS] that is wrong with the others: one whose link
-/// isn't there (UnknownName), a number for a link that takes none (Syntax), a pipe with a check valve (Unsupported 11), a
-/// number out of range (Range), a setting of a throttle control valve that makes a capacity out of range (Limit 13).
+/// Of a file whose rows are right by themselves, its first row of [STATUS] that is wrong with the others: one whose
+/// link isn't there (UnknownName), a number for a link that takes none (Syntax), a pipe with a check valve (Unsupported
+/// 11), a number out of range (Range), a setting of a throttle control valve that makes a capacity out of range (Limit
+/// 13).
 pub fn judge_status(
     text: &Lines<'_>,
     lines: &[Line],

@@ -42,21 +42,25 @@ AreControls [] = Unit {0}
 AreControls (change ∷ rest) = (is_by_rule change ≡ false) × AreControls rest
 
 pub controls-first : (starts rules : List Change) → AreControls starts → before_rules rules ≡ 0
-    → (take (before_rules (starts ++ rules)) (starts ++ rules) ≡ starts) × (drop (before_rules (starts ++ rules)) (starts ++ rules) ≡ rules)
+    → (take (before_rules (starts ++ rules)) (starts ++ rules) ≡ starts) × (drop (before_rules (starts ++ rules))
+    (starts ++ rules) ≡ rules)
 controls-first [] rules all first = (ap (λ n. take n rules) first, ap (λ n. drop n rules) first)
 controls-first (x ∷ xs) rules all first =
     let rest = controls-first xs rules all.1 first in
     let n : before_rules (x ∷ (xs ++ rules)) ≡ suc (before_rules (xs ++ rules)) =
-    ap (λ b. if b then 0 else before_rules (xs ++ rules) + 1) all.0 ∙ (let e : before_rules (xs ++ rules) + 1 ≡ suc (before_rules (xs ++ rules)) = omega arith in e) in
+    ap (λ b. if b then 0 else before_rules (xs ++ rules) + 1) all.0 ∙ (let e : before_rules (xs ++ rules) + 1 ≡ suc
+    (before_rules (xs ++ rules)) = omega arith in e) in
     (ap (λ m. take m (x ∷ (xs ++ rules))) n ∙ ap (λ ys. x ∷ ys) rest.0, ap (λ m. drop m (x ∷ (xs ++ rules))) n ∙ rest.1)
 
-by_one : (acts same : Bool) (change : Change) (rest other : List Change) → is_by_rule change ≡ false → AreControls rest → AreControls other
+by_one : (acts same : Bool) (change : Change) (rest other : List Change) → is_by_rule change ≡ false
+    → AreControls rest → AreControls other
     → AreControls (if acts then (if same then [] else change ∷ []) ++ rest else other)
 by_one true true change rest other control all others = all
 by_one true false change rest other control all others = (control, all)
 by_one false same change rest other control all others = others
 
-by_controls : (network : Project) (time : ℕ) (acts : ℕ → Bool → ℤ → Bool) (k : ℕ) (controls : List Control) (links : List LinkState)
+by_controls : (network : Project) (time : ℕ) (acts : ℕ → Bool → ℤ → Bool) (k : ℕ) (controls : List Control)
+    (links : List LinkState)
     → AreControls (control_changes network time acts k controls links)
 by_controls network time acts k [] links = tt
 by_controls network time acts k (control ∷ rest) links =
@@ -64,9 +68,11 @@ by_controls network time acts k (control ∷ rest) links =
     (record { source = ByControl k; link = control.link; to = control.to })
     (control_changes network time acts (suc k) rest (slice_set links control.link control.to))
     (control_changes network time acts (suc k) rest links) refl
-    (by_controls network time acts (suc k) rest (slice_set links control.link control.to)) (by_controls network time acts (suc k) rest links)
+    (by_controls network time acts (suc k) rest (slice_set links control.link control.to))
+    (by_controls network time acts (suc k) rest links)
 
-by_offer : (same : Bool) (change : Change) (rest : List (Option Change)) → is_by_rule change ≡ true → before_rules (present rest) ≡ 0
+by_offer : (same : Bool) (change : Change) (rest : List (Option Change)) → is_by_rule change ≡ true → before_rules
+    (present rest) ≡ 0
     → before_rules (present ((if same then None else Some change) ∷ rest)) ≡ 0
 by_offer true change rest rule first = first
 by_offer false change rest rule first = ap (λ b. if b then 0 else before_rules (present rest) + 1) rule
@@ -75,16 +81,19 @@ by_best : (best : Option Offer) (state : LinkState) (rest : List (Option Change)
     → before_rules (present (option_and_then (change_by state) best ∷ rest)) ≡ 0
 by_best None state rest first = first
 by_best (Some offer) state rest first =
-    by_offer (is_same_state state offer.to) (record { source = ByRule offer.rule; link = offer.link; to = offer.to }) rest refl first
+    by_offer (is_same_state state offer.to) (record { source = ByRule offer.rule; link = offer.link; to = offer.to })
+    rest refl first
 
 by_rules_from : (network : Project) (values : List Bool) (k : ℕ) (links : List LinkState)
     → before_rules (present (map_from (change_of network values) k links)) ≡ 0
 by_rules_from network values k [] = refl
 by_rules_from network values k (state ∷ links) =
-    by_best (best_offer k (offers_from 0 network.rules.list values)) state (map_from (change_of network values) (suc k) links)
+    by_best (best_offer k (offers_from 0 network.rules.list values)) state (map_from (change_of network values)
+    (suc k) links)
     (by_rules_from network values (suc k) links)
 
-end_first : (network : Project) (grid : Grid) (standing : Standing) (row : Record) (events : List Event) (changes : List Change)
+end_first : (network : Project) (grid : Grid) (standing : Standing) (row : Record) (events : List Event)
+    (changes : List Change)
     → EndBrings network grid standing row events changes → before_rules changes ≡ 0
 end_first network grid standing row events changes (at_end e) = refl
 end_first network grid standing row events changes (by_rules e) =
@@ -92,11 +101,14 @@ end_first network grid standing row events changes (by_rules e) =
 end_first network grid standing row events changes (by_clock e) = refl
 
 -- the changes of a period: those by controls, and then those by rules
-pub changes_apart : (network : Project) (grid : Grid) (standing : Standing) (row : Record) (events : List Event) (all rules : List Change)
+pub changes_apart : (network : Project) (grid : Grid) (standing : Standing) (row : Record) (events : List Event)
+    (all rules : List Change)
     → all ≡ changes_at network standing ++ rules → EndBrings network grid standing row events rules
     → (take (before_rules all) all ≡ changes_at network standing) × (drop (before_rules all) all ≡ rules)
 changes_apart network grid standing row events all rules are brings =
-    subst (λ (xs : List Change). (take (before_rules xs) xs ≡ changes_at network standing) × (drop (before_rules xs) xs ≡ rules)) (sym are)
+    subst (λ (xs : List Change). (take (before_rules xs) xs ≡ changes_at network standing) × (drop
+    (before_rules xs) xs ≡ rules)) (sym are)
     (controls-first (changes_at network standing) rules
-    (by_controls network standing.time (acts_on standing.levels) 0 network.controls.list (patterned network standing.time standing.commanded))
+    (by_controls network standing.time (acts_on standing.levels) 0 network.controls.list
+    (patterned network standing.time standing.commanded))
     (end_first network grid standing row events rules brings))

@@ -6,3 +6,4 @@ pub mod LoopLemmas
 pub mod PrintLemmas
 pub mod PutLemmas
 pub mod ReportLemmas
+pub mod StopLemmas

@@ -1,5 +1,5 @@
 -- Lines one after another, and what is put of one.
-use Rattle.std.proofs.Common.{◌≡◌, ℕ, zero, suc, ◌+◌, ◌<◌, ◌≤◌, ℤ, pos, ◌+ℤ◌, ◌-ℤ◌, ◌≤ℤ◌, List, [], ◌∷◌, ◌++◌, length, map, take, drop, get_or, Option, Some, None, refl, sym, ap, subst, ◌∙◌, append_assoc, append-nil, arith}
+use Rattle.std.proofs.Common.{◌≡◌, ℕ, zero, suc, ◌+◌, ◌<◌, ℤ, pos, ◌-ℤ◌, List, [], ◌∷◌, ◌++◌, length, map, take, get_or, Option, Some, None, refl, sym, ap, subst, ◌∙◌, append_assoc, append-nil, arith}
 use Rattle.std.specs.Prelude.{slice_get, slice_index_or, IfSome}
 use Rattle.std.proofs.lemmas.Int.{ints}
 use Rattle.std.proofs.lemmas.Option.{slice_get-get_or, get_or_from_slice_get}
@@ -54,30 +54,37 @@ map-read f (y ∷ ys) (suc i) x d within is = map-read f ys i x d (omega arith) 
 
 module _ {X : Type 0} (network : Project) (f : ℕ → X → ReportLine) where
   more_from : (k : ℕ) (xs : List X) (i : ℕ) (x : X) → slice_get xs i ≡ Some x
-      → texts network (map_from f k (take i xs)) ++ line_text network (f (k + i) x) ≡ texts network (map_from f k (take (suc i) xs))
+      → texts network (map_from f k (take i xs)) ++ line_text network (f (k + i) x) ≡ texts network (map_from f k
+      (take (suc i) xs))
   more_from k [] i x at = absurd (cc)
   more_from k (y ∷ ys) zero x at =
       let same : y ≡ x = cc in
       let n : k + 0 ≡ k = omega arith in
-      ap (λ m. line_text network (f m x)) n ∙ (ap (λ z. line_text network (f k z)) (sym same) ∙ sym (append-nil (line_text network (f k y))))
+      ap (λ m. line_text network (f m x)) n ∙ (ap (λ z. line_text network (f k z)) (sym same) ∙ sym (append-nil
+      (line_text network (f k y))))
   more_from k (y ∷ ys) (suc i) x at =
       let n : k + suc i ≡ suc k + i = omega arith in
-      append_assoc (line_text network (f k y)) (texts network (map_from f (suc k) (take i ys))) (line_text network (f (k + suc i) x))
+      append_assoc (line_text network (f k y)) (texts network (map_from f (suc k) (take i ys))) (line_text network (f
+      (k + suc i) x))
       ∙ ap (λ t. line_text network (f k y) ++ t)
-      (ap (λ m. texts network (map_from f (suc k) (take i ys)) ++ line_text network (f m x)) n ∙ more_from (suc k) ys i x at)
+      (ap (λ m. texts network (map_from f (suc k) (take i ys)) ++ line_text network (f m x)) n ∙ more_from
+      (suc k) ys i x at)
 
   rest_from : (k : ℕ) (xs : List X) (i : ℕ)
       → (rest : List ℕ) × (texts network (map_from f k (take i xs)) ++ rest ≡ texts network (map_from f k xs))
   rest_from k xs zero = (texts network (map_from f k xs), refl)
   rest_from k [] (suc i) = ([], refl)
   rest_from k (y ∷ ys) (suc i) =
-      let r = rest_from (suc k) ys i in
-      (r.0, append_assoc (line_text network (f k y)) (texts network (map_from f (suc k) (take i ys))) r.0
-      ∙ ap (λ t. line_text network (f k y) ++ t) r.1)
+      let r = rest_from (suc k) ys i in (
+        r.0,
+        append_assoc (line_text network (f k y)) (texts network (map_from f (suc k) (take i ys))) r.0
+            ∙ ap (λ t. line_text network (f k y) ++ t) r.1,
+      )
 
   -- one line more
   pub lines_more : (xs : List X) (i : ℕ) (x : X) → slice_get xs i ≡ Some x
-      → texts network (map_from f 0 (take i xs)) ++ line_text network (f i x) ≡ texts network (map_from f 0 (take (i + 1) xs))
+      → texts network (map_from f 0 (take i xs)) ++ line_text network (f i x) ≡ texts network (map_from f 0 (take
+      (i + 1) xs))
   lines_more xs i x at =
       let n : 0 + i ≡ i = omega arith in
       let m : suc i ≡ i + 1 = omega arith in
@@ -89,7 +96,8 @@ module _ {X : Type 0} (network : Project) (f : ℕ → X → ReportLine) where
   lines_rest xs i = (rest_from 0 xs (i + 1)).0
 
   pub lines_split : (xs : List X) (i : ℕ) (x : X) → slice_get xs i ≡ Some x
-      → (texts network (map_from f 0 (take i xs)) ++ line_text network (f i x)) ++ lines_rest xs i ≡ texts network (map_from f 0 xs)
+      → (texts network (map_from f 0 (take i xs)) ++ line_text network (f i x)) ++ lines_rest xs i ≡ texts network
+      (map_from f 0 xs)
   unfolding lines_rest
   lines_split xs i x at = ap (λ t. t ++ (rest_from 0 xs (i + 1)).0) (lines_more xs i x at) ∙ (rest_from 0 xs (i + 1)).1
 
@@ -97,22 +105,29 @@ module _ {X : Type 0} (network : Project) (f : ℕ → X → ReportLine) where
 
 -- an interval by its ends
 pub span_is : (span : Span) (box : Interval) → IsSpan span box → record { lo = span.lo; hi = span.hi } ≡ box
-span_is span box is = ap (λ (z : ℤ). record { lo = z; hi = span.hi }) is.lo_is ∙ ap (λ (z : ℤ). record { lo = box.lo; hi = z }) is.hi_is
+span_is span box is = ap (λ (z : ℤ). record { lo = z; hi = span.hi }) is.lo_is ∙ ap (λ
+    (z : ℤ). record { lo = box.lo; hi = z }) is.hi_is
 
 -- ---- junctions
 
-pub junction_put : (o : Option GridJunction) (network : Project) (P : List ℕ → Type 0) (j : ℕ) (lower upper elevation : ℤ) (flow : Span)
+pub junction_put : (o : Option GridJunction) (network : Project) (P : List ℕ → Type 0) (j : ℕ)
+    (lower upper elevation : ℤ) (flow : Span)
     (head pressure outflow : Ends)
     → IfSome o (λ here. IsSpan flow (out_box here lower upper)) → IfSome o (λ here. elevation ≡ here.elevation)
     → ArePrinted (printed (quantity_in network Head) (record { lo = lower; hi = upper })) head
-    → ArePrinted (printed (quantity_in network Pressure) (record { lo = lower -ℤ elevation; hi = upper -ℤ elevation })) pressure
+    → ArePrinted (printed (quantity_in network Pressure) (record {
+      lo = lower -ℤ elevation;
+      hi = upper -ℤ elevation;
+    })) pressure
     → ArePrinted (printed (quantity_in network Flow) (record { lo = flow.lo; hi = flow.hi })) outflow
-    → ((h p o : Interval) → ArePrinted h head → ArePrinted p pressure → ArePrinted o outflow → P (line_text network (JunctionLine j h p o)))
+    → ((h p o : Interval) → ArePrinted h head → ArePrinted p pressure → ArePrinted o outflow → P (line_text network
+    (JunctionLine j h p o)))
     → IfSome o (λ here. P (line_text network (junction_between network j here lower upper)))
 junction_put None network P j lower upper elevation flow head pressure outflow box at h p o puts = tt
 junction_put (Some here) network P j lower upper elevation flow head pressure outflow box at h p o puts =
     puts _ _ _ h
-    (subst (λ (e : ℤ). ArePrinted (printed (quantity_in network Pressure) (record { lo = lower -ℤ e; hi = upper -ℤ e })) pressure) at p)
+    (subst (λ (e : ℤ). ArePrinted (printed (quantity_in network Pressure)
+    (record { lo = lower -ℤ e; hi = upper -ℤ e })) pressure) at p)
     (subst (λ (z : Interval). ArePrinted (printed (quantity_in network Flow) z) outflow) same o)
   where
     same : record { lo = flow.lo; hi = flow.hi } ≡ out_box here lower upper
@@ -155,20 +170,23 @@ reservoir_put reservoirs network P r height head within is h puts =
 
 -- ---- tanks
 
-pub tank_put : (o : Option Tank) (network : Project) (P : List ℕ → Type 0) (k : ℕ) (levels inflow : Interval) (state : TankState)
+pub tank_put : (o : Option Tank) (network : Project) (P : List ℕ → Type 0) (k : ℕ) (levels inflow : Interval)
+    (state : TankState)
     (bottom : ℤ) (head level flow : Ends)
     → IfSome o (λ t. bottom ≡ t.bottom)
     → ArePrinted (printed (quantity_in network Head) (shifted bottom levels)) head
     → ArePrinted (printed (quantity_in network Head) levels) level
     → ArePrinted (printed (quantity_in network Flow) inflow) flow
-    → ((h l i : Interval) → ArePrinted h head → ArePrinted l level → ArePrinted i flow → P (line_text network (TankLine k h l i state)))
+    → ((h l i : Interval) → ArePrinted h head → ArePrinted l level → ArePrinted i flow → P (line_text network
+    (TankLine k h l i state)))
     → IfSome o (λ here. P (line_text network (tank_at network k here levels inflow state)))
 tank_put None network P k levels inflow state bottom head level flow at h l i puts = tt
 tank_put (Some here) network P k levels inflow state bottom head level flow at h l i puts =
     puts _ _ _ (subst (λ (z : ℤ). ArePrinted (printed (quantity_in network Head) (shifted z levels)) head) at h) l i
 
 -- an item, whatever stands for those that aren't there
-index-same : {X : Type 0} (xs : List X) (i : ℕ) (d e : X) → i < length xs → slice_index_or xs i d ≡ slice_index_or xs i e
+index-same : {X : Type 0} (xs : List X) (i : ℕ) (d e : X) → i < length xs → slice_index_or xs i d
+    ≡ slice_index_or xs i e
 index-same [] i d e within = absurd (omega arith)
 index-same (x ∷ xs) zero d e within = refl
 index-same (x ∷ xs) (suc i) d e within = index-same xs i d e (omega arith)
@@ -180,18 +198,23 @@ index-map f (x ∷ xs) zero e d within = refl
 index-map f (x ∷ xs) (suc i) e d within = index-map f xs i e d (omega arith)
 
 -- the line of a tank by what was read of the lists
-pub tank_read : (o : Option Tank) (network : Project) (P : List ℕ → Type 0) (k : ℕ) (levels : List LevelSpan) (inflows : List Span)
+pub tank_read : (o : Option Tank) (network : Project) (P : List ℕ → Type 0) (k : ℕ) (levels : List LevelSpan)
+    (inflows : List Span)
     (states : List TankState) (level : LevelSpan) (inflow : Span) (state : TankState)
     → k < length levels → k < length inflows → k < length states → inflow ≡ get_or inflows k inflow
-    → IfSome o (λ here. P (line_text network (tank_at network k here (levels_of (slice_index_or levels k level)) (flows_of inflow) (slice_index_or states k state))))
+    → IfSome o (λ here. P (line_text network (tank_at network k here (levels_of (slice_index_or levels k level))
+    (flows_of inflow) (slice_index_or states k state))))
     → IfSome o (λ here. P (line_text network (tank_line network levels inflows states k here)))
 tank_read o network P k levels inflows states level inflow state in_levels in_inflows in_states read puts =
-    let Q : Interval → Interval → TankState → Type 0 = λ l i s. IfSome o (λ here. P (line_text network (tank_at network k here l i s))) in
-    subst (λ (s : TankState). Q (slice_index_or (map levels_of levels) k nowhere) (slice_index_or (map flows_of inflows) k nowhere) s)
+    let Q : Interval → Interval → TankState → Type 0 = λ l i s. IfSome o (λ here. P (line_text network
+    (tank_at network k here l i s))) in
+    subst (λ (s : TankState). Q (slice_index_or (map levels_of levels) k nowhere) (slice_index_or
+    (map flows_of inflows) k nowhere) s)
     (index-same states k state Between in_states)
     (subst (λ (i : Interval). Q (slice_index_or (map levels_of levels) k nowhere) i (slice_index_or states k state))
     (sym (map-read flows_of inflows k inflow nowhere in_inflows read))
-    (subst (λ (l : Interval). Q l (flows_of inflow) (slice_index_or states k state)) (index-map levels_of levels k level nowhere in_levels) puts))
+    (subst (λ (l : Interval). Q l (flows_of inflow) (slice_index_or states k state))
+    (index-map levels_of levels k level nowhere in_levels) puts))
 
 -- ---- links
 
@@ -199,36 +222,47 @@ pub link_put : (o : Option Link) (network : Project) (grid : Grid) (below above 
     (P : List ℕ → Type 0) (l : ℕ) (flow : Span) (ends : Ends) (status : StatusWord) (place : GridLink)
     → slice_get grid.links l ≡ Some place
     → IfSome (slice_get grid.links l) (λ g. IsSpan flow (flow_box g below above))
-    → IfSome o (λ here. status ≡ status_of (is_us network) network.bends.list here.kind (state_of_link states l) (difference place below above))
+    → IfSome o (λ here. status ≡ status_of (is_us network) network.bends.list here.kind (state_of_link states l)
+    (difference place below above))
     → ArePrinted (printed (quantity_in network Flow) (flows_of flow)) ends
     → ((f : Interval) → ArePrinted f ends → P (line_text network (LinkLine l f status)))
     → IfSome o (λ here. P (line_text network (link_line network grid below above states l here)))
 link_put None network grid below above states P l flow ends status place at box word printed_is puts = tt
 link_put (Some here) network grid below above states P l flow ends status place at box word printed_is puts =
     let is : slice_index_or grid.links l no_link ≡ place = get_or_from_slice_get grid.links l place no_link at in
-    let boxed : IsSpan flow (flow_box place below above) = subst (λ (o : Option GridLink). IfSome o (λ g. IsSpan flow (flow_box g below above))) at box in
-    let text : (s : StatusWord) → s ≡ status → P (line_text network (LinkLine l (printed (quantity_in network Flow) (flow_box place below above)) s)) =
-    λ s same. subst (λ (t : StatusWord). P (line_text network (LinkLine l (printed (quantity_in network Flow) (flow_box place below above)) t))) (sym same)
-    (puts _ (subst (λ (z : Interval). ArePrinted (printed (quantity_in network Flow) z) ends) (span_is flow (flow_box place below above) boxed) printed_is)) in
-    subst (λ (g : GridLink). P (line_text network (LinkLine l (printed (quantity_in network Flow) (flow_box g below above))
-    (status_of (is_us network) network.bends.list here.kind (state_of_link states l) (difference g below above))))) (sym is)
+    let boxed : IsSpan flow (flow_box place below above) = subst (λ (o : Option GridLink). IfSome o (λ g. IsSpan flow
+    (flow_box g below above))) at box in
+    let text : (s : StatusWord) → s ≡ status → P (line_text network (LinkLine l (printed (quantity_in network Flow)
+    (flow_box place below above)) s)) =
+    λ s same. subst (λ (t : StatusWord). P (line_text network (LinkLine l (printed (quantity_in network Flow)
+    (flow_box place below above)) t))) (sym same)
+    (puts _ (subst (λ (z : Interval). ArePrinted (printed (quantity_in network Flow) z) ends) (span_is flow
+    (flow_box place below above) boxed) printed_is)) in
+    subst (λ (g : GridLink). P (line_text network (LinkLine l (printed (quantity_in network Flow)
+    (flow_box g below above))
+    (status_of (is_us network) network.bends.list here.kind (state_of_link states l) (difference g below above)))))
+    (sym is)
     (text _ (sym word))
 
 -- ---- orders of vectors
 
-pub in_order : (lower upper below above : List ℤ) → length lower ≡ length upper → AreInOrder (pos 0) (lower ++ below) (upper ++ above)
+pub in_order : (lower upper below above : List ℤ) → length lower ≡ length upper → AreInOrder (pos 0) (lower ++ below)
+    (upper ++ above)
     → AreInOrder (pos 0) lower upper
 in_order [] [] below above same order node = omega (arith, ints)
 in_order [] (u ∷ us) below above same order node = absurd (omega arith)
 in_order (l ∷ ls) [] below above same order node = absurd (omega arith)
 in_order (l ∷ ls) (u ∷ us) below above same order zero = order 0
-in_order (l ∷ ls) (u ∷ us) below above same order (suc node) = in_order ls us below above (omega arith) (λ n. order (suc n)) node
+in_order (l ∷ ls) (u ∷ us) below above same order (suc node) = in_order ls us below above (omega arith) (λ n. order
+    (suc n)) node
 
 -- ---- texts of lists of lines
 
-pub texts-append : (network : Project) (xs ys : List ReportLine) → texts network (xs ++ ys) ≡ texts network xs ++ texts network ys
+pub texts-append : (network : Project) (xs ys : List ReportLine) → texts network (xs ++ ys)
+    ≡ texts network xs ++ texts network ys
 texts-append network xs ys =
-    ap joined (map-append (line_text network) xs ys) ∙ joined-append (map (line_text network) xs) (map (line_text network) ys)
+    ap joined (map-append (line_text network) xs ys) ∙ joined-append (map (line_text network) xs) (map
+    (line_text network) ys)
 
 map-map : {X Y Z : Type 0} (f : Y → Z) (h : X → Y) (xs : List X) → map f (map h xs) ≡ map (λ x. f (h x)) xs
 map-map f h [] = refl
@@ -240,42 +274,57 @@ pub texts-map : {X : Type 0} (network : Project) (h : X → ReportLine) (xs : Li
 texts-map network h xs = ap joined (sym (map-map (line_text network) h xs))
 
 -- the texts of a report time
-pub state_text : (network : Project) (t : ReportLine) (lo lower up upper : List ℤ) (js : List GridJunction) (rs rest : List ReportLine)
+pub state_text : (network : Project) (t : ReportLine) (lo lower up upper : List ℤ) (js : List GridJunction)
+    (rs rest : List ReportLine)
     → lo ≡ lower → up ≡ upper
-    → line_text network t ++ (texts network (map_from (junction_line network lo up) 0 js) ++ (texts network rs ++ texts network rest))
+    → line_text network t ++ (texts network (map_from (junction_line network lo up) 0 js) ++
+    (texts network rs ++ texts network rest))
     ≡ texts network (t ∷ (map_from (junction_line network lower upper) 0 js ++ (rs ++ rest)))
 state_text network t lo lower up upper js rs rest is_lower is_upper =
-    ap (λ (v : List ℤ). line_text network t ++ (texts network (map_from (junction_line network v up) 0 js) ++ (texts network rs ++ texts network rest))) is_lower
-    ∙ (ap (λ (v : List ℤ). line_text network t ++ (texts network (map_from (junction_line network lower v) 0 js) ++ (texts network rs ++ texts network rest))) is_upper
+    ap (λ (v : List ℤ). line_text network t ++ (texts network (map_from (junction_line network v up) 0 js) ++
+    (texts network rs ++ texts network rest))) is_lower
+    ∙ (ap (λ (v : List ℤ). line_text network t ++ (texts network (map_from (junction_line network lower v) 0 js) ++
+    (texts network rs ++ texts network rest))) is_upper
     ∙ ap (λ (s : List ℕ). line_text network t ++ s)
-    (ap (λ (s : List ℕ). texts network (map_from (junction_line network lower upper) 0 js) ++ s) (sym (texts-append network rs rest))
+    (ap (λ (s : List ℕ). texts network (map_from (junction_line network lower upper) 0 js) ++ s) (sym
+    (texts-append network rs rest))
     ∙ sym (texts-append network (map_from (junction_line network lower upper) 0 js) (rs ++ rest))))
 
 -- the texts of tanks and links
-pub tanks_text : (network : Project) (grid : Grid) (states : List LinkState) (ls levels : List LevelSpan) (is inflows : List Span)
-    (ts tanks : List TankState) (lo lower up upper : List ℤ) → ls ≡ levels → is ≡ inflows → ts ≡ tanks → lo ≡ lower → up ≡ upper
+pub tanks_text : (network : Project) (grid : Grid) (states : List LinkState) (ls levels : List LevelSpan)
+    (is inflows : List Span)
+    (ts tanks : List TankState) (lo lower up upper : List ℤ) → ls ≡ levels → is ≡ inflows → ts ≡ tanks → lo ≡ lower
+    → up ≡ upper
     → texts network (map_from (tank_line network ls is ts) 0 network.tanks.list)
-    ++ texts network (map_from (link_line network grid (all_heads grid Main Lower lo) (all_heads grid Main Upper up) states) 0 network.links.list)
+    ++ texts network (map_from (link_line network grid (all_heads grid Main Lower lo)
+    (all_heads grid Main Upper up) states) 0 network.links.list)
     ≡ texts network (map_from (tank_line network levels inflows tanks) 0 network.tanks.list
-    ++ map_from (link_line network grid (all_heads grid Main Lower lower) (all_heads grid Main Upper upper) states) 0 network.links.list)
+    ++ map_from (link_line network grid (all_heads grid Main Lower lower)
+    (all_heads grid Main Upper upper) states) 0 network.links.list)
 tanks_text network grid states ls levels is inflows ts tanks lo lower up upper a b c d e =
-    let link : List ℤ → List ℤ → List ℕ = λ l u. texts network (map_from (link_line network grid (all_heads grid Main Lower l) (all_heads grid Main Upper u) states) 0 network.links.list) in
-    let tank : List LevelSpan → List Span → List TankState → List ℕ = λ l i t. texts network (map_from (tank_line network l i t) 0 network.tanks.list) in
+    let link : List ℤ → List ℤ → List ℕ = λ l u. texts network (map_from (link_line network grid
+    (all_heads grid Main Lower l) (all_heads grid Main Upper u) states) 0 network.links.list) in
+    let tank : List LevelSpan → List Span → List TankState → List ℕ = λ l i t. texts network (map_from
+    (tank_line network l i t) 0 network.tanks.list) in
     ap (λ (l : List LevelSpan). tank l is ts ++ link lo up) a
     ∙ (ap (λ (i : List Span). tank levels i ts ++ link lo up) b
     ∙ (ap (λ (t : List TankState). tank levels inflows t ++ link lo up) c
     ∙ (ap (λ (l : List ℤ). tank levels inflows tanks ++ link l up) d
     ∙ (ap (λ (u : List ℤ). tank levels inflows tanks ++ link lower u) e
     ∙ sym (texts-append network (map_from (tank_line network levels inflows tanks) 0 network.tanks.list)
-    (map_from (link_line network grid (all_heads grid Main Lower lower) (all_heads grid Main Upper upper) states) 0 network.links.list))))))
+    (map_from (link_line network grid (all_heads grid Main Lower lower)
+    (all_heads grid Main Upper upper) states) 0 network.links.list))))))
 
-pub items_text : {X : Type 0} (network : Project) (h : ℕ → X → ReportLine) (t time : ℕ) (xs ys : List X) → t ≡ time → xs ≡ ys
+pub items_text : {X : Type 0} (network : Project) (h : ℕ → X → ReportLine) (t time : ℕ) (xs ys : List X) → t ≡ time
+    → xs ≡ ys
     → joined (map (λ x. line_text network (h t x)) xs) ≡ texts network (map (h time) ys)
 items_text network h t time xs ys at same =
-    texts-map network (h t) xs ∙ (ap (λ n. texts network (map (h n) xs)) at ∙ ap (λ zs. texts network (map (h time) zs)) same)
+    texts-map network (h t) xs ∙ (ap (λ n. texts network (map (h n) xs)) at ∙ ap (λ zs. texts network (map
+    (h time) zs)) same)
 
 -- the texts of the end of a period
-pub end_text : {X Y : Type 0} (network : Project) (h : ℕ → X → ReportLine) (k : ℕ → Y → ReportLine) (t time : ℕ) (xs xs' : List X) (ys ys' : List Y)
+pub end_text : {X Y : Type 0} (network : Project) (h : ℕ → X → ReportLine) (k : ℕ → Y → ReportLine) (t time : ℕ)
+    (xs xs' : List X) (ys ys' : List Y)
     → t ≡ time → xs ≡ xs' → ys ≡ ys'
     → joined (map (λ x. line_text network (h t x)) xs) ++ joined (map (λ y. line_text network (k t y)) ys)
     ≡ texts network (map (h time) xs' ++ map (k time) ys')

@@ -1,5 +1,5 @@
 -- Loops that put a line for each item.
-use Rattle.std.proofs.Common.{◌≡◌, ℕ, ◌+◌, ◌<◌, Bool, List, length, take, Option, Some}
+use Rattle.std.proofs.Common.{ℕ, ◌+◌, ◌<◌, Bool, List, length, take, Option}
 use Rattle.std.specs.Prelude.{Ok, Err, IfSome, slice_get}
 use Rattle.hyd_io.specs.declared.desk.Faults.{Faults}
 use Rattle.hyd_io.specs.declared.desk.Openings.{Openings}
@@ -15,23 +15,33 @@ use Rattle.hyd_report.proofs.LineLemmas.{there, lines_more, lines_rest, lines_sp
 use Rattle.hyd_report.proofs.PutLemmas.{puts_then, puts_cut, puts_same}
 
 module _ {S : Type 0} {files : S → Option Files} {rest written printed target : S → Option (List ℕ)} {ready : S → Bool}
-    {counts : S → Faults} {openings : S → Openings} {X : Type 0} (network : Project) (line : ℕ → X → ReportLine) (xs : List X)
+    {counts : S → Faults} {openings : S → Openings} {X : Type 0} (network : Project) (line : ℕ → X → ReportLine)
+    (xs : List X)
     (i : ℕ) (p q r : PenState) (d e f : S) where
   -- one line more
   pub line_put : i < length xs
-      → Puts files rest written printed target ready counts openings (texts network (map_from line 0 (take i xs))) (Ok (tt {0})) p q d e
-      → IfSome (slice_get xs i) (λ x. Puts files rest written printed target ready counts openings (line_text network (line i x)) (Ok (tt {0})) q r e f)
-      → Puts files rest written printed target ready counts openings (texts network (map_from line 0 (take (i + 1) xs))) (Ok (tt {0})) p r d f
+      → Puts files rest written printed target ready counts openings (texts network (map_from line 0 (take i xs))) (Ok
+      (tt {0})) p q d e
+      → IfSome (slice_get xs i) (λ x. Puts files rest written printed target ready counts openings (line_text network
+      (line i x)) (Ok (tt {0})) q r e f)
+      → Puts files rest written printed target ready counts openings (texts network (map_from line 0 (take
+      (i + 1) xs))) (Ok (tt {0})) p r d f
   line_put within so_far step =
-      let here = there xs i (λ x. Puts files rest written printed target ready counts openings (line_text network (line i x)) (Ok (tt {0})) q r e f) within step in
-      puts_same _ _ _ _ _ _ _ (lines_more network line xs i here.0 here.1.0) (puts_then _ _ _ _ _ _ _ _ _ so_far here.1.1)
+      let here = there xs i (λ x. Puts files rest written printed target ready counts openings (line_text network
+      (line i x)) (Ok (tt {0})) q r e f) within step in
+      puts_same _ _ _ _ _ _ _ (lines_more network line xs i here.0 here.1.0)
+      (puts_then _ _ _ _ _ _ _ _ _ so_far here.1.1)
 
   -- a line is cut off
   pub line_cut : (why : OutFault) → i < length xs
-      → Puts files rest written printed target ready counts openings (texts network (map_from line 0 (take i xs))) (Ok (tt {0})) p q d e
-      → IfSome (slice_get xs i) (λ x. Puts files rest written printed target ready counts openings (line_text network (line i x)) (Err why) q r e f)
-      → Puts files rest written printed target ready counts openings (texts network (map_from line 0 xs)) (Err why) p r d f
+      → Puts files rest written printed target ready counts openings (texts network (map_from line 0 (take i xs))) (Ok
+      (tt {0})) p q d e
+      → IfSome (slice_get xs i) (λ x. Puts files rest written printed target ready counts openings (line_text network
+      (line i x)) (Err why) q r e f)
+      → Puts files rest written printed target ready counts openings (texts network (map_from line 0 xs))
+      (Err why) p r d f
   line_cut why within so_far step =
-      let here = there xs i (λ x. Puts files rest written printed target ready counts openings (line_text network (line i x)) (Err why) q r e f) within step in
+      let here = there xs i (λ x. Puts files rest written printed target ready counts openings (line_text network
+      (line i x)) (Err why) q r e f) within step in
       puts_same _ _ _ _ _ _ _ (lines_split network line xs i here.0 here.1.0)
       (puts_cut _ (lines_rest network line xs i) why _ _ _ _ (puts_then _ _ _ _ _ _ _ _ _ so_far here.1.1))

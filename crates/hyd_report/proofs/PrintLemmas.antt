@@ -41,16 +41,20 @@ den_above network Pressure t = pressure_above (is_us network) t
 den_above network Flow t = flow_above network.options.unit t
 
 pub low_end : (network : Project) (quantity : Quantity) (ticks : Interval) (count : ℤ)
-    → IsRoundedDown (quantity_in network quantity ticks.lo) count → count ≡ (printed (quantity_in network quantity) ticks).lo
+    → IsRoundedDown (quantity_in network quantity ticks.lo) count → count ≡ (printed
+    (quantity_in network quantity) ticks).lo
 unfolding printed
 low_end network quantity ticks count down =
-    IsFloor-floor (in_ten_thousandths (quantity_in network quantity ticks.lo)) count (den_above network quantity ticks.lo) down
+    IsFloor-floor (in_ten_thousandths (quantity_in network quantity ticks.lo)) count
+    (den_above network quantity ticks.lo) down
 
 pub high_end : (network : Project) (quantity : Quantity) (ticks : Interval) (count : ℤ)
-    → IsRoundedUp (quantity_in network quantity ticks.hi) count → count ≡ (printed (quantity_in network quantity) ticks).hi
+    → IsRoundedUp (quantity_in network quantity ticks.hi) count → count ≡ (printed
+    (quantity_in network quantity) ticks).hi
 unfolding printed
 high_end network quantity ticks count up =
-    IsCeiling-ceiling (in_ten_thousandths (quantity_in network quantity ticks.hi)) count (den_above network quantity ticks.hi) up
+    IsCeiling-ceiling (in_ten_thousandths (quantity_in network quantity ticks.hi)) count
+    (den_above network quantity ticks.hi) up
 
 -- the printed ends print the interval
 pub prints : (network : Project) (quantity : Quantity) (ticks : Interval)

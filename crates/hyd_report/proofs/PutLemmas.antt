@@ -1,12 +1,12 @@
 -- How texts that are put in follow one another.
-use Rattle.std.proofs.Common.{◌≡◌, ◌≢◌, ℕ, Bool, List, [], ◌++◌, Option, Some, None, refl, sym, ap, subst, ◌∙◌, append-nil, append_assoc, arith}
-use Rattle.std.specs.Prelude.{Result, Ok, Err, IfSome, IsSome, IfErr, OnOk, OnErr, IsTrue, is_some}
+use Rattle.std.proofs.Common.{◌≡◌, ℕ, Bool, List, [], ◌++◌, Option, Some, None, refl, sym, subst, ◌∙◌, append-nil, append_assoc, arith}
+use Rattle.std.specs.Prelude.{Result, Ok, Err, IfSome, IsSome, IsTrue}
 use Rattle.hyd_io.specs.declared.desk.Faults.{Faults}
 use Rattle.hyd_io.specs.declared.desk.Openings.{Openings}
 use Rattle.hyd_io.specs.declared.output.OutFault.{OutFault}
 use Rattle.hyd_io.specs.declared.output.Channel.{Channel}
 use Rattle.hyd_io.specs.declared.output.Channel.TheVariants.{Cert, Report}
-use Rattle.hyd_io.specs.Told.{Files, file_at, Moves, PutOut}
+use Rattle.hyd_io.specs.Told.{Files, Moves, PutOut}
 use Rattle.hyd_io.specs.Counts.{NeverFall}
 use Rattle.hyd_io.specs.Output.{by_channel, OnCert, OnReport, HasOutCause, PenState}
 use Rattle.hyd_io.proofs.ToldLemmas.{moves_then, put_out_then, put_out_more, moves_nothing}
@@ -27,24 +27,28 @@ no_such : (o : Option OutFault) → IfSome o (λ fault. Ok (tt {0}) ≡ Err faul
 no_such None again = refl
 no_such (Some why) again = absurd (let e : Ok (tt {0}) ≡ Err why = again in cc)
 
-again_then : (o : Option OutFault) (result : Result (Unit {0}) OutFault) → o ≡ None → IfSome o (λ fault. result ≡ Err fault)
+again_then : (o : Option OutFault) (result : Result (Unit {0}) OutFault) → o ≡ None → IfSome o (λ fault. result
+    ≡ Err fault)
 again_then o result none = subst (λ (f : Option OutFault). IfSome f (λ fault. result ≡ Err fault)) (sym none) tt
 
 nothing_then : {P : Type 0} (o : Option OutFault) → o ≡ None → IsSome o → P
 nothing_then None none some = absurd (cc)
 nothing_then (Some why) none some = absurd (cc)
 
-on_report_then : {A : Type 0} (to pen : Channel) (a b d : A) → pen ≡ to → OnReport to (b ≡ a) → OnReport pen (d ≡ b) → OnReport to (d ≡ a)
+on_report_then : {A : Type 0} (to pen : Channel) (a b d : A) → pen ≡ to → OnReport to (b ≡ a) → OnReport pen (d ≡ b)
+    → OnReport to (d ≡ a)
 on_report_then Cert pen a b d same so_far step = tt
 on_report_then Report Cert a b d same so_far step = absurd (cc)
 on_report_then Report Report a b d same so_far step = step ∙ so_far
 
-on_cert_then : {A : Type 0} (to pen : Channel) (a b d : A) → pen ≡ to → OnCert to (b ≡ a) → OnCert pen (d ≡ b) → OnCert to (d ≡ a)
+on_cert_then : {A : Type 0} (to pen : Channel) (a b d : A) → pen ≡ to → OnCert to (b ≡ a) → OnCert pen (d ≡ b)
+    → OnCert to (d ≡ a)
 on_cert_then Report pen a b d same so_far step = tt
 on_cert_then Cert Report a b d same so_far step = absurd (cc)
 on_cert_then Cert Cert a b d same so_far step = step ∙ so_far
 
-cause_on : (why : OutFault) (p q : Channel) (a b d : Faults) → q ≡ p → b ≡ a → HasOutCause q why b d → HasOutCause p why a d
+cause_on : (why : OutFault) (p q : Channel) (a b d : Faults) → q ≡ p → b ≡ a → HasOutCause q why b d
+    → HasOutCause p why a d
 cause_on why p q a b d same steady cause =
     subst (λ (c : Channel). HasOutCause c why a d) same (subst (λ (f : Faults). HasOutCause q why f d) steady cause)
 
@@ -54,9 +58,11 @@ never_fall_on a b d steady never = subst (λ (f : Faults). NeverFall f d) steady
 module _ {S : Type 0} {files : S → Option Files} {rest written printed target : S → Option (List ℕ)} {ready : S → Bool}
     {counts : S → Faults} {openings : S → Openings} where
   -- nothing was put in at a pen without a fault
-  pub puts_nothing : (pen : PenState) (desk : S) → pen.fault ≡ None → Puts files rest written printed target ready counts openings [] (Ok (tt {0})) pen pen desk desk
+  pub puts_nothing : (pen : PenState) (desk : S) → pen.fault ≡ None → Puts files rest written printed target ready
+      counts openings [] (Ok (tt {0})) pen pen desk desk
   puts_nothing pen desk unbroken = record {
-    moves = subst (λ (all : List ℕ). Moves (by_channel pen.to (written desk) (printed desk)) (by_channel pen.to (written desk) (printed desk)) all pen.held)
+    moves = subst (λ (all : List ℕ). Moves (by_channel pen.to (written desk) (printed desk)) (by_channel pen.to
+        (written desk) (printed desk)) all pen.held)
         (sym (append-nil pen.held)) (moves_nothing (by_channel pen.to (written desk) (printed desk)) pen.held);
     prefix = tt;
     to_stays = refl;
@@ -78,29 +84,39 @@ module _ {S : Type 0} {files : S → Option Files} {rest written printed target 
     openings_stay = refl;
   }
 
-  moves_on : (a b : List ℕ) (p q r : PenState) (d e f : S) → Puts files rest written printed target ready counts openings a (Ok (tt {0})) p q d e
+  moves_on : (a b : List ℕ) (p q r : PenState) (d e f : S) → Puts files rest written printed target ready counts
+      openings a (Ok (tt {0})) p q d e
       → Moves (by_channel q.to (written e) (printed e)) (by_channel q.to (written f) (printed f)) (q.held ++ b) r.held
-      → Moves (by_channel p.to (written d) (printed d)) (by_channel p.to (written f) (printed f)) (p.held ++ (a ++ b)) r.held
+      → Moves (by_channel p.to (written d) (printed d)) (by_channel p.to (written f) (printed f)) (p.held ++
+      (a ++ b)) r.held
   moves_on a b p q r d e f first second =
-      subst (λ (all : List ℕ). Moves (by_channel p.to (written d) (printed d)) (by_channel p.to (written f) (printed f)) all r.held)
+      subst (λ (all : List ℕ). Moves (by_channel p.to (written d) (printed d)) (by_channel p.to (written f)
+      (printed f)) all r.held)
       (append_assoc p.held a b)
-      (moves_then (by_channel p.to (written d) (printed d)) (by_channel p.to (written e) (printed e)) (by_channel p.to (written f) (printed f))
+      (moves_then (by_channel p.to (written d) (printed d)) (by_channel p.to (written e) (printed e)) (by_channel p.to
+      (written f) (printed f))
       (p.held ++ a) q.held b r.held first.moves
-      (subst (λ (c : Channel). Moves (by_channel c (written e) (printed e)) (by_channel c (written f) (printed f)) (q.held ++ b) r.held) first.to_stays second))
+      (subst (λ (c : Channel). Moves (by_channel c (written e) (printed e)) (by_channel c (written f) (printed f))
+      (q.held ++ b) r.held) first.to_stays second))
 
-  cut_on : (a b : List ℕ) (p q : PenState) (d e f : S) → Puts files rest written printed target ready counts openings a (Ok (tt {0})) p q d e
+  cut_on : (a b : List ℕ) (p q : PenState) (d e f : S) → Puts files rest written printed target ready counts openings
+      a (Ok (tt {0})) p q d e
       → PutOut (by_channel q.to (written e) (printed e)) (by_channel q.to (written f) (printed f)) (q.held ++ b)
       → PutOut (by_channel p.to (written d) (printed d)) (by_channel p.to (written f) (printed f)) (p.held ++ (a ++ b))
   cut_on a b p q d e f first second =
       subst (PutOut (by_channel p.to (written d) (printed d)) (by_channel p.to (written f) (printed f)))
       (append_assoc p.held a b)
-      (put_out_then (by_channel p.to (written d) (printed d)) (by_channel p.to (written e) (printed e)) (by_channel p.to (written f) (printed f))
+      (put_out_then (by_channel p.to (written d) (printed d)) (by_channel p.to (written e) (printed e))
+      (by_channel p.to (written f) (printed f))
       (p.held ++ a) q.held b first.moves
-      (subst (λ (c : Channel). PutOut (by_channel c (written e) (printed e)) (by_channel c (written f) (printed f)) (q.held ++ b)) first.to_stays second))
+      (subst (λ (c : Channel). PutOut (by_channel c (written e) (printed e)) (by_channel c (written f) (printed f))
+      (q.held ++ b)) first.to_stays second))
 
   -- one text and then another
   pub puts_then : (a b : List ℕ) (result : Result (Unit {0}) OutFault) (p q r : PenState) (d e f : S)
-      → Puts files rest written printed target ready counts openings a (Ok (tt {0})) p q d e → Puts files rest written printed target ready counts openings b result q r e f → Puts files rest written printed target ready counts openings (a ++ b) result p r d f
+      → Puts files rest written printed target ready counts openings a (Ok (tt {0})) p q d e
+      → Puts files rest written printed target ready counts openings b result q r e f
+      → Puts files rest written printed target ready counts openings (a ++ b) result p r d f
   puts_then a b (Ok done) p q r d e f first second = record {
     moves = moves_on a b p q r d e f first second.moves;
     prefix = tt;
@@ -112,10 +128,14 @@ module _ {S : Type 0} {files : S → Option Files} {rest written printed target 
     cause = λ none. tt;
     steady = second.steady ∙ first.steady;
     never_fall = never_fall_on (counts d) (counts e) (counts f) first.steady second.never_fall;
-    report_files = on_report_then p.to q.to (files d) (files e) (files f) first.to_stays first.report_files second.report_files;
-    report_written = on_report_then p.to q.to (written d) (written e) (written f) first.to_stays first.report_written second.report_written;
-    cert_printed = on_cert_then p.to q.to (printed d) (printed e) (printed f) first.to_stays first.cert_printed second.cert_printed;
-    others = λ other apart. second.others other (λ same. apart (sym first.target_stays ∙ same)) ∙ first.others other apart;
+    report_files = on_report_then p.to q.to (files d) (files e) (files f) first.to_stays first.report_files
+        second.report_files;
+    report_written = on_report_then p.to q.to (written d) (written e) (written f) first.to_stays first.report_written
+        second.report_written;
+    cert_printed = on_cert_then p.to q.to (printed d) (printed e) (printed f) first.to_stays first.cert_printed
+        second.cert_printed;
+    others = λ other apart. second.others other (λ same. apart (sym first.target_stays ∙ same))
+        ∙ first.others other apart;
     still_told = second.still_told ∙ first.still_told;
     rest_stays = second.rest_stays ∙ first.rest_stays;
     target_stays = second.target_stays ∙ first.target_stays;
@@ -130,13 +150,18 @@ module _ {S : Type 0} {files : S → Option Files} {rest written printed target 
     keeps_fault = second.keeps_fault;
     again = again_then p.fault (Err why) (no_such p.fault first.again);
     does_nothing = nothing_then p.fault (no_such p.fault first.again);
-    cause = λ none. cause_on why p.to q.to (counts d) (counts e) (counts f) first.to_stays first.steady (second.cause first.no_fault);
+    cause = λ none. cause_on why p.to q.to (counts d) (counts e) (counts f) first.to_stays first.steady
+        (second.cause first.no_fault);
     steady = tt;
     never_fall = never_fall_on (counts d) (counts e) (counts f) first.steady second.never_fall;
-    report_files = on_report_then p.to q.to (files d) (files e) (files f) first.to_stays first.report_files second.report_files;
-    report_written = on_report_then p.to q.to (written d) (written e) (written f) first.to_stays first.report_written second.report_written;
-    cert_printed = on_cert_then p.to q.to (printed d) (printed e) (printed f) first.to_stays first.cert_printed second.cert_printed;
-    others = λ other apart. second.others other (λ same. apart (sym first.target_stays ∙ same)) ∙ first.others other apart;
+    report_files = on_report_then p.to q.to (files d) (files e) (files f) first.to_stays first.report_files
+        second.report_files;
+    report_written = on_report_then p.to q.to (written d) (written e) (written f) first.to_stays first.report_written
+        second.report_written;
+    cert_printed = on_cert_then p.to q.to (printed d) (printed e) (printed f) first.to_stays first.cert_printed
+        second.cert_printed;
+    others = λ other apart. second.others other (λ same. apart (sym first.target_stays ∙ same))
+        ∙ first.others other apart;
     still_told = second.still_told ∙ first.still_told;
     rest_stays = second.rest_stays ∙ first.rest_stays;
     target_stays = second.target_stays ∙ first.target_stays;
@@ -145,12 +170,15 @@ module _ {S : Type 0} {files : S → Option Files} {rest written printed target 
   }
 
   -- after a fault what would have come next isn't put in either
-  pub puts_cut : (a b : List ℕ) (why : OutFault) (p q : PenState) (d e : S) → Puts files rest written printed target ready counts openings a (Err why) p q d e → Puts files rest written printed target ready counts openings (a ++ b) (Err why) p q d e
+  pub puts_cut : (a b : List ℕ) (why : OutFault) (p q : PenState) (d e : S)
+      → Puts files rest written printed target ready counts openings a (Err why) p q d e
+      → Puts files rest written printed target ready counts openings (a ++ b) (Err why) p q d e
   puts_cut a b why p q d e first = record {
     moves = tt;
     prefix = subst (PutOut (by_channel p.to (written d) (printed d)) (by_channel p.to (written e) (printed e)))
         (append_assoc p.held a b)
-        (put_out_more (by_channel p.to (written d) (printed d)) (by_channel p.to (written e) (printed e)) (p.held ++ a) b first.prefix);
+        (put_out_more (by_channel p.to (written d) (printed d)) (by_channel p.to (written e) (printed e))
+        (p.held ++ a) b first.prefix);
     no_fault = tt;
     steady = tt;
     to_stays = first.to_stays;
@@ -171,8 +199,11 @@ module _ {S : Type 0} {files : S → Option Files} {rest written printed target 
   }
 
   -- the same text in other words
-  pub puts_same : (a b : List ℕ) (result : Result (Unit {0}) OutFault) (p q : PenState) (d e : S) → a ≡ b → Puts files rest written printed target ready counts openings a result p q d e → Puts files rest written printed target ready counts openings b result p q d e
-  puts_same a b result p q d e same first = subst (λ (text : List ℕ). Puts files rest written printed target ready counts openings text result p q d e) same first
+  pub puts_same : (a b : List ℕ) (result : Result (Unit {0}) OutFault) (p q : PenState) (d e : S) → a ≡ b
+      → Puts files rest written printed target ready counts openings a result p q d e
+      → Puts files rest written printed target ready counts openings b result p q d e
+  puts_same a b result p q d e same first = subst (λ (text : List ℕ). Puts files rest written printed target ready
+      counts openings text result p q d e) same first
 
   -- what is ready stays so
   pub puts_ready : (text : List ℕ) (result : Result (Unit {0}) OutFault) (p q : PenState) (d e : S)

@@ -1,5 +1,5 @@
 -- The lines that the program makes are the report of the period.
-use Rattle.std.proofs.Common.{◌≡◌, ℕ, zero, suc, ◌+◌, ◌<◌, ℤ, pos, ◌-ℤ◌, Bool, true, false, MatchBool, List, [], ◌∷◌, ◌++◌, length, map, take, drop, Option, Some, None, if◌then◌else◌, refl, sym, ap, subst, ◌∙◌, arith}
+use Rattle.std.proofs.Common.{◌≡◌, ℕ, zero, suc, ◌+◌, ℤ, Bool, true, false, MatchBool, List, [], ◌∷◌, ◌++◌, length, map, take, drop, Option, Some, if◌then◌else◌, refl, ap, subst, ◌∙◌, arith}
 use Rattle.std.specs.Prelude.{slice_get, slice_index_or}
 use Rattle.std.specs.Option.{option_map}
 use Rattle.std.proofs.lemmas.Option.{slice_get_within, slice_get-get_or, slice_get-map}
@@ -10,11 +10,11 @@ use Rattle.hyd_spec.specs.Assignment.{head_at}
 use Rattle.hyd_spec.specs.Rules.{state_of_link}
 use Rattle.hyd_spec.specs.declared.TankState.{TankState}
 use Rattle.hyd_spec.specs.declared.TankState.TheVariants.{Between}
-use Rattle.hyd_spec_certificates.specs.Interval.{Interval, exactly, shifted}
+use Rattle.hyd_spec_certificates.specs.Interval.{Interval, shifted}
 use Rattle.hyd_spec_certificates.specs.Grid.{Grid, GridLink, GridJunction}
-use Rattle.hyd_spec_certificates.specs.Boxes.{difference, flow_box, out_box}
+use Rattle.hyd_spec_certificates.specs.Boxes.{difference, flow_box}
 use Rattle.hyd_spec_certificates.specs.Record.{Record, Standing}
-use Rattle.hyd_spec_certificates.specs.Decided.{heads_below, heads_above, nowhere, inflow_of_tank, level_of_tank, links_at}
+use Rattle.hyd_spec_certificates.specs.Decided.{heads_below, heads_above, nowhere, inflow_of_tank, level_of_tank}
 use Rattle.hyd_spec_reports.specs.ReportLine.{ReportLine, TimeLine, LinkLine}
 use Rattle.hyd_spec_reports.specs.Report.{Prints, LineEach, IsJunctionLine, IsReservoirLine, IsTankLine, IsLinkLine, AreStateLines, AreEndLines, IsReport, is_report_time, change_line, event_line, changes_at, status_of}
 use Rattle.hyd_facts.specs.declared.facts.Facts.{Facts}
@@ -27,29 +27,34 @@ use Rattle.hyd_report.specs.Printing.{printed, quantity_in}
 use Rattle.hyd_report.specs.declared.printed.Quantity.TheVariants.{Head, Pressure, Flow}
 use Rattle.hyd_report.specs.Words.{before_rules}
 use Rattle.hyd_report.specs.Lines.{junction_line, reservoir_line, tank_line, no_link, link_line}
-use Rattle.hyd_report.specs.Periods.{AreTankFacts, state_lines, start_lines, middle_lines, end_lines, lines_of}
+use Rattle.hyd_report.specs.Periods.{AreTankFacts, state_lines, middle_lines, end_lines, lines_of}
 use Rattle.hyd_report.proofs.PrintLemmas.{prints}
 use Rattle.hyd_report.proofs.ChangeLemmas.{changes_apart}
 
 -- a net has a link of its grid for each pair of ends
-pub length-links_of : (ends : List Ends) (settings : List Setting) (own : List LinkLaw) → length settings ≡ length ends → length own ≡ length ends
+pub length-links_of : (ends : List Ends) (settings : List Setting) (own : List LinkLaw) → length settings
+    ≡ length ends → length own ≡ length ends
     → length (links_of ends settings own) ≡ length ends
 length-links_of [] settings own s o = refl
 length-links_of (e ∷ ends) [] own s o = absurd (omega arith)
 length-links_of (e ∷ ends) (x ∷ settings) [] s o = absurd (omega arith)
-length-links_of (e ∷ ends) (x ∷ settings) (l ∷ own) s o = ap suc (length-links_of ends settings own (omega arith) (omega arith))
+length-links_of (e ∷ ends) (x ∷ settings) (l ∷ own) s o = ap suc (length-links_of ends settings own (omega arith)
+    (omega arith))
 
 each_line : {X : Type 0} (P : ℕ → X → ReportLine → Type 0) (f : ℕ → X → ReportLine) (n : ℕ) (xs : List X)
     → ((k : ℕ) (x : X) → slice_get xs k ≡ Some x → P (n + k) x (f (n + k) x)) → LineEach P n xs (map_from f n xs)
 each_line P f n [] each = tt
 each_line P f n (x ∷ xs) each =
-    let here : n + 0 ≡ n = omega arith in
-    (subst (λ m. P m x (f m x)) here (each 0 x refl),
-    each_line P f (suc n) xs (λ k y at. let m : n + suc k ≡ suc n + k = omega arith in subst (λ j. P j y (f j y)) m (each (suc k) y at)))
+    let here : n + 0 ≡ n = omega arith in (
+      subst (λ m. P m x (f m x)) here (each 0 x refl),
+      each_line P f (suc n) xs (λ k y at. let m : n + suc k ≡ suc n + k = omega arith in subst (λ j. P j y (f j y)) m
+          (each (suc k) y at)),
+    )
 
 every_line : {X : Type 0} (P : ℕ → X → ReportLine → Type 0) (f : ℕ → X → ReportLine) (xs : List X)
     → ((k : ℕ) (x : X) → slice_get xs k ≡ Some x → P k x (f k x)) → LineEach P 0 xs (map_from f 0 xs)
-every_line P f xs each = each_line P f 0 xs (λ k x at. let m : k ≡ 0 + k = omega arith in subst (λ j. P j x (f j x)) m (each k x at))
+every_line P f xs each = each_line P f 0 xs (λ k x at. let m : k ≡ 0 + k = omega arith in subst (λ j. P j x (f j x)) m
+    (each k x at))
 
 map_from-at : {X Y : Type 0} (f : ℕ → X → Y) (n : ℕ) (xs : List X) (k : ℕ) (x : X) (d : Y) → slice_get xs k ≡ Some x
     → slice_index_or (map_from f n xs) k d ≡ f (n + k) x
@@ -62,8 +67,10 @@ map_from-at f n (y ∷ ys) (suc k) x d at =
     let m : suc n + k ≡ n + suc k = omega arith in
     map_from-at f (suc n) ys k x d at ∙ ap (λ j. f j x) m
 
-module _ (network : Project) (grid : Grid) (states : List LinkState) (standing : Standing) (row : Record) (facts : Facts)
-    (are : AreFacts network grid standing row facts) (tanks : AreTankFacts network facts) (same : states ≡ facts.links.list)
+module _ (network : Project) (grid : Grid) (states : List LinkState) (standing : Standing) (row : Record)
+    (facts : Facts)
+    (are : AreFacts network grid standing row facts) (tanks : AreTankFacts network facts) (same : states
+    ≡ facts.links.list)
     (each : length grid.links ≡ length network.links.list) where
   junction : (j : ℕ) (here : GridJunction)
       → IsJunctionLine network grid row j here (junction_line network row.main.lower row.main.upper j here)
@@ -94,7 +101,8 @@ module _ (network : Project) (grid : Grid) (states : List LinkState) (standing :
       ∙ ap (inflow_of_tank network grid row) m)
 
   tank_here : (k : ℕ) (tank : Tank) → slice_get network.tanks.list k ≡ Some tank
-      → IsTankLine network grid standing row k tank (tank_line network facts.levels.list facts.inflows.list facts.tanks.list k tank)
+      → IsTankLine network grid standing row k tank (tank_line network facts.levels.list facts.inflows.list
+      facts.tanks.list k tank)
   tank_here k tank at =
       let within = slice_get_within network.tanks.list k tank at in
       let few = tanks.states in
@@ -106,20 +114,26 @@ module _ (network : Project) (grid : Grid) (states : List LinkState) (standing :
         inflow = printed (quantity_in network Flow) inflow;
         state = slice_index_or facts.tanks.list k Between;
         is_line = refl;
-        head_is = subst (λ (l : Interval). Prints (quantity_in network Head) (shifted tank.bottom l) (printed (quantity_in network Head) (shifted tank.bottom level)))
+        head_is = subst (λ (l : Interval). Prints (quantity_in network Head) (shifted tank.bottom l) (printed
+            (quantity_in network Head) (shifted tank.bottom level)))
             (level_is k) (prints network Head (shifted tank.bottom level));
-        level_is = subst (λ (l : Interval). Prints (quantity_in network Head) l (printed (quantity_in network Head) level)) (level_is k) (prints network Head level);
-        inflow_is = subst (λ (i : Interval). Prints (quantity_in network Flow) i (printed (quantity_in network Flow) inflow)) (inflow_is k tank at) (prints network Flow inflow);
-        state_is = subst (λ (xs : List TankState). slice_get xs k ≡ Some (slice_index_or facts.tanks.list k Between)) are.tanks
+        level_is = subst (λ (l : Interval). Prints (quantity_in network Head) l (printed
+            (quantity_in network Head) level)) (level_is k) (prints network Head level);
+        inflow_is = subst (λ (i : Interval). Prints (quantity_in network Flow) i (printed
+            (quantity_in network Flow) inflow)) (inflow_is k tank at) (prints network Flow inflow);
+        state_is = subst (λ (xs : List TankState). slice_get xs k ≡ Some
+            (slice_index_or facts.tanks.list k Between)) are.tanks
             (slice_get-get_or facts.tanks.list k Between (omega (arith, within, few)));
       }
 
   link_here : (l : ℕ) (link : Link) → slice_get network.links.list l ≡ Some link
-      → IsLinkLine network grid standing row l link (link_line network grid (heads_below grid row) (heads_above grid row) states l link)
+      → IsLinkLine network grid standing row l link (link_line network grid (heads_below grid row)
+      (heads_above grid row) states l link)
   link_here l link at =
       let within = slice_get_within network.links.list l link at in
       let place = slice_index_or grid.links l no_link in
-      let place_at : slice_get grid.links l ≡ Some place = slice_get-get_or grid.links l no_link (omega (arith, within, each)) in
+      let place_at : slice_get grid.links l ≡ Some place = slice_get-get_or grid.links l no_link (omega
+      (arith, within, each)) in
       let box : GridLink → Interval = λ g. flow_box g (heads_below grid row) (heads_above grid row) in
       record {
         place = place;
@@ -129,7 +143,8 @@ module _ (network : Project) (grid : Grid) (states : List LinkState) (standing :
         flow = printed (quantity_in network Flow) (box place);
         flow_is = prints network Flow (box place);
         is_line = ap (λ (ss : List LinkState). LinkLine l (printed (quantity_in network Flow) (box place))
-            (status_of (is_us network) network.bends.list link.kind (state_of_link ss l) (difference place (heads_below grid row) (heads_above grid row))))
+            (status_of (is_us network) network.bends.list link.kind (state_of_link ss l) (difference place
+            (heads_below grid row) (heads_above grid row))))
             (same ∙ are.links);
       }
 
@@ -139,14 +154,20 @@ module _ (network : Project) (grid : Grid) (states : List LinkState) (standing :
     reservoirs = map_from (reservoir_line network) 0 grid.reservoirs;
     tanks = map_from (tank_line network facts.levels.list facts.inflows.list facts.tanks.list) 0 network.tanks.list;
     links = map_from (link_line network grid (heads_below grid row) (heads_above grid row) states) 0 network.links.list;
-    junctions_are = every_line (IsJunctionLine network grid row) (junction_line network row.main.lower row.main.upper) grid.junctions (λ j here at. junction j here);
-    reservoirs_are = every_line (IsReservoirLine network) (reservoir_line network) grid.reservoirs (λ r height at. reservoir r height);
-    tanks_are = every_line (IsTankLine network grid standing row) (tank_line network facts.levels.list facts.inflows.list facts.tanks.list) network.tanks.list tank_here;
-    links_are = every_line (IsLinkLine network grid standing row) (link_line network grid (heads_below grid row) (heads_above grid row) states) network.links.list link_here;
-    lines_are = ap (λ (t : ℕ). TimeLine t ∷ (map_from (junction_line network row.main.lower row.main.upper) 0 grid.junctions
+    junctions_are = every_line (IsJunctionLine network grid row) (junction_line network row.main.lower row.main.upper)
+        grid.junctions (λ j here at. junction j here);
+    reservoirs_are = every_line (IsReservoirLine network) (reservoir_line network) grid.reservoirs
+        (λ r height at. reservoir r height);
+    tanks_are = every_line (IsTankLine network grid standing row) (tank_line network facts.levels.list
+        facts.inflows.list facts.tanks.list) network.tanks.list tank_here;
+    links_are = every_line (IsLinkLine network grid standing row) (link_line network grid (heads_below grid row)
+        (heads_above grid row) states) network.links.list link_here;
+    lines_are = ap (λ (t : ℕ). TimeLine t ∷ (map_from (junction_line network row.main.lower row.main.upper) 0
+        grid.junctions
         ++ (map_from (reservoir_line network) 0 grid.reservoirs
         ++ (map_from (tank_line network facts.levels.list facts.inflows.list facts.tanks.list) 0 network.tanks.list
-        ++ map_from (link_line network grid (heads_below grid row) (heads_above grid row) states) 0 network.links.list)))) are.time;
+        ++ map_from (link_line network grid (heads_below grid row) (heads_above grid row) states) 0
+        network.links.list)))) are.time;
   }
 
   where_reported : (b : Bool) (state : List ReportLine) → AreStateLines network grid standing row state
@@ -156,7 +177,8 @@ module _ (network : Project) (grid : Grid) (states : List LinkState) (standing :
 
   apart : (take (before_rules facts.changes.list) facts.changes.list ≡ changes_at network standing)
       × (drop (before_rules facts.changes.list) facts.changes.list ≡ are.by_rules)
-  apart = changes_apart network grid standing row facts.events.list facts.changes.list are.by_rules are.changes are.brings
+  apart = changes_apart network grid standing row facts.events.list facts.changes.list are.by_rules are.changes
+      are.brings
 
   end_is : facts.time + facts.length ≡ standing.time + row.length
   end_is = ap (λ (t : ℕ). t + facts.length) are.time ∙ ap (λ (s : ℕ). standing.time + s) are.length
@@ -166,19 +188,23 @@ module _ (network : Project) (grid : Grid) (states : List LinkState) (standing :
     events = facts.events.list;
     changes = are.by_rules;
     brings = are.brings;
-    lines_are = ap (λ (t : ℕ). map (event_line t) facts.events.list ++ map (change_line t) (drop (before_rules facts.changes.list) facts.changes.list)) end_is
-        ∙ ap (λ xs. map (event_line (standing.time + row.length)) facts.events.list ++ map (change_line (standing.time + row.length)) xs) apart.1;
+    lines_are = ap (λ (t : ℕ). map (event_line t) facts.events.list ++ map (change_line t) (drop
+        (before_rules facts.changes.list) facts.changes.list)) end_is
+        ∙ ap (λ xs. map (event_line (standing.time + row.length)) facts.events.list ++ map (change_line
+        (standing.time + row.length)) xs) apart.1;
   }
 
   pub lines_are_report : IsReport network grid standing row (lines_of network grid states row facts)
   lines_are_report = record {
     state = middle_lines network grid states row facts;
-    state_are = subst (λ (t : ℕ). MatchBool (is_report_time network t) (AreStateLines network grid standing row (middle_lines network grid states row facts))
+    state_are = subst (λ (t : ℕ). MatchBool (is_report_time network t) (AreStateLines network grid standing row
+        (middle_lines network grid states row facts))
         (middle_lines network grid states row facts ≡ [])) are.time
         (where_reported (is_report_time network facts.time) (state_lines network grid states row facts) state_are);
     at_end = end_lines facts;
     at_end_are = ends_are;
     lines_are = ap (λ (t : ℕ). map (change_line t) (take (before_rules facts.changes.list) facts.changes.list)
         ++ (middle_lines network grid states row facts ++ end_lines facts)) are.time
-        ∙ ap (λ xs. map (change_line standing.time) xs ++ (middle_lines network grid states row facts ++ end_lines facts)) apart.0;
+        ∙ ap (λ xs. map (change_line standing.time) xs ++ (middle_lines network grid states row facts ++ end_lines
+        facts)) apart.0;
   }

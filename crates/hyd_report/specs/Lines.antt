@@ -1,5 +1,5 @@
 -- The lines of a period, as the program makes them from a net's grid, from vectors below and above and from facts.
-use Rattle.std.specs.Prelude.{ℕ, ℤ, ◌-ℤ◌, List, [], ◌∷◌, ◌++◌, map, slice_index_or}
+use Rattle.std.specs.Prelude.{ℕ, ℤ, ◌-ℤ◌, List, map, slice_index_or}
 use Rattle.hyd_spec.specs.Types.{Project, Tank, Link, LinkState}
 use Rattle.hyd_spec.specs.Law.{Shut}
 use Rattle.hyd_spec.specs.Lists.{joined}
@@ -42,13 +42,15 @@ reservoir_line network r height = ReservoirLine r (printed (quantity_in network 
 -- The line of tank number k at its levels, with its inflow and its state.
 abbrev pub tank_at : Project → ℕ → Tank → Interval → Interval → TankState → ReportLine
 tank_at network k tank level inflow state =
-    TankLine k (printed (quantity_in network Head) (shifted tank.bottom level)) (printed (quantity_in network Head) level)
+    TankLine k (printed (quantity_in network Head) (shifted tank.bottom level)) (printed
+    (quantity_in network Head) level)
     (printed (quantity_in network Flow) inflow) state
 
 -- The line of tank number k by the levels, the inflows and the states of all tanks.
 abbrev pub tank_line : Project → List LevelSpan → List Span → List TankState → ℕ → Tank → ReportLine
 tank_line network levels inflows states k tank =
-    tank_at network k tank (slice_index_or (map levels_of levels) k nowhere) (slice_index_or (map flows_of inflows) k nowhere)
+    tank_at network k tank (slice_index_or (map levels_of levels) k nowhere) (slice_index_or
+    (map flows_of inflows) k nowhere)
     (slice_index_or states k Between)
 
 -- A link that isn't there is shut.

@@ -1,5 +1,5 @@
 -- The lines of a period, as the program makes them, and what it needs of the period.
-use Rattle.std.specs.Prelude.{◌≡◌, ℕ, ◌+◌, pos, List, [], ◌∷◌, ◌++◌, length, map, take, drop, All, if◌then◌else◌}
+use Rattle.std.specs.Prelude.{◌≡◌, ◌+◌, pos, List, [], ◌∷◌, ◌++◌, length, map, take, drop, All, if◌then◌else◌}
 use Rattle.hyd_spec.specs.Types.{Project, LinkState}
 use Rattle.hyd_spec.specs.Lists.{map_from}
 use Rattle.hyd_spec.specs.Network.{tank_count}
@@ -25,7 +25,8 @@ pub record AreTankFacts (network : Project) (facts : Facts) : Type 0 where
   pub states : length facts.tanks.list ≡ tank_count network
   pub small : All IsSmall facts.inflows.list
 
--- The vectors of a record with all tanks alike are heads of a net's junctions in the box, each below at most the one above, and
+-- The vectors of a record with all tanks alike are heads of a net's junctions in the box, each below at most the one
+-- above, and
 -- so are the heads of its other nodes.
 pub record AreBounds (net : NetView) (row : Record) : Type 0 where
   pub lower : IsVector net row.main.lower

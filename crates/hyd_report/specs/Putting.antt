@@ -1,4 +1,5 @@
--- What a call says that puts a text in at a pen: what went out, what the pen answers from then on, and what of the desk stays as
+-- What a call says that puts a text in at a pen: what went out, what the pen answers from then on, and what of the
+-- desk stays as
 -- it was.
 use Rattle.std.specs.Prelude.{◌≡◌, ◌≢◌, ℕ, Bool, List, ◌++◌, Option, Some, None, IfSome, IsSome, is_some, Result, Err, IfErr, OnOk, OnErr}
 use Rattle.hyd_io.specs.declared.desk.Faults.{Faults}
@@ -8,13 +9,18 @@ use Rattle.hyd_io.specs.Told.{Files, file_at, Moves, PutOut}
 use Rattle.hyd_io.specs.Counts.{NeverFall}
 use Rattle.hyd_io.specs.Output.{by_channel, OnCert, OnReport, HasOutCause, PenState}
 
--- A text is put in at a pen. A front of what the pen held and of the text goes out, and the pen holds the rest; after a fault what
--- went out is a front of both, and the pen answers that fault from then on. A pen that has a fault does nothing but answer it. Of
+-- A text is put in at a pen. A front of what the pen held and of the text goes out, and the pen holds the rest; after
+-- a fault what
+-- went out is a front of both, and the pen answers that fault from then on. A pen that has a fault does nothing but
+-- answer it. Of
 -- the desk nothing else changes but the count of the fault.
-pub record Puts {S : Type 0} (files : S → Option Files) (rest written printed target : S → Option (List ℕ)) (ready : S → Bool)
-    (counts : S → Faults) (openings : S → Openings) (text : List ℕ) (result : Result (Unit {0}) OutFault) (pen after : PenState)
+pub record Puts {S : Type 0} (files : S → Option Files) (rest written printed target : S → Option (List ℕ)) (ready : S
+    → Bool)
+    (counts : S → Faults) (openings : S → Openings) (text : List ℕ) (result : Result (Unit {0}) OutFault)
+    (pen after : PenState)
     (old new : S) : Type 0 where
-  pub moves : OnOk result (Moves (by_channel pen.to (written old) (printed old)) (by_channel pen.to (written new) (printed new))
+  pub moves : OnOk result (Moves (by_channel pen.to (written old) (printed old)) (by_channel pen.to (written new)
+      (printed new))
       (pen.held ++ text) after.held)
   pub prefix : OnErr result (PutOut (by_channel pen.to (written old) (printed old))
       (by_channel pen.to (written new) (printed new)) (pen.held ++ text))

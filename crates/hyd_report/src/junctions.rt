@@ -81,7 +81,8 @@ fn put_junction<D: Desk>(
     requires ready { OnCert pen.old.to (IsTrue (D.ready desk.old)) }
     ensures { IfSome (slice_get (grid_of net.now).junctions junction) (λ here.
         Puts D.files D.rest D.written D.printed D.target D.ready D.counts D.openings
-        (line_text project.now (junction_between project.now junction here lower.now upper.now)) result pen.old pen.new desk.old desk.new) }
+        (line_text project.now (junction_between project.now junction here lower.now upper.now)) result pen.old
+        pen.new desk.old desk.new) }
 {
     let flow = out_box(net, junction, *lower, *upper);
     let head = print_heads(project, *lower, *upper);

@@ -9,7 +9,8 @@ use crate::numbers::number;
 use crate::pieces::put_pieces;
 use hyd_io::{Desk, OutFault, Pen};
 
-/// Puts the last line of a finished run, with the number of its records. Its faults and its needs are those of `Pen::put`.
+/// Puts the last line of a finished run, with the number of its records. Its faults and its needs are those of
+/// `Pen::put`.
 pub fn put_done<D: Desk>(records: u32, pen: &mut Pen, desk: &mut D) -> Result<(), OutFault>
     requires { OnCert pen.old.to (IsTrue (D.ready desk.old)) }
     ensures { Puts D.files D.rest D.written D.printed D.target D.ready D.counts D.openings
@@ -19,23 +20,19 @@ pub fn put_done<D: Desk>(records: u32, pen: &mut Pen, desk: &mut D) -> Result<()
     put_pieces(&[b"DONE ".as_slice(), records.bytes(), b"\n"], pen, desk)
 }
 
-/// Puts the last line after the certificate of a stopped run was accepted, with the number of its records. Its faults and its
-/// needs are those of `Pen::put`.
+/// Puts the last line after the certificate of a stopped run was accepted, with the number of its records. Its faults
+/// and its needs are those of `Pen::put`.
 pub fn put_partial<D: Desk>(records: u32, pen: &mut Pen, desk: &mut D) -> Result<(), OutFault>
     requires { OnCert pen.old.to (IsTrue (D.ready desk.old)) }
     ensures { Puts D.files D.rest D.written D.printed D.target D.ready D.counts D.openings
         (partial_line records) result pen.old pen.new desk.old desk.new }
 {
     let records = number(u64::from(records));
-    put_pieces(
-        &[b"PARTIAL ".as_slice(), records.bytes(), b"\n"],
-        pen,
-        desk,
-    )
+    put_pieces(&[b"PARTIAL ".as_slice(), records.bytes(), b"\n"], pen, desk)
 }
 
-/// Puts the last line where the END line of a certificate says what isn't so, with that line's number, counted from 1. Its
-/// faults and its needs are those of `Pen::put`.
+/// Puts the last line where the END line of a certificate says what isn't so, with that line's number, counted from
+/// 1. Its faults and its needs are those of `Pen::put`.
 pub fn put_refused_end<D: Desk>(line: u64, pen: &mut Pen, desk: &mut D) -> Result<(), OutFault>
     requires { OnCert pen.old.to (IsTrue (D.ready desk.old)) }
     ensures { Puts D.files D.rest D.written D.printed D.target D.ready D.counts D.openings

@@ -10,12 +10,16 @@ mod links;
 mod numbers;
 mod pieces;
 mod printed;
+mod refusals;
 mod report;
 mod reservoirs;
 mod states;
+mod stops;
 mod tanks;
 mod times;
 mod words;
 
 pub use last::{put_done, put_partial, put_refused_end};
+pub use refusals::put_refused;
 pub use report::put_report;
+pub use stops::put_stop;

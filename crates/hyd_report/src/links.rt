@@ -81,7 +81,8 @@ fn put_link<D: Desk>(
     requires ready { OnCert pen.old.to (IsTrue (D.ready desk.old)) }
     ensures { IfSome (slice_get project.now.links.list link) (λ here.
         Puts D.files D.rest D.written D.printed D.target D.ready D.counts D.openings
-        (line_text project.now (link_line project.now (grid_of net.now) (all_heads (grid_of net.now) Main Lower lower.now)
+        (line_text project.now (link_line project.now (grid_of net.now) (all_heads
+        (grid_of net.now) Main Lower lower.now)
         (all_heads (grid_of net.now) Main Upper upper.now) (states_of net.now) link here))
         result pen.old pen.new desk.old desk.new) }
 {
@@ -111,7 +112,8 @@ pub(crate) fn put_links<D: Desk>(
     requires ready { OnCert pen.old.to (IsTrue (D.ready desk.old)) }
     requires unbroken { pen.old.fault ≡ None }
     ensures { Puts D.files D.rest D.written D.printed D.target D.ready D.counts D.openings
-        (texts project.now (map_from (link_line project.now (grid_of net.now) (all_heads (grid_of net.now) Main Lower lower.now)
+        (texts project.now (map_from (link_line project.now (grid_of net.now) (all_heads
+        (grid_of net.now) Main Lower lower.now)
         (all_heads (grid_of net.now) Main Upper upper.now) (states_of net.now)) 0 project.now.links.list))
         result pen.old pen.new desk.old desk.new }
 {

@@ -52,12 +52,12 @@ pub(crate) fn number(number: u64) -> Text
 }
 
 /// A number with its sign.
-pub(crate) fn signed(number: i128) -> Text
-    ensures { result ≡ signed_decimal number }
+pub(crate) fn signed(number: &i128) -> Text
+    ensures { result ≡ signed_decimal number.now }
 {
     let mut digits = Buffer::new();
     let mut text = Text::new();
-    text.push(digits.format(number).as_bytes());
+    text.push(digits.format(*number).as_bytes());
     text
 }
 

@@ -67,7 +67,13 @@ fn put_start<D: Desk>(
         Ok(()) => {}
         Err(fault) => return Err(fault),
     }
-    put_changes(project, u64::from(facts.time), by_controls(facts), pen, desk)
+    put_changes(
+        project,
+        u64::from(facts.time),
+        by_controls(facts),
+        pen,
+        desk,
+    )
 }
 
 /// When a period ends, in seconds.
@@ -116,8 +122,10 @@ fn put_tanks_and_links<D: Desk>(
     requires ready { OnCert pen.old.to (IsTrue (D.ready desk.old)) }
     requires unbroken { pen.old.fault ≡ None }
     ensures { Puts D.files D.rest D.written D.printed D.target D.ready D.counts D.openings
-        (texts project.now (map_from (tank_line project.now facts.now.levels.list facts.now.inflows.list facts.now.tanks.list) 0 project.now.tanks.list
-        ++ map_from (link_line project.now (grid_of net.now) (heads_below (grid_of net.now) (row_of row.now)) (heads_above (grid_of net.now) (row_of row.now)) (states_of net.now)) 0 project.now.links.list))
+        (texts project.now (map_from (tank_line project.now facts.now.levels.list facts.now.inflows.list
+        facts.now.tanks.list) 0 project.now.tanks.list
+        ++ map_from (link_line project.now (grid_of net.now) (heads_below (grid_of net.now) (row_of row.now))
+        (heads_above (grid_of net.now) (row_of row.now)) (states_of net.now)) 0 project.now.links.list))
         result pen.old pen.new desk.old desk.new }
 {
     match put_tanks(
@@ -189,7 +197,8 @@ fn put_middle<D: Desk>(
     requires ready { OnCert pen.old.to (IsTrue (D.ready desk.old)) }
     requires unbroken { pen.old.fault ≡ None }
     ensures { Puts D.files D.rest D.written D.printed D.target D.ready D.counts D.openings
-        (texts project.now (middle_lines project.now (grid_of net.now) (states_of net.now) (row_of row.now) facts.now))
+        (texts project.now (middle_lines project.now (grid_of net.now) (states_of net.now)
+        (row_of row.now) facts.now))
         result pen.old pen.new desk.old desk.new }
 {
     if is_report_time(project, facts.time) {
@@ -198,10 +207,11 @@ fn put_middle<D: Desk>(
     Ok(())
 }
 
-/// Puts all lines of a period: the changes by controls at its start, the state of nodes and links where it is a report time, and
-/// the events and the changes by rules at its end. Net, record and facts are those of one period: the net stands in the facts' link
-/// states, the vectors are its certificates. Its faults and its needs are those of `Pen::put`: after a fault, what went out is a
-/// front of what was put in before and of these lines. It takes no memory.
+/// Puts all lines of a period: the changes by controls at its start, the state of nodes and links where it is a
+/// report time, and the events and the changes by rules at its end. Net, record and facts are those of one period:
+/// the net stands in the facts' link states, the vectors are its certificates. Its faults and its needs are those of
+/// `Pen::put`: after a fault, what went out is a front of what was put in before and of these lines. It takes no
+/// memory.
 pub fn put_report<D: Desk>(
     project: &Project,
     net: &Net,
@@ -217,7 +227,8 @@ pub fn put_report<D: Desk>(
     requires tanks { AreTankFacts project.now facts.now }
     requires links { states_of net.now ≡ facts.now.links.list }
     requires ready { OnCert pen.old.to (IsTrue (D.ready desk.old)) }
-    ensures report { (standing : Standing) → AreFacts project.now (grid_of net.now) standing (row_of row.now) facts.now
+    ensures report { (standing : Standing) → AreFacts project.now (grid_of net.now) standing
+        (row_of row.now) facts.now
         → IsReport project.now (grid_of net.now) standing (row_of row.now)
         (lines_of project.now (grid_of net.now) (states_of net.now) (row_of row.now) facts.now) }
     ensures puts { Puts D.files D.rest D.written D.printed D.target D.ready D.counts D.openings

@@ -61,7 +61,8 @@ fn put_reservoir<D: Desk>(
     requires ready { OnCert pen.old.to (IsTrue (D.ready desk.old)) }
     ensures { IfSome (slice_get (grid_of net.now).reservoirs reservoir) (λ height.
         Puts D.files D.rest D.written D.printed D.target D.ready D.counts D.openings
-        (line_text project.now (reservoir_line project.now reservoir height)) result pen.old pen.new desk.old desk.new) }
+        (line_text project.now (reservoir_line project.now reservoir height)) result pen.old pen.new desk.old
+        desk.new) }
 {
     let _nodes = net.nodes();
     let height = net.fixed(Problem::Main, Side::Lower, net.junctions() + reservoir);

@@ -124,12 +124,19 @@ pub(crate) fn put_tanks<D: Desk>(
     requires ready { OnCert pen.old.to (IsTrue (D.ready desk.old)) }
     requires unbroken { pen.old.fault ≡ None }
     ensures { Puts D.files D.rest D.written D.printed D.target D.ready D.counts D.openings
-        (texts project.now (map_from (tank_line project.now levels.now inflows.now states.now) 0 project.now.tanks.list))
+        (texts project.now (map_from (tank_line project.now levels.now inflows.now states.now) 0
+        project.now.tanks.list))
         result pen.old pen.new desk.old desk.new }
 {
     for k in 0..project.tanks.len() {
         match put_tank(
-            project, k as u32, &levels[k], &inflows[k], &states[k], pen, desk,
+            project,
+            k as u32,
+            &levels[k],
+            &inflows[k],
+            &states[k],
+            pen,
+            desk,
         ) {
             Ok(()) => {}
             Err(fault) => return Err(fault),

@@ -23,7 +23,8 @@ pub(crate) fn put_time<D: Desk>(time: u32, pen: &mut Pen, desk: &mut D) -> Resul
     put_pieces(&[b"TIME ".as_slice(), time.bytes(), b"\n"], pen, desk)
 }
 
-/// Whether a period that begins at a time, in seconds, is reported: the report start plus a multiple of the report step.
+/// Whether a period that begins at a time, in seconds, is reported: the report start plus a multiple of the report
+/// step.
 pub(crate) fn is_report_time(project: &Project, time: u32) -> bool
     requires { Sound project.now }
     ensures { result ≡ is_report_time project.now time }

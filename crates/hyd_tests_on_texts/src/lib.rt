@@ -6,8 +6,6 @@ mod cert;
 #[cfg(test)]
 mod first_rows;
 #[cfg(test)]
-mod judged_rows;
-#[cfg(test)]
 mod lines;
 #[cfg(test)]
 mod network_rows;

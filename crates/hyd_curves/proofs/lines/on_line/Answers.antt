@@ -12,9 +12,16 @@ pub returns-clause-value : goal.returns-clause-value
 returns-clause-value c =
     let first = c.args.first in
     let second = c.args.second in
-    let line = line_is (knot_of first) (knot_of second) c.args.place c.product.result c.product-2.result c.requires.apart
-    (product_is c.product.result (to_z w128 (of_z w128 c.difference-width.result)) (to_z w128 (of_z w128 first.value)) (second.place -ℤ first.place) first.value
+    let line = line_is (knot_of first) (knot_of second) c.args.place c.product.result c.product-2.result
+    c.requires.apart
+    (product_is c.product.result (to_z w128 (of_z w128 c.difference-width.result)) (to_z w128 (of_z w128
+    first.value)) (second.place -ℤ first.place) first.value
     c.product.ensures.value (omega (arith, ints, c.difference-width.ensures)) (omega (arith, ints, c.requires.first)))
-    (product_is c.product-2.result (to_z w128 (of_z w128 c.difference-rise.result)) (to_z w128 (of_z w128 c.difference-beyond.result)) (second.value -ℤ first.value) (c.args.place -ℤ first.place)
-    c.product-2.ensures.value (omega (arith, ints, c.difference-rise.ensures)) (omega (arith, ints, c.difference-beyond.ensures))) in
+    (product_is c.product-2.result (to_z w128 (of_z w128 c.difference-rise.result)) (to_z w128 (of_z w128
+    c.difference-beyond.result)) (second.value -ℤ first.value) (c.args.place -ℤ first.place)
+    c.product-2.ensures.value (omega (arith, ints, c.difference-rise.ensures)) (omega (
+      arith,
+      ints,
+      c.difference-beyond.ensures,
+    ))) in
     omega (arith, ints, line, c.product.ensures.small, c.product-2.ensures.small)

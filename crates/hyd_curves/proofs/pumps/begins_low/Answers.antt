@@ -7,20 +7,50 @@ use Rattle.hyd_curves.proofs.pumps.begins_low.Goals as goal
 
 pub returns-then-first-gt-GREATEST_SHUTOFF : goal.returns-then-first-gt-GREATEST_SHUTOFF
 returns-then-first-gt-GREATEST_SHUTOFF c =
-    let fits : FitsSigned w128 c.args.first.value = omega (arith, ints, c.requires.first.lifts, c.requires.first.heads) in
+    let fits : FitsSigned w128 c.args.first.value = omega (
+      arith,
+      ints,
+      c.requires.first.lifts,
+      c.requires.first.heads,
+    ) in
     high_is (knot_of c.args.first) (knot_of c.args.second) (pos (10 ^ 16)) c.requires.rises c.requires.first.forward
     (omega (arith, ints, c.requires.falls))
-    (above (pos (10 ^ 16)) c.args.first.value (rw (to_z-of_z w128 c.args.first.value fits) at c.if-first-gt-GREATEST_SHUTOFF.true))
+    (above (pos (10 ^ 16)) c.args.first.value (rw (to_z-of_z w128 c.args.first.value fits) at
+    c.if-first-gt-GREATEST_SHUTOFF.true))
 
 pub returns : goal.returns
 returns c =
     let line : FitsSigned w128 c.on_line.result = record { sfits = c.on_line.type_inv } in
-    let near : FitsSigned w128 c.args.first.place = omega (arith, ints, c.requires.first.forward, c.requires.first.flow) in
-    let far : FitsSigned w128 c.args.second.place = omega (arith, ints, c.requires.second.forward, c.requires.second.flow) in
+    let near : FitsSigned w128 c.args.first.place = omega (
+      arith,
+      ints,
+      c.requires.first.forward,
+      c.requires.first.flow,
+    ) in
+    let far : FitsSigned w128 c.args.second.place = omega (
+      arith,
+      ints,
+      c.requires.second.forward,
+      c.requires.second.flow,
+    ) in
     let width : FitsSigned w128 (c.args.second.place -ℤ c.args.first.place) =
-    omega (arith, ints, c.requires.first.forward, c.requires.first.flow, c.requires.second.forward, c.requires.second.flow) in
+    omega (
+      arith,
+      ints,
+      c.requires.first.forward,
+      c.requires.first.flow,
+      c.requires.second.forward,
+      c.requires.second.flow,
+    ) in
     let product : FitsSigned w128 (pos (10 ^ 16) *ℤ (c.args.second.place -ℤ c.args.first.place)) =
-    omega (arith, ints, c.requires.first.forward, c.requires.first.flow, c.requires.second.forward, c.requires.second.flow) in
+    omega (
+      arith,
+      ints,
+      c.requires.first.forward,
+      c.requires.first.flow,
+      c.requires.second.forward,
+      c.requires.second.flow,
+    ) in
     rw (
       to_z-of_z w128 c.on_line.result line,
       to_z-of_z w128 c.args.first.place near,

@@ -4,7 +4,10 @@ use Rattle.hyd_curves.proofs.shapes.gather_shapes.Goals as goal
 
 pub loop-place-init : goal.loop-place-init
 loop-place-init c =
-    no_shapes (rows_at c.args.text.now.text c.args.lines.now) (record { names = c.new.result; lists = c.new-2.result }) c.new.ensures.empty c.new-2.ensures.empty
+    no_shapes (rows_at c.args.text.now.text c.args.lines.now) (record {
+      names = c.new.result;
+      lists = c.new-2.result;
+    }) c.new.ensures.empty c.new-2.ensures.empty
 
 pub returns : goal.returns
 returns c =

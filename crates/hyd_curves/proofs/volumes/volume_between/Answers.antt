@@ -20,7 +20,8 @@ pub returns-clause-small : goal.returns-clause-small
 returns-clause-small c =
     let fits : FitsSigned w128 c.div_euclid.result = record { sfits = c.div_euclid.type_inv } in
     let line : FitsSigned w128 c.on_line.result = record { sfits = c.on_line.type_inv } in
-    let w : ℤ = to_z w128 (of_z w128 (to_z w128 (of_z w128 c.args.second.place) -ℤ to_z w128 (of_z w128 c.args.first.place))) in
+    let w : ℤ = to_z w128 (of_z w128 (to_z w128 (of_z w128 c.args.second.place) -ℤ to_z w128 (of_z w128
+    c.args.first.place))) in
     let less : unsigned_abs c.div_euclid.result ≤ unsigned_abs (to_z w128 (of_z w128 c.on_line.result)) =
     quotient_small (to_z w128 (of_z w128 c.on_line.result)) w c.div_euclid.result
     (omega (arith, ints, c.requires.first, c.requires.second, c.requires.apart)) c.div_euclid.ensures in

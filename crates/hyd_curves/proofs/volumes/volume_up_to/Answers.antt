@@ -46,7 +46,8 @@ loop-next-preserved c =
 
 pub returns-clause-value : goal.returns-clause-value
 returns-clause-value c =
-    walk_alone c.args.us c.args.points.now c.loop-next.left.now c.args.level (to_z w128 (of_z w128 c.loop-next.first.value))
+    walk_alone c.args.us c.args.points.now c.loop-next.left.now c.args.level (to_z w128 (of_z w128
+    c.loop-next.first.value))
     c.loop-next.first (rw (to_z-of_z w128 c.args.level c.ranges.level) at c.loop-next.invariant)
     c.in_default-split_first.ensures.cases
     (omega (arith, ints, (small c.loop-next.first _ c.loop-next.invariant.right).value))

@@ -8,5 +8,7 @@ use Rattle.hyd_report.proofs.events.put_events.Given as goal
 
 -- the lines of the events so far were put
 abbrev pub invariant-loop-i : goal.invariant-loop-i
-invariant-loop-i g l = Puts g.D.Desk.files g.D.Desk.rest g.D.Desk.written g.D.Desk.printed g.D.Desk.target g.D.Desk.ready g.D.Desk.counts g.D.Desk.openings
-    (joined (map (λ event. line_text l.project (event_line l.time event)) (take l.i l.events))) (Ok tt) l.fn.pen l.pen l.fn.desk l.desk
+invariant-loop-i g l = Puts g.D.Desk.files g.D.Desk.rest g.D.Desk.written g.D.Desk.printed g.D.Desk.target
+    g.D.Desk.ready g.D.Desk.counts g.D.Desk.openings
+    (joined (map (λ event. line_text l.project (event_line l.time event)) (take l.i l.events)))
+    (Ok tt) l.fn.pen l.pen l.fn.desk l.desk

@@ -1,5 +1,5 @@
 -- The line of the junction that is there.
-use Rattle.std.proofs.Common.{◌≡◌, ◌-ℤ◌, List, ℕ, to_z-of_z, FitsSigned, w64, rules}
+use Rattle.std.proofs.Common.{◌-ℤ◌, List, ℕ, to_z-of_z, FitsSigned, w64, rules}
 use Rattle.std.specs.Prelude.{slice_get, IfSome}
 use Rattle.hyd_graph.specs.GridOf.{grid_of}
 use Rattle.hyd_bounds.specs.Bounds.{IsSpan}
@@ -16,14 +16,24 @@ returns g c =
     let upper_fits : FitsSigned w64 c.args.upper.now = search rules in
     let elevation_fits : FitsSigned w64 c.elevation.result = record { sfits = c.elevation.type_inv } in
     let network = c.args.project.now in
-    let head : ArePrinted (printed (quantity_in network Head) (record { lo = c.args.lower.now; hi = c.args.upper.now })) c.print_heads-head.result =
+    let head : ArePrinted (printed (quantity_in network Head) (record {
+      lo = c.args.lower.now;
+      hi = c.args.upper.now;
+    })) c.print_heads-head.result =
     simp to_z-of_z at c.print_heads-head.ensures in
-    let pressure : ArePrinted (printed (quantity_in network Pressure) (record { lo = c.args.lower.now -ℤ c.elevation.result; hi = c.args.upper.now -ℤ c.elevation.result })) c.print_pressures-pressure.result =
+    let pressure : ArePrinted (printed (quantity_in network Pressure) (record {
+      lo = c.args.lower.now -ℤ
+          c.elevation.result;
+      hi = c.args.upper.now -ℤ c.elevation.result;
+    })) c.print_pressures-pressure.result =
     simp to_z-of_z at c.print_pressures-pressure.ensures in
-    let box : IfSome (slice_get (grid_of c.args.net.now).junctions c.args.junction) (λ j. IsSpan c.out_box-flow.result (out_box j c.args.lower.now c.args.upper.now)) =
+    let box : IfSome (slice_get (grid_of c.args.net.now).junctions c.args.junction) (λ j. IsSpan c.out_box-flow.result
+    (out_box j c.args.lower.now c.args.upper.now)) =
     simp to_z-of_z at c.out_box-flow.ensures.outflow in
     junction_put (slice_get (grid_of c.args.net.now).junctions c.args.junction) network
-    (λ (text : List ℕ). Puts g.D.Desk.files g.D.Desk.rest g.D.Desk.written g.D.Desk.printed g.D.Desk.target g.D.Desk.ready g.D.Desk.counts g.D.Desk.openings
+    (λ (text : List ℕ). Puts g.D.Desk.files g.D.Desk.rest g.D.Desk.written g.D.Desk.printed g.D.Desk.target
+    g.D.Desk.ready g.D.Desk.counts g.D.Desk.openings
     text c.put_parts.result c.args.pen.now c.put_parts.new.pen c.args.desk.now c.put_parts.new.desk)
-    c.args.junction c.args.lower.now c.args.upper.now c.elevation.result c.out_box-flow.result _ _ _ box c.elevation.ensures.value head pressure c.print_flows-outflow.ensures
+    c.args.junction c.args.lower.now c.args.upper.now c.elevation.result c.out_box-flow.result _ _ _ box
+    c.elevation.ensures.value head pressure c.print_flows-outflow.ensures
     c.put_parts.ensures

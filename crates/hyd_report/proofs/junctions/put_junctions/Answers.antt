@@ -7,12 +7,16 @@ use Rattle.hyd_report.proofs.junctions.put_junctions.Goals as goal
 
 pub returns-in-Err : goal.returns-in-Err
 returns-in-Err g c =
-    let within : c.loop-j.j < length (grid_of c.args.net.now).junctions = omega (arith, c.junctions-j-end.ensures.each, c.junctions-j-end.ensures.count) in
-    line_cut c.args.project.now (junction_line c.args.project.now c.args.lower.now c.args.upper.now) (grid_of c.args.net.now).junctions
+    let within : c.loop-j.j < length (grid_of c.args.net.now).junctions = omega
+    (arith, c.junctions-j-end.ensures.each, c.junctions-j-end.ensures.count) in
+    line_cut c.args.project.now (junction_line c.args.project.now c.args.lower.now c.args.upper.now)
+    (grid_of c.args.net.now).junctions
     c.loop-j.j _ _ _ _ _ _ c.in-Err.fault within c.loop-j.invariant c.in-Err.ensures
 
 pub loop-j-preserved : goal.loop-j-preserved
 loop-j-preserved g c =
-    let within : c.loop-j.j < length (grid_of c.args.net.now).junctions = omega (arith, c.junctions-j-end.ensures.each, c.junctions-j-end.ensures.count) in
-    line_put c.args.project.now (junction_line c.args.project.now c.args.lower.now c.args.upper.now) (grid_of c.args.net.now).junctions
+    let within : c.loop-j.j < length (grid_of c.args.net.now).junctions = omega
+    (arith, c.junctions-j-end.ensures.each, c.junctions-j-end.ensures.count) in
+    line_put c.args.project.now (junction_line c.args.project.now c.args.lower.now c.args.upper.now)
+    (grid_of c.args.net.now).junctions
     c.loop-j.j _ _ _ _ _ _ within c.loop-j.invariant c.in-Ok.ensures

@@ -8,5 +8,7 @@ use Rattle.hyd_report.proofs.junctions.put_junctions.Given as goal
 
 -- the lines of the junctions so far were put
 abbrev pub invariant-loop-j : goal.invariant-loop-j
-invariant-loop-j g l = Puts g.D.Desk.files g.D.Desk.rest g.D.Desk.written g.D.Desk.printed g.D.Desk.target g.D.Desk.ready g.D.Desk.counts g.D.Desk.openings
-    (texts l.project (map_from (junction_line l.project l.lower l.upper) 0 (take l.j (grid_of l.net).junctions))) (Ok tt) l.fn.pen l.pen l.fn.desk l.desk
+invariant-loop-j g l = Puts g.D.Desk.files g.D.Desk.rest g.D.Desk.written g.D.Desk.printed g.D.Desk.target
+    g.D.Desk.ready g.D.Desk.counts g.D.Desk.openings
+    (texts l.project (map_from (junction_line l.project l.lower l.upper) 0 (take l.j (grid_of l.net).junctions)))
+    (Ok tt) l.fn.pen l.pen l.fn.desk l.desk

@@ -10,8 +10,10 @@ end_text : (number : List ℕ) → joined (codes "BADCERT line " ∷ (number ∷
 end_text number = simp append_assoc refl
 
 pieces_text : (first number given : List ℕ) → first ≡ codes "BADCERT line " → given ≡ number
-    → joined (first ∷ (given ∷ (codes " END" ∷ (codes "\n" ∷ [])))) ≡ line (codes "BADCERT" ∷ (codes "line" ∷ (number ∷ (codes "END" ∷ []))))
+    → joined (first ∷ (given ∷ (codes " END" ∷ (codes "\n" ∷ [])))) ≡ line (codes "BADCERT" ∷ (codes "line" ∷
+    (number ∷ (codes "END" ∷ []))))
 pieces_text first number given is_first is_number = rw (is_first, is_number) (end_text number)
 
 pub returns : goal.returns
-returns g c = puts_same _ _ _ _ _ _ _ (pieces_text _ _ _ c.as_slice.ensures (c.bytes.ensures ∙ c.number-line.ensures.text)) c.put_pieces.ensures
+returns g c = puts_same _ _ _ _ _ _ _ (pieces_text _ _ _ c.as_slice.ensures (c.bytes.ensures
+    ∙ c.number-line.ensures.text)) c.put_pieces.ensures

@@ -19,11 +19,20 @@ returns g c =
     let below = all_heads (grid_of net) Main Lower c.args.lower.now in
     let above = all_heads (grid_of net) Main Upper c.args.upper.now in
     let within : c.args.link < length (grid_of net).links =
-    omega (arith, c.links-links.ensures.each, c.requires.in_range, ap length c.requires.of.ends ∙ length-map network.links.list ends_of) in
-    let place : (x : GridLink) × (slice_get (grid_of net).links c.args.link ≡ Some x) = found (grid_of net).links c.args.link within in
+    omega (
+      arith,
+      c.links-links.ensures.each,
+      c.requires.in_range,
+      ap length c.requires.of.ends
+          ∙ length-map network.links.list ends_of,
+    ) in
+    let place : (x : GridLink) × (slice_get (grid_of net).links c.args.link ≡ Some x) = found
+    (grid_of net).links c.args.link within in
     link_put (slice_get network.links.list c.args.link) network (grid_of net) below above (states_of net)
-    (λ (text : List ℕ). Puts g.D.Desk.files g.D.Desk.rest g.D.Desk.written g.D.Desk.printed g.D.Desk.target g.D.Desk.ready g.D.Desk.counts g.D.Desk.openings
+    (λ (text : List ℕ). Puts g.D.Desk.files g.D.Desk.rest g.D.Desk.written g.D.Desk.printed g.D.Desk.target
+    g.D.Desk.ready g.D.Desk.counts g.D.Desk.openings
     text c.put_parts.result c.args.pen.now c.put_parts.new.pen c.args.desk.now c.put_parts.new.desk)
     c.args.link c.flow_box-flow.result _ c.status_of-status.result place.0 place.1 c.flow_box-flow.ensures.flow
-    (link_word network net c.args.link below above c.status_of-status.result place.0 c.requires.of c.requires.states c.requires.in_range place.1 c.status_of-status.ensures)
+    (link_word network net c.args.link below above c.status_of-status.result place.0 c.requires.of c.requires.states
+    c.requires.in_range place.1 c.status_of-status.ensures)
     c.print_flows-flow.ensures c.put_parts.ensures

@@ -1,5 +1,5 @@
 -- One line more, or a line that is cut off.
-use Rattle.std.proofs.Common.{◌≡◌, ◌<◌, ◌∙◌, ap, length, arith}
+use Rattle.std.proofs.Common.{◌<◌, ◌∙◌, ap, length, arith}
 use Rattle.std.proofs.lemmas.List.{length-map}
 use Rattle.hyd_spec_certificates.specs.Grid.{all_heads}
 use Rattle.hyd_spec_certificates.specs.declared.Problem.TheVariants.{Main}
@@ -15,8 +15,14 @@ returns-in-Err g c =
     let net = c.args.net.now in
     let below = all_heads (grid_of net) Main Lower c.args.lower.now in
     let above = all_heads (grid_of net) Main Upper c.args.upper.now in
-    let within : c.loop-l.l < length c.args.project.now.links.list = omega (arith, c.links-l-end.ensures.count, ap length c.requires.of.ends ∙ length-map c.args.project.now.links.list ends_of) in
-    line_cut c.args.project.now (link_line c.args.project.now (grid_of net) below above (states_of net)) c.args.project.now.links.list
+    let within : c.loop-l.l < length c.args.project.now.links.list = omega (
+      arith,
+      c.links-l-end.ensures.count,
+      ap length c.requires.of.ends
+          ∙ length-map c.args.project.now.links.list ends_of,
+    ) in
+    line_cut c.args.project.now (link_line c.args.project.now (grid_of net) below above
+    (states_of net)) c.args.project.now.links.list
     c.loop-l.l _ _ _ _ _ _ c.in-Err.fault within c.loop-l.invariant c.in-Err.ensures
 
 pub loop-l-preserved : goal.loop-l-preserved
@@ -24,6 +30,12 @@ loop-l-preserved g c =
     let net = c.args.net.now in
     let below = all_heads (grid_of net) Main Lower c.args.lower.now in
     let above = all_heads (grid_of net) Main Upper c.args.upper.now in
-    let within : c.loop-l.l < length c.args.project.now.links.list = omega (arith, c.links-l-end.ensures.count, ap length c.requires.of.ends ∙ length-map c.args.project.now.links.list ends_of) in
-    line_put c.args.project.now (link_line c.args.project.now (grid_of net) below above (states_of net)) c.args.project.now.links.list
+    let within : c.loop-l.l < length c.args.project.now.links.list = omega (
+      arith,
+      c.links-l-end.ensures.count,
+      ap length c.requires.of.ends
+          ∙ length-map c.args.project.now.links.list ends_of,
+    ) in
+    line_put c.args.project.now (link_line c.args.project.now (grid_of net) below above
+    (states_of net)) c.args.project.now.links.list
     c.loop-l.l _ _ _ _ _ _ within c.loop-l.invariant c.in-Ok.ensures

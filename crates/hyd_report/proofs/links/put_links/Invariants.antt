@@ -11,5 +11,8 @@ use Rattle.hyd_report.proofs.links.put_links.Given as goal
 
 -- the lines of the links so far were put
 abbrev pub invariant-loop-l : goal.invariant-loop-l
-invariant-loop-l g l = Puts g.D.Desk.files g.D.Desk.rest g.D.Desk.written g.D.Desk.printed g.D.Desk.target g.D.Desk.ready g.D.Desk.counts g.D.Desk.openings
-    (texts l.project (map_from (link_line l.project (grid_of l.net) (all_heads (grid_of l.net) Main Lower l.lower) (all_heads (grid_of l.net) Main Upper l.upper) (states_of l.net)) 0 (take l.l l.project.links.list))) (Ok tt) l.fn.pen l.pen l.fn.desk l.desk
+invariant-loop-l g l = Puts g.D.Desk.files g.D.Desk.rest g.D.Desk.written g.D.Desk.printed g.D.Desk.target
+    g.D.Desk.ready g.D.Desk.counts g.D.Desk.openings
+    (texts l.project (map_from (link_line l.project (grid_of l.net) (all_heads (grid_of l.net) Main Lower l.lower)
+    (all_heads (grid_of l.net) Main Upper l.upper) (states_of l.net)) 0 (take l.l l.project.links.list)))
+    (Ok tt) l.fn.pen l.pen l.fn.desk l.desk

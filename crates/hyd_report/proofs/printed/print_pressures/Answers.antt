@@ -14,6 +14,7 @@ returns c =
     let elevation_fits : FitsSigned w64 c.args.elevation = c.ranges.elevation in
     let low : c.above.result ≡ c.args.lower -ℤ c.args.elevation = simp to_z-of_z at c.above.ensures.difference in
     let high : c.above-2.result ≡ c.args.upper -ℤ c.args.elevation = simp to_z-of_z at c.above-2.ensures.difference in
-    let are : ArePrinted (printed (quantity_in c.args.project.now Pressure) (record { lo = c.above.result; hi = c.above-2.result })) c.print_ends.result =
+    let are : ArePrinted (printed (quantity_in c.args.project.now Pressure)
+    (record { lo = c.above.result; hi = c.above-2.result })) c.print_ends.result =
     simp to_z-of_z at c.print_ends.ensures in
     rw (low, high) at are

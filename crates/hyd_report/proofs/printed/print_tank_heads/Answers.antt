@@ -14,6 +14,7 @@ returns c =
     let bottom_fits : FitsSigned w64 c.args.bottom = c.ranges.bottom in
     let low : c.raised.result ≡ c.args.levels.now.lo +ℤ c.args.bottom = simp to_z-of_z at c.raised.ensures.sum in
     let high : c.raised-2.result ≡ c.args.levels.now.hi +ℤ c.args.bottom = simp to_z-of_z at c.raised-2.ensures.sum in
-    let are : ArePrinted (printed (quantity_in c.args.project.now Head) (record { lo = c.raised.result; hi = c.raised-2.result })) c.print_ends.result =
+    let are : ArePrinted (printed (quantity_in c.args.project.now Head)
+    (record { lo = c.raised.result; hi = c.raised-2.result })) c.print_ends.result =
     simp to_z-of_z at c.print_ends.ensures in
     rw (low, high) at are

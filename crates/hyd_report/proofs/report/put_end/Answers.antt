@@ -12,7 +12,8 @@ returns-in-Err g c =
     let end = facts.time + facts.length in
     puts_same _ _ _ _ _ _ _
     (end_text c.args.project.now event_line change_line c.end_of-time.result end c.as_slice.result.now facts.events.list
-    (drop (before_rules facts.changes.list) facts.changes.list) (drop (before_rules facts.changes.list) facts.changes.list) c.end_of-time.ensures c.as_slice.ensures refl)
+    (drop (before_rules facts.changes.list) facts.changes.list) (drop (before_rules facts.changes.list)
+    facts.changes.list) c.end_of-time.ensures c.as_slice.ensures refl)
     (puts_cut _ _ c.in-Err.fault _ _ _ _ c.in-Err.ensures)
 
 pub returns : goal.returns
@@ -21,5 +22,6 @@ returns g c =
     let end = facts.time + facts.length in
     puts_same _ _ _ _ _ _ _
     (end_text c.args.project.now event_line change_line c.end_of-time.result end c.as_slice.result.now facts.events.list
-    c.by_rules.result.now (drop (before_rules facts.changes.list) facts.changes.list) c.end_of-time.ensures c.as_slice.ensures c.by_rules.ensures)
+    c.by_rules.result.now (drop (before_rules facts.changes.list) facts.changes.list) c.end_of-time.ensures
+    c.as_slice.ensures c.by_rules.ensures)
     (puts_then _ _ _ _ _ _ _ _ _ c.in-Ok.ensures c.put_changes.ensures)

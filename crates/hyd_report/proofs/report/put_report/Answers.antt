@@ -13,50 +13,61 @@ use Rattle.hyd_report.proofs.report.put_report.Goals as goal
 pub returns-in-Err-clause-puts : goal.returns-in-Err-clause-puts
 returns-in-Err-clause-puts g c =
     let facts = c.args.facts.now in
-    let middle = middle_lines c.args.project.now (grid_of c.args.net.now) (states_of c.args.net.now) (row_of c.args.row.now) facts in
+    let middle = middle_lines c.args.project.now (grid_of c.args.net.now) (states_of c.args.net.now)
+    (row_of c.args.row.now) facts in
     puts_same _ _ _ _ _ _ _ (three_text c.args.project.now (start_lines facts) middle (end_lines facts))
     (puts_cut _ _ c.in-Err.fault _ _ _ _ c.in-Err.ensures)
 
 pub returns-in-Err-put_middle-clause-puts : goal.returns-in-Err-put_middle-clause-puts
 returns-in-Err-put_middle-clause-puts g c =
     let facts = c.args.facts.now in
-    let middle = middle_lines c.args.project.now (grid_of c.args.net.now) (states_of c.args.net.now) (row_of c.args.row.now) facts in
+    let middle = middle_lines c.args.project.now (grid_of c.args.net.now) (states_of c.args.net.now)
+    (row_of c.args.row.now) facts in
     puts_same _ _ _ _ _ _ _ (three_text c.args.project.now (start_lines facts) middle (end_lines facts))
-    (puts_then _ _ _ _ _ _ _ _ _ c.in-Ok.ensures (puts_cut _ _ c.in-Err-put_middle.fault _ _ _ _ c.in-Err-put_middle.ensures))
+    (puts_then _ _ _ _ _ _ _ _ _ c.in-Ok.ensures (puts_cut _ _ c.in-Err-put_middle.fault _ _ _ _
+    c.in-Err-put_middle.ensures))
 
 pub returns-clause-puts : goal.returns-clause-puts
 returns-clause-puts g c =
     let facts = c.args.facts.now in
-    let middle = middle_lines c.args.project.now (grid_of c.args.net.now) (states_of c.args.net.now) (row_of c.args.row.now) facts in
+    let middle = middle_lines c.args.project.now (grid_of c.args.net.now) (states_of c.args.net.now)
+    (row_of c.args.row.now) facts in
     puts_same _ _ _ _ _ _ _ (three_text c.args.project.now (start_lines facts) middle (end_lines facts))
-    (puts_then _ _ _ _ _ _ _ _ _ c.in-Ok.ensures (puts_then _ _ _ _ _ _ _ _ _ c.in-Ok-put_middle.ensures c.put_end.ensures))
+    (puts_then _ _ _ _ _ _ _ _ _ c.in-Ok.ensures (puts_then _ _ _ _ _ _ _ _ _ c.in-Ok-put_middle.ensures
+    c.put_end.ensures))
 
 pub returns-in-Err-clause-report : goal.returns-in-Err-clause-report
 returns-in-Err-clause-report g c =
     let net = c.args.net.now in
     let network = c.args.project.now in
     let of = c.requires.of in
-    let ends : length net.ends ≡ length network.links.list = ap length of.ends ∙ length-map network.links.list ends_of in
+    let ends : length net.ends ≡ length network.links.list = ap length of.ends
+    ∙ length-map network.links.list ends_of in
     let each : length (grid_of net).links ≡ length network.links.list =
     length-links_of net.ends net.settings net.own (of.each_setting ∙ sym ends) (of.each_own ∙ sym ends) ∙ ends in
-    λ standing are. lines_are_report network (grid_of net) (states_of net) standing (row_of c.args.row.now) c.args.facts.now are c.requires.tanks c.requires.links each
+    λ standing are. lines_are_report network (grid_of net) (states_of net) standing
+    (row_of c.args.row.now) c.args.facts.now are c.requires.tanks c.requires.links each
 
 pub returns-in-Err-put_middle-clause-report : goal.returns-in-Err-put_middle-clause-report
 returns-in-Err-put_middle-clause-report g c =
     let net = c.args.net.now in
     let network = c.args.project.now in
     let of = c.requires.of in
-    let ends : length net.ends ≡ length network.links.list = ap length of.ends ∙ length-map network.links.list ends_of in
+    let ends : length net.ends ≡ length network.links.list = ap length of.ends
+    ∙ length-map network.links.list ends_of in
     let each : length (grid_of net).links ≡ length network.links.list =
     length-links_of net.ends net.settings net.own (of.each_setting ∙ sym ends) (of.each_own ∙ sym ends) ∙ ends in
-    λ standing are. lines_are_report network (grid_of net) (states_of net) standing (row_of c.args.row.now) c.args.facts.now are c.requires.tanks c.requires.links each
+    λ standing are. lines_are_report network (grid_of net) (states_of net) standing
+    (row_of c.args.row.now) c.args.facts.now are c.requires.tanks c.requires.links each
 
 pub returns-clause-report : goal.returns-clause-report
 returns-clause-report g c =
     let net = c.args.net.now in
     let network = c.args.project.now in
     let of = c.requires.of in
-    let ends : length net.ends ≡ length network.links.list = ap length of.ends ∙ length-map network.links.list ends_of in
+    let ends : length net.ends ≡ length network.links.list = ap length of.ends
+    ∙ length-map network.links.list ends_of in
     let each : length (grid_of net).links ≡ length network.links.list =
     length-links_of net.ends net.settings net.own (of.each_setting ∙ sym ends) (of.each_own ∙ sym ends) ∙ ends in
-    λ standing are. lines_are_report network (grid_of net) (states_of net) standing (row_of c.args.row.now) c.args.facts.now are c.requires.tanks c.requires.links each
+    λ standing are. lines_are_report network (grid_of net) (states_of net) standing
+    (row_of c.args.row.now) c.args.facts.now are c.requires.tanks c.requires.links each

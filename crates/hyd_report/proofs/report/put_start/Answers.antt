@@ -13,5 +13,6 @@ pub returns : goal.returns
 returns g c =
     let facts = c.args.facts.now in
     puts_same _ _ _ _ _ _ _
-    (items_text c.args.project.now change_line c.from.result facts.time c.by_controls.result.now (take (before_rules facts.changes.list) facts.changes.list) c.from.ensures c.by_controls.ensures)
+    (items_text c.args.project.now change_line c.from.result facts.time c.by_controls.result.now (take
+    (before_rules facts.changes.list) facts.changes.list) c.from.ensures c.by_controls.ensures)
     (puts_then _ _ _ _ _ _ _ _ _ c.in-Ok.ensures c.put_changes.ensures)

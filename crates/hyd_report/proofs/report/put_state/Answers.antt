@@ -1,5 +1,5 @@
 -- One part after another.
-use Rattle.std.proofs.Common.{◌≡◌, ◌++◌, ◌∙◌, List, ℕ, ℤ, pos, sym, subst}
+use Rattle.std.proofs.Common.{◌++◌, ◌∙◌, List, ℤ, pos, sym, subst}
 use Rattle.hyd_spec.specs.Lists.{map_from}
 use Rattle.hyd_spec_certificates.specs.Decided.{heads_below, heads_above}
 use Rattle.hyd_spec_certificates.specs.Grid.{fixed_heads}
@@ -32,7 +32,8 @@ put_junctions-requires-clause-unbroken g c = (c.in-Ok.ensures c.args.project.now
 
 pub put_reservoirs-requires-clause-ready : goal.put_reservoirs-requires-clause-ready
 put_reservoirs-requires-clause-ready g c =
-    puts_ready _ _ _ _ _ _ c.in-Ok-put_junctions.ensures (puts_ready _ _ _ _ _ _ (c.in-Ok.ensures c.args.project.now) c.requires.ready)
+    puts_ready _ _ _ _ _ _ c.in-Ok-put_junctions.ensures (puts_ready _ _ _ _ _ _
+    (c.in-Ok.ensures c.args.project.now) c.requires.ready)
 
 pub put_tanks_and_links-requires-clause-ready : goal.put_tanks_and_links-requires-clause-ready
 put_tanks_and_links-requires-clause-ready g c =
@@ -50,12 +51,15 @@ returns-in-Err-put_junctions g c =
     let facts = c.args.facts.now in
     let rs = map_from (reservoir_line network) 0 (grid_of net).reservoirs in
     let tls = map_from (tank_line network facts.levels.list facts.inflows.list facts.tanks.list) 0 network.tanks.list
-    ++ map_from (link_line network (grid_of net) (heads_below (grid_of net) row) (heads_above (grid_of net) row) (states_of net)) 0 network.links.list in
+    ++ map_from (link_line network (grid_of net) (heads_below (grid_of net) row) (heads_above (grid_of net) row)
+    (states_of net)) 0 network.links.list in
     puts_same _ _ _ _ _ _ _
-    (state_text network (TimeLine facts.time) c.vector-lower.result.now row.main.lower c.vector-upper.result.now row.main.upper (grid_of net).junctions rs tls
+    (state_text network (TimeLine facts.time) c.vector-lower.result.now row.main.lower c.vector-upper.result.now
+    row.main.upper (grid_of net).junctions rs tls
     c.vector-lower.ensures c.vector-upper.ensures)
     (puts_then _ _ _ _ _ _ _ _ _ (c.in-Ok.ensures network)
-    (puts_cut _ (texts network rs ++ texts network tls) c.in-Err-put_junctions.fault _ _ _ _ c.in-Err-put_junctions.ensures))
+    (puts_cut _ (texts network rs ++ texts network tls) c.in-Err-put_junctions.fault _ _ _ _
+    c.in-Err-put_junctions.ensures))
 
 pub returns-in-Err-put_reservoirs : goal.returns-in-Err-put_reservoirs
 returns-in-Err-put_reservoirs g c =
@@ -65,9 +69,11 @@ returns-in-Err-put_reservoirs g c =
     let facts = c.args.facts.now in
     let rs = map_from (reservoir_line network) 0 (grid_of net).reservoirs in
     let tls = map_from (tank_line network facts.levels.list facts.inflows.list facts.tanks.list) 0 network.tanks.list
-    ++ map_from (link_line network (grid_of net) (heads_below (grid_of net) row) (heads_above (grid_of net) row) (states_of net)) 0 network.links.list in
+    ++ map_from (link_line network (grid_of net) (heads_below (grid_of net) row) (heads_above (grid_of net) row)
+    (states_of net)) 0 network.links.list in
     puts_same _ _ _ _ _ _ _
-    (state_text network (TimeLine facts.time) c.vector-lower.result.now row.main.lower c.vector-upper.result.now row.main.upper (grid_of net).junctions rs tls
+    (state_text network (TimeLine facts.time) c.vector-lower.result.now row.main.lower c.vector-upper.result.now
+    row.main.upper (grid_of net).junctions rs tls
     c.vector-lower.ensures c.vector-upper.ensures)
     (puts_then _ _ _ _ _ _ _ _ _ (c.in-Ok.ensures network)
     (puts_then _ _ _ _ _ _ _ _ _ c.in-Ok-put_junctions.ensures
@@ -81,9 +87,11 @@ returns g c =
     let facts = c.args.facts.now in
     let rs = map_from (reservoir_line network) 0 (grid_of net).reservoirs in
     let tls = map_from (tank_line network facts.levels.list facts.inflows.list facts.tanks.list) 0 network.tanks.list
-    ++ map_from (link_line network (grid_of net) (heads_below (grid_of net) row) (heads_above (grid_of net) row) (states_of net)) 0 network.links.list in
+    ++ map_from (link_line network (grid_of net) (heads_below (grid_of net) row) (heads_above (grid_of net) row)
+    (states_of net)) 0 network.links.list in
     puts_same _ _ _ _ _ _ _
-    (state_text network (TimeLine facts.time) c.vector-lower.result.now row.main.lower c.vector-upper.result.now row.main.upper (grid_of net).junctions rs tls
+    (state_text network (TimeLine facts.time) c.vector-lower.result.now row.main.lower c.vector-upper.result.now
+    row.main.upper (grid_of net).junctions rs tls
     c.vector-lower.ensures c.vector-upper.ensures)
     (puts_then _ _ _ _ _ _ _ _ _ (c.in-Ok.ensures network)
     (puts_then _ _ _ _ _ _ _ _ _ c.in-Ok-put_junctions.ensures

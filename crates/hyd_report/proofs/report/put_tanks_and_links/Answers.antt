@@ -12,8 +12,10 @@ returns-in-Err g c =
     let row = row_of c.args.row.now in
     let facts = c.args.facts.now in
     puts_same _ _ _ _ _ _ _
-    (tanks_text c.args.project.now (grid_of net) (states_of net) c.as_slice.result.now facts.levels.list c.as_slice-2.result.now facts.inflows.list
-    c.as_slice-3.result.now facts.tanks.list row.main.lower row.main.lower row.main.upper row.main.upper c.as_slice.ensures c.as_slice-2.ensures c.as_slice-3.ensures refl refl)
+    (tanks_text c.args.project.now (grid_of net) (states_of net) c.as_slice.result.now facts.levels.list
+    c.as_slice-2.result.now facts.inflows.list
+    c.as_slice-3.result.now facts.tanks.list row.main.lower row.main.lower row.main.upper row.main.upper
+    c.as_slice.ensures c.as_slice-2.ensures c.as_slice-3.ensures refl refl)
     (puts_cut _ _ c.in-Err.fault _ _ _ _ c.in-Err.ensures)
 
 pub returns : goal.returns
@@ -22,7 +24,9 @@ returns g c =
     let row = row_of c.args.row.now in
     let facts = c.args.facts.now in
     puts_same _ _ _ _ _ _ _
-    (tanks_text c.args.project.now (grid_of net) (states_of net) c.as_slice.result.now facts.levels.list c.as_slice-2.result.now facts.inflows.list
-    c.as_slice-3.result.now facts.tanks.list c.vector-lower.result.now row.main.lower c.vector-upper.result.now row.main.upper
+    (tanks_text c.args.project.now (grid_of net) (states_of net) c.as_slice.result.now facts.levels.list
+    c.as_slice-2.result.now facts.inflows.list
+    c.as_slice-3.result.now facts.tanks.list c.vector-lower.result.now row.main.lower c.vector-upper.result.now
+    row.main.upper
     c.as_slice.ensures c.as_slice-2.ensures c.as_slice-3.ensures c.vector-lower.ensures c.vector-upper.ensures)
     (puts_then _ _ _ _ _ _ _ _ _ c.in-Ok.ensures c.put_links.ensures)

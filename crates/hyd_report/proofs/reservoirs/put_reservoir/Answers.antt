@@ -1,7 +1,6 @@
 -- The head of a reservoir stands behind those of the junctions.
-use Rattle.std.proofs.Common.{◌≡◌, ◌<◌, ap, ℕ, ◌+◌, ◌∙◌, ◌++◌, List, length, map, to_z-of_z, FitsSigned, w64}
+use Rattle.std.proofs.Common.{◌≡◌, ap, ℕ, ◌+◌, ◌∙◌, ◌++◌, List, length, to_z-of_z, FitsSigned, w64}
 use Rattle.hyd_spec.specs.Assignment.{head_at}
-use Rattle.hyd_spec.specs.Lists.{map_from}
 use Rattle.hyd_spec_certificates.specs.Grid.{fixed_heads}
 use Rattle.hyd_spec_certificates.specs.declared.Problem.TheVariants.{Main}
 use Rattle.hyd_spec_certificates.specs.declared.Side.TheVariants.{Lower}
@@ -18,12 +17,16 @@ returns g c =
     let fits : FitsSigned w64 c.fixed-height.result = record { sfits = c.fixed-height.type_inv } in
     let value : c.fixed-height.result ≡ head_at net.reservoirs c.args.reservoir =
     c.fixed-height.ensures.value (heads_of net.junctions) (heads_of-length net.junctions)
-    ∙ (ap (λ (n : ℕ). head_at (heads_of net.junctions ++ fixed_heads (grid_of net) Main Lower) (n + c.args.reservoir)) c.junctions.ensures.count
-    ∙ head_behind (heads_of net.junctions) (fixed_heads (grid_of net) Main Lower) (length net.junctions) c.args.reservoir (heads_of-length net.junctions)
+    ∙ (ap (λ (n : ℕ). head_at (heads_of net.junctions ++ fixed_heads (grid_of net) Main Lower)
+    (n + c.args.reservoir)) c.junctions.ensures.count
+    ∙ head_behind (heads_of net.junctions) (fixed_heads (grid_of net) Main Lower)
+    (length net.junctions) c.args.reservoir (heads_of-length net.junctions)
     ∙ head_before net.reservoirs _ c.args.reservoir c.requires.in_range) in
-    let head : ArePrinted (printed (quantity_in c.args.project.now Head) (record { lo = c.fixed-height.result; hi = c.fixed-height.result })) c.print_heads-head.result =
+    let head : ArePrinted (printed (quantity_in c.args.project.now Head)
+    (record { lo = c.fixed-height.result; hi = c.fixed-height.result })) c.print_heads-head.result =
     simp to_z-of_z at c.print_heads-head.ensures in
     reservoir_put net.reservoirs c.args.project.now
-    (λ (text : List ℕ). Puts g.D.Desk.files g.D.Desk.rest g.D.Desk.written g.D.Desk.printed g.D.Desk.target g.D.Desk.ready g.D.Desk.counts g.D.Desk.openings
+    (λ (text : List ℕ). Puts g.D.Desk.files g.D.Desk.rest g.D.Desk.written g.D.Desk.printed g.D.Desk.target
+    g.D.Desk.ready g.D.Desk.counts g.D.Desk.openings
     text c.put_parts.result c.args.pen.now c.put_parts.new.pen c.args.desk.now c.put_parts.new.desk)
     c.args.reservoir c.fixed-height.result _ c.requires.in_range value head c.put_parts.ensures

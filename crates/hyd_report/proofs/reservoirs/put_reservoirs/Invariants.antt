@@ -8,5 +8,7 @@ use Rattle.hyd_report.proofs.reservoirs.put_reservoirs.Given as goal
 
 -- the lines of the reservoirs so far were put
 abbrev pub invariant-loop-r : goal.invariant-loop-r
-invariant-loop-r g l = Puts g.D.Desk.files g.D.Desk.rest g.D.Desk.written g.D.Desk.printed g.D.Desk.target g.D.Desk.ready g.D.Desk.counts g.D.Desk.openings
-    (texts l.project (map_from (reservoir_line l.project) 0 (take l.r (grid_of l.net).reservoirs))) (Ok tt) l.fn.pen l.pen l.fn.desk l.desk
+invariant-loop-r g l = Puts g.D.Desk.files g.D.Desk.rest g.D.Desk.written g.D.Desk.printed g.D.Desk.target
+    g.D.Desk.ready g.D.Desk.counts g.D.Desk.openings
+    (texts l.project (map_from (reservoir_line l.project) 0 (take l.r (grid_of l.net).reservoirs)))
+    (Ok tt) l.fn.pen l.pen l.fn.desk l.desk

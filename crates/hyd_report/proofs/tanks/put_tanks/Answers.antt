@@ -15,10 +15,12 @@ returns-in-Err g c =
     line_cut network (tank_line network c.args.levels.now c.args.inflows.now c.args.states.now) network.tanks.list
     k _ _ _ _ _ _ c.in-Err.fault within c.loop-k.invariant
     (tank_read (slice_get network.tanks.list k) network
-    (λ (text : List ℕ). Puts g.D.Desk.files g.D.Desk.rest g.D.Desk.written g.D.Desk.printed g.D.Desk.target g.D.Desk.ready g.D.Desk.counts g.D.Desk.openings
+    (λ (text : List ℕ). Puts g.D.Desk.files g.D.Desk.rest g.D.Desk.written g.D.Desk.printed g.D.Desk.target
+    g.D.Desk.ready g.D.Desk.counts g.D.Desk.openings
     text (Err c.in-Err.fault) c.loop-k.pen c.put_tank.new.pen c.loop-k.desk c.put_tank.new.desk)
     k c.args.levels.now c.args.inflows.now c.args.states.now _ c.index-inflows-k.result _
-    (omega (arith, c.requires.levels)) (omega (arith, c.requires.inflows)) (omega (arith, c.requires.states)) c.index-inflows-k.is c.in-Err.ensures)
+    (omega (arith, c.requires.levels)) (omega (arith, c.requires.inflows)) (omega
+    (arith, c.requires.states)) c.index-inflows-k.is c.in-Err.ensures)
 
 pub loop-k-preserved : goal.loop-k-preserved
 loop-k-preserved g c =
@@ -28,7 +30,9 @@ loop-k-preserved g c =
     line_put network (tank_line network c.args.levels.now c.args.inflows.now c.args.states.now) network.tanks.list
     k _ _ _ _ _ _ within c.loop-k.invariant
     (tank_read (slice_get network.tanks.list k) network
-    (λ (text : List ℕ). Puts g.D.Desk.files g.D.Desk.rest g.D.Desk.written g.D.Desk.printed g.D.Desk.target g.D.Desk.ready g.D.Desk.counts g.D.Desk.openings
+    (λ (text : List ℕ). Puts g.D.Desk.files g.D.Desk.rest g.D.Desk.written g.D.Desk.printed g.D.Desk.target
+    g.D.Desk.ready g.D.Desk.counts g.D.Desk.openings
     text (Ok (tt {0})) c.loop-k.pen c.put_tank.new.pen c.loop-k.desk c.put_tank.new.desk)
     k c.args.levels.now c.args.inflows.now c.args.states.now _ c.index-inflows-k.result _
-    (omega (arith, c.requires.levels)) (omega (arith, c.requires.inflows)) (omega (arith, c.requires.states)) c.index-inflows-k.is c.in-Ok.ensures)
+    (omega (arith, c.requires.levels)) (omega (arith, c.requires.inflows)) (omega
+    (arith, c.requires.states)) c.index-inflows-k.is c.in-Ok.ensures)

@@ -51,4 +51,5 @@ returns c =
     (row_at text lines c.args.place nothing c.requires.within) (sym c.is_curves.ensures ∙ c.if-not-is_curves.false)
     (ap (λ (id : List ℕ). position (bytes_eq id) names) (id_is _ c.in-Ok.row c.in-Ok.ensures.1)
     ∙ sym c.number.ensures.value ∙ c.in-Some.is)
-    (point_is _ c.in-Ok.row (row_of text (get_or lines c.args.place nothing)) refl c.in-Ok.ensures.1) c.in_ok-push_at.ensures
+    (point_is _ c.in-Ok.row (row_of text (get_or lines c.args.place nothing)) refl c.in-Ok.ensures.1)
+    c.in_ok-push_at.ensures

@@ -1,4 +1,4 @@
-use Rattle.std.proofs.Common.{◌≡◌, ℕ, List, Option, Some, None, All, get_or, sym, ap, ◌∙◌, subst, refl, arith}
+use Rattle.std.proofs.Common.{◌≡◌, Some, None, All, get_or, sym, ap, ◌∙◌, subst, refl}
 use Rattle.hyd_lex.specs.Bytes.{text_of}
 use Rattle.hyd_lex.specs.Lines.{row_of}
 use Rattle.hyd_lex.specs.declared.line.Line.{Line}

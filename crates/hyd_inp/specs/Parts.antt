@@ -1,0 +1,48 @@
+-- Parts of the network of a file without a fault.
+use Rattle.std.specs.Prelude.{◌≡◌, List}
+use Rattle.hyd_lex.specs.Lines.{Row}
+use Rattle.hyd_lex.specs.declared.section.Section.TheVariants.{Junctions, Reservoirs, Tanks, Controls, Rules}
+use Rattle.hyd_net.specs.declared.options.Options.{Options}
+use Rattle.hyd_net.specs.declared.options.Times.{Times}
+use Rattle.hyd_net.specs.declared.project.Project.{Project}
+use Rattle.hyd_spec_input.specs.Network.{node_ids, tank_ids, link_ids, pattern_ids, shape_names, bend_names, rule_groups}
+use Rattle.hyd_spec_input.specs.Project.{Match, IsJunction, IsReservoir, IsTank, IsLink, IsPattern, IsControl, IsRule, IsOptions, IsTimes, IsProject, numbered_links, shape_points, bend_points}
+use Rattle.hyd_spec_input.specs.Tables.{rows_of, words_of}
+use Rattle.hyd_inp.specs.declared.numbers.Numbers.{Numbers}
+use Rattle.hyd_inp.specs.declared.parts.Nodes.{Nodes}
+use Rattle.hyd_inp.specs.declared.parts.Links.{Links}
+use Rattle.hyd_inp.specs.declared.parts.Changes.{Changes}
+use Rattle.hyd_inp.specs.declared.parts.Parts.{Parts}
+
+-- IDs in the order of their numbers
+pub record AreNumbers (rows : List Row) (numbers : Numbers) : Type 0 where
+  pub nodes : numbers.nodes ≡ node_ids rows
+  pub tanks : numbers.tanks ≡ tank_ids rows
+  pub links : numbers.links ≡ link_ids rows
+  pub patterns : numbers.patterns ≡ pattern_ids rows
+
+pub record AreNodes (rows : List Row) (nodes : Nodes) : Type 0 where
+  pub junctions : Match (IsJunction rows) (rows_of Junctions rows) nodes.junctions.list
+  pub reservoirs : Match (IsReservoir rows) (rows_of Reservoirs rows) nodes.reservoirs.list
+  pub tanks : Match (IsTank rows) (rows_of Tanks rows) nodes.tanks.list
+  pub shapes : Match (λ name list. list.list ≡ shape_points rows name) (shape_names rows) nodes.shapes.list
+
+pub record AreLinks (rows : List Row) (links : Links) : Type 0 where
+  pub links_are : Match (IsLink rows) (numbered_links rows) links.links.list
+  pub bends : Match (λ name list. list.list ≡ bend_points rows name) (bend_names rows) links.bends.list
+
+pub record AreChanges (rows : List Row) (changes : Changes) : Type 0 where
+  pub patterns : Match (IsPattern rows) (pattern_ids rows) changes.patterns.list
+  pub controls : Match (IsControl rows) (words_of Controls rows) changes.controls.list
+  pub rules : Match (IsRule rows) (rule_groups (words_of Rules rows)) changes.rules.list
+
+pub record AreParts (rows : List Row) (parts : Parts) : Type 0 where
+  pub nodes : AreNodes rows parts.nodes
+  pub links : AreLinks rows parts.links
+  pub changes : AreChanges rows parts.changes
+
+-- what has all parts of a file's network is its network
+abbrev pub AreAll : Numbers → Parts → Options → Times → Project → Type 0
+AreAll numbers parts options times project =
+    (rows : List Row) → AreNumbers rows numbers → AreParts rows parts → IsOptions rows options → IsTimes rows times
+    → IsProject rows project

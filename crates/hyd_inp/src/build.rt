@@ -1,0 +1,184 @@
+//! The network of a file without a fault, part by part.
+#![tactic(auto)]
+
+ghost use Rattle.std.specs.Prelude.{◌≡◌, ◌≤◌, ◌^◌, length, IfOk};
+ghost use Rattle.std.specs.List.{All};
+ghost use Rattle.hyd_lex.specs.Lines.{LiesIn};
+ghost use Rattle.hyd_spec_input.specs.ByItself.{IsWrongByItself};
+ghost use Rattle.hyd_spec_input.specs.Faults.{NoneIs, IsWrongWithOthers};
+ghost use Rattle.hyd_spec_input.specs.InForce as force;
+ghost use Rattle.hyd_spec_input.specs.Project.{IsProject};
+ghost use Rattle.hyd_tables.specs.Found.{rows_at};
+ghost use Rattle.hyd_inp.specs.Parts.{AreNumbers, AreNodes, AreLinks, AreChanges, AreParts};
+ghost use Rattle.hyd_inp.specs.Source.{IsSource, rows_from};
+
+use crate::numbers::{Numbers, number};
+use crate::parts::{Changes, Links, Nodes, Parts, assemble};
+use crate::source::Source;
+use crate::tables::gather_tables;
+use hyd_build_commands::{build_controls, build_rules};
+use hyd_build_links::LinkSource;
+use hyd_build_nodes::{build_junctions, build_reservoirs, build_tanks};
+use hyd_curves::{gather_bends, gather_points, gather_shapes};
+use hyd_judge::unit_in_force;
+use hyd_lex::{Line, Lines};
+use hyd_net::{OutOfMemory, Project};
+use hyd_num::FlowUnit;
+use hyd_numbers::{build_patterns, options_in_force, times_in_force};
+use std::alloc::Global;
+
+// Junctions, reservoirs and tanks, and the volume curves of tanks.
+fn build_nodes(alloc: Global, text: &Lines<'_>, source: &Source<'_>) -> Result<Nodes, OutOfMemory>
+    requires { IsSource text.now.text source.now }
+    ensures { IfOk result (AreNodes (rows_from text.now.text source.now)) }
+{
+    let Source {
+        lines,
+        numbers,
+        nodes,
+        curves,
+        points,
+        unit,
+        ..
+    } = *source;
+    let shapes = gather_shapes(alloc, text, lines, curves, points, unit)?;
+    let junctions = build_junctions(alloc, text, lines, nodes, &numbers.patterns, unit)?;
+    let reservoirs = build_reservoirs(alloc, text, lines, &numbers.patterns, unit)?;
+    let tanks = build_tanks(alloc, text, lines, &shapes.names, unit)?;
+    Ok(Nodes {
+        junctions,
+        reservoirs,
+        tanks,
+        shapes: shapes.lists,
+    })
+}
+
+// Links, and the curves by straight lines that they name.
+fn build_links(alloc: Global, text: &Lines<'_>, source: &Source<'_>) -> Result<Links, OutOfMemory>
+    requires { IsSource text.now.text source.now }
+    ensures { IfOk result (AreLinks (rows_from text.now.text source.now)) }
+{
+    let bends = gather_bends(
+        alloc,
+        text,
+        source.lines,
+        source.curves,
+        source.points,
+        source.unit,
+    )?;
+    let of_links = LinkSource {
+        lines: source.lines,
+        nodes: &source.numbers.nodes,
+        links: source.links,
+        patterns: &source.numbers.patterns,
+        curves: source.curves,
+        points: source.points,
+        bends: &bends.names,
+        unit: source.unit,
+    };
+    let links = hyd_build_links::build_links(alloc, text, &of_links)?;
+    Ok(Links {
+        links,
+        bends: bends.lists,
+    })
+}
+
+// Patterns, controls and rules.
+fn build_changes(
+    alloc: Global,
+    text: &Lines<'_>,
+    source: &Source<'_>,
+) -> Result<Changes, OutOfMemory>
+    requires { IsSource text.now.text source.now }
+    ensures { IfOk result (AreChanges (rows_from text.now.text source.now)) }
+{
+    let Source {
+        lines,
+        numbers,
+        links,
+        unit,
+        ..
+    } = *source;
+    let patterns = build_patterns(alloc, text, lines, &numbers.patterns)?;
+    let controls = build_controls(
+        alloc,
+        text,
+        lines,
+        &numbers.tanks,
+        &numbers.links,
+        links,
+        unit,
+    )?;
+    let rules = build_rules(
+        alloc,
+        text,
+        lines,
+        &numbers.nodes,
+        &numbers.tanks,
+        &numbers.links,
+        links,
+        unit,
+    )?;
+    Ok(Changes {
+        patterns,
+        controls,
+        rules,
+    })
+}
+
+// All parts.
+fn build_parts(
+    alloc: Global,
+    text: &Lines<'_>,
+    lines: &[Line],
+    numbers: &Numbers,
+    unit: FlowUnit,
+) -> Result<Parts, OutOfMemory>
+    requires few { length lines.now ≤ 2 ^ 26 }
+    requires lie { All (LiesIn text.now.text) lines.now }
+    requires by_itself { NoneIs (IsWrongByItself (rows_at text.now.text lines.now)) }
+    requires with_others { NoneIs (IsWrongWithOthers (rows_at text.now.text lines.now)) }
+    requires numbers { AreNumbers (rows_at text.now.text lines.now) numbers.now }
+    requires unit { unit ≡ force.unit (rows_at text.now.text lines.now) }
+    ensures { IfOk result (AreParts (rows_at text.now.text lines.now)) }
+{
+    let tables = gather_tables(alloc, text, lines)?;
+    let points = gather_points(alloc, text, lines, &tables.curves)?;
+    let source = Source {
+        lines,
+        numbers,
+        nodes: &tables.nodes,
+        links: &tables.links,
+        curves: &tables.curves,
+        points: &points,
+        unit,
+    };
+    let nodes = build_nodes(alloc, text, &source)?;
+    let links = build_links(alloc, text, &source)?;
+    let changes = build_changes(alloc, text, &source)?;
+    Ok(Parts {
+        nodes,
+        links,
+        changes,
+    })
+}
+
+/// Builds the network of a file without a fault.
+pub(crate) fn build(
+    alloc: Global,
+    text: &Lines<'_>,
+    lines: &[Line],
+) -> Result<Project, OutOfMemory>
+    requires few { length lines.now ≤ 2 ^ 26 }
+    requires lie { All (LiesIn text.now.text) lines.now }
+    requires by_itself { NoneIs (IsWrongByItself (rows_at text.now.text lines.now)) }
+    requires with_others { NoneIs (IsWrongWithOthers (rows_at text.now.text lines.now)) }
+    ensures { IfOk result (IsProject (rows_at text.now.text lines.now)) }
+{
+    let unit = unit_in_force(text, lines);
+    let numbers = number(alloc, text, lines)?;
+    let parts = build_parts(alloc, text, lines, &numbers, unit)?;
+    let options = options_in_force(text, lines, unit, &numbers.patterns);
+    let times = times_in_force(text, lines);
+    Ok(assemble(numbers, parts, options, times))
+}

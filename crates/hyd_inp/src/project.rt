@@ -1,0 +1,42 @@
+//! The network of a text, or its fault.
+#![tactic(auto)]
+
+ghost use Rattle.std.specs.Prelude.{IfOk, IfErr};
+ghost use Rattle.hyd_lex.specs.Lines.{items_of, rows_in};
+ghost use Rattle.hyd_net.specs.Sound.{Sound};
+ghost use Rattle.hyd_spec_input.specs.Faults.{IsFault, HasNoFault};
+ghost use Rattle.hyd_spec_input.specs.Project.{IsProject};
+ghost use Rattle.hyd_inp.specs.Refused.{IfFault};
+
+use crate::build::build;
+use crate::fault::{InpFault, InpRefused};
+use crate::faults::{LONGEST, fault_of};
+use hyd_lex::Lines;
+use hyd_net::{Cause, Project};
+use hyd_tables::gather;
+use std::alloc::Global;
+
+/// Reads the network of a text of the input grammar. A fault is the first in this order: more than 64 MiB (line 0), the
+/// first row that is wrong by itself, the line that breaks a rule of lines, the first row that is wrong with the others,
+/// what the whole file lacks (line 0).
+pub fn read_project(alloc: Global, text: &[u8]) -> Result<Project, InpRefused>
+    ensures fault { IfErr result (λ refused. IfFault refused (λ f. IsFault text.now f.line f.cause)) }
+    ensures no_fault { IfOk result (λ _. HasNoFault text.now) }
+    ensures project { IfOk result (IsProject (rows_in (items_of text.now))) }
+    ensures sound { IfOk result Sound }
+{
+    if text.len() > LONGEST {
+        return Err(InpRefused::Fault(InpFault {
+            line: 0,
+            cause: Cause::Limit(1),
+        }));
+    }
+    let gathered = gather(alloc, text)?;
+    let reader = Lines::new(text);
+    let lines = gathered.lines.as_slice();
+    if let Some(fault) = fault_of(alloc, &reader, lines, gathered.fault)? {
+        return Err(InpRefused::Fault(fault));
+    }
+    let project = build(alloc, &reader, lines)?;
+    Ok(project)
+}

@@ -1,0 +1,75 @@
+-- The texts of stops and of refusals, as they are put together.
+use Rattle.std.proofs.Common.{◌≡◌, ℕ, ◌<◌, length, arith, List, [], ◌∷◌, ◌++◌, codes, refl, ap, ◌∙◌, append_assoc}
+use Rattle.std.specs.Fmt.{decimal}
+use Rattle.hyd_spec.specs.Types.{Project}
+use Rattle.hyd_spec.specs.Lists.{joined}
+use Rattle.hyd_spec_reports.specs.CertificateText.{words, line}
+use Rattle.hyd_spec_reports.specs.ReportLine.{clock_text, cause_words, stop_line, refusal_words, refused_line, refused_period}
+use Rattle.hyd_spec_reports.specs.Stops.{period_of}
+use Rattle.hyd_spec_reports.specs.declared.StopCause.{StopCause}
+use Rattle.hyd_spec_reports.specs.declared.StopCause.TheVariants.{Demand as DemandOutOfRange, NoCertificate, RoundsSpent, RuleOpen, EventOpen, TankOpen, ControlOpen}
+use Rattle.hyd_spec_reports.specs.declared.CertRefused.{CertRefused}
+use Rattle.hyd_spec_reports.specs.declared.CertRefused.TheVariants.{Place, Demand, Fails, Open as MatterOpen, Length, After}
+
+-- three pieces, the second one in other words
+pub three_pieces : (a b c front id : List ℕ) → a ≡ front → b ≡ id → joined (a ∷ (b ∷ (c ∷ []))) ≡ front ++ (id ++
+    (c ++ []))
+three_pieces a b c front id is_front is_id =
+    ap (λ x. x ++ (b ++ (c ++ []))) is_front ∙ ap (λ y. front ++ (y ++ (c ++ []))) is_id
+
+pub rule_text : (a b id rest : List ℕ) → a ≡ codes "RULE " → b ≡ id
+    → joined (a ∷ (b ∷ (codes " CLAUSE " ∷ []))) ++ rest ≡ codes "RULE " ++ (id ++ (codes " CLAUSE " ++ rest))
+rule_text a b id rest is_a is_b =
+    ap (λ t. t ++ rest) (three_pieces a b (codes " CLAUSE ") (codes "RULE ") id is_a is_b)
+    ∙ ap (λ t. codes "RULE " ++ t) (append_assoc id (codes " CLAUSE ") rest)
+
+front_of_stop : (p t : List ℕ) (ws : List (List ℕ)) → 0 < length ws
+    → joined (codes "STOP period " ∷ (p ∷ (codes " time " ∷ (t ∷ (codes " " ∷ []))))) ++ (words ws ++ codes "\n")
+    ≡ line (codes "STOP" ∷ (codes "period" ∷ (p ∷ (codes "time" ∷ (t ∷ ws)))))
+front_of_stop p t [] some = absurd (omega arith)
+front_of_stop p t (w ∷ ws) some = simp append_assoc refl
+
+has_words : (network : Project) (cause : StopCause) → 0 < length (cause_words network cause)
+has_words network (NoCertificate period problem side junction) = omega arith
+has_words network (TankOpen period tank lo hi) = omega arith
+has_words network (RuleOpen period rule clause lo hi) = omega arith
+has_words network (ControlOpen period control lo hi) = omega arith
+has_words network (EventOpen period earliest latest) = omega arith
+has_words network (RoundsSpent period problem side rounds) = omega arith
+has_words network (DemandOutOfRange period junction demand) = omega arith
+
+pub stop_text : (network : Project) (time : ℕ) (cause : StopCause) (a p t : List ℕ) → a ≡ codes "STOP period "
+    → p ≡ decimal (period_of cause) → t ≡ clock_text time
+    → joined (a ∷ (p ∷ (codes " time " ∷ (t ∷ (codes " " ∷ []))))) ++ (words (cause_words network cause) ++ codes "\n")
+    ≡ stop_line network time cause
+stop_text network time cause a p t is_a is_p is_t =
+    let rest = words (cause_words network cause) ++ codes "\n" in
+    ap (λ x. joined (x ∷ (p ∷ (codes " time " ∷ (t ∷ (codes " " ∷ []))))) ++ rest) is_a
+    ∙ (ap (λ x. joined (codes "STOP period " ∷ (x ∷ (codes " time " ∷ (t ∷ (codes " " ∷ []))))) ++ rest) is_p
+    ∙ (ap (λ x. joined (codes "STOP period " ∷ (decimal (period_of cause) ∷ (codes " time " ∷ (x ∷
+    (codes " " ∷ []))))) ++ rest) is_t
+    ∙ front_of_stop (decimal (period_of cause)) (clock_text time) (cause_words network cause)
+    (has_words network cause)))
+
+front_of_refusal : (p : List ℕ) (ws : List (List ℕ)) → 0 < length ws
+    → (codes "BADCERT period " ++ (p ++ (codes " " ++ []))) ++ (words ws ++ codes "\n")
+    ≡ line (codes "BADCERT" ∷ (codes "period" ∷ (p ∷ ws)))
+front_of_refusal p [] some = absurd (omega arith)
+front_of_refusal p (w ∷ ws) some = simp append_assoc refl
+
+has_reason : (network : Project) (cause : CertRefused) → 0 < length (refusal_words network cause)
+has_reason network (Place period) = omega arith
+has_reason network (Demand period) = omega arith
+has_reason network (Fails period problem side junction) = omega arith
+has_reason network (MatterOpen period) = omega arith
+has_reason network (Length period) = omega arith
+has_reason network (After period) = omega arith
+
+pub refused_text : (network : Project) (cause : CertRefused) (a p : List ℕ) → a ≡ codes "BADCERT period " → p
+    ≡ decimal (refused_period cause)
+    → joined (a ∷ (p ∷ (codes " " ∷ []))) ++ (words (refusal_words network cause) ++ codes "\n")
+    ≡ refused_line network cause
+refused_text network cause a p is_a is_p =
+    ap (λ t. t ++ (words (refusal_words network cause) ++ codes "\n")) (three_pieces a p (codes " ")
+    (codes "BADCERT period ") (decimal (refused_period cause)) is_a is_p)
+    ∙ front_of_refusal (decimal (refused_period cause)) (refusal_words network cause) (has_reason network cause)

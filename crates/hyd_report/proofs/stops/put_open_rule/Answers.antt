@@ -1,0 +1,22 @@
+-- One part after another.
+use Rattle.std.proofs.Common.{◌≡◌, ◌∙◌, ◌+◌, ◌++◌, ap, codes}
+use Rattle.std.specs.Fmt.{decimal, signed_decimal}
+use Rattle.hyd_spec_reports.specs.ReportLine.{rule_id}
+use Rattle.hyd_report.proofs.StopLemmas.{rule_text}
+use Rattle.hyd_report.proofs.PutLemmas.{puts_then, puts_cut, puts_same}
+use Rattle.hyd_report.proofs.stops.put_open_rule.Goals as goal
+
+pub returns-in-Err : goal.returns-in-Err
+returns-in-Err g c =
+    puts_same _ _ _ _ _ _ _ (rule_text _ _ _ _ c.as_slice.ensures c.rule_id.ensures)
+    (puts_cut _ _ c.in-Err.fault _ _ _ _ c.in-Err.ensures)
+
+pub returns : goal.returns
+returns g c =
+    let number : c.bytes.result.now ≡ decimal (c.args.clause + 1) = c.bytes.ensures ∙ (c.number-clause.ensures.text
+    ∙ ap (λ n. decimal (n + 1)) c.from.ensures) in
+    puts_same _ _ _ _ _ _ _
+    (rule_text _ _ _ _ c.as_slice.ensures c.rule_id.ensures
+    ∙ ap (λ t. codes "RULE " ++ (rule_id c.args.project.now c.args.rule ++ (codes " CLAUSE " ++ (t ++ (codes " " ++
+    (signed_decimal c.args.lo.now ++ (codes " " ++ (signed_decimal c.args.hi.now ++ codes "\n")))))))) number)
+    (puts_then _ _ _ _ _ _ _ _ _ c.in-Ok.ensures c.put_between.ensures)

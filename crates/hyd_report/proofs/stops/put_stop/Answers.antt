@@ -1,0 +1,24 @@
+-- One part after another.
+use Rattle.std.proofs.Common.{◌≡◌, ◌∙◌, ap}
+use Rattle.std.specs.Fmt.{decimal}
+use Rattle.hyd_spec_reports.specs.ReportLine.{clock_text}
+use Rattle.hyd_spec_reports.specs.Stops.{period_of}
+use Rattle.hyd_report.proofs.StopLemmas.{stop_text}
+use Rattle.hyd_report.proofs.PutLemmas.{puts_then, puts_cut, puts_same}
+use Rattle.hyd_report.proofs.stops.put_stop.Goals as goal
+
+pub returns-in-Err : goal.returns-in-Err
+returns-in-Err g c =
+    let number : c.bytes.result.now ≡ decimal (period_of c.args.cause.now) = c.bytes.ensures ∙
+    (c.number-period.ensures.text ∙ ap decimal (c.from.ensures ∙ c.period_of.ensures)) in
+    puts_same _ _ _ _ _ _ _ (stop_text c.args.project.now c.args.time c.args.cause.now _ _ _ c.as_slice.ensures number
+    (c.bytes-2.ensures ∙ (c.clock-time.ensures.text ∙ ap clock_text c.from-2.ensures)))
+    (puts_cut _ _ c.in-Err.fault _ _ _ _ c.in-Err.ensures)
+
+pub returns : goal.returns
+returns g c =
+    let number : c.bytes.result.now ≡ decimal (period_of c.args.cause.now) = c.bytes.ensures ∙
+    (c.number-period.ensures.text ∙ ap decimal (c.from.ensures ∙ c.period_of.ensures)) in
+    puts_same _ _ _ _ _ _ _ (stop_text c.args.project.now c.args.time c.args.cause.now _ _ _ c.as_slice.ensures number
+    (c.bytes-2.ensures ∙ (c.clock-time.ensures.text ∙ ap clock_text c.from-2.ensures)))
+    (puts_then _ _ _ _ _ _ _ _ _ c.in-Ok.ensures c.put_cause.ensures)
