@@ -5,7 +5,9 @@
 ghost use Rattle.std.specs.Prelude.{IfSome};
 ghost use Rattle.std.specs.Option.{option_copied};
 ghost use Rattle.hyd_spec_laws.specs.Laws.{IsSoundCapacity};
+ghost use Rattle.hyd_net.specs.Sound.{Sound};
 ghost use Rattle.hyd_graph.specs.GridOf.{capacity_of};
+ghost use Rattle.hyd_graph.specs.Periods.{IsNetOf};
 ghost use Rattle.hyd_graph.specs.Settings.{AreStates};
 
 use crate::given::{Order, command, is_problem, read, set, span, starts};
@@ -577,37 +579,71 @@ fn command_all(project: &Project, states: &mut [LinkState], orders: &[(u32, Orde
     true
 }
 
+// Whether the net says what a part does.
+fn says(net: &Net, part: &Part) -> bool {
+    wrong_flow(net, part.flows).is_none()
+        && wrong_own_flow(net, part.own).is_none()
+        && wrong_demand(net, part.demands).is_none()
+        && wrong_heads(net, part.fixed).is_none()
+}
+
+// Commands the links and puts the net into the period of a part, and says whether the net is as the part says.
+fn is_right(net: &mut Net, project: &Project, states: &mut [LinkState], part: &Part) -> bool
+    requires sound { Sound project.now }
+    requires of { IsNetOf project.now net.old }
+    requires states { AreStates project.now states.old }
+    ensures stays { IsNetOf project.now net.new }
+    ensures states { AreStates project.now states.new }
+{
+    let levels = part.levels.map(span);
+    if !command_all(project, states, part.orders) {
+        return false;
+    }
+    let Some(Ok(())) = set(net, project, part.time, states, &levels, &part.tanks) else {
+        return false;
+    };
+    says(net, part)
+}
+
+// Whether a period whose demand is out of range is refused, and leaves the net as it is.
+fn is_left(net: &mut Net, project: &Project, states: &[LinkState]) -> bool
+    requires sound { Sound project.now }
+    requires of { IsNetOf project.now net.old }
+    requires states { AreStates project.now states.now }
+{
+    let part = WIDE;
+    let levels = part.levels.map(span);
+    let refused = set(net, project, 10_800, states, &levels, &part.tanks);
+    let fault = PeriodDemand {
+        junction: 0,
+        value: 2_180_397_187_400_000,
+    };
+    refused == Some(Err(fault)) && says(net, &part)
+}
+
+// The time of the first period, one after another, whose net is other than its part says.
+fn wrong_period(net: &mut Net, project: &Project, states: &mut [LinkState]) -> Option<u32>
+    requires sound { Sound project.now }
+    requires of { IsNetOf project.now net.old }
+    requires states { AreStates project.now states.old }
+{
+    for part in [FIRST, FULL, EMPTY, WIDE] {
+        if !is_right(net, project, states, &part) {
+            return Some(part.time);
+        }
+    }
+    if !is_left(net, project, states) {
+        return Some(10_800);
+    }
+    None
+}
+
 #[test]
 fn every_kind_of_link_in_its_periods(rt: HostRuntime) -> Result<(), Fail> {
     let project = read(rt.alloc(), TEXT)?;
     let mut net = Net::open(rt.alloc(), &project)?;
     let mut states = starts(rt.alloc(), &project)?;
-    for part in [FIRST, FULL, EMPTY, WIDE] {
-        let time = part.time;
-        let levels = part.levels.map(span);
-        assert!(rt;
-            command_all(&project, &mut states, part.orders),
-            "at {time}"
-        );
-        if time == 14_400 {
-            // A period whose demand is out of range leaves the net as it is.
-            let refused = set(&mut net, &project, 10_800, &states, &levels, &part.tanks);
-            let fault = PeriodDemand {
-                junction: 0,
-                value: 2_180_397_187_400_000,
-            };
-            assert_eq!(rt; refused, Some(Err(fault)));
-            assert_eq!(rt; wrong_flow(&net, EMPTY.flows), None, "left as it was");
-            assert_eq!(rt; wrong_demand(&net, EMPTY.demands), None, "left as it was");
-            assert_eq!(rt; wrong_heads(&net, EMPTY.fixed), None, "left as it was");
-        }
-        let answer = set(&mut net, &project, time, &states, &levels, &part.tanks);
-        assert_eq!(rt; answer, Some(Ok(())), "at {time}");
-        assert_eq!(rt; wrong_flow(&net, part.flows), None, "at {time}");
-        assert_eq!(rt; wrong_own_flow(&net, part.own), None, "at {time}");
-        assert_eq!(rt; wrong_demand(&net, part.demands), None, "at {time}");
-        assert_eq!(rt; wrong_heads(&net, part.fixed), None, "at {time}");
-    }
+    assert_eq!(rt; wrong_period(&mut net, &project, &mut states), None);
     Ok(())
 }
 
