@@ -1,13 +1,13 @@
 //! What is known of rules at an instant, and what they change, against an independent program.
 #![tactic(auto)]
 
-ghost use Rattle.std.specs.Prelude.{◌≡◌, ◌≤◌, ◌^◌, unsigned_abs, length, All, IfOk, IfSome, IsTrue};
+ghost use Rattle.std.specs.Prelude.{◌≡◌, ◌≤◌, ◌^◌, unsigned_abs, All, IfSome, IsTrue};
 ghost use Rattle.hyd_net.specs.Sound.{Sound};
 ghost use Rattle.hyd_ctrl.specs.Instants.{IsBounded};
 
-use crate::given::{levels, read};
+use crate::given::{levels, read, starts};
 use hyd_ctrl::{Changes, act, decide};
-use hyd_net::{LinkState, OutOfMemory, Project};
+use hyd_net::{OutOfMemory, Project};
 use hyd_num::Span;
 use hyd_spec_certificates::{LevelSpan, Truth};
 use std::alloc::Global;
@@ -400,17 +400,6 @@ fn flow(ends: (i128, i128)) -> Option<Span>
         lo: ends.0,
         hi: ends.1,
     })
-}
-
-// The states of the links at first.
-fn starts(alloc: Global, project: &Project) -> Result<Vec<LinkState>, OutOfMemory>
-    ensures { IfOk result (λ states. length states.items ≡ length project.now.links.list) }
-{
-    let mut states = Vec::new(alloc);
-    for link in project.links.as_slice() {
-        states.push(link.start)?;
-    }
-    Ok(states)
 }
 
 // What is known of a rule of a network of two nodes before its tanks and of three links, whose states are as at first.

@@ -1,13 +1,8 @@
 //! Pump patterns and simple controls at starts of periods, one after another, against an independent program.
 #![tactic(auto)]
 
-ghost use Rattle.std.specs.Prelude.{◌≡◌, length, IfOk};
-ghost use Rattle.hyd_net.specs.Sound.{Sound};
-
-use crate::given::{levels, read};
+use crate::given::{levels, read, starts};
 use hyd_ctrl::{Changes, settle};
-use hyd_net::{LinkState, OutOfMemory, Project};
-use std::alloc::Global;
 use std::test::Fail;
 
 /// A tank, a pipe, a pump with a pattern, a pump without, and a flow control valve. The clock begins at 11 PM.
@@ -111,17 +106,6 @@ const STARTS: [(u32, (i64, i64), &str, &str, &str); 10] = [
         "[Change { source: Control(3), link: 3, to: Closed }]",
     ),
 ];
-
-// The states of the links at first.
-fn starts(alloc: Global, project: &Project) -> Result<Vec<LinkState>, OutOfMemory>
-    ensures { IfOk result (λ states. length states.items ≡ length project.now.links.list) }
-{
-    let mut states = Vec::new(alloc);
-    for link in project.links.as_slice() {
-        states.push(link.start)?;
-    }
-    Ok(states)
-}
 
 #[test]
 fn patterns_and_controls_in_order(rt: HostRuntime) -> Result<(), Fail> {
