@@ -1,7 +1,7 @@
 //! Stocks of a tank with a volume curve and its first seconds, against an independent program in exact arithmetic.
 #![tactic(auto)]
 
-ghost use Rattle.std.specs.Prelude.{◌≡◌, slice_get, Some, IfSome, IsTrue};
+ghost use Rattle.std.specs.Prelude.{◌≡◌, pos, slice_get, Some, IfSome, IsTrue};
 ghost use Rattle.hyd_net.specs.Sound.{Sound};
 ghost use Rattle.hyd_spec.specs.Types.{Tank};
 ghost use Rattle.hyd_spec.specs.Tank.{walls_of};
@@ -544,26 +544,33 @@ fn has_basin(project: &Project) -> bool
     is_basin(&tanks[0]) && is_curve(shapes[0].as_slice())
 }
 
-// Whether both ends of an interval lie within bounds.
-fn lie(lo: i64, hi: i64, least: i64, most: i64) -> bool
-    ensures { IsTrue result → IsWithin (record { least = least; most = most }) (record { lo = lo; hi = hi }) }
+// Whether both ends of a stock's levels and volumes lie within the bounds of this tank.
+fn lies(stock: &Stock) -> bool
+    ensures level { IsTrue result
+        → IsWithin (record { least = pos 20000000000000; most = pos 90000000000000 }) (stocks_of stock.now).level }
+    ensures volume { IsTrue result → IsWithin (record { least = pos 50000000000; most = pos 750000000000 }) (stocks_of stock.now).volume }
 {
-    least <= lo && lo <= most && least <= hi && hi <= most
+    let level = &stock.level;
+    let volume = &stock.volume;
+    20_000_000_000_000 <= level.lo
+        && level.lo <= 90_000_000_000_000
+        && 20_000_000_000_000 <= level.hi
+        && level.hi <= 90_000_000_000_000
+        && 50_000_000_000 <= volume.lo
+        && volume.lo <= 750_000_000_000
+        && 50_000_000_000 <= volume.hi
+        && volume.hi <= 750_000_000_000
 }
 
-// Whether a stock lies within the bounds of this tank.
-fn is_held(project: &Project, stock: Stock) -> bool
+// Whether a stock lies within the bounds of the network's tank.
+fn is_held(project: &Project, stock: &Stock) -> bool
     ensures { (each : Tank) → IsTrue result → slice_get project.now.tanks.list 0 ≡ Some each
-        → AreHeld (walls_of project.now each) each (stocks_of stock) }
+        → AreHeld (walls_of project.now each) each (stocks_of stock.now) }
 {
     if !has_basin(project) {
         return false;
     }
-    let (level, volume) = (stock.level, stock.volume);
-    if !lie(level.lo, level.hi, 20_000_000_000_000, 90_000_000_000_000) {
-        return false;
-    }
-    lie(volume.lo, volume.hi, 50_000_000_000, 750_000_000_000)
+    lies(stock)
 }
 
 // The next stock and the carried one.
@@ -577,7 +584,7 @@ fn moved(
 {
     let before = stock(content);
     let inflow = inflow(flow)?;
-    if project.tanks.len() != 1 || seconds > 100_000_000 || !is_held(project, before) {
+    if project.tanks.len() != 1 || seconds > 100_000_000 || !is_held(project, &before) {
         return None;
     }
     Some((
@@ -612,7 +619,7 @@ fn met(
     let inflow = inflow(flow)?;
     if project.tanks.len() != 1
         || target.unsigned_abs() > 200_000_000_000_000_000
-        || !is_held(project, before)
+        || !is_held(project, &before)
     {
         return None;
     }
