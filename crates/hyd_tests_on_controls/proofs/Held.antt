@@ -4,7 +4,7 @@ use Rattle.std.specs.Prelude.{Option, Some, slice_get, unsigned_abs}
 use Rattle.std.specs.Option.{option_map_or}
 use Rattle.std.proofs.lemmas.Int.{ints}
 use Rattle.hyd_spec.specs.Types.{Project, Tank}
-use Rattle.hyd_spec.specs.Tank.{Walls, Cylinder, Curve, Bounds, shape_points, walls_of, kept_volume}
+use Rattle.hyd_spec.specs.Tank.{Walls, Cylinder, Curve, shape_points, walls_of, kept_volume}
 use Rattle.hyd_net.specs.Curves.{volume_at}
 use Rattle.hyd_spec_certificates.specs.Stocks.{Stocks}
 use Rattle.hyd_spec_laws.specs.Laws.{IsWithin}
