@@ -9,7 +9,7 @@ use Rattle.hyd_net.specs.Curves.{volume_at}
 use Rattle.hyd_spec_certificates.specs.Stocks.{Stocks}
 use Rattle.hyd_spec_laws.specs.Laws.{IsWithin}
 use Rattle.hyd_tank.specs.Spans.{AreHeld}
-use Rattle.hyd_tests_on_controls.specs.Basins.{knees, IsBasin, HasBasin}
+use Rattle.hyd_tests_on_controls.specs.Basins.{knees, HasBasin}
 
 walls_are : (network : Project) (each : Tank) → each.shape ≡ Some 0 → shape_points network 0 ≡ knees → walls_of network each ≡ Curve knees
 walls_are network each shape curve =

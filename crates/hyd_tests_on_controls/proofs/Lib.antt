@@ -1,3 +1,2 @@
 pub mod Held
 pub mod Points
-pub mod Starts

@@ -1,11 +1,11 @@
 //! Networks read from texts.
 #![tactic(auto)]
 
-ghost use Rattle.std.specs.Prelude.{◌≡◌, length, IfOk};
+ghost use Rattle.std.specs.Prelude.{◌≡◌, IfOk};
 ghost use Rattle.hyd_net.specs.Sound.{Sound};
 
 use hyd_inp::read_project;
-use hyd_net::{LinkState, OutOfMemory, Project};
+use hyd_net::Project;
 use hyd_spec_certificates::LevelSpan;
 use std::alloc::Global;
 use std::test::Fail;
@@ -26,16 +26,4 @@ pub(crate) fn levels(ends: (i64, i64)) -> LevelSpan
         lo: ends.0,
         hi: ends.1,
     }
-}
-
-/// The states of the links at first.
-pub(crate) fn starts(alloc: Global, project: &Project) -> Result<Vec<LinkState>, OutOfMemory>
-    ensures { IfOk result (λ states. length states.items ≡ length project.now.links.list) }
-{
-    let links = project.links.as_slice();
-    let mut states = Vec::new(alloc);
-    for link in links {
-        states.push(link.start)?;
-    }
-    Ok(states)
 }
