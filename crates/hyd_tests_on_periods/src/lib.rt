@@ -1,0 +1,12 @@
+//! The tests of crates that reckon with a network in a period: nets, certificates, sweeps, proposals and boxes, on
+//! networks read from texts, against values worked out by an independent program.
+#![tactic(auto)]
+
+#[cfg(test)]
+mod boxes;
+#[cfg(test)]
+mod given;
+#[cfg(test)]
+mod nets;
+#[cfg(test)]
+mod tight;
