@@ -55,7 +55,8 @@ number_value Head _ unit k words said found t of is e = absurd of
 number_value Pressure (what.Pressure n) unit k words said found t of is e =
     pressure_is unit n k words found (e (amount k words) is)
 number_value Pressure _ unit k words said found t of is e = absurd of
-number_value Level (what.Level n) unit k words said found t of is e = level_is unit n k words found (e (amount k words) is)
+number_value Level (what.Level n) unit k words said found t of is e =
+    level_is unit n k words found (e (amount k words) is)
 number_value Level _ unit k words said found t of is e = absurd of
 number_value Flow (what.Flow n) unit k words said found t of is e = flow_is unit n k words found (e (amount k words) is)
 number_value Flow _ unit k words said found t of is e = absurd of

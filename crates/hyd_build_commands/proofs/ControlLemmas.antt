@@ -71,7 +71,8 @@ right_control rows k row by_itself with_others is member =
     })) in
     let each = all_none (others.control_faults rows k row) (subst Q section none) in
     let found = known (allows_link (link_word (word 0 row.words))) (link_named rows (word 1 row.words)) each.1.0 in
-    let S : Option Row → Type 0 = λ o. others.set_link rows o (word 2 row.words) (others.control_tank rows row) ≡ None in
+    let S : Option Row → Type 0 = λ o.
+    others.set_link rows o (word 2 row.words) (others.control_tank rows row) ≡ None in
     let set = subst S found.is each.1.1.1.0 in
     record {
       by_itself = subst P section

@@ -3,3 +3,5 @@ pub mod ControlLemmas
 pub mod ActionLemmas
 pub mod ClauseLemmas
 pub mod RightClauses
+pub mod RuleLists
+pub mod RightParts

@@ -30,7 +30,8 @@ node_has rows kind words a is can none =
     (node_named rows (word 2 words)) none in
     let both = and_parts (allows_node (Some kind) found.row) (can_show (attribute_word (word 3 words)) found.row)
     found.passes in
-    let shows : can_show (Some a) found.row ≡ true = subst (λ (o : Option Attribute). can_show o found.row ≡ true) is both.1 in
+    let shows : can_show (Some a) found.row ≡ true =
+    subst (λ (o : Option Attribute). can_show o found.row ≡ true) is both.1 in
     by a can found.row found.is shows
   where
     by : (b : Attribute) → can_have (Node kind) b ≡ true → (row : Row) → node_named rows (word 2 words) ≡ Some row

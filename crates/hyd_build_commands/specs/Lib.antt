@@ -2,3 +2,4 @@ pub mod Rows
 pub mod Controls
 pub mod Values
 pub mod Clauses
+pub mod Rules

@@ -5,6 +5,9 @@ mod actions;
 mod clauses;
 mod controls;
 mod numbers;
+mod parts;
+mod rules;
 mod values;
 
 pub use controls::build_controls;
+pub use rules::build_rules;

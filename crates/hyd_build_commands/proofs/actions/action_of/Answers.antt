@@ -95,5 +95,6 @@ returns c = λ row is.
     let state = c.link_state.ensures rows (word 5 here.words) c.requires.unit c.in-Ok.ensures.1 in
     let number : number_in (link_ids rows) (word 2 here.words) ≡ Some c.number_of.result =
     rw (← name, ← c.requires.links) c.number_of.ensures in
-    let P : Row → Type 0 = λ r. IsAction rows r.words (record { link = c.number_of.result; to = c.link_state.result }) in
+    let P : Row → Type 0 = λ r.
+    IsAction rows r.words (record { link = c.number_of.result; to = c.link_state.result }) in
     subst P same (record { link = number; to = rw named state })
