@@ -247,7 +247,7 @@ fn a_saved_file(rt: HostRuntime) -> Result<(), Fail> {
 }
 
 #[test]
-fn tanks_curves_and_states(rt: HostRuntime) -> Result<(), Fail> {
+fn a_tank_with_a_curve(rt: HostRuntime) -> Result<(), Fail> {
     let alloc = rt.alloc();
     let filling = network(alloc, FILLING)?;
     assert_eq!(rt;
@@ -262,17 +262,35 @@ fn tanks_curves_and_states(rt: HostRuntime) -> Result<(), Fail> {
         links(alloc, &filling)?.as_str(),
         "0 1 Limit { nano: 5000000000000, ticks: 50000000000 };"
     );
+    Ok(())
+}
+
+#[test]
+fn a_tank_that_spills(rt: HostRuntime) -> Result<(), Fail> {
+    let alloc = rt.alloc();
     let spilling = network(alloc, SPILLING)?;
     assert_eq!(rt;
         tanks(alloc, &spilling)?.as_str(),
         "90000000000000 0 100000000000000 None true;"
     );
+    Ok(())
+}
+
+#[test]
+fn a_pump_with_a_curve(rt: HostRuntime) -> Result<(), Fail> {
+    let alloc = rt.alloc();
     let pumping = network(alloc, PUMPING)?;
     assert_eq!(rt; links(alloc, &pumping)?.as_str(), "0 1 Speed(500000000);");
     assert_eq!(rt;
         bends(alloc, &pumping)?.as_str(),
         "0 400000000000000;10000000000 300000000000000;20000000000 150000000000000;30000000000 0;"
     );
+    Ok(())
+}
+
+#[test]
+fn a_check_valve(rt: HostRuntime) -> Result<(), Fail> {
+    let alloc = rt.alloc();
     let checked = network(alloc, CHECKED)?;
     let is_checked = match checked.links.as_slice().first() {
         Some(link) => matches!(link.kind, LinkKind::CheckPipe(_)),
