@@ -119,7 +119,7 @@ fn limits_of_counts(rt: HostRuntime) -> Result<(), Fail> {
     let alloc = rt.alloc();
     for limit in LIMITS.iter() {
         let full = text_with(alloc, limit, limit.rows)?;
-        assert!(rt; answer(alloc, full.as_bytes())?.ends_with(" 0 s"));
+        assert_eq!(rt; answer(alloc, full.as_bytes())?.as_str(), "none");
         let more = text_with(alloc, limit, limit.rows.saturating_add(1))?;
         assert_eq!(rt; answer(alloc, more.as_bytes())?.as_str(), limit.cause);
     }

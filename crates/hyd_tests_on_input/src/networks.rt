@@ -1,10 +1,8 @@
-//! Networks of small texts, field by field.
+//! Texts without a fault.
 #![tactic(auto)]
 
-use crate::answers::{answer, counts, network};
-use hyd_net::{LinkKind, Project, same};
+use crate::answers::answer;
 use std::alloc::Global;
-use std::fmt::Write;
 use std::test::Fail;
 
 /// A file as EPANET's editor saves it, up to its places on the map, and behind them.
@@ -84,30 +82,6 @@ const BACK: &str = "[VERTICES]
 [END]
 ";
 
-// A tank with a volume curve, one that spills, a pump with a curve by straight lines, a pipe with a check valve.
-const FILLING: &[u8] =
-    b"[OPTIONS]\nUNITS CMD\nHEADLOSS C-M\n[TIMES]\nDURATION 2\n[RESERVOIRS]\nR 100\n[CURVES]\nC 0 0\n\
-      C 5 500\nC 10 2000\n[TANKS]\nT 0 4 0 10 0 0 C\n[VALVES]\nV R T 304.8 FCV 5000 0\n";
-
-const SPILLING: &[u8] =
-    b"[OPTIONS]\nUNITS CMD\nHEADLOSS C-M\n[TIMES]\nDURATION 1\n[RESERVOIRS]\nR 100\n[TANKS]\n\
-      T 0 9 0 10 20 0 * YES\n[VALVES]\nV R T 304.8 FCV 50000 0\n";
-
-const PUMPING: &[u8] =
-    b"[OPTIONS]\nUNITS CMD\nHEADLOSS C-M\n[RESERVOIRS]\nA 0\nB 10\n[CURVES]\nC 0 40\nC 1000 30\nC 2000 15\n\
-      C 3000 0\n[PUMPS]\nU A B HEAD C SPEED 0.5\n";
-
-const CHECKED: &[u8] =
-    b"[OPTIONS]\nUNITS CFS\nHEADLOSS C-M\n[RESERVOIRS]\nA 99\nB 100\n[PIPES]\nP A B 1000 12 0.01 0 CV\n";
-
-const VALVE: &[u8] =
-    b"[OPTIONS]\nUNITS CMD\nHEADLOSS C-M\n[JUNCTIONS]\nJ 0 1000\n[RESERVOIRS]\nR 100\n[VALVES]\n\
-      V R J 304.8 TCV 100 0\n";
-
-const VALVE_WITHOUT_DEMAND: &[u8] =
-    b"[OPTIONS]\nUNITS CMD\nHEADLOSS C-M\n[JUNCTIONS]\nJ 0 0\n[RESERVOIRS]\nR 100\n[VALVES]\n\
-      V R J 304.8 TCV 100 0\n";
-
 /// The saved file, with its places on the map or without.
 fn saved(alloc: Global, with_places: bool) -> Result<String, Fail> {
     let mut text = String::new(alloc);
@@ -120,194 +94,37 @@ fn saved(alloc: Global, with_places: bool) -> Result<String, Fail> {
 }
 
 #[test]
-fn counts_of_networks(rt: HostRuntime) -> Result<(), Fail> {
-    let alloc = rt.alloc();
-    let table: [(&[u8], &str); 9] = [
-        (
-            b"[OPTIONS]\nUNITS CMD\nHEADLOSS C-M\n[JUNCTIONS]\nJ 0 1000\n[RESERVOIRS]\nR 100\n[VALVES]\n\
-              V R J 304.8 TCV 100 0\n",
-            "1 1 0 1 0 0 0 0 0 0 s",
-        ),
-        (
-            b"[OPTIONS]\nUNITS CFS\nHEADLOSS C-M\n[RESERVOIRS]\nA 100\nB 99.534\n[PIPES]\nP A B 1000 12 0.01 0\n",
-            "0 2 0 1 0 0 0 0 0 0 s",
-        ),
-        (
-            b"[OPTIONS]\nUNITS CFS\nHEADLOSS C-M\n[RESERVOIRS]\nA 100\nB 99\n[PIPES]\nP A B 1000000 0.1 0.01 0\n",
-            "0 2 0 1 0 0 0 0 0 0 s",
-        ),
-        (
-            b"[OPTIONS]\nUNITS CFS\nHEADLOSS C-M\n[RESERVOIRS]\nA 99\nB 100\n[PIPES]\nP A B 1000 12 0.01 0 CV\n",
-            "0 2 0 1 0 0 0 0 0 0 s",
-        ),
-        (
-            b"[OPTIONS]\nUNITS CMD\nHEADLOSS C-M\n[TIMES]\nDURATION 2\n[RESERVOIRS]\nR 100\n[CURVES]\n\
-              C 0 0\nC 5 500\nC 10 2000\n[TANKS]\nT 0 4 0 10 0 0 C\n[VALVES]\nV R T 304.8 FCV 5000 0\n",
-            "0 1 1 1 0 1 0 0 0 7200 s",
-        ),
-        (
-            b"[OPTIONS]\nUNITS CMD\nHEADLOSS C-M\n[TIMES]\nDURATION 1\n[RESERVOIRS]\nR 100\n[TANKS]\n\
-              T 0 9 0 10 20 0 * YES\n[VALVES]\nV R T 304.8 FCV 50000 0\n",
-            "0 1 1 1 0 0 0 0 0 3600 s",
-        ),
-        (
-            b"[OPTIONS]\nUNITS CMD\nHEADLOSS C-M\n[RESERVOIRS]\nA 0\nB 10\n[CURVES]\nC 0 40\nC 1000 30\n\
-              C 2000 15\nC 3000 0\n[PUMPS]\nU A B HEAD C\n",
-            "0 2 0 1 0 0 1 0 0 0 s",
-        ),
-        (
-            b"[OPTIONS]\nUNITS CMD\nHEADLOSS C-M\n[RESERVOIRS]\nA 0\nB 10\n[CURVES]\nC 0 40\nC 1000 30\n\
-              C 2000 15\nC 3000 0\n[PUMPS]\nU A B HEAD C SPEED 0.5\n",
-            "0 2 0 1 0 0 1 0 0 0 s",
-        ),
-        (
-            b"[OPTIONS]\nUNITS CMD\nHEADLOSS C-M\n[RESERVOIRS]\nA 12\nB 10\n[CURVES]\nG 0 0\nG 100 1\n\
-              G 200 4\n[VALVES]\nV A B 300 GPV G 0\n",
-            "0 2 0 1 0 0 1 0 0 0 s",
-        ),
-    ];
-    for (text, expected) in table {
-        assert_eq!(rt; answer(alloc, text)?.as_str(), expected);
-    }
-    Ok(())
-}
-
-/// The ends and the first state of each link.
-fn links(alloc: Global, project: &Project) -> Result<String, Fail> {
-    let mut out = String::new(alloc);
-    for link in project.links.as_slice() {
-        write!(out, "{} {} {:?};", link.from, link.to, link.start)?;
-    }
-    Ok(out)
-}
-
-/// The levels of each tank, its curve, and whether it spills.
-fn tanks(alloc: Global, project: &Project) -> Result<String, Fail> {
-    let mut out = String::new(alloc);
-    for tank in project.tanks.as_slice() {
-        write!(out, "{} {} {} ", tank.initial, tank.minimum, tank.maximum)?;
-        write!(out, "{:?} {};", tank.shape, tank.overflow)?;
-    }
-    Ok(out)
-}
-
-/// The points of all curves by straight lines.
-fn bends(alloc: Global, project: &Project) -> Result<String, Fail> {
-    let mut out = String::new(alloc);
-    for bend in project.bends.as_slice() {
-        for point in bend.as_slice() {
-            write!(out, "{} {};", point.flow, point.head)?;
-        }
-    }
-    Ok(out)
-}
-
-/// The points of all volume curves.
-fn shapes(alloc: Global, project: &Project) -> Result<String, Fail> {
-    let mut out = String::new(alloc);
-    for shape in project.shapes.as_slice() {
-        for point in shape.as_slice() {
-            write!(out, "{} {};", point.level, point.volume)?;
-        }
-    }
-    Ok(out)
-}
-
-/// The demands of all junctions.
-fn demands(alloc: Global, project: &Project) -> Result<String, Fail> {
-    let mut out = String::new(alloc);
-    for junction in project.junctions.as_slice() {
-        for demand in junction.demands.as_slice() {
-            write!(out, "{} {:?};", demand.base, demand.pattern)?;
-        }
-    }
-    Ok(out)
-}
-
-#[test]
 fn a_saved_file(rt: HostRuntime) -> Result<(), Fail> {
     let alloc = rt.alloc();
-    let text = saved(alloc, true)?;
-    let project = network(alloc, text.as_bytes())?;
-    assert_eq!(rt;
-        counts(alloc, &project)?.as_str(),
-        "2 1 0 2 1 0 0 0 0 7200 s"
-    );
-    assert_eq!(rt; links(alloc, &project)?.as_str(), "2 0 Open;0 1 Open;");
-    assert_eq!(rt;
-        demands(alloc, &project)?.as_str(),
-        "24465755455 None;24465755455 Some(0);"
-    );
-    assert_eq!(rt; project.node_ids.number(b"R"), Some(2));
-    assert_eq!(rt; project.link_ids.number(b"P2"), Some(1));
-    assert_eq!(rt; project.times.pattern, 7200);
-    assert_eq!(rt; project.times.rule, 360);
-    assert_eq!(rt; project.options.default_pattern, Some(0));
+    for with_places in [true, false] {
+        let text = saved(alloc, with_places)?;
+        assert_eq!(rt; answer(alloc, text.as_bytes())?.as_str(), "none");
+    }
     Ok(())
 }
 
 #[test]
-fn a_tank_with_a_curve(rt: HostRuntime) -> Result<(), Fail> {
+fn small_networks(rt: HostRuntime) -> Result<(), Fail> {
     let alloc = rt.alloc();
-    let filling = network(alloc, FILLING)?;
-    assert_eq!(rt;
-        tanks(alloc, &filling)?.as_str(),
-        "40000000000000 0 100000000000000 Some(0) false;"
-    );
-    assert_eq!(rt;
-        shapes(alloc, &filling)?.as_str(),
-        "0 0;50000000000000 500000000000;100000000000000 2000000000000;"
-    );
-    assert_eq!(rt;
-        links(alloc, &filling)?.as_str(),
-        "0 1 Limit { nano: 5000000000000, ticks: 50000000000 };"
-    );
-    Ok(())
-}
-
-#[test]
-fn a_tank_that_spills(rt: HostRuntime) -> Result<(), Fail> {
-    let alloc = rt.alloc();
-    let spilling = network(alloc, SPILLING)?;
-    assert_eq!(rt;
-        tanks(alloc, &spilling)?.as_str(),
-        "90000000000000 0 100000000000000 None true;"
-    );
-    Ok(())
-}
-
-#[test]
-fn a_pump_with_a_curve(rt: HostRuntime) -> Result<(), Fail> {
-    let alloc = rt.alloc();
-    let pumping = network(alloc, PUMPING)?;
-    assert_eq!(rt; links(alloc, &pumping)?.as_str(), "0 1 Speed(500000000);");
-    assert_eq!(rt;
-        bends(alloc, &pumping)?.as_str(),
-        "0 400000000000000;10000000000 300000000000000;20000000000 150000000000000;30000000000 0;"
-    );
-    Ok(())
-}
-
-#[test]
-fn a_check_valve(rt: HostRuntime) -> Result<(), Fail> {
-    let alloc = rt.alloc();
-    let checked = network(alloc, CHECKED)?;
-    let is_checked = match checked.links.as_slice().first() {
-        Some(link) => matches!(link.kind, LinkKind::CheckPipe(_)),
-        None => false,
-    };
-    assert!(rt; is_checked);
-    Ok(())
-}
-
-#[test]
-fn the_same_network(rt: HostRuntime) -> Result<(), Fail> {
-    let alloc = rt.alloc();
-    let with_places = network(alloc, saved(alloc, true)?.as_bytes())?;
-    let without = network(alloc, saved(alloc, false)?.as_bytes())?;
-    assert!(rt; same(&with_places, &without));
-    let valve = network(alloc, VALVE)?;
-    let other = network(alloc, VALVE_WITHOUT_DEMAND)?;
-    assert!(rt; !same(&valve, &other));
+    let table: [&[u8]; 9] = [
+        b"[OPTIONS]\nUNITS CMD\nHEADLOSS C-M\n[JUNCTIONS]\nJ 0 1000\n[RESERVOIRS]\nR 100\n[VALVES]\n\
+              V R J 304.8 TCV 100 0\n",
+        b"[OPTIONS]\nUNITS CFS\nHEADLOSS C-M\n[RESERVOIRS]\nA 100\nB 99.534\n[PIPES]\nP A B 1000 12 0.01 0\n",
+        b"[OPTIONS]\nUNITS CFS\nHEADLOSS C-M\n[RESERVOIRS]\nA 100\nB 99\n[PIPES]\nP A B 1000000 0.1 0.01 0\n",
+        b"[OPTIONS]\nUNITS CFS\nHEADLOSS C-M\n[RESERVOIRS]\nA 99\nB 100\n[PIPES]\nP A B 1000 12 0.01 0 CV\n",
+        b"[OPTIONS]\nUNITS CMD\nHEADLOSS C-M\n[TIMES]\nDURATION 2\n[RESERVOIRS]\nR 100\n[CURVES]\n\
+              C 0 0\nC 5 500\nC 10 2000\n[TANKS]\nT 0 4 0 10 0 0 C\n[VALVES]\nV R T 304.8 FCV 5000 0\n",
+        b"[OPTIONS]\nUNITS CMD\nHEADLOSS C-M\n[TIMES]\nDURATION 1\n[RESERVOIRS]\nR 100\n[TANKS]\n\
+              T 0 9 0 10 20 0 * YES\n[VALVES]\nV R T 304.8 FCV 50000 0\n",
+        b"[OPTIONS]\nUNITS CMD\nHEADLOSS C-M\n[RESERVOIRS]\nA 0\nB 10\n[CURVES]\nC 0 40\nC 1000 30\n\
+              C 2000 15\nC 3000 0\n[PUMPS]\nU A B HEAD C\n",
+        b"[OPTIONS]\nUNITS CMD\nHEADLOSS C-M\n[RESERVOIRS]\nA 0\nB 10\n[CURVES]\nC 0 40\nC 1000 30\n\
+              C 2000 15\nC 3000 0\n[PUMPS]\nU A B HEAD C SPEED 0.5\n",
+        b"[OPTIONS]\nUNITS CMD\nHEADLOSS C-M\n[RESERVOIRS]\nA 12\nB 10\n[CURVES]\nG 0 0\nG 100 1\n\
+              G 200 4\n[VALVES]\nV A B 300 GPV G 0\n",
+    ];
+    for text in table {
+        assert_eq!(rt; answer(alloc, text)?.as_str(), "none");
+    }
     Ok(())
 }

@@ -1,3 +1,0 @@
-pub mod Commands
-pub mod Levels
-pub mod Orders
