@@ -10,7 +10,6 @@ this repository is built from compare_input_main.txt in a folder of its own, by 
 standard input each text behind a line with its length. It stands outside the gate. With KEEP=FOLDER in the environment the
 texts and answers are kept there, and taken from there the next time.
 """
-import collections
 import os
 import pickle
 import random
@@ -20,6 +19,8 @@ import subprocess
 import sys
 import tempfile
 from pathlib import Path
+
+import differences
 
 ROOT = Path(__file__).resolve().parent.parent
 MAIN = ROOT / 'scripts' / 'compare_input_main.txt'
@@ -186,13 +187,7 @@ def main():
     seed = int(sys.argv[3]) if len(sys.argv) > 3 else 1
     texts, want = prepared(sys.argv[1], count, seed)
     got = answers(texts, want)
-    wrong = sorted((k for k in range(count) if want[k] != got[k]), key=lambda k: len(texts[k]))
-    for k in wrong[:10]:
-        print('text', k, 'expected', want[k], 'found', got[k])
-        print(texts[k].decode('latin-1'))
-    causes = collections.Counter(answer.split(' ', 1)[-1] for answer in want)
-    print('%d texts, %d differ; cause and detail:' % (count, len(wrong)), dict(causes.most_common()))
-    sys.exit(1 if wrong else 0)
+    sys.exit(differences.tell(texts, want, got))
 
 
 if __name__ == '__main__':

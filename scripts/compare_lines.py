@@ -8,13 +8,14 @@ where it isn't given) are made from one text that has every section, by changes 
 that is wrong by itself, as far as those parts decide it, must be the same with its cause. The program that answers for this
 repository is built from compare_lines_main.txt in a folder of its own, without proofs; it stands outside the gate.
 """
-import collections
 import random
 import shutil
 import subprocess
 import sys
 import tempfile
 from pathlib import Path
+
+import differences
 
 ROOT = Path(__file__).resolve().parent.parent
 CRATES = {
@@ -119,13 +120,7 @@ def main():
     texts = [mutated(rng) for _ in range(count)]
     want = [expected(reader, judge, text) for text in texts]
     got = answers(texts)
-    wrong = [k for k in range(count) if want[k] != got[k]]
-    for k in wrong[:10]:
-        print('text', k, 'expected', want[k], 'found', got[k])
-        print(texts[k].decode('latin-1'))
-    causes = collections.Counter(answer.split(' ', 1)[-1] for answer in want)
-    print('%d texts, %d differ' % (count, len(wrong)), dict(causes.most_common()))
-    sys.exit(1 if wrong else 0)
+    sys.exit(differences.tell(texts, want, got))
 
 
 if __name__ == '__main__':
