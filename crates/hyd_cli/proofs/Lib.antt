@@ -1,17 +1,1 @@
-pub mod Joining
-pub mod LineTexts
-pub mod Quadratic
-pub mod Heads
-pub mod FirstGrid
-pub mod Certificates
-pub mod FirstSolution
-pub mod FirstReport
-pub mod TextLemmas
-pub mod SoundNetworks
-pub mod FirstRuns
 pub mod AnswerLemmas
-pub mod LengthLemmas
-pub mod Reading
-pub mod Valves
-pub mod Unlike
-pub mod RunLemmas

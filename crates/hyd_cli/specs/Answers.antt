@@ -1,17 +1,26 @@
 -- What the answers of the program mean: which status comes where, and what was created, written and printed then.
-use Rattle.std.specs.Prelude.{◌≡◌, ◌≢◌, ℕ, ◌⊎◌, List, [], ◌∷◌, ◌++◌, Option, codes, ⊤}
+-- Source: this program's.
+use Rattle.std.specs.Prelude.{◌≡◌, ◌≢◌, ℕ, ◌⊎◌, List, [], ◌++◌, Option, ⊤, ⊥}
 use Rattle.hyd_io.specs.declared.desk.Faults.{Faults}
 use Rattle.hyd_io.specs.declared.desk.Openings.{Openings}
 use Rattle.hyd_io.specs.declared.output.OutFault.{OutFault}
 use Rattle.hyd_io.specs.declared.output.OutFault.TheVariants.{Fault, Stalled as Stall}
 use Rattle.hyd_io.specs.Counts.{with_read_fault, with_write_fault, with_print_fault, with_stall, with_opened, with_created}
 use Rattle.hyd_io.specs.Told.{Files, where_told, append_known, file_at, PutOut}
+use Rattle.hyd_lex.specs.Lines.{items_of, rows_in}
+use Rattle.hyd_net.specs.declared.cause.Cause.{Cause}
+use Rattle.hyd_net.specs.declared.cause.Cause.TheVariants.{Unsupported}
 use Rattle.hyd_spec.specs.Types.{Project}
-use Rattle.hyd_cli.specs.FirstForm.{IsFirstForm}
-use Rattle.hyd_cli.specs.Command.{usage_line}
-use Rattle.hyd_cli.specs.Run.{IsRunOf}
+use Rattle.hyd_spec_input.specs.Faults.{IsFault}
+use Rattle.hyd_spec_input.specs.Project.{IsProject}
+use Rattle.hyd_spec_reports.specs.Headline.{Outcome, Sharpness, RunWrites, RunBreaksOff, outcome_number}
+use Rattle.hyd_report.specs.RefusedText.{refused_text_line}
+use Rattle.hyd_sim.specs.View.{IsSingle}
+use Rattle.hyd_words.specs.Orders.{RunOrder}
+use Rattle.hyd_cli.specs.Statuses.{number_of}
+use Rattle.hyd_cli.specs.Words.{usage_line}
 use Rattle.hyd_cli.specs.declared.status.Status.{Status}
-use Rattle.hyd_cli.specs.declared.status.Status.TheVariants.{Done, OutOfMemory, Usage, ReadFault, WriteFault, InputRefused, Undecided, Stalled}
+use Rattle.hyd_cli.specs.declared.status.Status.TheVariants.{Done, OutOfMemory, Usage, ReadFault, WriteFault, InputRefused, Undecided, RoundsSpent, DemandOutOfRange, Stalled}
 
 -- ---- what a desk tells
 
@@ -58,7 +67,7 @@ HasCause Stalled before now = now ≡ with_stall before
 HasCause status before now = now ≡ before
 
 -- How often a command opens NET and creates CERT: each once at most, so what can be read only once is read whole. NET is
--- opened but where memory ran out before, and CERT is created where a run was computed.
+-- opened but where memory ran out before, and CERT is created when all memory is taken that the run needs.
 abbrev pub OpensOnce : Status → Openings → Openings → Type 0
 OpensOnce Done before now = now ≡ with_created (with_opened before)
 OpensOnce OutOfMemory before now = (now ≡ before) ⊎ (now ≡ with_opened before)
@@ -67,7 +76,22 @@ OpensOnce ReadFault before now = now ≡ with_opened before
 OpensOnce WriteFault before now = (now ≡ with_opened before) ⊎ (now ≡ with_created (with_opened before))
 OpensOnce InputRefused before now = now ≡ with_opened before
 OpensOnce Undecided before now = now ≡ with_created (with_opened before)
+OpensOnce RoundsSpent before now = now ≡ with_created (with_opened before)
+OpensOnce DemandOutOfRange before now = now ≡ with_created (with_opened before)
 OpensOnce Stalled before now = (now ≡ with_opened before) ⊎ (now ≡ with_created (with_opened before))
+
+-- Of these, what is opened and created once NET was read: CERT is created when all memory is taken that the run needs.
+abbrev pub OpensCert : Status → Openings → Openings → Type 0
+OpensCert Done before now = now ≡ with_created before
+OpensCert OutOfMemory before now = now ≡ before
+OpensCert Usage before now = ⊥
+OpensCert ReadFault before now = ⊥
+OpensCert WriteFault before now = (now ≡ before) ⊎ (now ≡ with_created before)
+OpensCert InputRefused before now = now ≡ before
+OpensCert Undecided before now = now ≡ with_created before
+OpensCert RoundsSpent before now = now ≡ with_created before
+OpensCert DemandOutOfRange before now = now ≡ with_created before
+OpensCert Stalled before now = (now ≡ before) ⊎ (now ≡ with_created before)
 
 -- The answer of a fault of a channel.
 abbrev pub status_of : OutFault → Status
@@ -84,76 +108,102 @@ AnswersUsage WriteFault before now = OnlyPrintedFront usage_line before now
 AnswersUsage Stalled before now = OnlyPrintedFront usage_line before now
 AnswersUsage status before now = ⊥
 
--- ---- texts without the form
+-- ---- texts that are refused
 
--- what is printed of a text that isn't of the form
-abbrev pub refused_line : List ℕ
-refused_line = codes "REFUSED line 0 cause 6 detail 12" ++ (10 ∷ [])
+-- Refused, and the line of the fault alone was printed; or want of memory, or a fault.
+abbrev pub AnswersRefused : ℕ → Cause → Status → Seen → Seen → Type 0
+AnswersRefused line cause InputRefused before now = OnlyPrinted (refused_text_line line cause) before now
+AnswersRefused line cause OutOfMemory before now = IsUntouched before now
+AnswersRefused line cause ReadFault before now = IsUntouched before now
+AnswersRefused line cause WriteFault before now = OnlyPrintedFront (refused_text_line line cause) before now
+AnswersRefused line cause Stalled before now = OnlyPrintedFront (refused_text_line line cause) before now
+AnswersRefused line cause status before now = ⊥
 
--- Refused, and the line alone was printed; or want of memory, or a fault.
-abbrev pub AnswersRefused : Status → Seen → Seen → Type 0
-AnswersRefused InputRefused before now = OnlyPrinted refused_line before now
-AnswersRefused OutOfMemory before now = IsUntouched before now
-AnswersRefused ReadFault before now = IsUntouched before now
-AnswersRefused WriteFault before now = OnlyPrintedFront refused_line before now
-AnswersRefused Stalled before now = OnlyPrintedFront refused_line before now
-AnswersRefused status before now = ⊥
+-- The text has a fault, and this holds of its line and its cause.
+pub record OfFault (text : List ℕ) (P : ℕ → Cause → Type 0) : Type 0 where
+  pub line : ℕ
+  pub cause : Cause
+  pub is_fault : IsFault text line cause
+  pub holds : P line cause
+
+-- What an answer says of a text with a fault: want of memory and a fault of reading leave all untouched.
+abbrev pub AnswersFault : List ℕ → Status → Seen → Seen → Type 0
+AnswersFault text OutOfMemory before now = IsUntouched before now
+AnswersFault text ReadFault before now = IsUntouched before now
+AnswersFault text status before now = OfFault text (λ line cause. AnswersRefused line cause status before now)
 
 -- ---- runs
 
--- The certificate of a run of the network was written to the file created in this call, where files are told, and its
--- report was printed; the status says how the run ended. The file of the name CERT holds what was written.
-pub record Delivered (network : Project) (cert : List ℕ) (status : Status) (before now : Seen) : Type 0 where
+-- How sharp an order asks a run to be.
+abbrev pub sharpness_of : RunOrder → Sharpness
+sharpness_of order = record { width = order.width; tight = order.tight }
+
+-- The certificate of a run of the network was written to the file created in this call, where files are told, its report
+-- was printed, and every history agrees with them; the status says how the run ended. The file of the name CERT holds
+-- what was written.
+pub record Delivered (network : Project) (order : RunOrder) (status : Status) (before now : Seen) : Type 0 where
+  pub outcome : Outcome
   pub certificate : List ℕ
   pub report : List ℕ
-  pub run : IsRunOf network status certificate report
+  pub run : RunWrites network order.rounds (sharpness_of order) outcome certificate report
+  pub status_is : number_of status ≡ outcome_number outcome
   pub written : now.written ≡ where_told before.files certificate
   pub printed : now.printed ≡ append_known before.printed report
-  pub held : file_at now.files cert ≡ now.written
+  pub held : file_at now.files order.files.cert ≡ now.written
 
 -- Nothing was written or printed, as where the certificate's file couldn't be created.
 pub record NothingPut (before now : Seen) : Type 0 where
   pub written : now.written ≡ before.written
   pub printed : now.printed ≡ before.printed
 
--- A front of the certificate was written to the file created in this call, where files are told, and a front of the report
--- was printed: nothing of it before the whole certificate was written. The file of the name CERT holds what was written.
-pub record FrontsPut (cert certificate report : List ℕ) (before now : Seen) : Type 0 where
-  pub written : PutOut (where_told before.files []) now.written certificate
-  pub printed : PutOut before.printed now.printed report
-  pub in_order : (now.printed ≡ before.printed) ⊎ (now.written ≡ where_told before.files certificate)
-  pub held : file_at now.files cert ≡ now.written
-
--- A fault broke the delivery of a run of the network off. The status in it is the one that the whole run would have had.
-pub record BrokeOff (network : Project) (cert : List ℕ) (before now : Seen) : Type 0 where
-  pub status : Status
+-- A fault broke a run of the network off: what was written to the file created in this call, where files are told, and
+-- what was printed are fronts of the certificate and of the report of the run as far as it went, and every history agrees
+-- with it. The file of the name CERT holds what was written.
+pub record CutShort (network : Project) (order : RunOrder) (before now : Seen) : Type 0 where
   pub certificate : List ℕ
   pub report : List ℕ
-  pub run : IsRunOf network status certificate report
-  pub fronts : NothingPut before now ⊎ FrontsPut cert certificate report before now
+  pub run : RunBreaksOff network order.rounds (sharpness_of order) certificate report
+  pub written : now.written ≡ where_told before.files certificate
+  pub printed : now.printed ≡ append_known before.printed report
+  pub held : file_at now.files order.files.cert ≡ now.written
 
--- What an answer says of a network that was read.
-abbrev pub AnswersNetwork : Project → List ℕ → Status → Seen → Seen → Type 0
-AnswersNetwork network cert Done before now = Delivered network cert Done before now
-AnswersNetwork network cert Undecided before now = Delivered network cert Undecided before now
-AnswersNetwork network cert OutOfMemory before now = IsUntouched before now
-AnswersNetwork network cert WriteFault before now = BrokeOff network cert before now
-AnswersNetwork network cert Stalled before now = BrokeOff network cert before now
-AnswersNetwork network cert status before now = ⊥
+-- What an answer says of a network that is run.
+abbrev pub AnswersRun : Project → RunOrder → Status → Seen → Seen → Type 0
+AnswersRun network order Done before now = Delivered network order Done before now
+AnswersRun network order Undecided before now = Delivered network order Undecided before now
+AnswersRun network order RoundsSpent before now = Delivered network order RoundsSpent before now
+AnswersRun network order DemandOutOfRange before now = Delivered network order DemandOutOfRange before now
+AnswersRun network order OutOfMemory before now = IsUntouched before now
+AnswersRun network order WriteFault before now = NothingPut before now ⊎ CutShort network order before now
+AnswersRun network order Stalled before now = NothingPut before now ⊎ CutShort network order before now
+AnswersRun network order status before now = ⊥
 
--- The text has the form, and the fact holds of its network.
-pub record OfForm (text : List ℕ) (P : Project → Type 0) : Type 0 where
+-- What an answer says of a network that was read: one without tanks, controls and rules and of one instant is run, any
+-- other is refused, as cause 6 with detail 12.
+abbrev pub AnswersNetwork : Project → RunOrder → Status → Seen → Seen → Type 0
+AnswersNetwork network order status before now =
+    (IsSingle network × AnswersRun network order status before now)
+    ⊎ ((IsSingle network → ⊥) × AnswersRefused 0 (Unsupported 12) status before now)
+
+-- This holds of a network that the rows of the text describe.
+pub record OfNetwork (text : List ℕ) (P : Project → Type 0) : Type 0 where
   pub network : Project
-  pub is_network : IsFirstForm text network
+  pub is_network : IsProject (rows_in (items_of text)) network
   pub holds : P network
 
--- What an answer says of a text of the form: want of memory and a fault of reading leave all untouched.
-abbrev pub AnswersRun : List ℕ → List ℕ → Status → Seen → Seen → Type 0
-AnswersRun text cert OutOfMemory before now = IsUntouched before now
-AnswersRun text cert ReadFault before now = IsUntouched before now
-AnswersRun text cert status before now = OfForm text (λ network. AnswersNetwork network cert status before now)
+-- What an answer says of a text without a fault: want of memory and a fault of reading leave all untouched.
+abbrev pub AnswersText : List ℕ → RunOrder → Status → Seen → Seen → Type 0
+AnswersText text order OutOfMemory before now = IsUntouched before now
+AnswersText text order ReadFault before now = IsUntouched before now
+AnswersText text order status before now = OfNetwork text (λ network. AnswersNetwork network order status before now)
 
 -- ---- whatever the text was
+
+-- One line of a refused text was printed, and nothing was created or written.
+pub record PrintsRefusal (before now : Seen) : Type 0 where
+  pub line : ℕ
+  pub cause : Cause
+  pub only : OnlyPrinted (refused_text_line line cause) before now
 
 -- What an answer leaves, also where the desk tells no text: want of memory and a fault of reading leave all untouched; a
 -- refusal prints its one line and creates nothing.
@@ -161,13 +211,15 @@ abbrev pub Leaves : Status → Seen → Seen → Type 0
 Leaves OutOfMemory before now = IsUntouched before now
 Leaves ReadFault before now = IsUntouched before now
 Leaves Usage before now = OnlyPrinted usage_line before now
-Leaves InputRefused before now = OnlyPrinted refused_line before now
+Leaves InputRefused before now = PrintsRefusal before now
 Leaves status before now = ⊤
 
 -- The file of the name CERT holds what was written, at the end of a run and, where something was written, after a fault.
 abbrev pub Holds : Status → List ℕ → Seen → Seen → Type 0
 Holds Done cert before now = file_at now.files cert ≡ now.written
 Holds Undecided cert before now = file_at now.files cert ≡ now.written
+Holds RoundsSpent cert before now = file_at now.files cert ≡ now.written
+Holds DemandOutOfRange cert before now = file_at now.files cert ≡ now.written
 Holds WriteFault cert before now = (now.written ≡ before.written) ⊎ (file_at now.files cert ≡ now.written)
 Holds Stalled cert before now = (now.written ≡ before.written) ⊎ (file_at now.files cert ≡ now.written)
 Holds status cert before now = ⊤

@@ -1,14 +1,5 @@
-pub mod FirstForm
-pub mod Command
 pub mod Statuses
-pub mod Run
+pub mod Words
 pub mod Answers
 pub mod Printing
-pub mod Lines
-pub mod SingleValve
-pub mod Solution
-pub mod FirstRun
-pub mod Texts
-pub mod Delivery
 pub mod Reading
-pub mod OneItem

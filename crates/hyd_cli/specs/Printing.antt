@@ -1,23 +1,15 @@
--- What printed numbers are.
-use Rattle.std.specs.Prelude.{◌≡◌, ℤ, false, take}
-use Rattle.hyd_num.specs.Rational.{Rational}
-use Rattle.hyd_num.specs.Decimals.{head_quantity, pressure_quantity, flow_quantity, decimal_text}
-use Rattle.hyd_spec.specs.Types.{Cmd}
-use Rattle.hyd_spec_certificates.specs.Interval.{Interval}
-use Rattle.hyd_spec_reports.specs.Report.{Prints}
-use Rattle.hyd_cli.specs.declared.printed.Quantity.{Quantity}
-use Rattle.hyd_cli.specs.declared.printed.Quantity.TheVariants.{Head, Pressure, Flow}
-use Rattle.hyd_cli.specs.declared.printed.Ends.{Ends}
+-- Lines that are printed, and nothing else done.
+use Rattle.std.specs.Prelude.{◌≡◌, ℕ, List, Result, IfErr, OnOk, OnErr}
+use Rattle.hyd_io.specs.declared.desk.Faults.{Faults}
+use Rattle.hyd_io.specs.declared.output.Channel.TheVariants.{Report}
+use Rattle.hyd_io.specs.declared.output.OutFault.{OutFault}
+use Rattle.hyd_io.specs.Output.{HasOutCause}
+use Rattle.hyd_cli.specs.Answers.{Seen, OnlyPrinted, OnlyPrintedFront}
 
--- the value of a number of ticks, in metres or cubic metres a day
-abbrev pub quantity_of : Quantity → ℤ → Rational
-quantity_of Head ticks = head_quantity false ticks
-quantity_of Pressure ticks = pressure_quantity false ticks
-quantity_of Flow ticks = flow_quantity Cmd ticks
-
--- the texts are those of an interval that prints the ticks
-pub record AreEnds (quantity : Quantity) (low high : ℤ) (ends : Ends) : Type 0 where
-  pub interval : Interval
-  pub prints : Prints (quantity_of quantity) (record { lo = low; hi = high }) interval
-  pub low_text : take ends.low.length ends.low.buffer ≡ decimal_text interval.lo
-  pub high_text : take ends.high.length ends.high.buffer ≡ decimal_text interval.hi
+-- The line was printed; after a fault of a call that prints, a front of it was.
+pub record Prints (line : List ℕ) (result : Result (Unit {0}) OutFault) (before now : Seen) (counts later : Faults) : Type 0
+  where
+    pub whole : OnOk result (OnlyPrinted line before now)
+    pub front : OnErr result (OnlyPrintedFront line before now)
+    pub cause : IfErr result (λ fault. HasOutCause Report fault counts later)
+    pub steady : OnOk result (later ≡ counts)

@@ -1,212 +1,142 @@
-//! The network of one reservoir, one throttle control valve and one junction.
-#![tactic(auto)]
+//! The run of a network that was read.
 
-ghost use Rattle.std.specs.Prelude.{◌≡◌, ◌≢◌, ◌≤◌, ◌*◌, ◌^◌, [], ◌∷◌, pos, ◌≤ℤ◌, unsigned_abs, IfOk, Some, None, false};
-ghost use Rattle.hyd_num.specs.Quantity as quantity;
-ghost use Rattle.hyd_num.specs.declared.units.FlowUnit.TheVariants.{Cmd};
-ghost use Rattle.hyd_spec.specs.Types.{Throttle, Quadratic};
-ghost use Rattle.hyd_cli.specs.FirstForm.{IsPlain, IsJunction, IsValve};
-ghost use Rattle.hyd_cli.specs.OneItem.{IsOnly};
+ghost use Rattle.std.specs.Prelude.{◌≡◌, ⊥, true, false, IsTrue, IfOk};
+ghost use Rattle.hyd_net.specs.Sound.{Sound};
+ghost use Rattle.hyd_spec_certificates.specs.Record.{initial_standing};
+ghost use Rattle.hyd_sim.specs.View.{IsSingle, standing_of};
+ghost use Rattle.hyd_run.specs.Runs.{outcome_of};
+ghost use Rattle.hyd_words.specs.Orders.{RunOrder};
+ghost use Rattle.hyd_words.specs.Seen.{run_seen};
+ghost use Rattle.hyd_cli.specs.Answers.{seen, ChangesOnly, HasCause, OpensCert, AnswersRun, AnswersNetwork};
+ghost use Rattle.hyd_cli.specs.Statuses.{status_of_outcome};
 
-use hyd_net::{
-    Demand, Junction, Link, LinkKind, LinkState, List, Names, OpenValve, Options, OutOfMemory,
-    Project, Reservoir, Times,
-};
-use hyd_num::{Capacity, Decimal, FlowUnit};
-use hyd_resist::valve_capacity;
-use hyd_units::{flow_ticks, head_ticks};
+use crate::command::refuse_text;
+use crate::status::{Status, fault_status};
+use hyd_io::{Channel, Desk, Pen};
+use hyd_net::{Cause, OutOfMemory, Project};
+use hyd_newton::{Finder, Gradient};
+use hyd_run::{RunEnd, run};
+use hyd_sim::{Settings, Sim};
+use hyd_spec_reports::StopCause;
+use hyd_words::RunWords;
 use std::alloc::Global;
 
-fn one<T: Drop>(alloc: Global, item: T) -> Result<List<T>, OutOfMemory>
-    ensures { IfOk result (λ list. list.list ≡ item ∷ []) }
+/// Whether a network has one period alone, and no tanks, controls and rules.
+fn is_single(project: &Project) -> bool
+    ensures yes { result ≡ true → IsSingle project.now }
+    ensures no { result ≡ false → IsSingle project.now → ⊥ }
 {
-    let mut list = List::new(alloc);
-    list.push(item)?;
-    Ok(list)
+    project.tanks.is_empty()
+        && project.controls.is_empty()
+        && project.rules.is_empty()
+        && project.times.duration == 0
 }
 
-/// A table of one ID.
-pub(crate) fn one_name(alloc: Global, id: &[u8]) -> Result<Names, OutOfMemory>
-    ensures { IfOk result (λ names. names ≡ id.now ∷ []) }
+/// The status of the end of a run.
+fn status_of_end(end: RunEnd) -> Status
+    ensures { result ≡ status_of_outcome (outcome_of end) }
 {
-    let mut names = Names::new(alloc);
-    names.add(id)?;
-    Ok(names)
-}
-
-/// A table of two IDs.
-pub(crate) fn two_names(alloc: Global, first: &[u8], second: &[u8]) -> Result<Names, OutOfMemory>
-    requires { first.now ≢ second.now }
-    ensures { IfOk result (λ names. names ≡ first.now ∷ (second.now ∷ [])) }
-{
-    let mut names = one_name(alloc, first)?;
-    names.add(second)?;
-    Ok(names)
-}
-
-/// The one junction.
-pub(crate) fn junctions(
-    alloc: Global,
-    elevation: Decimal,
-    demand: Decimal,
-) -> Result<List<Junction>, OutOfMemory>
-    requires elevation { unsigned_abs elevation.nano ≤ 10 ^ 13 }
-    requires demand { unsigned_abs demand.nano ≤ 10 ^ 17 }
-    ensures { IfOk result (λ list. IsOnly (λ junction. IsJunction junction (quantity.head_ticks false elevation.nano) (quantity.flow_ticks Cmd demand.nano)) list.list) }
-{
-    let demands = one(
-        alloc,
-        Demand {
-            base: flow_ticks(demand, FlowUnit::Cmd) as i64,
-            pattern: None,
-        },
-    )?;
-    one(
-        alloc,
-        Junction {
-            elevation: head_ticks(elevation, false) as i64,
-            demands,
-            emitter: None,
-        },
-    )
-}
-
-/// The one reservoir.
-pub(crate) fn reservoirs(alloc: Global, head: Decimal) -> Result<List<Reservoir>, OutOfMemory>
-    requires { unsigned_abs head.nano ≤ 10 ^ 13 }
-    ensures { IfOk result (λ list. list.list ≡ record { head = quantity.head_ticks false head.nano; pattern = None } ∷ []) }
-{
-    one(
-        alloc,
-        Reservoir {
-            head: head_ticks(head, false) as i64,
-            pattern: None,
-        },
-    )
-}
-
-// The state of a valve that is throttled to a setting.
-fn throttled(setting: Decimal, capacity: Capacity) -> LinkState
-    requires least { pos (1 * 10 ^ 9) ≤ℤ setting.nano }
-    requires greatest { setting.nano ≤ℤ pos (1000 * 10 ^ 9) }
-    ensures { result ≡ Throttle setting.nano (Quadratic capacity) }
-{
-    LinkState::Throttle {
-        nano: setting.nano as i64,
-        law: OpenValve::Quadratic(capacity),
+    match end {
+        RunEnd::Finished => Status::Done,
+        RunEnd::Stopped(StopCause::RoundsSpent { .. }) => Status::RoundsSpent,
+        RunEnd::Stopped(StopCause::Demand { .. }) => Status::DemandOutOfRange,
+        RunEnd::Stopped(_) => Status::Undecided,
     }
 }
 
-/// The valve from the reservoir to the junction.
-pub(crate) fn valve(diameter: Decimal, setting: Decimal) -> Link
-    requires least_diameter { pos (10 * 10 ^ 9) ≤ℤ diameter.nano }
-    requires greatest_diameter { diameter.nano ≤ℤ pos (10000 * 10 ^ 9) }
-    requires least_setting { pos (1 * 10 ^ 9) ≤ℤ setting.nano }
-    requires greatest_setting { setting.nano ≤ℤ pos (1000 * 10 ^ 9) }
-    ensures { IsValve result diameter.nano setting.nano }
+/// A run of a network at its start and the gradient method, with all the memory that the two need.
+fn open_run(
+    alloc: Global,
+    project: Project,
+    settings: Settings,
+) -> Result<(Sim, Gradient), OutOfMemory>
+    requires sound { Sound project }
+    requires single { IsSingle project }
+    ensures standing { IfOk result (λ both. standing_of both.0 ≡ initial_standing project) }
+    ensures project { IfOk result (λ both. both.0.project ≡ project) }
+    ensures settings { IfOk result (λ both. both.0.settings ≡ settings) }
 {
-    let Ok(capacity) = valve_capacity(diameter, setting, false) else {
-        unreachable!()
+    let sim = Sim::open(alloc, project, settings)?;
+    let finder = Gradient::open(alloc, sim.net())?;
+    Ok((sim, finder))
+}
+
+/// Creates CERT, and puts a run out, the certificate into it and the report on standard output.
+fn put_run<D: Desk, F: Finder>(
+    sim: &mut Sim,
+    finder: &mut F,
+    cert: &str,
+    desk: &mut D,
+) -> Status
+    requires start { standing_of sim.old ≡ initial_standing sim.old.project }
+    requires creates { IsTrue (D.may_create cert.now) }
+    ensures cause { HasCause result (D.counts desk.old) (D.counts desk.new) }
+    ensures answers { (order : RunOrder) → order.rounds ≡ sim.old.settings.rounds
+        → order.width ≡ sim.old.settings.width → order.tight ≡ sim.old.settings.tight
+        → order.files.cert ≡ cert.now → AnswersRun sim.old.project order result
+        (seen D.files D.written D.printed desk.old) (seen D.files D.written D.printed desk.new) }
+    ensures others { ChangesOnly cert.now
+        (seen D.files D.written D.printed desk.old) (seen D.files D.written D.printed desk.new) }
+    ensures opens { OpensCert result (D.openings desk.old) (D.openings desk.new) }
+{
+    if desk.create(cert).is_err() {
+        return Status::WriteFault;
+    }
+    let mut certificate = Pen::new(Channel::Cert);
+    let mut report = Pen::new(Channel::Report);
+    match run(sim, finder, &mut certificate, &mut report, desk) {
+        Ok(end) => status_of_end(end),
+        Err(fault) => fault_status(fault),
+    }
+}
+
+/// Runs a network that has one period alone, and no tanks, controls and rules.
+fn run_single<D: Desk>(
+    alloc: Global,
+    project: Project,
+    order: RunWords<'_>,
+    desk: &mut D,
+) -> Status
+    requires sound { Sound project }
+    requires single { IsSingle project }
+    requires creates { IsTrue (D.may_create order.files.cert.now) }
+    ensures cause { HasCause result (D.counts desk.old) (D.counts desk.new) }
+    ensures answers { AnswersRun project (run_seen order) result
+        (seen D.files D.written D.printed desk.old) (seen D.files D.written D.printed desk.new) }
+    ensures others { ChangesOnly order.files.cert.now
+        (seen D.files D.written D.printed desk.old) (seen D.files D.written D.printed desk.new) }
+    ensures opens { OpensCert result (D.openings desk.old) (D.openings desk.new) }
+{
+    let settings = Settings {
+        rounds: order.rounds,
+        width: order.width,
+        tight: order.tight,
     };
-    Link {
-        from: 1,
-        to: 0,
-        kind: LinkKind::Tcv {
-            valve: OpenValve::Linear,
-        },
-        start: throttled(setting, capacity),
-    }
+    let Ok((mut sim, mut finder)) = open_run(alloc, project, settings) else {
+        return Status::OutOfMemory;
+    };
+    put_run(&mut sim, &mut finder, order.files.cert, desk)
 }
 
-fn options() -> Options
-    ensures unit { result.unit ≡ Cmd }
-    ensures demand_driven { result.pda ≡ false }
-    ensures minimum_pressure { result.p0.nano ≡ pos 0 }
-    ensures required_pressure { result.pf.nano ≡ pos (10 ^ 8) }
-    ensures multiplier { result.multiplier.nano ≡ pos (10 ^ 9) }
-    ensures default_pattern { result.default_pattern ≡ None }
-{
-    Options {
-        unit: FlowUnit::Cmd,
-        pda: false,
-        p0: Decimal { nano: 0 },
-        pf: Decimal { nano: 100_000_000 },
-        multiplier: Decimal {
-            nano: 1_000_000_000,
-        },
-        default_pattern: None,
-    }
-}
-
-const TIMES: Times = Times {
-    duration: 0,
-    hydraulic: 3_600,
-    pattern: 3_600,
-    pattern_start: 0,
-    report: 3_600,
-    report_start: 0,
-    start_clock: 0,
-    rule: 360,
-};
-
-/// The network of these parts and no other.
-pub(crate) fn plain(
+/// Runs a network that was read, or refuses it: one with more than one period, a tank, a control or a rule isn't taken
+/// yet.
+pub(crate) fn run_network<D: Desk>(
     alloc: Global,
-    node_ids: Names,
-    link_ids: Names,
-    junctions: List<Junction>,
-    reservoirs: List<Reservoir>,
-    links: List<Link>,
-) -> Project
-    ensures plain { IsPlain result }
-    ensures node_ids { result.node_ids ≡ node_ids }
-    ensures link_ids { result.link_ids ≡ link_ids }
-    ensures junctions { result.junctions ≡ junctions }
-    ensures reservoirs { result.reservoirs ≡ reservoirs }
-    ensures links { result.links ≡ links }
+    project: Project,
+    order: RunWords<'_>,
+    desk: &mut D,
+) -> Status
+    requires sound { Sound project }
+    requires creates { IsTrue (D.may_create order.files.cert.now) }
+    ensures cause { HasCause result (D.counts desk.old) (D.counts desk.new) }
+    ensures answers { AnswersNetwork project (run_seen order) result
+        (seen D.files D.written D.printed desk.old) (seen D.files D.written D.printed desk.new) }
+    ensures others { ChangesOnly order.files.cert.now
+        (seen D.files D.written D.printed desk.old) (seen D.files D.written D.printed desk.new) }
+    ensures opens { OpensCert result (D.openings desk.old) (D.openings desk.new) }
 {
-    Project {
-        options: options(),
-        times: TIMES,
-        node_ids,
-        link_ids,
-        junctions,
-        reservoirs,
-        tanks: List::new(alloc),
-        links,
-        patterns: List::new(alloc),
-        shapes: List::new(alloc),
-        bends: List::new(alloc),
-        controls: List::new(alloc),
-        rules: List::new(alloc),
+    if is_single(&project) {
+        return run_single(alloc, project, order, desk);
     }
-}
-
-/// The network of no nodes and no links.
-pub(crate) fn empty(alloc: Global) -> Project
-    ensures { IsPlain result }
-{
-    plain(
-        alloc,
-        Names::new(alloc),
-        Names::new(alloc),
-        List::new(alloc),
-        List::new(alloc),
-        List::new(alloc),
-    )
-}
-
-/// The one link, which is the valve.
-pub(crate) fn links(
-    alloc: Global,
-    diameter: Decimal,
-    setting: Decimal,
-) -> Result<List<Link>, OutOfMemory>
-    requires least_diameter { pos (10 * 10 ^ 9) ≤ℤ diameter.nano }
-    requires greatest_diameter { diameter.nano ≤ℤ pos (10000 * 10 ^ 9) }
-    requires least_setting { pos (1 * 10 ^ 9) ≤ℤ setting.nano }
-    requires greatest_setting { setting.nano ≤ℤ pos (1000 * 10 ^ 9) }
-    ensures { IfOk result (λ list. IsOnly (λ link. IsValve link diameter.nano setting.nano) list.list) }
-{
-    one(alloc, valve(diameter, setting))
+    refuse_text(0, Cause::Unsupported(12), desk)
 }

@@ -1,35 +1,45 @@
-//! Putting out whole texts.
+//! Lines that are printed, and nothing else done.
 
-ghost use Rattle.std.specs.Prelude.{◌≡◌, ℕ, List, ◌≢◌, Option, Some, IfErr, OnOk, OnErr, IsTrue, is_some};
-ghost use Rattle.hyd_io.specs.Told.{append_known, file_at, PutOut};
-ghost use Rattle.hyd_io.specs.Counts.{NeverFall};
-ghost use Rattle.hyd_io.specs.Output.{by_channel, OnCert, OnReport, HasOutCause};
+ghost use Rattle.std.specs.Prelude.{◌≡◌};
+ghost use Rattle.hyd_report.specs.RefusedText.{refused_text_line};
+ghost use Rattle.hyd_cli.specs.Answers.{seen};
+ghost use Rattle.hyd_cli.specs.Printing.{Prints};
+ghost use Rattle.hyd_cli.specs.Words.{usage_line};
 
 use hyd_io::{Channel, Desk, OutFault, Pen};
+use hyd_net::Cause;
+use hyd_report::put_refused_text;
 
-/// Puts all the bytes out, to the file created last or to standard output.
-pub(crate) fn put_bytes<D: Desk>(desk: &mut D, to: Channel, bytes: &[u8]) -> Result<(), OutFault>
-    requires { OnCert to (IsTrue (D.ready desk.old)) }
-    ensures whole { OnOk result (by_channel to (D.written desk.new) (D.printed desk.new)
-        ≡ append_known (by_channel to (D.written desk.old) (D.printed desk.old)) bytes.now) }
-    ensures prefix { OnErr result (PutOut (by_channel to (D.written desk.old) (D.printed desk.old))
-        (by_channel to (D.written desk.new) (D.printed desk.new)) bytes.now) }
-    ensures cause { IfErr result (λ fault.
-        HasOutCause to fault (D.counts desk.old) (D.counts desk.new)) }
-    ensures steady { OnOk result (D.counts desk.new ≡ D.counts desk.old) }
-    ensures never_fall { NeverFall (D.counts desk.old) (D.counts desk.new) }
-    ensures report_files { OnReport to (D.files desk.new ≡ D.files desk.old) }
-    ensures report_written { OnReport to (D.written desk.new ≡ D.written desk.old) }
-    ensures cert_printed { OnCert to (D.printed desk.new ≡ D.printed desk.old) }
-    ensures others { (other : List ℕ) → D.target desk.old ≢ Some other
-        → file_at (D.files desk.new) other ≡ file_at (D.files desk.old) other }
-    ensures still_told { is_some (D.files desk.new) ≡ is_some (D.files desk.old) }
-    ensures target_stays { D.target desk.new ≡ D.target desk.old }
-    ensures ready_stays { D.ready desk.new ≡ D.ready desk.old }
+const USAGE: &[u8] =
+    b"USAGE hyd run NET CERT [--sweeps N] [--width W] [--tight] or check NET CERT or gen SEED JUNCTIONS NET CERT\n";
+
+/// Prints the usage line.
+pub(crate) fn print_usage<D: Desk>(desk: &mut D) -> Result<(), OutFault>
+    ensures prints { Prints usage_line result
+        (seen D.files D.written D.printed desk.old) (seen D.files D.written D.printed desk.new)
+        (D.counts desk.old) (D.counts desk.new) }
     ensures openings_stay { D.openings desk.new ≡ D.openings desk.old }
 {
-    let mut pen = Pen::new(to);
-    if let Err(fault) = pen.put(desk, bytes) {
+    let mut pen = Pen::new(Channel::Report);
+    if let Err(fault) = pen.put(desk, USAGE) {
+        return Err(fault);
+    }
+    pen.flush(desk)
+}
+
+/// Prints the line of a text that is refused.
+pub(crate) fn print_refusal<D: Desk>(
+    line: u32,
+    cause: Cause,
+    desk: &mut D,
+) -> Result<(), OutFault>
+    ensures prints { Prints (refused_text_line line cause) result
+        (seen D.files D.written D.printed desk.old) (seen D.files D.written D.printed desk.new)
+        (D.counts desk.old) (D.counts desk.new) }
+    ensures openings_stay { D.openings desk.new ≡ D.openings desk.old }
+{
+    let mut pen = Pen::new(Channel::Report);
+    if let Err(fault) = put_refused_text(line, cause, &mut pen, desk) {
         return Err(fault);
     }
     pen.flush(desk)

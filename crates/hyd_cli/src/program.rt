@@ -1,10 +1,11 @@
 //! The program: the words that the system gives, and the desk on its files.
 
-ghost use Rattle.std.specs.Prelude.{◌≡◌, ◌≢◌, ◌⊎◌, ℕ, List, Some, None, IsTrue, IfOk, IsOk, IsErr, map, string_bytes};
+ghost use Rattle.std.specs.Prelude.{◌≡◌, ◌≢◌, ◌⊎◌, ⊥, ℕ, List, Some, None, IsTrue, IfOk, IsOk, IsErr, map, string_bytes};
 ghost use Rattle.hyd_io.specs.Told.{IsTold};
-ghost use Rattle.hyd_cli.specs.FirstForm.{Words, HasForm, HasNoForm};
-ghost use Rattle.hyd_cli.specs.Command.{Names, command, words_behind_name};
-ghost use Rattle.hyd_cli.specs.Answers.{seen, ChangesOnly, HasCause, OpensOnce, Leaves, Holds, AnswersUsage, AnswersRefused, AnswersRun};
+ghost use Rattle.hyd_spec_input.specs.Faults.{HasNoFault};
+ghost use Rattle.hyd_words.specs.Orders.{RunOrder};
+ghost use Rattle.hyd_cli.specs.Words.{command, words_behind_name};
+ghost use Rattle.hyd_cli.specs.Answers.{seen, ChangesOnly, HasCause, OpensOnce, Leaves, Holds, AnswersUsage, AnswersFault, AnswersText};
 ghost use Rattle.hyd_cli.specs.declared.status.Status.TheVariants.{Usage, OutOfMemory};
 
 use crate::command::tool;
@@ -28,10 +29,10 @@ pub fn run_program<R: AllocGlobal + Env + Files + Print + Drop>(rt: R) -> Status
 /// behind the program's name. Where the words can't be had as a whole there are none, which is no
 /// command. Want of memory for the words leaves all untouched.
 pub fn start<D: Desk>(alloc: Global, given: io::Result<Args>, desk: &mut D) -> Status
-    requires opens { (names : Names) → command (words_behind_name given) ≡ Some names
-        → IsTrue (D.may_open names.net) }
-    requires creates { (names : Names) → command (words_behind_name given) ≡ Some names
-        → IsTrue (D.may_create names.cert) }
+    requires opens { (order : RunOrder) → command (words_behind_name given) ≡ Some order
+        → IsTrue (D.may_open order.files.net) }
+    requires creates { (order : RunOrder) → command (words_behind_name given) ≡ Some order
+        → IsTrue (D.may_create order.files.cert) }
     ensures cause { HasCause result (D.counts desk.old) (D.counts desk.new) }
     ensures leaves { Leaves result
         (seen D.files D.written D.printed desk.old) (seen D.files D.written D.printed desk.new) }
@@ -39,20 +40,19 @@ pub fn start<D: Desk>(alloc: Global, given: io::Result<Args>, desk: &mut D) -> S
         (seen D.files D.written D.printed desk.old) (seen D.files D.written D.printed desk.new) }
     ensures no_words { IsErr given → AnswersUsage result
         (seen D.files D.written D.printed desk.old) (seen D.files D.written D.printed desk.new) }
-    ensures never_usage { (names : Names) → command (words_behind_name given) ≡ Some names → result ≢ Usage }
-    ensures refused { (names : Names) (text : List ℕ) → command (words_behind_name given) ≡ Some names
-        → IsTold (D.files desk.old) names.net text → HasNoForm text → AnswersRefused result
+    ensures never_usage { (order : RunOrder) → command (words_behind_name given) ≡ Some order → result ≢ Usage }
+    ensures refused { (order : RunOrder) (text : List ℕ) → command (words_behind_name given) ≡ Some order
+        → IsTold (D.files desk.old) order.files.net text → (HasNoFault text → ⊥) → AnswersFault text result
         (seen D.files D.written D.printed desk.old) (seen D.files D.written D.printed desk.new) }
-    ensures run { (names : Names) (text : List ℕ) (w : Words)
-        → command (words_behind_name given) ≡ Some names
-        → IsTold (D.files desk.old) names.net text → HasForm text w → AnswersRun text names.cert result
+    ensures run { (order : RunOrder) (text : List ℕ) → command (words_behind_name given) ≡ Some order
+        → IsTold (D.files desk.old) order.files.net text → HasNoFault text → AnswersText text order result
         (seen D.files D.written D.printed desk.old) (seen D.files D.written D.printed desk.new) }
-    ensures holds { (names : Names) → command (words_behind_name given) ≡ Some names → Holds result names.cert
+    ensures holds { (order : RunOrder) → command (words_behind_name given) ≡ Some order → Holds result order.files.cert
         (seen D.files D.written D.printed desk.old) (seen D.files D.written D.printed desk.new) }
-    ensures others { (names : Names) → command (words_behind_name given) ≡ Some names
-        → ChangesOnly names.cert
+    ensures others { (order : RunOrder) → command (words_behind_name given) ≡ Some order
+        → ChangesOnly order.files.cert
         (seen D.files D.written D.printed desk.old) (seen D.files D.written D.printed desk.new) }
-    ensures once { (names : Names) → command (words_behind_name given) ≡ Some names
+    ensures once { (order : RunOrder) → command (words_behind_name given) ≡ Some order
         → OpensOnce result (D.openings desk.old) (D.openings desk.new) }
     ensures never { command (words_behind_name given) ≡ None → D.openings desk.new ≡ D.openings desk.old }
 {

@@ -2,8 +2,10 @@
 
 ghost use Rattle.std.specs.Prelude.{◌≡◌};
 ghost use Rattle.std.specs.Process.{exit_status};
+ghost use Rattle.hyd_cli.specs.Answers.{status_of};
 ghost use Rattle.hyd_cli.specs.Statuses.{number_of};
 
+use hyd_io::OutFault;
 use std::process::{ExitCode, Termination};
 
 /// The answer of a command. Its number is the exit status of the program.
@@ -23,6 +25,10 @@ pub enum Status {
     InputRefused = 5,
     /// The run stopped: no certificate exists, or a matter is open.
     Undecided = 6,
+    /// The run stopped: the rounds don't lead to a certificate.
+    RoundsSpent = 7,
+    /// The run stopped: a demand is out of range.
+    DemandOutOfRange = 8,
     /// A call of `write` or `print` took nothing of a nonempty piece.
     Stalled = 10,
 }
@@ -41,5 +47,15 @@ impl Termination for Status {
         ensures { exit_status result ≡ number_of self }
     {
         ExitCode::from(self.number())
+    }
+}
+
+/// The status of a fault of output.
+pub(crate) fn fault_status(fault: OutFault) -> Status
+    ensures { result ≡ status_of fault }
+{
+    match fault {
+        OutFault::Fault => Status::WriteFault,
+        OutFault::Stalled => Status::Stalled,
     }
 }

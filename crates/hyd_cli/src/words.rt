@@ -1,32 +1,17 @@
-//! The words of a command.
+//! The words of a command that is taken.
 
 ghost use Rattle.std.specs.Prelude.{◌≡◌, map, option_map, string_bytes};
-ghost use Rattle.hyd_cli.specs.Command.{command};
+ghost use Rattle.hyd_words.specs.Seen.{run_seen};
+ghost use Rattle.hyd_cli.specs.Words.{command};
 
-/// NET and CERT of the words `run NET CERT --tight`: two different names, neither of which begins
-/// with `-`. Any other words are no command.
-pub(crate) fn names_of(words: &[String]) -> Option<(&str, &str)>
-    ensures { option_map (λ names. record { net = names.0.now; cert = names.1.now }) result
-        ≡ command (map string_bytes words.now) }
+use hyd_words::{Command, RunWords, read_words};
+
+/// The order to run a network, where the words are one. The other commands aren't taken yet.
+pub(crate) fn order_of(words: &[String]) -> Option<RunWords<'_>>
+    ensures { option_map run_seen result ≡ command (map string_bytes words.now) }
 {
-    let [word, net, cert, option] = words else {
-        return None;
-    };
-    let (net, cert) = (net.as_str(), cert.as_str());
-    if word.as_str() == "run"
-        && option.as_str() == "--tight"
-        && is_name(net)
-        && is_name(cert)
-        && net != cert
-    {
-        return Some((net, cert));
+    match read_words(words) {
+        Some(Command::Run(order)) => Some(order),
+        _ => None,
     }
-    None
-}
-
-/// Whether a word isn't an option.
-fn is_name(word: &str) -> bool
-    ensures { result ≡ Rattle.hyd_cli.specs.Command.is_name word.now }
-{
-    !word.as_bytes().starts_with(b"-")
 }

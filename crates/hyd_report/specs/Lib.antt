@@ -3,3 +3,4 @@ pub mod Periods
 pub mod Printing
 pub mod Putting
 pub mod Words
+pub mod RefusedText

@@ -11,6 +11,7 @@ mod numbers;
 mod pieces;
 mod printed;
 mod refusals;
+mod refused_text;
 mod report;
 mod reservoirs;
 mod states;
@@ -21,5 +22,6 @@ mod words;
 
 pub use last::{put_done, put_partial, put_refused_end};
 pub use refusals::put_refused;
+pub use refused_text::put_refused_text;
 pub use report::put_report;
 pub use stops::put_stop;

@@ -1,0 +1,97 @@
+//! The reading of NET.
+
+ghost use Rattle.std.specs.Prelude.{◌≡◌, ◌⊎◌, ◌<◌, List, ℕ, IsTrue, IfOk, IfErr, IfSome, IfNone, OnOk, length};
+ghost use Rattle.hyd_io.specs.Told.{IsTold};
+ghost use Rattle.hyd_io.specs.Counts.{with_opened};
+ghost use Rattle.hyd_lex.specs.Lines.{items_of, rows_in};
+ghost use Rattle.hyd_net.specs.Sound.{Sound};
+ghost use Rattle.hyd_spec_input.specs.Faults.{IsFault, HasNoFault};
+ghost use Rattle.hyd_spec_input.specs.Project.{IsProject};
+ghost use Rattle.hyd_cli.specs.Answers.{seen, IsUntouched, HasCause};
+ghost use Rattle.hyd_cli.specs.Reading.{IfFault, IfEnded, HasReadCause};
+ghost use Rattle.hyd_cli.specs.declared.status.Status.TheVariants.{ReadFault, OutOfMemory};
+
+use crate::status::Status;
+use hyd_inp::{InpFault, InpRefused, read_project};
+use hyd_io::{Desk, InFault, read_all};
+use hyd_net::{Cause, Project};
+use std::alloc::Global;
+
+/// The longest text that is read, in bytes: 64 MiB.
+const LONGEST: usize = 64 * 1024 * 1024;
+
+/// Why there is no network.
+#[derive(Debug, Clone, Copy, PartialEq, Eq, Drop)]
+pub(crate) enum Unread {
+    /// The text has a fault.
+    Fault(InpFault),
+    /// The command ends so: a read failed, or memory ran out.
+    Ended(Status),
+}
+
+/// Opens and reads the whole of NET, at most 64 MiB; there is no text where it is longer. Answers a status where a read
+/// failed or memory ran out.
+fn read_text<D: Desk>(alloc: Global, net: &str, desk: &mut D) -> Result<Option<Vec<u8>>, Status>
+    requires { IsTrue (D.may_open net.now) }
+    ensures text { (text : List ℕ) → IsTold (D.files desk.old) net.now text
+        → IfOk result (λ got. IfSome got (λ bytes. bytes.items ≡ text)) }
+    ensures long { (text : List ℕ) → IsTold (D.files desk.old) net.now text
+        → IfOk result (λ got. IfNone got (LONGEST < length text)) }
+    ensures cause { IfErr result (λ status. HasCause status (D.counts desk.old) (D.counts desk.new)) }
+    ensures steady { OnOk result (D.counts desk.new ≡ D.counts desk.old) }
+    ensures why { IfErr result (λ status. (status ≡ ReadFault) ⊎ (status ≡ OutOfMemory)) }
+    ensures untouched { IsUntouched
+        (seen D.files D.written D.printed desk.old) (seen D.files D.written D.printed desk.new) }
+    ensures opened { D.openings desk.new ≡ with_opened (D.openings desk.old) }
+{
+    if desk.open(net).is_err() {
+        return Err(Status::ReadFault);
+    }
+    match read_all(alloc, desk, LONGEST) {
+        Ok(text) => Ok(Some(text)),
+        Err(InFault::TooLong) => Ok(None),
+        Err(InFault::Fault) => Err(Status::ReadFault),
+        Err(InFault::OutOfMemory) => Err(Status::OutOfMemory),
+    }
+}
+
+/// The network of a text, or why there is none.
+fn network_of(alloc: Global, text: &[u8]) -> Result<Project, Unread>
+    ensures no_fault { IfOk result (λ _. HasNoFault text.now) }
+    ensures project { IfOk result (IsProject (rows_in (items_of text.now))) }
+    ensures sound { IfOk result Sound }
+    ensures fault { IfErr result (λ unread. IfFault unread (λ fault. IsFault text.now fault.line fault.cause)) }
+    ensures ended { IfErr result (λ unread. IfEnded unread (λ status. status ≡ OutOfMemory)) }
+{
+    match read_project(alloc, text) {
+        Ok(project) => Ok(project),
+        Err(InpRefused::OutOfMemory) => Err(Unread::Ended(Status::OutOfMemory)),
+        Err(InpRefused::Fault(fault)) => Err(Unread::Fault(fault)),
+    }
+}
+
+/// Opens and reads the whole of NET: its network, or why there is none.
+pub(crate) fn read_network<D: Desk>(alloc: Global, net: &str, desk: &mut D) -> Result<Project, Unread>
+    requires { IsTrue (D.may_open net.now) }
+    ensures no_fault { (text : List ℕ) → IsTold (D.files desk.old) net.now text
+        → IfOk result (λ _. HasNoFault text) }
+    ensures project { (text : List ℕ) → IsTold (D.files desk.old) net.now text
+        → IfOk result (IsProject (rows_in (items_of text))) }
+    ensures sound { IfOk result Sound }
+    ensures fault { (text : List ℕ) → IsTold (D.files desk.old) net.now text
+        → IfErr result (λ unread. IfFault unread (λ fault. IsFault text fault.line fault.cause)) }
+    ensures why { IfErr result (λ unread. IfEnded unread (λ status. (status ≡ ReadFault) ⊎ (status ≡ OutOfMemory))) }
+    ensures cause { HasReadCause result (D.counts desk.old) (D.counts desk.new) }
+    ensures untouched { IsUntouched
+        (seen D.files D.written D.printed desk.old) (seen D.files D.written D.printed desk.new) }
+    ensures opened { D.openings desk.new ≡ with_opened (D.openings desk.old) }
+{
+    match read_text(alloc, net, desk) {
+        Ok(Some(text)) => network_of(alloc, &text),
+        Ok(None) => Err(Unread::Fault(InpFault {
+            line: 0,
+            cause: Cause::Limit(1),
+        })),
+        Err(status) => Err(Unread::Ended(status)),
+    }
+}

@@ -1,0 +1,29 @@
+-- The one line that is printed of an input file that is refused.
+-- Source: this program's.
+use Rattle.std.specs.Prelude.{ℕ, List, [], ◌∷◌, codes, decimal}
+use Rattle.hyd_net.specs.declared.cause.Cause.{Cause}
+use Rattle.hyd_net.specs.declared.cause.Cause.TheVariants.{Syntax, Number, Range, DuplicateId, UnknownName, Unsupported, Limit, Missing}
+use Rattle.hyd_spec_reports.specs.CertificateText.{line}
+
+-- the number of a cause
+abbrev pub cause_number : Cause → ℕ
+cause_number Syntax = 1
+cause_number Number = 2
+cause_number Range = 3
+cause_number DuplicateId = 4
+cause_number UnknownName = 5
+cause_number (Unsupported part) = 6
+cause_number (Limit limit) = 7
+cause_number Missing = 8
+
+-- the number of the part that isn't supported or of the limit that is passed, else 0
+abbrev pub detail_of : Cause → ℕ
+detail_of (Unsupported part) = part
+detail_of (Limit limit) = limit
+detail_of cause = 0
+
+-- `REFUSED line N cause C detail D`
+abbrev pub refused_text_line : ℕ → Cause → List ℕ
+refused_text_line number cause =
+    line (codes "REFUSED" ∷ (codes "line" ∷ (decimal number ∷ (codes "cause" ∷ (decimal (cause_number cause)
+    ∷ (codes "detail" ∷ (decimal (detail_of cause) ∷ [])))))))

@@ -1,0 +1,68 @@
+//! The one line where an input file is refused.
+
+ghost use Rattle.std.specs.Prelude.{◌≡◌, IsTrue};
+ghost use Rattle.hyd_io.specs.Output.{OnCert};
+ghost use Rattle.hyd_report.specs.Putting.{Puts};
+ghost use Rattle.hyd_report.specs.RefusedText.{cause_number, detail_of, refused_text_line};
+
+use crate::numbers::number;
+use crate::pieces::put_pieces;
+use hyd_io::{Desk, OutFault, Pen};
+use hyd_net::Cause;
+
+/// The number of a cause.
+fn cause_number(cause: Cause) -> u8
+    ensures { result ≡ cause_number cause }
+{
+    match cause {
+        Cause::Syntax => 1,
+        Cause::Number => 2,
+        Cause::Range => 3,
+        Cause::DuplicateId => 4,
+        Cause::UnknownName => 5,
+        Cause::Unsupported(_) => 6,
+        Cause::Limit(_) => 7,
+        Cause::Missing => 8,
+    }
+}
+
+/// The number of the part or of the limit that a cause names, else 0.
+fn detail_of(cause: Cause) -> u8
+    ensures { result ≡ detail_of cause }
+{
+    match cause {
+        Cause::Unsupported(part) => part,
+        Cause::Limit(limit) => limit,
+        _ => 0,
+    }
+}
+
+/// Puts the line of an input file that is refused: the line of the fault, counted from 1, or 0 where the file as a
+/// whole is meant, and its cause. Its faults and its needs are those of `Pen::put`.
+pub fn put_refused_text<D: Desk>(
+    line: u32,
+    cause: Cause,
+    pen: &mut Pen,
+    desk: &mut D,
+) -> Result<(), OutFault>
+    requires { OnCert pen.old.to (IsTrue (D.ready desk.old)) }
+    ensures { Puts D.files D.rest D.written D.printed D.target D.ready D.counts D.openings
+        (refused_text_line line cause) result pen.old pen.new desk.old desk.new }
+{
+    let line = number(u64::from(line));
+    let kind = number(u64::from(cause_number(cause)));
+    let detail = number(u64::from(detail_of(cause)));
+    put_pieces(
+        &[
+            b"REFUSED line ".as_slice(),
+            line.bytes(),
+            b" cause ",
+            kind.bytes(),
+            b" detail ",
+            detail.bytes(),
+            b"\n",
+        ],
+        pen,
+        desk,
+    )
+}
