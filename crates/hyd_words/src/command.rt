@@ -1,0 +1,45 @@
+//! The commands, as their words give them.
+
+/// The two files of a command. Their names differ.
+#[derive(Clone, Copy, Debug, PartialEq, Eq)]
+pub struct Files<'a> {
+    /// NET: the network's input file.
+    pub net: &'a str,
+    /// CERT: the certificate.
+    pub cert: &'a str,
+}
+
+/// What `run NET CERT [--sweeps N] [--width W] [--tight]` asks for.
+#[derive(Clone, Copy, Debug, PartialEq, Eq)]
+pub struct RunWords<'a> {
+    /// The network, which is read, and the certificate, which is written.
+    pub files: Files<'a>,
+    /// N: at most how many rounds a vector may take, from 0 to 100,000; 200 where it isn't given.
+    pub rounds: u32,
+    /// W in head ticks of 10^-13 m, from 10^4 to 10^16; 10^11, which is 0.01 m, where it isn't given.
+    pub width: i64,
+    /// Whether `--tight` is given.
+    pub tight: bool,
+}
+
+/// What `gen SEED JUNCTIONS NET CERT` asks for.
+#[derive(Clone, Copy, Debug, PartialEq, Eq)]
+pub struct GenWords<'a> {
+    /// SEED: below 2^31.
+    pub seed: u32,
+    /// JUNCTIONS: from 1 to 10,000.
+    pub junctions: u32,
+    /// The network and the certificate, which are both written.
+    pub files: Files<'a>,
+}
+
+/// A command of the program.
+#[derive(Clone, Copy, Debug, PartialEq, Eq)]
+pub enum Command<'a> {
+    /// `run NET CERT [--sweeps N] [--width W] [--tight]`.
+    Run(RunWords<'a>),
+    /// `check NET CERT`: both files are read.
+    Check(Files<'a>),
+    /// `gen SEED JUNCTIONS NET CERT`.
+    Gen(GenWords<'a>),
+}

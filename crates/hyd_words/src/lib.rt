@@ -1,0 +1,9 @@
+//! The words of the command line of `hyd`: `run NET CERT`, `check NET CERT` and
+//! `gen SEED JUNCTIONS NET CERT`, with their options.
+#![tactic(auto)]
+
+mod command;
+mod reader;
+
+pub use command::{Command, Files, GenWords, RunWords};
+pub use reader::read_words;
