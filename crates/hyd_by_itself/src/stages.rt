@@ -40,7 +40,7 @@ fn may_follow(stage: Stage, first: RuleWord) -> bool
     }
 }
 
-/// Whether a line may follow: Syntax where it begins with another word.
+/// Syntax exactly where a line begins with no word that may follow at a stage.
 pub(crate) fn check_order(stage: Stage, first: Option<RuleWord>) -> Result<(), Cause>
     ensures { Judged (rules.in_order stage first) result (λ _. Unit {0}) }
 {

@@ -30,10 +30,12 @@ use hyd_tables::Table;
 use std::alloc::Global;
 
 /// The curves by straight lines that pumps name, then those that general purpose valves name, each once, in the order
-/// in which they are first named: their names, and their points in ticks.
+/// in which they are first named.
 #[derive(Drop)]
 pub struct Bends {
+    /// Their names.
     pub names: Names,
+    /// The points of each in ticks, in the order of `names`.
     pub lists: hyd_net::List<hyd_net::List<HeadPoint>>,
 }
 

@@ -28,9 +28,11 @@ use std::alloc::Global;
 /// What is wrong with a curve as a pump's, and as a general purpose valve's.
 #[derive(Debug, Clone, Copy, PartialEq, Eq, Drop)]
 pub struct Verdict {
+    /// What is wrong with it as a pump's.
     pub pump: Option<Cause>,
     /// Whether it is one that a pump can have, of one point or three, whose capacity is out of range.
     pub is_refused: bool,
+    /// What is wrong with it as a general purpose valve's.
     pub valve: Option<Cause>,
 }
 

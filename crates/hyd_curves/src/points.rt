@@ -22,7 +22,9 @@ use std::alloc::Global;
 /// A point of a curve, as the numbers of its row.
 #[derive(Debug, Clone, Copy, PartialEq, Eq, Drop)]
 pub struct CurvePoint {
+    /// A flow, or a tank's level above its bottom, in the file's unit.
     pub x: Decimal,
+    /// A head, or a volume up to the level, in the file's unit.
     pub y: Decimal,
 }
 

@@ -23,11 +23,12 @@ use hyd_rows::read_tank;
 use hyd_tables::Table;
 use std::alloc::Global;
 
-/// The volume curves that tanks name, each once, in the order in which they are first named: their names, and their
-/// points in ticks.
+/// The volume curves that tanks name, each once, in the order in which they are first named.
 #[derive(Drop)]
 pub struct Shapes {
+    /// Their names.
     pub names: Names,
+    /// The points of each in ticks, in the order of `names`.
     pub lists: hyd_net::List<hyd_net::List<VolumePoint>>,
 }
 

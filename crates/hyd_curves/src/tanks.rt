@@ -118,8 +118,10 @@ fn is_shape(points: &[CurvePoint], minimum: i128, maximum: i128, us: bool) -> bo
     has_room(points, minimum, maximum, us)
 }
 
-/// Range where the volume curve that a tank names isn't one that covers the tank's levels, from `minimum` to `maximum`
-/// in the file's units. A name that no curve has is one of no points.
+/// Range where the volume curve that a tank names can't be the tank's, with levels from `minimum` to `maximum` in the
+/// file's units: it has fewer than two points, a level above 10^17 head ticks up or down, a level or volume that isn't
+/// above the one before, a volume below 0 or above 10^9 m3, doesn't cover the tank's levels, or has less than a litre
+/// between them. A name that no curve has is one of no points.
 pub fn tank_curve_fault(
     points: &Points,
     curves: &Table,

@@ -9,10 +9,12 @@ use hyd_lex::LexCause;
 use hyd_net::{Cause, OutOfMemory};
 use thiserror::Error;
 
-/// The fault of a text: its line, counted from 1, or 0 where the text as a whole is meant, and what is wrong.
+/// The fault of a text.
 #[derive(Debug, Clone, Copy, PartialEq, Eq, Drop)]
 pub struct InpFault {
+    /// Its line, counted from 1, or 0 where the text as a whole is meant.
     pub line: u32,
+    /// What is wrong.
     pub cause: Cause,
 }
 

@@ -105,8 +105,8 @@ impl Demands {
 }
 
 /// Of a file whose rows are right by themselves, its first row of [DEMANDS] that is wrong with the others: the first
-/// with more than 100,000 rows up to it (Limit 10), a junction or pattern that isn't there (UnknownName), a demand
-/// above 10^15 flow ticks either way (Range).
+/// with more than 100,000 rows up to it (Limit 10), a name that no node has, or whose first node is no junction, a
+/// pattern that isn't there (UnknownName), a demand above 10^15 flow ticks either way (Range).
 pub fn judge_demands(
     text: &Lines<'_>,
     lines: &[Line],

@@ -94,8 +94,9 @@ fn further(
     kept(found, place, line.number, cause)
 }
 
-/// Of a file whose rows are right by themselves, its first row of [EMITTERS] that is wrong with the others: one whose
-/// junction isn't there (UnknownName), or whose coefficient above 0 makes a capacity out of range (Limit 13).
+/// Of a file whose rows are right by themselves, its first row of [EMITTERS] that is wrong with the others: one with a
+/// name that no node has, or whose first node is no junction (UnknownName), or with a coefficient above 0 that makes a
+/// capacity out of range (Limit 13).
 pub fn judge_emitters(
     text: &Lines<'_>,
     lines: &[Line],

@@ -36,6 +36,7 @@ pub struct Nodes {
     counts: Counts,
     /// The IDs of junctions, reservoirs and tanks.
     pub table: Table,
+    /// The first wrong row.
     pub found: Option<Found>,
 }
 
@@ -138,7 +139,9 @@ impl Nodes {
 /// or 32 tanks (Limit 6) up to it, an ID that an earlier node has (DuplicateId), a pattern or volume curve that isn't
 /// there (UnknownName), and else out of range (Range): a head, elevation or highest level above 10^17 head ticks up or
 /// down, a head that is so times a multiplier of its pattern, a demand above 10^15 flow ticks either way, levels less
-/// than a hundredth of a foot apart, or a volume curve that doesn't cover them.
+/// than a hundredth of a foot apart, or a volume curve that can't be the tank's: of fewer than two points, with a level
+/// above 10^17 head ticks up or down, a level or volume that isn't above the one before, a volume below 0 or above
+/// 10^9 m3, that doesn't cover the tank's levels, or with less than a litre between them.
 pub fn judge_nodes(
     alloc: Global,
     text: &Lines<'_>,

@@ -114,7 +114,8 @@ fn levels_fault(row: &TankRow<'_>, points: &Points, curves: &Table, unit: FlowUn
 
 /// What is wrong with a tank, where it is the first row with its ID or not: Limit 6 above 32 of them, DuplicateId,
 /// UnknownName of its volume curve, Range of its bottom, of levels less than a hundredth of a foot apart, of the head
-/// at its maximum level, and of a volume curve that doesn't cover its levels.
+/// at its maximum level, and of a volume curve that can't be its own: of fewer than two points, out of range, that
+/// doesn't rise, that doesn't cover its levels, or that has less than a litre between them.
 pub(crate) fn tank_fault(
     text: &Lines<'_>,
     line: &Line,

@@ -27,10 +27,10 @@ use std::alloc::Global;
 /// The links of a file, and the first of their rows that is wrong with the others.
 #[derive(Drop)]
 pub struct Links {
-    /// How many links there are.
-    pub count: usize,
+    count: usize,
     /// The IDs of pipes, pumps and valves.
     pub table: Table,
+    /// The first wrong row.
     pub found: Option<Found>,
 }
 

@@ -17,4 +17,5 @@ pub mod Tallies
 pub mod PatternRows
 pub mod Rounding
 pub mod Parts
+pub mod OneFault
 pub mod ExampleText

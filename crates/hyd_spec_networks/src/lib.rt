@@ -1,16 +1,18 @@
 //! The project of a text without a fault is sound: whatever rows say, the network that they describe meets every range
-//! that the computation rests on. Each part is the contract of a small function, on the definitions alone.
+//! that the computation rests on. A text has one fault at most, and then it isn't one without. Each part is the contract
+//! of a small function, on the definitions alone.
 #![tactic(auto)]
 
-ghost use Rattle.std.specs.Prelude.{ℕ, List, All};
+ghost use Rattle.std.specs.Prelude.{◌≡◌, ℕ, List, All};
 ghost use Rattle.hyd_lex.specs.Lines.{items_of, rows_in};
+ghost use Rattle.hyd_net.specs.declared.cause.Cause.{Cause};
 ghost use Rattle.hyd_net.specs.declared.project.Project.{Project};
 ghost use Rattle.hyd_net.specs.Commands.{node_count, IsControl, IsRule};
 ghost use Rattle.hyd_net.specs.Sizes.{HasOptions, HasSizes, IsJunction, IsReservoir, IsTank};
 ghost use Rattle.hyd_net.specs.States.{CanHave};
 ghost use Rattle.hyd_net.specs.Sound.{HasIds, IsWithinLimits, HasEnds, AreTimes, IsPattern, Sound};
 ghost use Rattle.hyd_net.specs.Made.{IsAllMade};
-ghost use Rattle.hyd_spec_input.specs.Faults.{HasNoFault};
+ghost use Rattle.hyd_spec_input.specs.Faults.{IsFault, HasNoFault};
 ghost use Rattle.hyd_spec_input.specs.Project.{IsProject};
 ghost use Rattle.hyd_spec_networks.specs.Example.{text, network};
 
@@ -96,4 +98,17 @@ pub fn sound()
 pub fn example()
     ensures fault { HasNoFault text }
     ensures project { IsProject (rows_in (items_of text)) network }
+{}
+
+/// A text has one fault at most: any two have the same line and cause.
+pub fn one_fault()
+    ensures lines { (text : List ℕ) (line other : ℕ) (cause second : Cause) → IsFault text line cause
+        → IsFault text other second → line ≡ other }
+    ensures causes { (text : List ℕ) (line other : ℕ) (cause second : Cause) → IsFault text line cause
+        → IsFault text other second → cause ≡ second }
+{}
+
+/// A text that has a fault isn't one without.
+pub fn no_fault_beside()
+    ensures { (text : List ℕ) (line : ℕ) (cause : Cause) → IsFault text line cause → HasNoFault text → ⊥ }
 {}

@@ -6,11 +6,14 @@ ghost use Rattle.hyd_tables.specs.Found as faults;
 
 use hyd_net::Cause;
 
-/// A wrong row: its place among the rows, counted from 0, its line, counted from 1, and what is wrong.
+/// A wrong row.
 #[derive(Debug, Clone, Copy, PartialEq, Eq, Drop)]
 pub struct Found {
+    /// Its place among the rows, counted from 0.
     pub place: usize,
+    /// Its line in the text, counted from 1.
     pub line: u32,
+    /// What is wrong with it.
     pub cause: Cause,
 }
 

@@ -8,7 +8,7 @@ ghost use Rattle.hyd_spec_input.specs.WithOthers as others;
 use hyd_lex::split_word;
 use hyd_net::Cause;
 
-/// Limit of a number where a count is above the most that is allowed.
+/// The cause Limit `number` exactly where a count is above the most that is allowed.
 pub fn limit(most: usize, number: u8, count: usize) -> Option<Cause>
     ensures { result ≡ others.passes most number count }
 {

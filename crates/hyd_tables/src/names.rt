@@ -49,7 +49,7 @@ pub fn unknown_pattern(text: &Lines<'_>, patterns: &Table, name: Option<&[u8]>) 
     Some(Cause::UnknownName)
 }
 
-/// UnknownName where no junction has a name.
+/// UnknownName where the first node with a name is no junction, or no node has it.
 pub fn unknown_junction(text: &Lines<'_>, nodes: &Table, name: &[u8]) -> Option<Cause>
     requires { IsEven nodes.now }
     ensures { (rows : List Row) → IsTable text.now.text (node_rows rows) nodes.now

@@ -14,7 +14,9 @@ use std::alloc::Global;
 /// The IDs of rows, each with the line of the first row that has it.
 #[derive(Drop)]
 pub struct Table {
+    /// Each ID once, in the order of the rows.
     pub names: Names,
+    /// For each ID the line of the first row that has it, in the order of `names`.
     pub firsts: Vec<Line>,
 }
 

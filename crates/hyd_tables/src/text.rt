@@ -13,7 +13,9 @@ use std::alloc::Global;
 /// The lines of a text up to the first that breaks a rule of lines, and that fault.
 #[derive(Drop)]
 pub struct Gathered {
+    /// The lines of rows, in order.
     pub lines: Vec<Line>,
+    /// What ended them; `None` where no line breaks a rule.
     pub fault: Option<LexFault>,
 }
 
