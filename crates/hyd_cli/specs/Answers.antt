@@ -11,7 +11,6 @@ use Rattle.hyd_lex.specs.Lines.{items_of, rows_in}
 use Rattle.hyd_net.specs.declared.cause.Cause.{Cause}
 use Rattle.hyd_net.specs.declared.cause.Cause.TheVariants.{Unsupported}
 use Rattle.hyd_spec.specs.Types.{Project}
-use Rattle.hyd_spec_input.specs.Faults.{IsFault}
 use Rattle.hyd_spec_input.specs.Project.{IsProject}
 use Rattle.hyd_spec_reports.specs.Headline.{Outcome, Sharpness, RunWrites, RunBreaksOff, outcome_number}
 use Rattle.hyd_report.specs.RefusedText.{refused_text_line}
@@ -118,19 +117,6 @@ AnswersRefused line cause ReadFault before now = IsUntouched before now
 AnswersRefused line cause WriteFault before now = OnlyPrintedFront (refused_text_line line cause) before now
 AnswersRefused line cause Stalled before now = OnlyPrintedFront (refused_text_line line cause) before now
 AnswersRefused line cause status before now = ⊥
-
--- The text has a fault, and this holds of its line and its cause.
-pub record OfFault (text : List ℕ) (P : ℕ → Cause → Type 0) : Type 0 where
-  pub line : ℕ
-  pub cause : Cause
-  pub is_fault : IsFault text line cause
-  pub holds : P line cause
-
--- What an answer says of a text with a fault: want of memory and a fault of reading leave all untouched.
-abbrev pub AnswersFault : List ℕ → Status → Seen → Seen → Type 0
-AnswersFault text OutOfMemory before now = IsUntouched before now
-AnswersFault text ReadFault before now = IsUntouched before now
-AnswersFault text status before now = OfFault text (λ line cause. AnswersRefused line cause status before now)
 
 -- ---- runs
 

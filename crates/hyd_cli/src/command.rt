@@ -1,13 +1,14 @@
 //! The top call.
 
-ghost use Rattle.std.specs.Prelude.{◌≡◌, ◌≢◌, ⊥, ℕ, List, Option, Some, None, IsTrue, map, string_bytes};
+ghost use Rattle.std.specs.Prelude.{◌≡◌, ◌≢◌, ℕ, List, Option, Some, None, IsTrue, map, string_bytes};
 ghost use Rattle.hyd_io.specs.Told.{IsTold};
-ghost use Rattle.hyd_spec_input.specs.Faults.{HasNoFault};
+ghost use Rattle.hyd_net.specs.declared.cause.Cause.{Cause as Why};
+ghost use Rattle.hyd_spec_input.specs.Faults.{IsFault, HasNoFault};
 ghost use Rattle.hyd_report.specs.RefusedText.{refused_text_line};
 ghost use Rattle.hyd_words.specs.Orders.{RunOrder};
 ghost use Rattle.hyd_words.specs.Seen.{run_seen};
 ghost use Rattle.hyd_cli.specs.Words.{command};
-ghost use Rattle.hyd_cli.specs.Answers.{seen, ChangesOnly, HasCause, OpensOnce, Leaves, Holds, AnswersUsage, AnswersRefused, AnswersFault, AnswersText};
+ghost use Rattle.hyd_cli.specs.Answers.{seen, ChangesOnly, HasCause, OpensOnce, Leaves, Holds, AnswersUsage, AnswersRefused, AnswersText};
 ghost use Rattle.hyd_cli.specs.declared.status.Status.TheVariants.{Usage};
 
 use crate::network::run_network;
@@ -36,8 +37,9 @@ pub fn tool<D: Desk>(alloc: Global, words: &[String], desk: &mut D) -> Status
     ensures usage { command (map string_bytes words.now) ≡ None → AnswersUsage result
         (seen D.files D.written D.printed desk.old) (seen D.files D.written D.printed desk.new) }
     ensures never_usage { (order : RunOrder) → command (map string_bytes words.now) ≡ Some order → result ≢ Usage }
-    ensures refused { (order : RunOrder) (text : List ℕ) → command (map string_bytes words.now) ≡ Some order
-        → IsTold (D.files desk.old) order.files.net text → (HasNoFault text → ⊥) → AnswersFault text result
+    ensures refused { (order : RunOrder) (text : List ℕ) (line : ℕ) (why : Why)
+        → command (map string_bytes words.now) ≡ Some order → IsTold (D.files desk.old) order.files.net text
+        → IsFault text line why → AnswersRefused line why result
         (seen D.files D.written D.printed desk.old) (seen D.files D.written D.printed desk.new) }
     ensures run { (order : RunOrder) (text : List ℕ) → command (map string_bytes words.now) ≡ Some order
         → IsTold (D.files desk.old) order.files.net text → HasNoFault text → AnswersText text order result
@@ -66,8 +68,8 @@ fn run<D: Desk>(alloc: Global, order: RunWords<'_>, desk: &mut D) -> Status
     ensures leaves { Leaves result
         (seen D.files D.written D.printed desk.old) (seen D.files D.written D.printed desk.new) }
     ensures never_usage { result ≢ Usage }
-    ensures refused { (text : List ℕ) → IsTold (D.files desk.old) order.files.net.now text
-        → (HasNoFault text → ⊥) → AnswersFault text result
+    ensures refused { (text : List ℕ) (line : ℕ) (why : Why) → IsTold (D.files desk.old) order.files.net.now text
+        → IsFault text line why → AnswersRefused line why result
         (seen D.files D.written D.printed desk.old) (seen D.files D.written D.printed desk.new) }
     ensures run { (text : List ℕ) → IsTold (D.files desk.old) order.files.net.now text → HasNoFault text
         → AnswersText text (run_seen order) result

@@ -1,11 +1,12 @@
 //! The program: the words that the system gives, and the desk on its files.
 
-ghost use Rattle.std.specs.Prelude.{◌≡◌, ◌≢◌, ◌⊎◌, ⊥, ℕ, List, Some, None, IsTrue, IfOk, IsOk, IsErr, map, string_bytes};
+ghost use Rattle.std.specs.Prelude.{◌≡◌, ◌≢◌, ◌⊎◌, ℕ, List, Some, None, IsTrue, IfOk, IsOk, IsErr, map, string_bytes};
 ghost use Rattle.hyd_io.specs.Told.{IsTold};
-ghost use Rattle.hyd_spec_input.specs.Faults.{HasNoFault};
+ghost use Rattle.hyd_net.specs.declared.cause.Cause.{Cause as Why};
+ghost use Rattle.hyd_spec_input.specs.Faults.{IsFault, HasNoFault};
 ghost use Rattle.hyd_words.specs.Orders.{RunOrder};
 ghost use Rattle.hyd_cli.specs.Words.{command, words_behind_name};
-ghost use Rattle.hyd_cli.specs.Answers.{seen, ChangesOnly, HasCause, OpensOnce, Leaves, Holds, AnswersUsage, AnswersFault, AnswersText};
+ghost use Rattle.hyd_cli.specs.Answers.{seen, ChangesOnly, HasCause, OpensOnce, Leaves, Holds, AnswersUsage, AnswersRefused, AnswersText};
 ghost use Rattle.hyd_cli.specs.declared.status.Status.TheVariants.{Usage, OutOfMemory};
 
 use crate::command::tool;
@@ -41,8 +42,9 @@ pub fn start<D: Desk>(alloc: Global, given: io::Result<Args>, desk: &mut D) -> S
     ensures no_words { IsErr given → AnswersUsage result
         (seen D.files D.written D.printed desk.old) (seen D.files D.written D.printed desk.new) }
     ensures never_usage { (order : RunOrder) → command (words_behind_name given) ≡ Some order → result ≢ Usage }
-    ensures refused { (order : RunOrder) (text : List ℕ) → command (words_behind_name given) ≡ Some order
-        → IsTold (D.files desk.old) order.files.net text → (HasNoFault text → ⊥) → AnswersFault text result
+    ensures refused { (order : RunOrder) (text : List ℕ) (line : ℕ) (why : Why)
+        → command (words_behind_name given) ≡ Some order → IsTold (D.files desk.old) order.files.net text
+        → IsFault text line why → AnswersRefused line why result
         (seen D.files D.written D.printed desk.old) (seen D.files D.written D.printed desk.new) }
     ensures run { (order : RunOrder) (text : List ℕ) → command (words_behind_name given) ≡ Some order
         → IsTold (D.files desk.old) order.files.net text → HasNoFault text → AnswersText text order result
