@@ -2,7 +2,7 @@
 
 ghost use Rattle.std.specs.Prelude.{◌≡◌, ◌≢◌, ℕ, List, Option, Some, None, IsTrue, map, string_bytes};
 ghost use Rattle.hyd_io.specs.Told.{IsTold};
-ghost use Rattle.hyd_net.specs.declared.cause.Cause.{Cause as Why};
+ghost use Rattle.hyd_net.specs.declared.cause.Cause.{Cause};
 ghost use Rattle.hyd_spec_input.specs.Faults.{IsFault, HasNoFault};
 ghost use Rattle.hyd_report.specs.RefusedText.{refused_text_line};
 ghost use Rattle.hyd_words.specs.Orders.{RunOrder};
@@ -37,7 +37,7 @@ pub fn tool<D: Desk>(alloc: Global, words: &[String], desk: &mut D) -> Status
     ensures usage { command (map string_bytes words.now) ≡ None → AnswersUsage result
         (seen D.files D.written D.printed desk.old) (seen D.files D.written D.printed desk.new) }
     ensures never_usage { (order : RunOrder) → command (map string_bytes words.now) ≡ Some order → result ≢ Usage }
-    ensures refused { (order : RunOrder) (text : List ℕ) (line : ℕ) (why : Why)
+    ensures refused { (order : RunOrder) (text : List ℕ) (line : ℕ) (why : Cause)
         → command (map string_bytes words.now) ≡ Some order → IsTold (D.files desk.old) order.files.net text
         → IsFault text line why → AnswersRefused line why result
         (seen D.files D.written D.printed desk.old) (seen D.files D.written D.printed desk.new) }
@@ -68,7 +68,7 @@ fn run<D: Desk>(alloc: Global, order: RunWords<'_>, desk: &mut D) -> Status
     ensures leaves { Leaves result
         (seen D.files D.written D.printed desk.old) (seen D.files D.written D.printed desk.new) }
     ensures never_usage { result ≢ Usage }
-    ensures refused { (text : List ℕ) (line : ℕ) (why : Why) → IsTold (D.files desk.old) order.files.net.now text
+    ensures refused { (text : List ℕ) (line : ℕ) (why : Cause) → IsTold (D.files desk.old) order.files.net.now text
         → IsFault text line why → AnswersRefused line why result
         (seen D.files D.written D.printed desk.old) (seen D.files D.written D.printed desk.new) }
     ensures run { (text : List ℕ) → IsTold (D.files desk.old) order.files.net.now text → HasNoFault text

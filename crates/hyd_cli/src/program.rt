@@ -2,7 +2,7 @@
 
 ghost use Rattle.std.specs.Prelude.{◌≡◌, ◌≢◌, ◌⊎◌, ℕ, List, Some, None, IsTrue, IfOk, IsOk, IsErr, map, string_bytes};
 ghost use Rattle.hyd_io.specs.Told.{IsTold};
-ghost use Rattle.hyd_net.specs.declared.cause.Cause.{Cause as Why};
+ghost use Rattle.hyd_net.specs.declared.cause.Cause.{Cause};
 ghost use Rattle.hyd_spec_input.specs.Faults.{IsFault, HasNoFault};
 ghost use Rattle.hyd_words.specs.Orders.{RunOrder};
 ghost use Rattle.hyd_cli.specs.Words.{command, words_behind_name};
@@ -42,7 +42,7 @@ pub fn start<D: Desk>(alloc: Global, given: io::Result<Args>, desk: &mut D) -> S
     ensures no_words { IsErr given → AnswersUsage result
         (seen D.files D.written D.printed desk.old) (seen D.files D.written D.printed desk.new) }
     ensures never_usage { (order : RunOrder) → command (words_behind_name given) ≡ Some order → result ≢ Usage }
-    ensures refused { (order : RunOrder) (text : List ℕ) (line : ℕ) (why : Why)
+    ensures refused { (order : RunOrder) (text : List ℕ) (line : ℕ) (why : Cause)
         → command (words_behind_name given) ≡ Some order → IsTold (D.files desk.old) order.files.net text
         → IsFault text line why → AnswersRefused line why result
         (seen D.files D.written D.printed desk.old) (seen D.files D.written D.printed desk.new) }

@@ -1,0 +1,285 @@
+-- How what a call leaves follows from what the calls in it leave.
+use Rattle.std.proofs.Common.{◌≡◌, ◌≢◌, ℕ, ℤ, Bool, List, [], ◌++◌, Option, None, Some, ◌⊎◌, inl, inr, ◌∙◌, refl, sym, ap, subst, is_some}
+use Rattle.hyd_io.specs.Told.{Files, where_told, append_known, file_at, content_of, PutOut}
+use Rattle.hyd_io.specs.Counts.{with_opened, with_created}
+use Rattle.hyd_io.specs.declared.desk.Faults.{Faults}
+use Rattle.hyd_io.specs.declared.desk.Openings.{Openings}
+use Rattle.hyd_io.specs.declared.output.OutFault.{OutFault}
+use Rattle.hyd_io.specs.declared.output.OutFault.TheVariants.{Fault, Stalled as Stall}
+use Rattle.hyd_lex.specs.Lines.{items_of, rows_in}
+use Rattle.hyd_net.specs.declared.cause.Cause.{Cause}
+use Rattle.hyd_net.specs.declared.cause.Cause.TheVariants.{Unsupported}
+use Rattle.hyd_spec.specs.Types.{Project}
+use Rattle.hyd_spec_input.specs.Project.{IsProject}
+use Rattle.hyd_spec_reports.specs.Headline.{Outcome, Finished, Stopped, RunWrites, RunBreaksOff, outcome_number}
+use Rattle.hyd_spec_reports.specs.declared.StopCause.TheVariants.{NoCertificate, TankOpen, RuleOpen, ControlOpen, EventOpen, RoundsSpent as Rounds, Demand}
+use Rattle.hyd_words.specs.Orders.{RunOrder}
+use Rattle.hyd_run.specs.Pens.{OneRose}
+use Rattle.hyd_cli.specs.Answers.{Seen, IsUntouched, NothingPut, Delivered, CutShort, PrintsRefusal, OnlyPrinted, OnlyPrintedFront, HasCause, status_of, OpensOnce, OpensCert, Leaves, Holds, AnswersRefused, AnswersRun, AnswersNetwork, AnswersText, sharpness_of}
+use Rattle.hyd_cli.specs.Statuses.{number_of, status_of_outcome}
+use Rattle.hyd_cli.specs.declared.status.Status.{Status}
+use Rattle.hyd_cli.specs.declared.status.Status.TheVariants.{Done, OutOfMemory, Usage, ReadFault, WriteFault, InputRefused, Undecided, RoundsSpent, DemandOutOfRange, Stalled}
+
+-- ---- what was untouched is the same
+
+fields_of : Option Files → Option (List ℕ) → Option (List ℕ) → Seen
+fields_of files written printed = record { files = files; written = written; printed = printed }
+
+same_fields : (files files' : Option Files) (written written' printed printed' : Option (List ℕ)) → files' ≡ files
+    → written' ≡ written → printed' ≡ printed → fields_of files' written' printed' ≡ fields_of files written printed
+same_fields files files' written written' printed printed' f w p = rw (f, w, p) refl
+
+same_seen : (before now : Seen) → IsUntouched before now → now ≡ before
+unfolding fields_of
+same_seen before now u =
+    same_fields before.files now.files before.written now.written before.printed now.printed u.files u.written u.printed
+
+-- a fact from a state on holds also from an earlier one, where nothing was touched between them
+pub since_before : (P : Seen → Type 0) (before between : Seen) → IsUntouched before between → P between → P before
+since_before P before between u h = subst P (same_seen before between u) h
+
+-- ---- what a new file holds
+
+-- what was written after the file was created
+pub new_text : (files : Option Files) (begun written : Option (List ℕ)) (text : List ℕ) → begun ≡ where_told files []
+    → written ≡ append_known begun text → written ≡ where_told files text
+new_text None begun written text b w = rw b at w
+new_text (Some told) begun written text b w = rw b at w
+
+-- the file of that name holds what was written
+pub new_file : (before files : Option Files) (target written : Option (List ℕ)) (name : List ℕ)
+    → target ≡ where_told before name → is_some files ≡ is_some before → written ≡ content_of files target
+    → file_at files name ≡ written
+new_file None None target written name t s w = sym (rw t at w)
+new_file None (Some told) target written name t s w = absurd s
+new_file (Some told) None target written name t s w = absurd s
+new_file (Some old) (Some told) target written name t s w = sym (rw t at w)
+
+-- ---- the end of a run
+
+pub number_of_end : (outcome : Outcome) → number_of (status_of_outcome outcome) ≡ outcome_number outcome
+number_of_end Finished = refl
+number_of_end (Stopped (NoCertificate period problem side junction)) = refl
+number_of_end (Stopped (TankOpen period tank lo hi)) = refl
+number_of_end (Stopped (RuleOpen period rule clause lo hi)) = refl
+number_of_end (Stopped (ControlOpen period control lo hi)) = refl
+number_of_end (Stopped (EventOpen period earliest latest)) = refl
+number_of_end (Stopped (Rounds period problem side rounds)) = refl
+number_of_end (Stopped (Demand period junction demand)) = refl
+
+-- what holds of the four statuses of an end holds of the status of each
+by_end : (P : Status → Type 0) (outcome : Outcome) → (Done ≡ status_of_outcome outcome → P Done)
+    → (Undecided ≡ status_of_outcome outcome → P Undecided) → (RoundsSpent ≡ status_of_outcome outcome → P RoundsSpent)
+    → (DemandOutOfRange ≡ status_of_outcome outcome → P DemandOutOfRange) → P (status_of_outcome outcome)
+by_end P Finished d u r o = d refl
+by_end P (Stopped (NoCertificate period problem side junction)) d u r o = u refl
+by_end P (Stopped (TankOpen period tank lo hi)) d u r o = u refl
+by_end P (Stopped (RuleOpen period rule clause lo hi)) d u r o = u refl
+by_end P (Stopped (ControlOpen period control lo hi)) d u r o = u refl
+by_end P (Stopped (EventOpen period earliest latest)) d u r o = u refl
+by_end P (Stopped (Rounds period problem side rounds)) d u r o = r refl
+by_end P (Stopped (Demand period junction demand)) d u r o = o refl
+
+pub answers_end : (network : Project) (order : RunOrder) (outcome : Outcome) (before now : Seen)
+    → Delivered network order (status_of_outcome outcome) before now
+    → AnswersRun network order (status_of_outcome outcome) before now
+answers_end network order outcome before now h =
+    by_end (λ status. AnswersRun network order status before now) outcome
+    (λ e. subst (λ s. Delivered network order s before now) (sym e) h)
+    (λ e. subst (λ s. Delivered network order s before now) (sym e) h)
+    (λ e. subst (λ s. Delivered network order s before now) (sym e) h)
+    (λ e. subst (λ s. Delivered network order s before now) (sym e) h)
+
+pub cause_of_end : (outcome : Outcome) (before now : Faults) → now ≡ before
+    → HasCause (status_of_outcome outcome) before now
+cause_of_end outcome before now e =
+    by_end (λ status. HasCause status before now) outcome (λ d. e) (λ d. e) (λ d. e) (λ d. e)
+
+pub opens_of_end : (outcome : Outcome) (before now : Openings) → now ≡ with_created before
+    → OpensCert (status_of_outcome outcome) before now
+opens_of_end outcome before now e =
+    by_end (λ status. OpensCert status before now) outcome (λ d. e) (λ d. e) (λ d. e) (λ d. e)
+
+-- ---- a fault of output
+
+pub answers_fault : (network : Project) (order : RunOrder) (fault : OutFault) (before now : Seen)
+    → NothingPut before now ⊎ CutShort network order before now
+    → AnswersRun network order (status_of fault) before now
+answers_fault network order Fault before now h = h
+answers_fault network order Stall before now h = h
+
+pub cause_of_fault : (fault : OutFault) (before now : Faults) → OneRose fault before now
+    → HasCause (status_of fault) before now
+cause_of_fault Fault before now (inl e) = inl e
+cause_of_fault Fault before now (inr e) = inr e
+cause_of_fault Stall before now (inl e) = e
+cause_of_fault Stall before now (inr e) = e
+
+pub opens_of_fault : (fault : OutFault) (before now : Openings) → now ≡ with_created before
+    → OpensCert (status_of fault) before now
+opens_of_fault Fault before now e = inr e
+opens_of_fault Stall before now e = inr e
+
+-- ---- refusals
+
+refusal_leaves : (line : ℕ) (cause : Cause) (status : Status) (before now : Seen)
+    → AnswersRefused line cause status before now → Leaves status before now
+refusal_leaves line cause Done before now h = absurd h
+refusal_leaves line cause OutOfMemory before now h = h
+refusal_leaves line cause Usage before now h = absurd h
+refusal_leaves line cause ReadFault before now h = h
+refusal_leaves line cause WriteFault before now h = tt
+refusal_leaves line cause InputRefused before now h = record { line = line; cause = cause; only = h }
+refusal_leaves line cause Undecided before now h = absurd h
+refusal_leaves line cause RoundsSpent before now h = absurd h
+refusal_leaves line cause DemandOutOfRange before now h = absurd h
+refusal_leaves line cause Stalled before now h = tt
+
+refusal_holds : (line : ℕ) (cause : Cause) (status : Status) (cert : List ℕ) (before now : Seen)
+    → AnswersRefused line cause status before now → Holds status cert before now
+refusal_holds line cause Done cert before now h = absurd h
+refusal_holds line cause OutOfMemory cert before now h = tt
+refusal_holds line cause Usage cert before now h = tt
+refusal_holds line cause ReadFault cert before now h = tt
+refusal_holds line cause WriteFault cert before now h = inl h.written
+refusal_holds line cause InputRefused cert before now h = tt
+refusal_holds line cause Undecided cert before now h = absurd h
+refusal_holds line cause RoundsSpent cert before now h = absurd h
+refusal_holds line cause DemandOutOfRange cert before now h = absurd h
+refusal_holds line cause Stalled cert before now h = inl h.written
+
+pub refusal_opens : (line : ℕ) (cause : Cause) (status : Status) (before now : Seen) (start end : Openings)
+    → AnswersRefused line cause status before now → status ≢ ReadFault → end ≡ start → OpensCert status start end
+refusal_opens line cause Done before now start end h n e = absurd h
+refusal_opens line cause OutOfMemory before now start end h n e = e
+refusal_opens line cause Usage before now start end h n e = absurd h
+refusal_opens line cause ReadFault before now start end h n e = absurd (n refl)
+refusal_opens line cause WriteFault before now start end h n e = inl e
+refusal_opens line cause InputRefused before now start end h n e = e
+refusal_opens line cause Undecided before now start end h n e = absurd h
+refusal_opens line cause RoundsSpent before now start end h n e = absurd h
+refusal_opens line cause DemandOutOfRange before now start end h n e = absurd h
+refusal_opens line cause Stalled before now start end h n e = inl e
+
+-- ---- networks
+
+run_leaves : (network : Project) (order : RunOrder) (status : Status) (before now : Seen)
+    → AnswersRun network order status before now → Leaves status before now
+run_leaves network order Done before now h = tt
+run_leaves network order OutOfMemory before now h = h
+run_leaves network order Usage before now h = absurd h
+run_leaves network order ReadFault before now h = absurd h
+run_leaves network order WriteFault before now h = tt
+run_leaves network order InputRefused before now h = absurd h
+run_leaves network order Undecided before now h = tt
+run_leaves network order RoundsSpent before now h = tt
+run_leaves network order DemandOutOfRange before now h = tt
+run_leaves network order Stalled before now h = tt
+
+-- where nothing or a front was put, nothing was written or the file holds it
+fronts_hold : (network : Project) (order : RunOrder) (before now : Seen)
+    → NothingPut before now ⊎ CutShort network order before now
+    → (now.written ≡ before.written) ⊎ (file_at now.files order.files.cert ≡ now.written)
+fronts_hold network order before now (inl h) = inl h.written
+fronts_hold network order before now (inr h) = inr h.held
+
+run_holds : (network : Project) (order : RunOrder) (status : Status) (before now : Seen)
+    → AnswersRun network order status before now → Holds status order.files.cert before now
+run_holds network order Done before now h = h.held
+run_holds network order OutOfMemory before now h = tt
+run_holds network order Usage before now h = tt
+run_holds network order ReadFault before now h = tt
+run_holds network order WriteFault before now h = fronts_hold network order before now h
+run_holds network order InputRefused before now h = tt
+run_holds network order Undecided before now h = h.held
+run_holds network order RoundsSpent before now h = h.held
+run_holds network order DemandOutOfRange before now h = h.held
+run_holds network order Stalled before now h = fronts_hold network order before now h
+
+network_leaves : (network : Project) (order : RunOrder) (status : Status) (before now : Seen)
+    → AnswersNetwork network order status before now → Leaves status before now
+network_leaves network order status before now (inl h) = run_leaves network order status before now h.1
+network_leaves network order status before now (inr h) = refusal_leaves 0 (Unsupported 12) status before now h.1
+
+network_holds : (network : Project) (order : RunOrder) (status : Status) (before now : Seen)
+    → AnswersNetwork network order status before now → Holds status order.files.cert before now
+network_holds network order status before now (inl h) = run_holds network order status before now h.1
+network_holds network order status before now (inr h) =
+    refusal_holds 0 (Unsupported 12) status order.files.cert before now h.1
+
+-- want of memory leaves all untouched
+no_memory : (network : Project) (order : RunOrder) (before now : Seen)
+    → AnswersNetwork network order OutOfMemory before now → IsUntouched before now
+no_memory network order before now (inl h) = h.1
+no_memory network order before now (inr h) = h.1
+
+no_read : (network : Project) (order : RunOrder) (before now : Seen)
+    → AnswersNetwork network order ReadFault before now → IsUntouched before now
+no_read network order before now (inl h) = absurd h.1
+no_read network order before now (inr h) = h.1
+
+-- the answer of the network of a text is one of the text
+text_answers : (text : List ℕ) (network : Project) (order : RunOrder) (status : Status) (before now : Seen)
+    → IsProject (rows_in (items_of text)) network
+    → AnswersNetwork network order status before now → AnswersText text order status before now
+text_answers text network order Done before now p h = record { network = network; is_network = p; holds = h }
+text_answers text network order OutOfMemory before now p h = no_memory network order before now h
+text_answers text network order Usage before now p h = record { network = network; is_network = p; holds = h }
+text_answers text network order ReadFault before now p h = no_read network order before now h
+text_answers text network order WriteFault before now p h = record { network = network; is_network = p; holds = h }
+text_answers text network order InputRefused before now p h = record { network = network; is_network = p; holds = h }
+text_answers text network order Undecided before now p h = record { network = network; is_network = p; holds = h }
+text_answers text network order RoundsSpent before now p h = record { network = network; is_network = p; holds = h }
+text_answers text network order DemandOutOfRange before now p h = record { network = network; is_network = p; holds = h }
+text_answers text network order Stalled before now p h = record { network = network; is_network = p; holds = h }
+
+-- ---- the whole command, where nothing was touched before the network was there
+
+pub leaves_since : (network : Project) (order : RunOrder) (status : Status) (before between now : Seen)
+    → IsUntouched before between → AnswersNetwork network order status between now → Leaves status before now
+leaves_since network order status before between now u h = network_leaves network order status before now
+    (since_before (λ b. AnswersNetwork network order status b now) before between u h)
+
+pub holds_since : (network : Project) (order : RunOrder) (status : Status) (before between now : Seen)
+    → IsUntouched before between → AnswersNetwork network order status between now
+    → Holds status order.files.cert before now
+holds_since network order status before between now u h = network_holds network order status before now
+    (since_before (λ b. AnswersNetwork network order status b now) before between u h)
+
+pub run_since : (text : List ℕ) (network : Project) (order : RunOrder) (status : Status) (before between now : Seen)
+    → IsUntouched before between → IsProject (rows_in (items_of text)) network
+    → AnswersNetwork network order status between now → AnswersText text order status before now
+run_since text network order status before between now u p h = text_answers text network order status before now p
+    (since_before (λ b. AnswersNetwork network order status b now) before between u h)
+
+pub refused_since : (line : ℕ) (cause : Cause) (status : Status) (before between now : Seen)
+    → IsUntouched before between → AnswersRefused line cause status between now
+    → AnswersRefused line cause status before now
+refused_since line cause status before between now u h =
+    since_before (λ b. AnswersRefused line cause status b now) before between u h
+
+pub refused_leaves_since : (line : ℕ) (cause : Cause) (status : Status) (before between now : Seen)
+    → IsUntouched before between → AnswersRefused line cause status between now → Leaves status before now
+refused_leaves_since line cause status before between now u h =
+    refusal_leaves line cause status before now (refused_since line cause status before between now u h)
+
+pub refused_holds_since : (line : ℕ) (cause : Cause) (status : Status) (cert : List ℕ) (before between now : Seen)
+    → IsUntouched before between → AnswersRefused line cause status between now → Holds status cert before now
+refused_holds_since line cause status cert before between now u h =
+    refusal_holds line cause status cert before now (refused_since line cause status before between now u h)
+
+-- how often files were opened and created, where NET was opened before
+pub opens_once : (status : Status) (start opened end : Openings) → opened ≡ with_opened start
+    → OpensCert status opened end → OpensOnce status start end
+opens_once Done start opened end o h = rw o at h
+opens_once OutOfMemory start opened end o h = inr (h ∙ o)
+opens_once Usage start opened end o h = absurd h
+opens_once ReadFault start opened end o h = absurd h
+opens_once WriteFault start opened end o (inl e) = inl (e ∙ o)
+opens_once WriteFault start opened end o (inr e) = inr (rw o at e)
+opens_once InputRefused start opened end o h = h ∙ o
+opens_once Undecided start opened end o h = rw o at h
+opens_once RoundsSpent start opened end o h = rw o at h
+opens_once DemandOutOfRange start opened end o h = rw o at h
+opens_once Stalled start opened end o (inl e) = inl (e ∙ o)
+opens_once Stalled start opened end o (inr e) = inr (rw o at e)
