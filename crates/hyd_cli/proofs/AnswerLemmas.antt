@@ -161,6 +161,10 @@ refusal_opens line cause RoundsSpent before now start end h n e = absurd h
 refusal_opens line cause DemandOutOfRange before now start end h n e = absurd h
 refusal_opens line cause Stalled before now start end h n e = inl e
 
+pub refusal_never_usage : (line : ℕ) (cause : Cause) (status : Status) (before now : Seen)
+    → AnswersRefused line cause status before now → status ≢ Usage
+refusal_never_usage line cause status before now h = λ e. subst (λ s. AnswersRefused line cause s before now) e h
+
 -- ---- networks
 
 run_leaves : (network : Project) (order : RunOrder) (status : Status) (before now : Seen)
@@ -206,6 +210,12 @@ network_holds : (network : Project) (order : RunOrder) (status : Status) (before
 network_holds network order status before now (inl h) = run_holds network order status before now h.1
 network_holds network order status before now (inr h) =
     refusal_holds 0 (Unsupported 12) status order.files.cert before now h.1
+
+pub network_never_usage : (network : Project) (order : RunOrder) (status : Status) (before now : Seen)
+    → AnswersNetwork network order status before now → status ≢ Usage
+network_never_usage network order status before now (inl h) = λ e. subst (λ s. AnswersRun network order s before now) e h.1
+network_never_usage network order status before now (inr h) =
+    refusal_never_usage 0 (Unsupported 12) status before now h.1
 
 -- want of memory leaves all untouched
 no_memory : (network : Project) (order : RunOrder) (before now : Seen)

@@ -1,14 +1,14 @@
 //! The top call.
 
 ghost use Rattle.std.specs.Prelude.{◌≡◌, ◌≢◌, ℕ, List, Option, Some, None, IsTrue, map, string_bytes};
-ghost use Rattle.hyd_io.specs.Told.{IsTold};
+ghost use Rattle.hyd_io.specs.Told.{IsTold, file_at};
 ghost use Rattle.hyd_net.specs.declared.cause.Cause.{Cause};
 ghost use Rattle.hyd_spec_input.specs.Faults.{IsFault, HasNoFault};
 ghost use Rattle.hyd_report.specs.RefusedText.{refused_text_line};
 ghost use Rattle.hyd_words.specs.Orders.{RunOrder};
 ghost use Rattle.hyd_words.specs.Seen.{run_seen};
 ghost use Rattle.hyd_cli.specs.Words.{command};
-ghost use Rattle.hyd_cli.specs.Answers.{seen, ChangesOnly, HasCause, OpensOnce, Leaves, Holds, AnswersUsage, AnswersRefused, AnswersText};
+ghost use Rattle.hyd_cli.specs.Answers.{seen, ChangesOnly, HasCause, OpensOnce, OpensCert, Leaves, Holds, AnswersUsage, AnswersRefused, AnswersText};
 ghost use Rattle.hyd_cli.specs.declared.status.Status.TheVariants.{Usage};
 
 use crate::network::run_network;
@@ -105,7 +105,8 @@ pub(crate) fn refuse_text<D: Desk>(line: u32, cause: Cause, desk: &mut D) -> Sta
     ensures cause { HasCause result (D.counts desk.old) (D.counts desk.new) }
     ensures answers { AnswersRefused line cause result
         (seen D.files D.written D.printed desk.old) (seen D.files D.written D.printed desk.new) }
-    ensures openings_stay { D.openings desk.new ≡ D.openings desk.old }
+    ensures opens { OpensCert result (D.openings desk.old) (D.openings desk.new) }
+    ensures others { (other : List ℕ) → file_at (D.files desk.new) other ≡ file_at (D.files desk.old) other }
 {
     match print_refusal(line, cause, desk) {
         Ok(()) => Status::InputRefused,

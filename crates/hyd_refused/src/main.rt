@@ -1,4 +1,4 @@
-//! The program `hyd` on a text that isn't of the form: the name of its junction is missing.
+//! The program `hyd` on a text with a fault: the valve leads to a junction that isn't there.
 #![tactic(auto)]
 
 use hyd_cli::{Status, run_program};
