@@ -1,4 +1,4 @@
-//! The tests of numbers, units, capacities, the desk and the program: each public call on its happy path, and tables of values
+//! The tests of numbers, units, capacities and the desk: each public call on its happy path, and tables of values
 //! worked out by an independent program.
 #![tactic(auto)]
 
@@ -6,8 +6,6 @@
 mod ample;
 #[cfg(test)]
 mod capacities;
-#[cfg(test)]
-mod command;
 #[cfg(test)]
 mod numbers;
 #[cfg(test)]

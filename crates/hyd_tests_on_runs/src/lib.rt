@@ -1,0 +1,13 @@
+//! The tests of the top call on a desk in memory: whole texts, faults of the desk, words.
+#![tactic(auto)]
+
+#[cfg(test)]
+mod faults;
+#[cfg(test)]
+mod given;
+#[cfg(test)]
+mod orders;
+#[cfg(test)]
+mod rows;
+#[cfg(test)]
+mod texts;

@@ -1,0 +1,86 @@
+//! Words of commands, and words that are none.
+
+use crate::given::{WORDS, owned};
+use crate::rows::VALVES;
+use hyd_cli::{Status, start, tool};
+use hyd_io::MemDesk;
+use std::alloc::{AllocError, Global};
+use std::test::Fail;
+
+const USAGE_LINE: &str =
+    "USAGE hyd run NET CERT [--sweeps N] [--width W] [--tight] or check NET CERT or gen SEED JUNCTIONS NET CERT\n";
+
+/// Words that aren't a command.
+const NONE: [&[&str]; 8] = [
+    &["run", "a.inp"],
+    &["run", "a.inp", "a.inp"],
+    &["run", "a.inp", "a.cert", "--sweeps", "100001"],
+    &["run", "-a.inp", "a.cert", "--tight"],
+    &["run", "a.inp", "a.cert", "--tight", "--tight"],
+    &["run", "a.inp", "a.cert", "--width", "0"],
+    &["walk"],
+    &[],
+];
+
+/// Whether the words print the usage line alone.
+fn are_none(alloc: Global, words: &[&str]) -> Result<bool, AllocError> {
+    let words = owned(alloc, words)?;
+    let mut desk = MemDesk::new(alloc);
+    let status = tool(alloc, &words, &mut desk);
+    Ok(status == Status::Usage && desk.printed() == USAGE_LINE.as_bytes())
+}
+
+#[test]
+fn other_words_print_the_usage_line(rt: HostRuntime) -> Result<(), Fail> {
+    for words in NONE {
+        assert!(rt; are_none(rt.alloc(), words)?);
+    }
+    Ok(())
+}
+
+/// The status of the run of the first text with these words, and the last byte but one that it printed.
+fn status_with(alloc: Global, words: &[&str]) -> Result<Status, AllocError> {
+    let words = owned(alloc, words)?;
+    let mut desk = MemDesk::new(alloc);
+    desk.add("n.inp", VALVES[0].text.as_bytes())?;
+    Ok(tool(alloc, &words, &mut desk))
+}
+
+#[test]
+fn options_are_taken(rt: HostRuntime) -> Result<(), Fail> {
+    let alloc = rt.alloc();
+    let plain: &[&str] = &["run", "n.inp", "n.cert"];
+    assert_eq!(rt; status_with(alloc, plain)?, Status::Done);
+    let without_rounds: &[&str] = &["run", "--sweeps=0", "n.inp", "n.cert"];
+    assert_eq!(rt; status_with(alloc, without_rounds)?, Status::Done);
+    let tight_without: &[&str] = &["run", "n.inp", "n.cert", "--sweeps", "0", "--tight"];
+    assert_eq!(rt; status_with(alloc, tight_without)?, Status::RoundsSpent);
+    let width: &[&str] = &["run", "n.inp", "--width", "0.000000001", "--", "n.cert"];
+    assert_eq!(rt; status_with(alloc, width)?, Status::Done);
+    Ok(())
+}
+
+#[test]
+fn words_that_fail_as_a_whole_are_none(rt: HostRuntime) -> Result<(), Fail> {
+    let alloc = rt.alloc();
+    let mut desk = MemDesk::new(alloc);
+    let failed = Err(std::io::Error::from(std::io::ErrorKind::InvalidData));
+    assert_eq!(rt; start(alloc, failed, &mut desk), Status::Usage);
+    assert_eq!(rt; desk.printed(), USAGE_LINE.as_bytes());
+    Ok(())
+}
+
+#[test]
+fn words_behind_the_name_are_the_command(rt: HostRuntime) -> Result<(), Fail> {
+    let alloc = rt.alloc();
+    let mut desk = MemDesk::new(alloc);
+    desk.add("n.inp", VALVES[0].text.as_bytes())?;
+    let mut given = owned(alloc, &["hyd"])?;
+    for word in WORDS {
+        given.push(String::from_str(alloc, word)?)?;
+    }
+    assert_eq!(rt; start(alloc, Ok(given.into_iter()), &mut desk), Status::Done);
+    assert_eq!(rt; desk.printed(), VALVES[0].printed.as_bytes());
+    assert_eq!(rt; Status::Usage.number(), 2);
+    Ok(())
+}
