@@ -1,8 +1,8 @@
 -- The commands, and which words are one: the name of a command, then its options and names.
-use Rattle.std.specs.Prelude.{ℕ, ◌+◌, ◌*◌, ◌^◌, nat_le, nat_lt, ◌==◌, Bool, true, false, not, ◌&&◌, ◌||◌, List, [], ◌∷◌, length, Option, Some, None, option_map, option_and_then, bytes_eq, codes, if◌then◌else◌, ℤ, pos, ◌*ℤ◌, int_lt, int_le}
+use Rattle.std.specs.Prelude.{◌≡◌, ℕ, ◌+◌, ◌-◌, ◌*◌, ◌^◌, nat_le, nat_lt, ◌==◌, Bool, true, false, not, ◌&&◌, ◌||◌, List, [], ◌∷◌, length, Option, Some, None, option_map, option_and_then, bytes_eq, codes, if◌then◌else◌, ℤ, pos, ◌*ℤ◌, int_lt, int_le}
 use Rattle.std.specs.List.{list_all}
 use Rattle.hyd_num.specs.Numeral.{is_digit, is_numeral, nano_of, number}
-use Rattle.hyd_words.specs.Words.{Word, Said, said}
+use Rattle.hyd_words.specs.Words.{Word, Said, said, joined}
 
 -- the two files of a command: NET, the network, and CERT, its certificate
 pub record TwoFiles : Type 0 where
@@ -32,7 +32,7 @@ pub data Order : Type 0 where
 
 -- one digit at least, at most this many, and nothing else
 abbrev pub is_short_number : ℕ → Word → Bool
-is_short_number most word = list_all is_digit word && (nat_le 1 (length word) && nat_le (length word) most)
+is_short_number most word = (list_all is_digit word && nat_le 1 (length word)) && nat_le (length word) most
 
 -- a number of at most this many digits, from the least to the greatest
 abbrev pub number_within : (most least greatest : ℕ) → Word → Option ℕ
@@ -80,10 +80,14 @@ two_files (net ∷ cert ∷ []) = differing net cert
 two_files names = None
 
 -- SEED, JUNCTIONS, NET and CERT
-abbrev pub gen_order : List Word → Option GenOrder
-gen_order (seed ∷ junctions ∷ net ∷ cert ∷ []) =
+abbrev pub gen_of : (seed junctions net cert : Word) → Option GenOrder
+gen_of seed junctions net cert =
     option_and_then (λ s. option_and_then (λ j. option_map (λ f. record { seed = s; junctions = j; files = f })
     (differing net cert)) (junctions_of junctions)) (seed_of seed)
+
+-- four of them and no more
+abbrev pub gen_order : List Word → Option GenOrder
+gen_order (seed ∷ junctions ∷ net ∷ cert ∷ []) = gen_of seed junctions net cert
 gen_order names = None
 
 -- ---- commands
@@ -108,15 +112,36 @@ run_order s =
     }) (two_files s.names)) (width_of s.width_values)) (rounds_of s.sweeps_values)
     else None
 
+abbrev pub run_command : Said → Option Order
+run_command s = option_map run (run_order s)
+
+-- `check NET CERT`
+abbrev pub check_command : Said → Option Order
+check_command s = if has_names_alone s then option_map check (two_files s.names) else None
+
+-- `gen SEED JUNCTIONS NET CERT`
+abbrev pub gen_command : Said → Option Order
+gen_command s = if has_names_alone s then option_map gen (gen_order s.names) else None
+
 -- the command of this name, if what is said behind it fits
 abbrev pub order_named : Word → Said → Option Order
 order_named word s =
-    if bytes_eq word (codes "run") then option_map run (run_order s)
-    else (if bytes_eq word (codes "check") then (if has_names_alone s then option_map check (two_files s.names) else None)
-    else (if bytes_eq word (codes "gen") then (if has_names_alone s then option_map gen (gen_order s.names) else None)
+    if bytes_eq word (codes "run") then run_command s
+    else (if bytes_eq word (codes "check") then check_command s
+    else (if bytes_eq word (codes "gen") then gen_command s
     else None))
 
 -- the command of the words, if they are one
 abbrev pub order_of : List Word → Option Order
 order_of [] = None
 order_of (word ∷ behind) = order_named word (said behind)
+
+-- ---- what can't become a command
+
+-- no command has this said behind its name
+abbrev pub IsNoOrder : Said → Type 0
+IsNoOrder s = (word : Word) → order_named word s ≡ None
+
+-- whatever is said after this
+abbrev pub IsNeverOrder : Said → Type 0
+IsNeverOrder s = (more : Said) → IsNoOrder (joined s more)

@@ -1,5 +1,5 @@
 -- What the words behind a command's name say, read from left to right: values of options, names, and what no command takes.
-use Rattle.std.specs.Prelude.{ℕ, ◌+◌, nat_eq, Bool, true, false, not, ◌||◌, List, [], ◌∷◌, ◌++◌, map, drop, Option, Some, None, bytes_eq, codes, if◌then◌else◌, count_by}
+use Rattle.std.specs.Prelude.{ℕ, ◌+◌, nat_eq, Bool, true, false, not, ◌||◌, List, [], ◌∷◌, ◌++◌, map, drop, Option, Some, None, bytes_eq, codes, if◌then◌else◌, filter, length}
 use Rattle.std.specs.List.{starts_with, filter_map, list_any}
 
 -- one word, as bytes
@@ -35,15 +35,20 @@ begins_with_dash word = starts_with nat_eq word (codes "-")
 abbrev pub is_name : Word → Bool
 is_name word = not (begins_with_dash word) || bytes_eq word (codes "-")
 
--- an option of its own word: alone, before its value, or with its value behind `=`
+-- an option with its value behind `=`
+abbrev pub option_with_value : Word → Kind
+option_with_value word =
+    if starts_with nat_eq word (codes "--sweeps=") then says (sweeps (drop 9 word))
+    else (if starts_with nat_eq word (codes "--width=") then says (width (drop 8 word))
+    else says wrong)
+
+-- an option alone, before its value where it has one, or with its value
 abbrev pub option_kind : Word → Kind
 option_kind word =
     if bytes_eq word (codes "--tight") then says tight
     else (if bytes_eq word (codes "--sweeps") then wants sweeps
     else (if bytes_eq word (codes "--width") then wants width
-    else (if starts_with nat_eq word (codes "--sweeps=") then says (sweeps (drop 9 word))
-    else (if starts_with nat_eq word (codes "--width=") then says (width (drop 8 word))
-    else says wrong))))
+    else option_with_value word))
 
 unfoldable pub kind_of : Word → Kind
 kind_of word =
@@ -106,9 +111,19 @@ abbrev pub said_by : List Part → Said
 said_by said = record {
   sweeps_values = filter_map sweeps_value said;
   width_values = filter_map width_value said;
-  tight_count = count_by is_tight said;
+  tight_count = length (filter is_tight said);
   names = filter_map named said;
   has_wrong = list_any is_wrong said;
+}
+
+-- what is said first, and then this
+abbrev pub joined : Said → Said → Said
+joined first next = record {
+  sweeps_values = first.sweeps_values ++ next.sweeps_values;
+  width_values = first.width_values ++ next.width_values;
+  tight_count = first.tight_count + next.tight_count;
+  names = first.names ++ next.names;
+  has_wrong = first.has_wrong || next.has_wrong;
 }
 
 -- what these words say

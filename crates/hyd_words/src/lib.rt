@@ -3,7 +3,11 @@
 #![tactic(auto)]
 
 mod command;
+mod kinds;
+mod numbers;
+mod orders;
 mod reader;
+mod said;
 
 pub use command::{Command, Files, GenWords, RunWords};
 pub use reader::read_words;

@@ -5,16 +5,20 @@ ghost use Rattle.hyd_words.specs.Orders.{order_of};
 ghost use Rattle.hyd_words.specs.Seen.{order_seen};
 
 use crate::command::Command;
+use crate::orders::order_named;
+use crate::said::read_said;
 
 /// The command of the words behind the program's name, or `None` exactly where they aren't one. The
 /// names in it are the words' own.
 ///
 /// The first word is the command's, in lower case. Of the others, from left to right, `--sweeps` and
 /// `--width` take the next word as value, which doesn't begin with `-`, or have it behind `=` in the
-/// same word; behind a word `--` every word stands by its position, and before it each word that
+/// same word. Behind a word `--` every word stands by its position, and before it each word that
 /// doesn't begin with `-` or is `-` alone. Each option stands once at most, and for `run` alone.
 pub fn read_words(words: &[String]) -> Option<Command<'_>>
     ensures command { option_map order_seen result ≡ order_of (map string_bytes words.now) }
 {
-    None
+    let (name, behind) = words.split_first()?;
+    let said = read_said(behind)?;
+    order_named(name.as_str(), said)
 }

@@ -1,0 +1,10 @@
+use Rattle.std.proofs.Common.{◌≡◌, length, map, string_bytes}
+use Rattle.hyd_words.specs.Words.{joined, said}
+use Rattle.hyd_words.specs.Seen.{said_seen}
+use Rattle.hyd_words.proofs.said.read_said.Given as goal
+
+abbrev pub invariant-loop-word : goal.invariant-loop-word
+invariant-loop-word l = joined (said_seen l.so_far) (said (map string_bytes l.left)) ≡ said (map string_bytes l.words)
+
+abbrev pub decreases-loop-word : goal.decreases-loop-word
+decreases-loop-word l = length l.left
