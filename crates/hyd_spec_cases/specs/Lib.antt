@@ -8,5 +8,6 @@ pub mod Input
 pub mod Histories
 pub mod Tanks
 pub mod Curves
+pub mod Commands
 pub mod Cylinders
 pub mod Flask
