@@ -6,7 +6,7 @@ use Rattle.hyd_io.specs.declared.desk.Openings.{Openings}
 use Rattle.hyd_io.specs.declared.output.OutFault.{OutFault}
 use Rattle.hyd_io.specs.declared.output.OutFault.TheVariants.{Fault, Stalled as Stall}
 use Rattle.hyd_spec.specs.Types.{Project}
-use Rattle.hyd_spec_input.specs.FirstForm.{IsFirstForm}
+use Rattle.hyd_cli.specs.FirstForm.{IsFirstForm}
 use Rattle.hyd_cli.specs.Run.{IsRunOf}
 use Rattle.hyd_cli.specs.Answers.{Seen, IsUntouched, status_of, OpensOnce, Leaves, Holds, AnswersNetwork, AnswersRun, NothingPut, FrontsPut}
 use Rattle.hyd_cli.specs.declared.status.Status.{Status}

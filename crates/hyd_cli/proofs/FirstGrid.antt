@@ -12,7 +12,7 @@ use Rattle.hyd_spec.specs.Outflow.{is_pressure_driven}
 use Rattle.hyd_spec_certificates.specs.Record.{initial_standing}
 use Rattle.hyd_spec_certificates.specs.Decided.{links_at}
 use Rattle.hyd_spec_certificates.specs.Valid.{IsGridAt}
-use Rattle.hyd_spec_input.specs.FirstForm.{IsPlain, IsFirstNetwork}
+use Rattle.hyd_cli.specs.FirstForm.{IsPlain, IsFirstNetwork}
 use Rattle.hyd_cli.specs.declared.valve.SingleValve.{SingleValve}
 use Rattle.hyd_cli.specs.SingleValve.{IsValveOf}
 use Rattle.hyd_lemmas.proofs.Trials.{same_either_way}

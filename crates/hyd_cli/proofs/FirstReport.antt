@@ -14,7 +14,7 @@ use Rattle.hyd_spec.specs.Rules.{state_of_link}
 use Rattle.hyd_spec_certificates.specs.Decided.{links_at}
 use Rattle.hyd_spec_reports.specs.Report.{Prints, is_report_time, control_lines, status_of, LineEach, IsJunctionLine, IsReservoirLine, IsTankLine, IsLinkLine, AreStateLines, at_end, IsReport}
 use Rattle.hyd_spec_reports.specs.ReportLine.{ReportLine, TimeLine, JunctionLine, ReservoirLine, LinkLine}
-use Rattle.hyd_spec_input.specs.FirstForm.{IsPlain, IsFirstNetwork}
+use Rattle.hyd_cli.specs.FirstForm.{IsPlain, IsFirstNetwork}
 use Rattle.hyd_cli.specs.declared.valve.SingleValve.{SingleValve}
 use Rattle.hyd_cli.specs.FirstRun.{first_row}
 use Rattle.hyd_cli.proofs.FirstGrid.{valve_grid, valve_junction}

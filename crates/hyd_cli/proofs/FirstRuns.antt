@@ -20,7 +20,7 @@ use Rattle.hyd_spec_reports.specs.Stops.{HasNoCertificate}
 use Rattle.hyd_spec_reports.specs.declared.StopCause.TheVariants.{NoCertificate}
 use Rattle.hyd_spec_reports.specs.ReportLine.{ReportLine, report_text, done_line, stop_line}
 use Rattle.hyd_spec_reports.specs.Report.{IsReport}
-use Rattle.hyd_spec_input.specs.FirstForm.{IsFirstNetwork}
+use Rattle.hyd_cli.specs.FirstForm.{IsFirstNetwork}
 use Rattle.hyd_spec_reports.specs.Headline.{EveryHistoryAgrees, IsFound, IsRun, none, more, Sharpness, IsTightThroughout, IsSharpFound, Finished, Stopped, RunWrites}
 use Rattle.hyd_spec_laws.proofs.CertificateLines.{header-short}
 use Rattle.hyd_spec_histories.proofs.Running.{every_history as run_agrees_so}

@@ -12,7 +12,7 @@ use Rattle.hyd_spec_certificates.specs.Certificate.{IsCertificate, IsTight}
 use Rattle.hyd_spec_certificates.specs.Record.{initial_standing}
 use Rattle.hyd_spec_certificates.specs.Valid.{IsGridAt, DemandsAreInRange, demand_limit}
 use Rattle.hyd_spec_reports.specs.Stops.{HasNoCertificate, EarlierHaveCertificates}
-use Rattle.hyd_spec_input.specs.FirstForm.{IsFirstNetwork}
+use Rattle.hyd_cli.specs.FirstForm.{IsFirstNetwork}
 use Rattle.hyd_cli.specs.declared.valve.SingleValve.{SingleValve}
 use Rattle.hyd_cli.specs.SingleValve.{IsValveOf, IsNearest, NonePasses}
 use Rattle.hyd_cli.specs.Solution.{IsTightHead}

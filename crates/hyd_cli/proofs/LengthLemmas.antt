@@ -6,7 +6,7 @@ use Rattle.std.proofs.lemmas.Grind.{common_steps}
 use Rattle.std.proofs.lemmas.List.{length-map}
 use Rattle.std.proofs.lemmas.List.Elements.{All-head, All-tail}
 use Rattle.std.proofs.lemmas.List.Splits.{join_with_byte-slice_split}
-use Rattle.hyd_spec_input.specs.FirstForm.{without_empty_end, text_lines, line_words, HasForm, Words}
+use Rattle.hyd_cli.specs.FirstForm.{without_empty_end, text_lines, line_words, HasForm, Words}
 
 -- the bytes of the pieces, and one byte after each
 abbrev span : List (List ℕ) → ℕ

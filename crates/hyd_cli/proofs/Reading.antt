@@ -7,7 +7,7 @@ use Rattle.std.specs.List.{list_all}
 use Rattle.std.proofs.lemmas.List.Sums.{AllPass-from_list_all, list_all-from_AllPass}
 use Rattle.std.proofs.lemmas.Bool.Decides.{nat_tests}
 use Rattle.hyd_num.specs.Numeral.{nano_of, magnitude_of, signed, is_negative}
-use Rattle.hyd_spec_input.specs.FirstForm.{without_empty_end, is_id_byte, IsId, Words, form_lines}
+use Rattle.hyd_cli.specs.FirstForm.{without_empty_end, is_id_byte, IsId, Words, form_lines}
 
 unsigned_abs-signed : (negative : Bool) (n : ℕ) → unsigned_abs (signed negative n) ≡ n
 unsigned_abs-signed true zero = refl

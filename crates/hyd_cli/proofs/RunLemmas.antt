@@ -9,7 +9,7 @@ use Rattle.hyd_spec_certificates.specs.Record.{initial_standing}
 use Rattle.hyd_spec_reports.specs.Stops.{HasNoCertificate}
 use Rattle.hyd_spec_reports.specs.declared.StopCause.TheVariants.{NoCertificate}
 use Rattle.hyd_spec_reports.specs.Headline.{Finished, Stopped}
-use Rattle.hyd_spec_input.specs.FirstForm.{IsFirstNetwork}
+use Rattle.hyd_cli.specs.FirstForm.{IsFirstNetwork}
 use Rattle.hyd_cli.specs.declared.status.Status.TheVariants.{Done, Undecided}
 use Rattle.hyd_cli.specs.Run.{IsRunOf}
 use Rattle.hyd_cli.specs.Solution.{IsTightHead}

@@ -10,7 +10,7 @@ use Rattle.hyd_num.specs.Quantity.{head_ticks, flow_ticks}
 use Rattle.hyd_num.specs.Chain.{IsMade}
 use Rattle.hyd_num.specs.declared.capacities.Origin.{Origin}
 use Rattle.hyd_spec.specs.Types.{Project, Junction, Reservoir, Tank, Link, LinkKind, LinkState, Capacity, Valve, Tcv, Linear, Quadratic, Throttle, Pattern, Control, Rule, Demand, Decimal, Cmd}
-use Rattle.hyd_spec_input.specs.FirstForm.{IsId, IsFirstNetwork, IsPlain}
+use Rattle.hyd_cli.specs.FirstForm.{IsId, IsFirstNetwork, IsPlain}
 use Rattle.hyd_net.specs.Ids.{AreDistinct, IsId as IsShortId}
 use Rattle.hyd_net.specs.Ranges.{Lies, IsHead, IsFlow}
 use Rattle.hyd_net.specs.States.{CanHave}

@@ -9,7 +9,7 @@ use Rattle.hyd_spec_certificates.specs.Grid.{Grid, IsJunctionOf}
 use Rattle.hyd_spec_certificates.specs.Record.{initial_standing}
 use Rattle.hyd_spec_certificates.specs.Valid.{IsGridAt}
 use Rattle.hyd_spec_reports.specs.Report.{IsReport}
-use Rattle.hyd_spec_input.specs.FirstForm.{IsFirstNetwork}
+use Rattle.hyd_cli.specs.FirstForm.{IsFirstNetwork}
 use Rattle.hyd_cli.specs.declared.valve.SingleValve.{SingleValve}
 use Rattle.hyd_cli.specs.SingleValve.{IsValveOf}
 use Rattle.hyd_cli.proofs.FirstGrid.{valve_grid, valve_junction, grid_is}

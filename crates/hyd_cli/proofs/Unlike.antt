@@ -7,7 +7,7 @@ use Rattle.std.proofs.lemmas.List.Sums.{AllPass-from_list_all, list_all-from_All
 use Rattle.std.proofs.lemmas.List.Folds.{list_all-map}
 use Rattle.std.proofs.lemmas.Bool.Decides.{nat_tests}
 use Rattle.hyd_spec.specs.Types.{Project}
-use Rattle.hyd_spec_input.specs.FirstForm.{without_empty_end, text_lines, line_words, form_lines, Words, HasForm, HasParts, IsFirstForm, HasNoForm}
+use Rattle.hyd_cli.specs.FirstForm.{without_empty_end, text_lines, line_words, form_lines, Words, HasForm, HasParts, IsFirstForm, HasNoForm}
 use Rattle.hyd_cli.specs.Reading.{texts, AreIds, AreNumbers}
 
 -- these pieces are the lines of a text, but for carriage returns

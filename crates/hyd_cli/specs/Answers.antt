@@ -7,7 +7,7 @@ use Rattle.hyd_io.specs.declared.output.OutFault.TheVariants.{Fault, Stalled as 
 use Rattle.hyd_io.specs.Counts.{with_read_fault, with_write_fault, with_print_fault, with_stall, with_opened, with_created}
 use Rattle.hyd_io.specs.Told.{Files, where_told, append_known, file_at, PutOut}
 use Rattle.hyd_spec.specs.Types.{Project}
-use Rattle.hyd_spec_input.specs.FirstForm.{IsFirstForm}
+use Rattle.hyd_cli.specs.FirstForm.{IsFirstForm}
 use Rattle.hyd_cli.specs.Command.{usage_line}
 use Rattle.hyd_cli.specs.Run.{IsRunOf}
 use Rattle.hyd_cli.specs.declared.status.Status.{Status}

@@ -1,3 +1,4 @@
+pub mod FirstForm
 pub mod Command
 pub mod Statuses
 pub mod Run

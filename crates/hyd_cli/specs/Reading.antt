@@ -2,7 +2,7 @@
 use Rattle.std.specs.Prelude.{◌≡◌, ◌≢◌, ℕ, ◌*◌, ◌^◌, List, [], ◌∷◌, map, codes}
 use denote.Ref.{Bor}
 use Rattle.hyd_num.specs.Numeral.{nano_of}
-use Rattle.hyd_spec_input.specs.FirstForm.{Words, IsId, IsNumberWithin, IsPositiveWithin}
+use Rattle.hyd_cli.specs.FirstForm.{Words, IsId, IsNumberWithin, IsPositiveWithin}
 use Rattle.hyd_cli.specs.declared.form.Form.{Form}
 use Rattle.hyd_cli.specs.declared.form.Numbers.{Numbers}
 use Rattle.hyd_cli.specs.declared.form.ValveRow.{ValveRow}

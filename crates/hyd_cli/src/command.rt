@@ -4,7 +4,7 @@ ghost use Rattle.std.specs.Prelude.{◌≡◌, ◌≢◌, ◌⊎◌, ◌<◌, �
 ghost use Rattle.hyd_io.specs.Told.{IsTold};
 ghost use Rattle.hyd_io.specs.Counts.{with_opened, with_created};
 ghost use Rattle.hyd_spec.specs.Types.{Project};
-ghost use Rattle.hyd_spec_input.specs.FirstForm.{IsFirstNetwork, Words, HasForm, HasNoForm};
+ghost use Rattle.hyd_cli.specs.FirstForm.{IsFirstNetwork, Words, HasForm, HasNoForm};
 ghost use Rattle.hyd_cli.specs.Command.{Names, command};
 ghost use Rattle.hyd_cli.specs.Answers.{seen, status_of, IsUntouched, ChangesOnly, HasCause, OpensOnce, Leaves, Holds, AnswersUsage, AnswersRefused, AnswersNetwork, AnswersRun};
 ghost use Rattle.hyd_cli.specs.Delivery.{PutBoth, PutFronts};

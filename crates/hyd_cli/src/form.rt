@@ -6,8 +6,8 @@ ghost use Rattle.std.specs.Prelude.{◌≡◌, ◌≢◌, ◌==◌, ◌||◌, �
 ghost use Rattle.std.specs.List.{slice_split, list_all};
 ghost use Rattle.std.specs.Str.Lines.{strip_carriage_return};
 ghost use Rattle.hyd_num.specs.Numeral.{is_numeral, nano_of};
-ghost use Rattle.hyd_spec_input.specs.FirstForm as first_form;
-ghost use Rattle.hyd_spec_input.specs.FirstForm.{Words, line_words, text_lines, form_lines, IsId, IsNumberWithin, IsPositiveWithin, HasForm, IsFirstForm, HasNoForm, HasParts};
+ghost use Rattle.hyd_cli.specs.FirstForm as first_form;
+ghost use Rattle.hyd_cli.specs.FirstForm.{Words, line_words, text_lines, form_lines, IsId, IsNumberWithin, IsPositiveWithin, HasForm, IsFirstForm, HasNoForm, HasParts};
 ghost use Rattle.hyd_cli.specs.Reading.{texts, valve_words, words_of, AreOptions, AreHeadings, IsThrottled, AreRows, AreIds, AreNumbers, HasValues};
 
 use crate::network::{junctions, links, one_name, plain, reservoirs, two_names};

@@ -5,7 +5,7 @@ ghost use Rattle.std.specs.Prelude.{◌≡◌, ◌≢◌, ◌≤◌, ◌*◌, �
 ghost use Rattle.hyd_num.specs.Quantity as quantity;
 ghost use Rattle.hyd_num.specs.declared.units.FlowUnit.TheVariants.{Cmd};
 ghost use Rattle.hyd_spec.specs.Types.{Throttle, Quadratic};
-ghost use Rattle.hyd_spec_input.specs.FirstForm.{IsPlain, IsJunction, IsValve};
+ghost use Rattle.hyd_cli.specs.FirstForm.{IsPlain, IsJunction, IsValve};
 ghost use Rattle.hyd_cli.specs.OneItem.{IsOnly};
 
 use hyd_net::{

@@ -2,7 +2,7 @@
 
 ghost use Rattle.std.specs.Prelude.{◌≡◌, ◌≢◌, ◌⊎◌, ℕ, List, Some, None, IsTrue, IfOk, IsOk, IsErr, map, string_bytes};
 ghost use Rattle.hyd_io.specs.Told.{IsTold};
-ghost use Rattle.hyd_spec_input.specs.FirstForm.{Words, HasForm, HasNoForm};
+ghost use Rattle.hyd_cli.specs.FirstForm.{Words, HasForm, HasNoForm};
 ghost use Rattle.hyd_cli.specs.Command.{Names, command, words_behind_name};
 ghost use Rattle.hyd_cli.specs.Answers.{seen, ChangesOnly, HasCause, OpensOnce, Leaves, Holds, AnswersUsage, AnswersRefused, AnswersRun};
 ghost use Rattle.hyd_cli.specs.declared.status.Status.TheVariants.{Usage, OutOfMemory};

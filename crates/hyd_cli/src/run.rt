@@ -1,7 +1,7 @@
 //! What a run writes and prints.
 
 ghost use Rattle.std.specs.Prelude.{IfOk};
-ghost use Rattle.hyd_spec_input.specs.FirstForm.{IsFirstNetwork};
+ghost use Rattle.hyd_cli.specs.FirstForm.{IsFirstNetwork};
 ghost use Rattle.hyd_spec_certificates.specs.declared.Problem.TheVariants.{Main};
 ghost use Rattle.hyd_spec_certificates.specs.declared.Side.TheVariants.{Upper, Lower};
 ghost use Rattle.hyd_spec_certificates.specs.Record.{initial_standing};

@@ -3,7 +3,7 @@
 
 ghost use Rattle.std.specs.Prelude.{◌≡◌, ℕ, ℤ, ◌+◌, ◌*◌, ◌^◌, ◌<◌, ◌≤◌, ◌↔◌, ◌≤ℤ◌, pos, neg_ℤ, [], ◌∷◌, map, unsigned_abs, IsTrue, MatchOption};
 ghost use Rattle.hyd_spec_certificates.specs.Certificate.{IsInBox};
-ghost use Rattle.hyd_spec_input.specs.FirstForm.{IsFirstNetwork};
+ghost use Rattle.hyd_cli.specs.FirstForm.{IsFirstNetwork};
 ghost use Rattle.hyd_cli.specs.SingleValve.{IsValveOf, net_outflow_low, net_outflow_high, HeadPasses, head_after, IsNearest, NonePasses};
 ghost use Rattle.hyd_cli.specs.Solution.{AreTightHeads, LacksOnSide};
 

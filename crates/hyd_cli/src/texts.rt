@@ -4,7 +4,7 @@
 ghost use Rattle.std.specs.Prelude.{◌≡◌, ◌≤◌, ◌^◌, ◌-ℤ◌, ◌+ℤ◌, [], ◌∷◌, map, pos, unsigned_abs, string_bytes, IfOk};
 ghost use Rattle.hyd_spec_reports.specs.ReportLine.{side_word};
 ghost use Rattle.hyd_spec_certificates.specs.Enclosing.{quadratic_low, quadratic_high};
-ghost use Rattle.hyd_spec_input.specs.FirstForm.{IsFirstNetwork};
+ghost use Rattle.hyd_cli.specs.FirstForm.{IsFirstNetwork};
 ghost use Rattle.hyd_spec_certificates.specs.Certificate.{IsInBox};
 ghost use Rattle.hyd_cli.specs.SingleValve.{IsValveOf};
 ghost use Rattle.hyd_cli.specs.Texts.{finished_certificate, stopped_certificate, IsFinishedReport, stopped_report};

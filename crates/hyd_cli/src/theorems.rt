@@ -21,7 +21,7 @@ ghost use Rattle.hyd_spec_reports.specs.ReportLine.{ReportLine, report_text, don
 ghost use Rattle.hyd_spec_reports.specs.Report.{Prints, IsReport};
 ghost use Rattle.hyd_spec_reports.specs.Claims.{LiesBetween, at_part};
 ghost use Rattle.hyd_num.specs.Numeral.{nano_of};
-ghost use Rattle.hyd_spec_input.specs.FirstForm.{IsFirstNetwork, IsFirstForm, HasForm, Words};
+ghost use Rattle.hyd_cli.specs.FirstForm.{IsFirstNetwork, IsFirstForm, HasForm, Words};
 ghost use Rattle.hyd_spec_reports.specs.Headline.{EveryHistoryAgrees, IsRun, Sharpness, IsSharpFound, RunWrites, Finished, Stopped};
 ghost use Rattle.hyd_spec_laws.specs.Laws.{LiesIn};
 ghost use Rattle.hyd_cli.specs.FirstRun.{first_row, first_found, last_standing};

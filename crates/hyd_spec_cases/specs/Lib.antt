@@ -3,9 +3,7 @@ pub mod Record
 pub mod Capacities
 pub mod City
 pub mod Single
-pub mod Forms
 pub mod Input
-pub mod Histories
 pub mod Tanks
 pub mod Curves
 pub mod Commands

@@ -1,8 +1,8 @@
-//! Further definitions: pressures of demands, laws of links in their states, lines and words of a file, heads and flows of
-//! a period, and what is known at the start of the run.
+//! Further definitions: pressures of demands, laws of links in their states, heads and flows of a period, and what is
+//! known at the start of the run.
 #![tactic(auto)]
 
-ghost use Rattle.std.specs.Prelude.{◌≡◌, pos, neg_ℤ, true, false, [], ◌∷◌, map, length, codes};
+ghost use Rattle.std.specs.Prelude.{◌≡◌, pos, neg_ℤ, true, false, [], ◌∷◌, map, length};
 ghost use Rattle.hyd_num.specs.declared.units.FlowUnit.TheVariants.{Gpm, Cmd};
 ghost use Rattle.hyd_num.specs.Rational.{negated, total_of, is_less, is_at_most, floor, ceiling};
 ghost use Rattle.hyd_spec.specs.Types.{Project, Tank, Tcv, Fcv, Linear, Open, Closed, Throttle, Limit};
@@ -13,7 +13,6 @@ ghost use Rattle.hyd_spec.specs.Quantity.{minimum_pressure, required_pressure};
 ghost use Rattle.hyd_spec.specs.Outflow.{is_pressure_driven};
 ghost use Rattle.hyd_spec.specs.LinkLaw.{own_law};
 ghost use Rattle.hyd_spec_certificates.specs.Enclosing.{low, high};
-ghost use Rattle.hyd_spec_input.specs.FirstForm.{text_lines, line_words};
 ghost use Rattle.hyd_spec.specs.Assignment.{tank_heads, net_outflow};
 ghost use Rattle.hyd_spec.specs.Tank.{tank_inflow};
 ghost use Rattle.hyd_spec.specs.History.{tank_states, initial_levels};
@@ -68,21 +67,6 @@ pub fn valves()
         ≡ pos 0 ∷ pos 0 ∷ pos 0 ∷ pos 0 ∷ [] }
     ensures limit_closed_high { map (high (own_law false [] (Fcv Linear) (Closed))) (neg_ℤ (pos 125) ∷ pos 0 ∷ pos 3 ∷ pos 125 ∷ [])
         ≡ pos 0 ∷ pos 0 ∷ pos 0 ∷ pos 0 ∷ [] }
-{}
-
-/// The lines of a text.
-pub fn lines()
-    ensures { map text_lines (codes "" ∷ codes "\n" ∷ codes "a" ∷ codes "a\n" ∷ codes "a\n\n" ∷ codes "a\r\nb" ∷ codes "\na\r\r\n" ∷ codes "\r"
-        ∷ codes "[A]\nb  c\n" ∷ [])
-        ≡ ([]) ∷ (codes "" ∷ []) ∷ (codes "a" ∷ []) ∷ (codes "a" ∷ []) ∷ (codes "a" ∷ codes "" ∷ []) ∷ (codes "a" ∷ codes "b" ∷ [])
-        ∷ (codes "" ∷ codes "a\r" ∷ []) ∷ (codes "" ∷ []) ∷ (codes "[A]" ∷ codes "b  c" ∷ []) ∷ [] }
-{}
-
-/// The words of a line.
-pub fn words()
-    ensures { map line_words (codes "" ∷ codes "  " ∷ codes "a" ∷ codes " a b" ∷ codes "a\tb \t c" ∷ codes "[A] " ∷ [])
-        ≡ ([]) ∷ ([]) ∷ (codes "a" ∷ []) ∷ (codes "a" ∷ codes "b" ∷ []) ∷ (codes "a" ∷ codes "b" ∷ codes "c" ∷ []) ∷ (codes "[A]" ∷ [])
-        ∷ [] }
 {}
 
 /// Fractions compared with 1/2.

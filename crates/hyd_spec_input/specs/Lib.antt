@@ -1,4 +1,3 @@
-pub mod FirstForm
 pub mod Columns
 pub mod Keywords
 pub mod Moments

@@ -1,7 +1,7 @@
 -- What the calls of a run leave, said of its start.
 use Rattle.std.proofs.Common.{◌≡◌, ◌<◌, length, Option, ap, ◌∙◌, arith}
 use Rattle.hyd_io.specs.Told.{Files, file_at}
-use Rattle.hyd_spec_input.specs.FirstForm.{IsFirstForm, HasNoForm}
+use Rattle.hyd_cli.specs.FirstForm.{IsFirstForm, HasNoForm}
 use Rattle.hyd_cli.specs.Answers.{seen}
 use Rattle.hyd_cli.proofs.AnswerLemmas.{leaves_since, holds_since, run_since, opens_once}
 use Rattle.hyd_cli.proofs.LengthLemmas.{length-form}

@@ -1,6 +1,6 @@
 use Rattle.std.proofs.Common.{◌∙◌, ap, map, List, ℕ, Vec, Global}
 use denote.Ref.{Bor}
-use Rattle.hyd_spec_input.specs.FirstForm.{without_empty_end}
+use Rattle.hyd_cli.specs.FirstForm.{without_empty_end}
 use Rattle.hyd_cli.specs.Reading.{texts, words_of}
 use Rattle.hyd_cli.proofs.Unlike.{HasRows-lines, short_lines, long_line, unlike, first_form}
 use Rattle.hyd_cli.proofs.form.read_form.Goals as goal

@@ -1,6 +1,6 @@
 use Rattle.std.proofs.Common.{◌≡◌, map, take}
 use Rattle.std.specs.Str.Lines.{strip_carriage_return}
-use Rattle.hyd_spec_input.specs.FirstForm.{line_words}
+use Rattle.hyd_cli.specs.FirstForm.{line_words}
 use Rattle.hyd_cli.specs.Reading.{texts}
 use Rattle.hyd_cli.proofs.form.rows.Given as goal
 

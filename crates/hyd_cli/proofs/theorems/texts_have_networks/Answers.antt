@@ -4,7 +4,7 @@ use Rattle.std.specs.Prelude.{None}
 use Rattle.hyd_num.specs.Numeral.{nano_of}
 use Rattle.hyd_num.specs.Quantity.{head_ticks, flow_ticks}
 use Rattle.hyd_spec.specs.Types.{Project, Junction, Cmd}
-use Rattle.hyd_spec_input.specs.FirstForm.{Words, IsValve}
+use Rattle.hyd_cli.specs.FirstForm.{Words, IsValve}
 use Rattle.hyd_cli.proofs.theorems.texts_have_networks.Goals as goal
 
 -- its junction
