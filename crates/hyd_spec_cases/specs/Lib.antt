@@ -6,5 +6,6 @@ pub mod Single
 pub mod Input
 pub mod Tanks
 pub mod Curves
+pub mod Commands
 pub mod Cylinders
 pub mod Flask

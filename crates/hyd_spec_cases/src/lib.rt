@@ -7,6 +7,7 @@
 pub mod capacities;
 pub mod certificates;
 pub mod cities;
+pub mod commands;
 pub mod curves;
 pub mod decisions;
 pub mod enclosing;

@@ -8,7 +8,8 @@ and_false : (a b : Bool) → b ≡ false → (a && b) ≡ false
 and_false true b e = e
 and_false false b e = refl
 
-out_of_range : (negative : Bool) (n : ℕ) → 10 ^ 21 < n → (int_lt (pos 0) (signed negative n) && int_le (signed negative n) (pos (10 ^ 12))) ≡ false
+out_of_range : (negative : Bool) (n : ℕ) → 10 ^ 21 < n
+    → (int_lt (pos 0) (signed negative n) && int_le (signed negative n) (pos (10 ^ 12))) ≡ false
 out_of_range true zero big = absurd (omega arith)
 out_of_range true (suc n) big = refl
 out_of_range false n big =

@@ -9,7 +9,7 @@ pub record TwoFiles : Type 0 where
   pub net : Word
   pub cert : Word
 
--- `run`: its files, the greatest number of rounds, the width in head ticks of 10^-13 m, and whether all vectors are tight
+-- `run`: its files, the greatest number of rounds, the width in head ticks of 10^-13 m, and whether vectors are tight
 pub record RunOrder : Type 0 where
   pub files : TwoFiles
   pub rounds : ℕ
@@ -98,7 +98,8 @@ is_sound s = not s.has_wrong && nat_le s.tight_count 1
 
 -- nothing is wrong, and no option stands
 abbrev pub has_names_alone : Said → Bool
-has_names_alone s = not s.has_wrong && (s.tight_count == 0 && (length s.sweeps_values == 0 && length s.width_values == 0))
+has_names_alone s =
+    not s.has_wrong && (s.tight_count == 0 && (length s.sweeps_values == 0 && length s.width_values == 0))
 
 -- `run NET CERT`, with `--sweeps N`, `--width W` and `--tight` once each at most
 abbrev pub run_order : Said → Option RunOrder

@@ -88,9 +88,11 @@ fn with_value_behind<'a>(
     behind: &'a [String],
 ) -> Option<(SaidSoFar<'a>, &'a [String])>
     ensures { MatchOption result
-        (IsNoOrder (joined (said_seen so_far.entry) (said_by (parts_waiting (map string_bytes behind.now) (Some (part_of option))))))
+        (IsNoOrder (joined (said_seen so_far.entry)
+        (said_by (parts_waiting (map string_bytes behind.now) (Some (part_of option))))))
         (λ r. (joined (said_seen r.0) (said (map string_bytes r.1.now))
-        ≡ joined (said_seen so_far.entry) (said_by (parts_waiting (map string_bytes behind.now) (Some (part_of option)))))
+        ≡ joined (said_seen so_far.entry)
+        (said_by (parts_waiting (map string_bytes behind.now) (Some (part_of option)))))
         × (length r.1.now ≤ length behind.now)) }
 {
     let (value, left) = behind.split_first()?;
