@@ -26,9 +26,9 @@ fn is_single(project: &Project) -> bool
     ensures yes { result ≡ true → IsSingle project.now }
     ensures no { result ≡ false → IsSingle project.now → ⊥ }
 {
-    project.tanks.is_empty()
-        && project.controls.is_empty()
-        && project.rules.is_empty()
+    project.tanks.len() == 0
+        && project.controls.len() == 0
+        && project.rules.len() == 0
         && project.times.duration == 0
 }
 

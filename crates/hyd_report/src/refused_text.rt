@@ -1,12 +1,13 @@
 //! The one line where an input file is refused.
 
-ghost use Rattle.std.specs.Prelude.{◌≡◌, IsTrue};
+ghost use Rattle.std.specs.Prelude.{◌≡◌, decimal, IsTrue};
 ghost use Rattle.hyd_io.specs.Output.{OnCert};
 ghost use Rattle.hyd_report.specs.Putting.{Puts};
 ghost use Rattle.hyd_report.specs.RefusedText.{cause_number, detail_of, refused_text_line};
 
 use crate::numbers::number;
 use crate::pieces::put_pieces;
+use crate::words::Text;
 use hyd_io::{Desk, OutFault, Pen};
 use hyd_net::Cause;
 
@@ -37,6 +38,13 @@ fn detail_of(cause: Cause) -> u8
     }
 }
 
+/// A small number.
+fn small_number(value: u8) -> Text
+    ensures text { result ≡ decimal value }
+{
+    number(u64::from(value))
+}
+
 /// Puts the line of an input file that is refused: the line of the fault, counted from 1, or 0 where the file as a
 /// whole is meant, and its cause. Its faults and its needs are those of `Pen::put`.
 pub fn put_refused_text<D: Desk>(
@@ -50,8 +58,8 @@ pub fn put_refused_text<D: Desk>(
         (refused_text_line line cause) result pen.old pen.new desk.old desk.new }
 {
     let line = number(u64::from(line));
-    let kind = number(u64::from(cause_number(cause)));
-    let detail = number(u64::from(detail_of(cause)));
+    let kind = small_number(cause_number(cause));
+    let detail = small_number(detail_of(cause));
     put_pieces(
         &[
             b"REFUSED line ".as_slice(),

@@ -19,6 +19,6 @@ pieces_text first n n' c c' d d' is_first en ec ed = rw (is_first, en, ec, ed) (
 pub returns : goal.returns
 returns g c = puts_same _ _ _ _ _ _ _ (pieces_text _ _ _ _ _ _ _ c.as_slice.ensures
     (c.bytes.ensures ∙ (c.number-line.ensures.text ∙ ap decimal c.from.ensures))
-    (c.bytes.ensures ∙ (c.number-kind.ensures.text ∙ ap decimal (c.from.ensures ∙ c.cause_number.ensures)))
-    (c.bytes.ensures ∙ (c.number-detail.ensures.text ∙ ap decimal (c.from.ensures ∙ c.detail_of.ensures))))
+    (c.bytes-2.ensures ∙ (c.small_number-kind.ensures.text ∙ ap decimal c.cause_number.ensures))
+    (c.bytes-3.ensures ∙ (c.small_number-detail.ensures.text ∙ ap decimal c.detail_of.ensures)))
     c.put_pieces.ensures
