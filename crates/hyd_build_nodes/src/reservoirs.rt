@@ -43,15 +43,12 @@ fn reservoir_of(text: &Lines<'_>, line: &Line, patterns: &Names, unit: FlowUnit)
         ≤ 2 * 10 ^ 17 }
     ensures { IsReservoirOf unit patterns.now (words_at text.now line.now) result }
 {
-    match read_reservoir(text, line) {
-        Ok(row) => Reservoir {
-            head: head_of(row.head, unit),
-            pattern: number_named(patterns, row.pattern),
-        },
-        Err(_) => Reservoir {
-            head: 0,
-            pattern: None,
-        },
+    let Ok(row) = read_reservoir(text, line) else {
+        unreachable!()
+    };
+    Reservoir {
+        head: head_of(row.head, unit),
+        pattern: number_named(patterns, row.pattern),
     }
 }
 

@@ -104,7 +104,11 @@ fn judge(points: &[CurvePoint], unit: FlowUnit) -> Verdict
 }
 
 /// Judges each curve once, in time linear in its points, where `unit` is the unit of flows in force.
-pub fn judge_curves(alloc: Global, points: &Points, unit: FlowUnit) -> Result<Verdicts, OutOfMemory>
+pub fn curve_verdicts(
+    alloc: Global,
+    points: &Points,
+    unit: FlowUnit,
+) -> Result<Verdicts, OutOfMemory>
     ensures { IfOk result (λ verdicts. (rows : List Row) (names : List (List ℕ)) → unit ≡ force.unit rows
         → ArePoints rows names points.now → AreVerdicts rows names verdicts) }
 {

@@ -14,7 +14,7 @@ mod valves;
 mod volumes;
 
 pub use bends::{Bends, gather_bends};
-pub use judged::{Verdict, Verdicts, judge_curves};
+pub use judged::{Verdict, Verdicts, curve_verdicts};
 pub use points::{CurvePoint, Points, gather_points};
 pub use shapes::{Shapes, gather_shapes};
 pub use tanks::tank_curve_fault;

@@ -90,7 +90,7 @@ fn first_behind_verdicts(
     ensures { IfOk result (λ found. HasFound (rows_at text.now.text lines.now)
         (IsWrongOf family.from_links (rows_at text.now.text lines.now)) (length lines.now) found) }
 {
-    let verdicts = hyd_curves::judge_curves(alloc, tables.points, tables.unit)?;
+    let verdicts = hyd_curves::curve_verdicts(alloc, tables.points, tables.unit)?;
     let link_tables = LinkTables {
         nodes,
         curves: tables.curves,

@@ -69,12 +69,12 @@ can_command rows p number to c =
 -- ---- moments
 
 -- a word that is one keyword isn't another
-word_apart : (a b : List ℕ) (o : Option (List ℕ)) → is_option_keyword a o ≡ true → is_keyword b a ≡ false
+pub word_apart : (a b : List ℕ) (o : Option (List ℕ)) → is_option_keyword a o ≡ true → is_keyword b a ≡ false
     → is_option_keyword b o ≡ false
 word_apart a b None is apart = refl
 word_apart a b (Some w) is apart = keyword_same a b w is ∙ apart
 
-at_not_if : is_keyword (codes "IF") (codes "AT") ≡ false
+pub at_not_if : is_keyword (codes "IF") (codes "AT") ≡ false
 unfolding is_keyword
 at_not_if = refl
 

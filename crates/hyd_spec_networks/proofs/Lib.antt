@@ -18,4 +18,6 @@ pub mod PatternRows
 pub mod Rounding
 pub mod Parts
 pub mod OneFault
+pub mod OneCapacity
+pub mod OneProject
 pub mod ExampleText

@@ -1,15 +1,16 @@
 //! The project of a text without a fault is sound: whatever rows say, the network that they describe meets every range
-//! that the computation rests on. A text has one fault at most, and then it isn't one without. Each part is the contract
-//! of a small function, on the definitions alone.
+//! that the computation rests on. A text has one fault at most, and then it isn't one without; its rows describe one
+//! network at most. Each part is the contract of a small function, on the definitions alone.
 #![tactic(auto)]
 
 ghost use Rattle.std.specs.Prelude.{◌≡◌, ℕ, List, All};
-ghost use Rattle.hyd_lex.specs.Lines.{items_of, rows_in};
+ghost use Rattle.hyd_lex.specs.Lines.{Row, items_of, rows_in};
 ghost use Rattle.hyd_net.specs.declared.cause.Cause.{Cause};
 ghost use Rattle.hyd_net.specs.declared.project.Project.{Project};
 ghost use Rattle.hyd_net.specs.Commands.{node_count, IsControl, IsRule};
 ghost use Rattle.hyd_net.specs.Sizes.{HasOptions, HasSizes, IsJunction, IsReservoir, IsTank};
 ghost use Rattle.hyd_net.specs.States.{CanHave};
+ghost use Rattle.hyd_net.specs.Views.{plain_project};
 ghost use Rattle.hyd_net.specs.Sound.{HasIds, IsWithinLimits, HasEnds, AreTimes, IsPattern, Sound};
 ghost use Rattle.hyd_net.specs.Made.{IsAllMade};
 ghost use Rattle.hyd_spec_input.specs.Faults.{IsFault, HasNoFault};
@@ -111,4 +112,11 @@ pub fn one_fault()
 /// A text that has a fault isn't one without.
 pub fn no_fault_beside()
     ensures { (text : List ℕ) (line : ℕ) (cause : Cause) → IsFault text line cause → HasNoFault text → ⊥ }
+{}
+
+/// Rows describe one network: two projects of the same rows are the same, as projects are compared (apart from the spare
+/// of their lists and from the numbers beside a rounded form, of which it is made).
+pub fn one_project()
+    ensures { (rows : List Row) (p q : Project) → IsProject rows p → IsProject rows q
+        → plain_project p ≡ plain_project q }
 {}

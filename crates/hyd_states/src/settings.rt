@@ -34,10 +34,10 @@ fn diameter(text: &Lines<'_>, link: &Line) -> Decimal
     ensures nano { result.nano ≡ amount 3 (words_at text.now link.now) }
     ensures range { IsDiameter result }
 {
-    match read_valve(text, link) {
-        Ok(row) => row.diameter,
-        Err(_) => Decimal { nano: 1 },
-    }
+    let Ok(row) = read_valve(text, link) else {
+        unreachable!()
+    };
+    row.diameter
 }
 
 /// Whether the capacity of a valve with a loss coefficient is out of range; a coefficient of 0 makes a linear law, and

@@ -2,7 +2,7 @@ use Rattle.std.proofs.Common.{length, arith, ap}
 use Rattle.hyd_curves.specs.Judged.{IsVerdictOf}
 use Rattle.hyd_curves.specs.Points.{points_in}
 use Rattle.hyd_curves.proofs.JudgedLemmas.{all_named, verdict_more, verdicts_all}
-use Rattle.hyd_curves.proofs.judged.judge_curves.Goals as goal
+use Rattle.hyd_curves.proofs.judged.curve_verdicts.Goals as goal
 
 pub loop-list-preserved : goal.loop-list-preserved
 loop-list-preserved c =
