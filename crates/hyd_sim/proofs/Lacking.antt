@@ -7,12 +7,14 @@ use Rattle.std.proofs.lemmas.Option.{slice_get_within, get_or_from_slice_get, sl
 use Rattle.hyd_spec.specs.Assignment.{head_at}
 use Rattle.hyd_spec.specs.Lists.{Each}
 use Rattle.hyd_spec_certificates.specs.declared.Problem.{Problem}
+use Rattle.hyd_spec_certificates.specs.declared.Problem.TheVariants.{Main}
 use Rattle.hyd_spec_certificates.specs.declared.Side.{Side}
+use Rattle.hyd_spec_certificates.specs.declared.Side.TheVariants.{Upper, Lower}
 use Rattle.hyd_spec_certificates.specs.Grid.{Grid}
 use Rattle.hyd_spec_certificates.specs.Certificate.{IsCertificate, IsTight}
 use Rattle.hyd_spec_certificates.specs.Record.{Record, vector_of}
 use Rattle.hyd_cert.specs.RecordView.{IsProblemOf}
-use Rattle.hyd_vectors.specs.Vectors.{IsSought, LacksFirst, OfEach}
+use Rattle.hyd_vectors.specs.Vectors.{IsFound, IsOffered, IsSought, AreTold, HaveSame, LacksFirst, OfEach}
 use Rattle.hyd_vectors.specs.declared.lack.Lack.{Lack}
 use Rattle.hyd_sim.specs.Sharp.{HasVectors, LacksOne, AreClose}
 use Rattle.hyd_sim.specs.declared.settings.Settings.{Settings}
@@ -104,3 +106,28 @@ if-err P Q (Err fault) f p = f fault p
 pub on-ok : {A E : Type 0} (P Q : Type 0) (result : Result A E) → (P → Q) → OnOk result P → OnOk result Q
 on-ok P Q (Ok value) f p = f p
 on-ok P Q (Err fault) f p = p
+
+-- the vectors that are found where the finder tells all of them
+pub same-as-told : (tight : Bool) (told : Option (List ℤ)) (grid : Grid) (tanks : ℕ) (row w : Record)
+    → tight ≡ false → OfEach (IsSought tight told grid tanks) tanks row → AreTold told grid tanks w
+    → HaveSame tanks row w
+same-as-told tight told grid tanks row w e each all = λ problem side there.
+    let found : IsFound told grid tanks problem side (vector_of row problem side) =
+    subst (λ (b : Bool). IsSought b told grid tanks problem side (vector_of row problem side)) e
+    (each problem side there) in
+    found.proposal (vector_of w problem side) (all problem side there)
+
+-- records with the same vectors are close alike
+pub close-alike : (width : ℤ) (tanks : ℕ) (row w : Record) → HaveSame tanks row w → AreClose width w
+    → AreClose width row
+close-alike width tanks row w same close =
+    subst (λ (us : List ℤ). Each us (λ j h. (h -ℤ head_at row.main.lower j) ≤ℤ width)) (sym (same Main Upper tt))
+    (subst (λ (us : List ℤ). Each w.main.upper (λ j h. (h -ℤ head_at us j) ≤ℤ width)) (sym (same Main Lower tt)) close)
+
+-- nothing is lacking where the finder tells all
+pub none-lacking : (tight : Bool) (told : Option (List ℤ)) (grid : Grid) (tanks rounds : ℕ) (row w : Record)
+    (lack : Lack) → tight ≡ false → LacksFirst tight told grid tanks rounds row lack → AreTold told grid tanks w → ⊥
+none-lacking tight told grid tanks rounds row w lack e first all =
+    first.unoffered (vector_of w first.problem first.side)
+    (subst (λ (b : Bool). IsOffered b told grid tanks first.problem first.side
+    (vector_of w first.problem first.side)) (sym e) (all first.problem first.side first.is_problem))

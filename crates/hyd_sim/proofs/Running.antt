@@ -1,6 +1,8 @@
 -- The period of a run that has one.
 use Rattle.std.proofs.Common.{◌≡◌, ℕ, zero, suc, ◌+◌, ◌<◌, ◌≤◌, ℤ, pos, ◌+ℤ◌, ◌-ℤ◌, ◌*ℤ◌, ◌≤ℤ◌, Bool, true, false, List, [], ◌∷◌, ◌++◌, length, map, refl, sym, ap, subst, ◌∙◌, arith, ◌⊎◌, inl, inr}
-use Rattle.std.specs.Prelude.{Option, MatchBool}
+use Rattle.std.specs.Prelude.{Option, MatchBool, unsigned_abs}
+use Rattle.std.proofs.lemmas.Option.{slice_get_within, get_or_from_slice_get}
+use Rattle.hyd_spec.specs.Quantity.{demand_of}
 use Rattle.std.proofs.lemmas.Int.{ints}
 use Rattle.hyd_spec.specs.Types.{Project, Junction, LinkState}
 use Rattle.hyd_spec.specs.Lists.{Each}
@@ -15,8 +17,8 @@ use Rattle.hyd_spec_certificates.specs.Narrow.{IsNarrow, widest}
 use Rattle.hyd_spec_certificates.specs.Decided.{level_of_tank, inflow_of_tank, links_at, acts_on}
 use Rattle.hyd_spec_certificates.specs.Interval.{Interval, width}
 use Rattle.hyd_spec_certificates.specs.Record.{Record, Standing, Vectors, vector_of}
-use Rattle.hyd_spec_certificates.specs.Valid.{IsProblem, IsGridAt, DemandsAreInRange, AreCertificates, IsValid, Finishes, finishes}
-use Rattle.hyd_spec_reports.specs.Stops.{Stops, EarlierHaveCertificates, HasNoCertificate, SpendsRounds}
+use Rattle.hyd_spec_certificates.specs.Valid.{IsProblem, IsGridAt, DemandsAreInRange, AreCertificates, IsValid, Finishes, finishes, demand_limit}
+use Rattle.hyd_spec_reports.specs.Stops.{Stops, IsFirstDemand, EarlierHaveCertificates, HasNoCertificate, SpendsRounds}
 use Rattle.hyd_spec_reports.specs.Report.{changes_at, control_changes, EndBrings, at_end}
 use Rattle.hyd_spec_reports.specs.declared.Event.{Event}
 use Rattle.hyd_spec.specs.Lists.{map_from}
@@ -203,3 +205,16 @@ valid-of network number commanded grid row single numbered timed short in_range 
     next_is = ap (λ (n : ℕ). standing_at n commanded true) (let e : number + 1 ≡ suc number = omega arith in e);
   });
 }
+
+-- a demand in range isn't one that is out of range
+pub no-demand-out : (network : Project) (time j : ℕ) (demand : ℤ) → DemandsAreInRange network time
+    → IsFirstDemand network time j demand → ⊥
+no-demand-out network time j demand all first =
+    let within = slice_get_within network.junctions.list j first.junction first.is_junction in
+    let small = all j first.junction within in
+    let here = get_or_from_slice_get network.junctions.list j first.junction first.junction first.is_junction in
+    let kept : unsigned_abs (demand_of network time first.junction) ≤ demand_limit =
+    subst (λ (x : Junction). unsigned_abs (demand_of network time x) ≤ demand_limit) here small in
+    let out = first.out_of_range in
+    let same = ap unsigned_abs first.is_demand in
+    omega (arith, kept, out, same)

@@ -9,7 +9,8 @@ use Rattle.hyd_spec_certificates.specs.Grid.{Grid}
 use Rattle.hyd_spec_certificates.specs.Certificate.{IsTight}
 use Rattle.hyd_spec_certificates.specs.Narrow.{IsNarrow}
 use Rattle.hyd_spec_certificates.specs.Record.{Record, Standing, vector_of}
-use Rattle.hyd_spec_certificates.specs.Valid.{IsProblem, IsValid}
+use Rattle.hyd_spec_certificates.specs.Valid.{IsProblem, IsGridAt, IsValid}
+use Rattle.hyd_spec_reports.specs.Stops.{Stops}
 use Rattle.hyd_cert.specs.RecordView.{row_of}
 use Rattle.hyd_cert.specs.declared.record.Record.{Record as Row}
 use Rattle.hyd_facts.specs.declared.facts.Facts.{Facts}
@@ -17,6 +18,8 @@ use Rattle.hyd_graph.specs.NetView.{NetView}
 use Rattle.hyd_facts.specs.OfPeriod.{AreFacts}
 use Rattle.hyd_graph.specs.GridOf.{grid_of, states_of}
 use Rattle.hyd_graph.specs.Settings.{AreStates}
+use Rattle.hyd_vectors.specs.Vectors.{AreTold}
+use Rattle.hyd_spec.specs.Network.{tank_count}
 use Rattle.hyd_sim.specs.View.{SimView, standing_at, standing_of}
 use Rattle.hyd_sim.specs.declared.settings.Settings.{Settings}
 use Rattle.hyd_sim.specs.declared.steps.Step.{Step}
@@ -33,6 +36,11 @@ abbrev pub IsSharp : Project → Settings → Standing → Grid → Record → S
 IsSharp network settings standing grid row next =
     MatchBool settings.tight (AreTight network grid row)
     (AreTight network grid row ⊎ IsNarrow settings.width standing row next)
+
+-- each vector of a record is a certificate, on the grid of a standing, that the finder tells
+abbrev pub IsToldAt : Option (List ℤ) → Project → Standing → Record → Type 0
+IsToldAt told network standing w =
+    (grid : Grid) → IsGridAt network standing grid → AreTold told grid (tank_count network) w
 
 -- the period of a number was done, from the states that links were commanded to be in: its record is valid at the
 -- standing before and leads on to the one after, the net is that of the period, with links in the states of the facts,
@@ -62,4 +70,6 @@ pub record IsPeriod (before now : SimView) : Type 0 where
 abbrev pub StepGives : SimView → SimView → Step → Type 0
 StepGives before now Period = IsPeriod before now
 StepGives before now Finished = (before.finished ≡ true) × (now ≡ before)
-StepGives before now (Stop cause) = (now.stopped ≡ Some cause) × (standing_of now ≡ standing_of before)
+StepGives before now (Stop cause) =
+    (now.stopped ≡ Some cause) × ((standing_of now ≡ standing_of before)
+    × Stops now.project (standing_of now) now.settings.rounds cause)

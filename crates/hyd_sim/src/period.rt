@@ -1,14 +1,18 @@
 //! One period.
 #![tactic(auto)]
 
-ghost use Rattle.std.specs.Prelude.{◌≡◌, length, map, false, IfErr, OnOk};
+ghost use Rattle.std.specs.Prelude.{◌≡◌, length, map, false, IfErr, IsOk, OnOk};
 ghost use Rattle.hyd_net.specs.Sound.{Sound};
 ghost use Rattle.hyd_spec_reports.specs.Stops.{Stops};
-ghost use Rattle.hyd_cert.specs.RecordView.{header_of};
+ghost use Rattle.hyd_cert.specs.RecordView.{header_of, row_of};
 ghost use Rattle.hyd_facts.specs.Room.{HasRoom};
 ghost use Rattle.hyd_graph.specs.Periods.{IsNetOf};
 ghost use Rattle.hyd_sim.specs.View.{IsSingle, header_for, standing_at};
-ghost use Rattle.hyd_sim.specs.Steps.{IsDone};
+ghost use Rattle.hyd_sim.specs.Sharp.{AreClose};
+ghost use Rattle.hyd_sim.specs.Steps.{IsDone, IsToldAt};
+ghost use Rattle.hyd_spec_certificates.specs.Record.{Record as Row};
+ghost use Rattle.hyd_spec_certificates.specs.Valid.{DemandsAreInRange};
+ghost use Rattle.hyd_vectors.specs.Vectors.{HaveSame};
 
 use crate::settings::Settings;
 use crate::start::{demand_stop, put_facts, start_links};
@@ -50,6 +54,10 @@ pub(crate) fn do_period<F: Finder>(
     ensures header { header_of row.new ≡ header_of row.old }
     ensures facts { HasRoom project.now facts.new }
     ensures links { length links.new ≡ length links.old }
+    ensures proposal { (w : Row) → settings.tight ≡ false → DemandsAreInRange project.now 0
+        → IsToldAt (F.told finder.old) project.now (standing_at number commanded.now false) w
+        → AreClose settings.width w → IsOk result × HaveSame (length project.now.tanks.list) (row_of row.new) w }
+    ensures told { F.told finder.new ≡ F.told finder.old }
 {
     start_links(project, commanded, links, facts);
     if let Err(fault) = net.set_period(project, 0, links, &[], &[]) {

@@ -1,10 +1,15 @@
 //! One period after another.
 #![tactic(auto)]
 
-ghost use Rattle.std.specs.Prelude.{◌≡◌, Some, None, true, false, IfErr, OnOk, OnErr};
+ghost use Rattle.std.specs.Prelude.{◌≡◌, Some, None, true, false, length, IfErr, IsOk, OnOk, OnErr};
 ghost use Rattle.hyd_spec_reports.specs.Stops.{Stops};
 ghost use Rattle.hyd_sim.specs.View.{standing_of};
-ghost use Rattle.hyd_sim.specs.Steps.{StepGives, IsPeriod};
+ghost use Rattle.hyd_sim.specs.Sharp.{AreClose};
+ghost use Rattle.hyd_sim.specs.Steps.{StepGives, IsPeriod, IsToldAt};
+ghost use Rattle.hyd_cert.specs.RecordView.{row_of};
+ghost use Rattle.hyd_spec_certificates.specs.Record.{Record as Row};
+ghost use Rattle.hyd_spec_certificates.specs.Valid.{DemandsAreInRange};
+ghost use Rattle.hyd_vectors.specs.Vectors.{HaveSame};
 
 use crate::period::do_period;
 use crate::sim::Sim;
@@ -34,6 +39,11 @@ impl Sim {
         ensures unfinished { OnErr result (self.new.finished ≡ false) }
         ensures project { self.new.project ≡ self.old.project }
         ensures settings { self.new.settings ≡ self.old.settings }
+        ensures proposal { (w : Row) → self.old.settings.tight ≡ false → DemandsAreInRange self.old.project 0
+            → IsToldAt (F.told finder.old) self.old.project (standing_of self.old) w
+            → AreClose self.old.settings.width w
+            → IsOk result × HaveSame (length self.old.project.tanks.list) (row_of self.new.row) w }
+        ensures told { F.told finder.new ≡ F.told finder.old }
     {
         do_period(
             &self.project,
@@ -57,10 +67,17 @@ impl Sim {
     /// again. Finished comes exactly where the period at the end of the run is over.
     pub fn step<F: Finder>(&mut self, finder: &mut F) -> Step
         ensures gives { StepGives self.old self.new result }
-        ensures again { (cause : StopCause) → self.old.stopped ≡ Some cause → result ≡ Step.Stop cause }
+        ensures again { (cause : StopCause) → self.old.stopped ≡ Some cause
+            → (result ≡ Step.Stop cause) × (self.new ≡ self.old) }
         ensures finished { self.old.stopped ≡ None → self.old.finished ≡ true → result ≡ Step.Finished }
         ensures project { self.new.project ≡ self.old.project }
         ensures settings { self.new.settings ≡ self.old.settings }
+        ensures proposal { (w : Row) → self.old.stopped ≡ None → self.old.finished ≡ false
+            → self.old.settings.tight ≡ false → DemandsAreInRange self.old.project 0
+            → IsToldAt (F.told finder.old) self.old.project (standing_of self.old) w
+            → AreClose self.old.settings.width w
+            → (result ≡ Step.Period) × HaveSame (length self.old.project.tanks.list) (row_of self.new.row) w }
+        ensures told { F.told finder.new ≡ F.told finder.old }
     {
         if let Some(cause) = self.stopped {
             return Step::Stop(cause);

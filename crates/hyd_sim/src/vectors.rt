@@ -1,10 +1,11 @@
 //! The vectors of a period's record, as sharp as they are asked to be.
 #![tactic(auto)]
 
-ghost use Rattle.std.specs.Prelude.{◌≡◌, length, true, false, IfErr, OnOk};
+ghost use Rattle.std.specs.Prelude.{◌≡◌, length, true, false, IfErr, IsOk, OnOk};
 ghost use Rattle.hyd_cert.specs.RecordView.{header_of, row_of};
 ghost use Rattle.hyd_graph.specs.GridOf.{grid_of};
-ghost use Rattle.hyd_vectors.specs.Vectors.{Fits, Stays};
+ghost use Rattle.hyd_spec_certificates.specs.Record.{Record as Row};
+ghost use Rattle.hyd_vectors.specs.Vectors.{AreTold, Fits, HaveSame, Stays};
 ghost use Rattle.hyd_sim.specs.Sharp.{AreClose, HasVectors, LacksOne, stop_of};
 
 use crate::narrow::are_within;
@@ -16,8 +17,8 @@ use hyd_spec_certificates::{Problem, Side};
 use hyd_spec_reports::StopCause;
 use hyd_vectors::{Lack, Search};
 
-// Whether the head intervals of a record are at most so many head ticks wide.
-fn is_narrow(row: &Record, width: i64) -> bool
+// Whether no head interval of a record is wider than so many head ticks.
+fn are_close(row: &Record, width: i64) -> bool
     ensures close { result ≡ true → AreClose width (row_of row.now) }
     ensures wide { result ≡ false → AreClose width (row_of row.now) → ⊥ }
 {
@@ -43,13 +44,17 @@ pub(crate) fn find_vectors<F: Finder>(
     requires fits { Fits net.now (header_of row.old) }
     ensures vectors { OnOk result (HasVectors settings (grid_of net.now) (length net.now.tanks) (row_of row.new)) }
     ensures lack { IfErr result (LacksOne (grid_of net.now) (length net.now.tanks) settings.rounds) }
+    ensures proposal { (w : Row) → settings.tight ≡ false
+        → AreTold (F.told finder.old) (grid_of net.now) (length net.now.tanks) w → AreClose settings.width w
+        → IsOk result × HaveSame (length net.now.tanks) (row_of row.new) w }
     ensures stays { Stays row.old row.new }
     ensures keeps { search.new ≡ search.old }
+    ensures told { F.told finder.new ≡ F.told finder.old }
 {
     if let Err(lack) = search.find(net, finder, settings.tight, row) {
         return Err(lack);
     }
-    if settings.tight || is_narrow(row, settings.width) {
+    if settings.tight || are_close(row, settings.width) {
         return Ok(());
     }
     search.find(net, finder, true, row)

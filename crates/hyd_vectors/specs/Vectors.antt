@@ -94,3 +94,11 @@ pub record LacksFirst (tight : Bool) (told : Option (List ℤ)) (grid : Grid) (t
   pub lacks : Lacks grid problem side rounds lack
   pub unoffered : (w : List ℤ) → IsOffered tight told grid tanks problem side w → ⊥
   pub earlier : EachBefore (IsSought tight told grid tanks) tanks (turn problem side) row
+
+-- each vector of a record is a certificate that the finder tells
+abbrev pub AreTold : Option (List ℤ) → Grid → ℕ → Record → Type 0
+AreTold told grid tanks row = OfEach (IsTold told grid tanks) tanks row
+
+-- two records have the same vectors
+abbrev pub HaveSame : ℕ → Record → Record → Type 0
+HaveSame tanks one other = OfEach (λ problem side u. u ≡ vector_of other problem side) tanks one

@@ -118,7 +118,7 @@ impl Search {
 
     /// Finds the vector of each problem and side, in the order MAIN UPPER, MAIN LOWER and both sides of each tank
     /// pinned. Where they are to be tight, it is the tight one, by rounds of raises; else the finder's where that passes
-    /// the check, and the tight one where it doesn't. Fails with the first problem and side that lacks one; those before
+    /// the check, and else another certificate. Fails with the first problem and side that lacks one; those before
     /// it stand in the record then.
     pub fn find<F: Finder>(
         &mut self,

@@ -10,7 +10,7 @@ returns-in-Finished-clause-puts g c = over-finished _ _ _ c.in-Finished.ensures.
 pub returns-in-Stop-clause-puts : goal.returns-in-Stop-clause-puts
 returns-in-Stop-clause-puts g c =
     over-stopped _ _ c.in-Stop.cause _ c.project-project-in-Stop.ensures.is_sim c.in-Stop.ensures.gives.0
-    c.in-Stop.ensures.gives.1
+    c.in-Stop.ensures.gives.1.0
 
 pub put_period-requires : goal.put_period-requires
 put_period-requires g c =

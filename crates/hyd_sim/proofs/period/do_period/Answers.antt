@@ -16,8 +16,9 @@ use Rattle.hyd_graph.specs.GridOf.{grid_of}
 use Rattle.hyd_graph.specs.Settings.{AreStates}
 use Rattle.hyd_graph.proofs.Counts.{junctions_count}
 use Rattle.hyd_vectors.specs.Room.{Room}
+use Rattle.hyd_vectors.specs.Vectors.{AreTold, HaveSame}
 use Rattle.hyd_sim.specs.View.{standing_at}
-use Rattle.hyd_sim.proofs.Running.{net-junctions, problems-each, lack-stops, certificates-of, sharp-of, facts-of, valid-of}
+use Rattle.hyd_sim.proofs.Running.{net-junctions, problems-each, lack-stops, certificates-of, sharp-of, facts-of, valid-of, no-demand-out}
 use Rattle.hyd_sim.proofs.period.do_period.Goals as goal
 
 pub find_vectors-requires-clause-room : goal.find_vectors-requires-clause-room
@@ -82,3 +83,36 @@ returns-clause-done g c =
       sharp = sharp-of network c.args.settings standing grid (length net.tanks) (row_of row) next of.each_tank refl
           refl has;
     }
+
+pub returns-in-Err-clause-proposal : goal.returns-in-Err-clause-proposal
+returns-in-Err-clause-proposal g c = λ w e in_range all close.
+    absurd (no-demand-out c.args.project.now 0 c.in-Err.fault.junction c.in-Err.fault.value in_range
+    c.in-Err.ensures.refused)
+
+pub returns-in-Err-find_vectors-clause-proposal : goal.returns-in-Err-find_vectors-clause-proposal
+returns-in-Err-find_vectors-clause-proposal g c = λ w e in_range all close.
+    let network = c.args.project.now in
+    let net = c.set_period.new.self in
+    let of = c.set_period.ensures.stays in
+    let grid = grid_of net in
+    let is : IsGridAt network (standing_at c.args.number c.args.commanded.now false) grid =
+    subst (λ (xs : List LinkState). IsGrid network 0 [] [] xs grid) c.start_links.ensures.links
+    c.in_default.ensures.grid in
+    let told = subst (λ (n : ℕ). AreTold (g.F.Finder.told c.args.finder.now) grid n w) (sym of.each_tank)
+    (all grid is) in
+    let got = c.in-Err-find_vectors.ensures.proposal w e told close in
+    (got.0, subst (λ (n : ℕ). HaveSame n (row_of c.find_vectors.new.row) w) of.each_tank got.1)
+
+pub returns-clause-proposal : goal.returns-clause-proposal
+returns-clause-proposal g c = λ w e in_range all close.
+    let network = c.args.project.now in
+    let net = c.set_period.new.self in
+    let of = c.set_period.ensures.stays in
+    let grid = grid_of net in
+    let is : IsGridAt network (standing_at c.args.number c.args.commanded.now false) grid =
+    subst (λ (xs : List LinkState). IsGrid network 0 [] [] xs grid) c.start_links.ensures.links
+    c.in_default.ensures.grid in
+    let told = subst (λ (n : ℕ). AreTold (g.F.Finder.told c.args.finder.now) grid n w) (sym of.each_tank)
+    (all grid is) in
+    let got = c.in_default-find_vectors.ensures.proposal w e told close in
+    (got.0, subst (λ (n : ℕ). HaveSame n (row_of c.find_vectors.new.row) w) of.each_tank got.1)

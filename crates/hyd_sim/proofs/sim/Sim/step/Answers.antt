@@ -1,0 +1,11 @@
+use Rattle.std.proofs.Common.{◌≡◌, refl}
+use Rattle.std.proofs.lemmas.Bool.{false≢true}
+use Rattle.hyd_sim.proofs.sim.Sim.step.Goals as goal
+
+pub returns-in-Ok-clause-proposal : goal.returns-in-Ok-clause-proposal
+returns-in-Ok-clause-proposal g c = λ w running unfinished e in_range told close.
+    (refl, (c.in-Ok.ensures.proposal w e in_range told close).1)
+
+pub returns-in-Err-clause-proposal : goal.returns-in-Err-clause-proposal
+returns-in-Err-clause-proposal g c = λ w running unfinished e in_range told close.
+    absurd (false≢true (c.in-Err.ensures.proposal w e in_range told close).0)
