@@ -60,7 +60,7 @@ const FAULTS: &[Fault] = &[
         failing: 6,
         starving: 0,
         status: Status::WriteFault,
-        written: VALVES[0].written,
+        written: Some("HYDCERT 1 1 0\nPERIOD 0 0 0\nMU 998718316144933\nML 998718316123912\nEND 1 FINISHED\n"),
     },
 ];
 
