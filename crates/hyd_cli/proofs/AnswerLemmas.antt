@@ -12,13 +12,13 @@ use Rattle.hyd_net.specs.declared.cause.Cause.TheVariants.{Unsupported}
 use Rattle.hyd_spec.specs.Types.{Project}
 use Rattle.hyd_spec_input.specs.Project.{IsProject}
 use Rattle.hyd_spec_reports.specs.Headline.{Outcome, Finished, Stopped, RunWrites, RunBreaksOff, outcome_number}
-use Rattle.hyd_spec_reports.specs.declared.StopCause.TheVariants.{NoCertificate, TankOpen, RuleOpen, ControlOpen, EventOpen, RoundsSpent as Rounds, Demand}
-use Rattle.hyd_words.specs.Orders.{RunOrder}
+use Rattle.hyd_spec_reports.specs.declared.StopCause.TheVariants.{NoCertificate, TankOpen, RuleOpen, ControlOpen, EventOpen, RoundsSpent as Rounds, Demand as OutOfRange}
+use Rattle.hyd_sim.specs.declared.settings.Settings.{Settings}
 use Rattle.hyd_run.specs.Pens.{OneRose}
-use Rattle.hyd_cli.specs.Answers.{Seen, IsUntouched, NothingPut, Delivered, CutShort, PrintsRefusal, OnlyPrinted, OnlyPrintedFront, HasCause, status_of, OpensOnce, OpensCert, Leaves, Holds, AnswersRefused, AnswersRun, AnswersNetwork, AnswersText, sharpness_of}
+use Rattle.hyd_cli.specs.Answers.{Seen, IsUntouched, NothingPut, Delivered, CutShort, PrintsRefusal, OnlyPrinted, OnlyPrintedFront, HasCause, status_of, OpensOnce, OpensCert, Leaves, Holds, AnswersRefused, AnswersRun, AnswersNetwork, AnswersText}
 use Rattle.hyd_cli.specs.Statuses.{number_of, status_of_outcome}
 use Rattle.hyd_cli.specs.declared.status.Status.{Status}
-use Rattle.hyd_cli.specs.declared.status.Status.TheVariants.{Done, OutOfMemory, Usage, ReadFault, WriteFault, InputRefused, Undecided, RoundsSpent, DemandOutOfRange, Stalled}
+use Rattle.hyd_cli.specs.declared.status.Status.TheVariants.{Done, OutOfMemory, Usage, ReadFault, WriteFault, InputRefused, Undecided, RoundsSpent, Demand, Stalled}
 
 -- ---- what was untouched is the same
 
@@ -65,12 +65,12 @@ number_of_end (Stopped (RuleOpen period rule clause lo hi)) = refl
 number_of_end (Stopped (ControlOpen period control lo hi)) = refl
 number_of_end (Stopped (EventOpen period earliest latest)) = refl
 number_of_end (Stopped (Rounds period problem side rounds)) = refl
-number_of_end (Stopped (Demand period junction demand)) = refl
+number_of_end (Stopped (OutOfRange period junction demand)) = refl
 
 -- what holds of the four statuses of an end holds of the status of each
 by_end : (P : Status → Type 0) (outcome : Outcome) → (Done ≡ status_of_outcome outcome → P Done)
     → (Undecided ≡ status_of_outcome outcome → P Undecided) → (RoundsSpent ≡ status_of_outcome outcome → P RoundsSpent)
-    → (DemandOutOfRange ≡ status_of_outcome outcome → P DemandOutOfRange) → P (status_of_outcome outcome)
+    → (Demand ≡ status_of_outcome outcome → P Demand) → P (status_of_outcome outcome)
 by_end P Finished d u r o = d refl
 by_end P (Stopped (NoCertificate period problem side junction)) d u r o = u refl
 by_end P (Stopped (TankOpen period tank lo hi)) d u r o = u refl
@@ -78,17 +78,17 @@ by_end P (Stopped (RuleOpen period rule clause lo hi)) d u r o = u refl
 by_end P (Stopped (ControlOpen period control lo hi)) d u r o = u refl
 by_end P (Stopped (EventOpen period earliest latest)) d u r o = u refl
 by_end P (Stopped (Rounds period problem side rounds)) d u r o = r refl
-by_end P (Stopped (Demand period junction demand)) d u r o = o refl
+by_end P (Stopped (OutOfRange period junction demand)) d u r o = o refl
 
-pub answers_end : (network : Project) (order : RunOrder) (outcome : Outcome) (before now : Seen)
-    → Delivered network order (status_of_outcome outcome) before now
-    → AnswersRun network order (status_of_outcome outcome) before now
-answers_end network order outcome before now h =
-    by_end (λ status. AnswersRun network order status before now) outcome
-    (λ e. subst (λ s. Delivered network order s before now) (sym e) h)
-    (λ e. subst (λ s. Delivered network order s before now) (sym e) h)
-    (λ e. subst (λ s. Delivered network order s before now) (sym e) h)
-    (λ e. subst (λ s. Delivered network order s before now) (sym e) h)
+pub answers_end : (network : Project) (settings : Settings) (cert : List ℕ) (outcome : Outcome) (before now : Seen)
+    → Delivered network settings cert (status_of_outcome outcome) before now
+    → AnswersRun network settings cert (status_of_outcome outcome) before now
+answers_end network settings cert outcome before now h =
+    by_end (λ status. AnswersRun network settings cert status before now) outcome
+    (λ e. subst (λ s. Delivered network settings cert s before now) (sym e) h)
+    (λ e. subst (λ s. Delivered network settings cert s before now) (sym e) h)
+    (λ e. subst (λ s. Delivered network settings cert s before now) (sym e) h)
+    (λ e. subst (λ s. Delivered network settings cert s before now) (sym e) h)
 
 pub cause_of_end : (outcome : Outcome) (before now : Faults) → now ≡ before
     → HasCause (status_of_outcome outcome) before now
@@ -102,11 +102,11 @@ opens_of_end outcome before now e =
 
 -- ---- a fault of output
 
-pub answers_fault : (network : Project) (order : RunOrder) (fault : OutFault) (before now : Seen)
-    → NothingPut before now ⊎ CutShort network order before now
-    → AnswersRun network order (status_of fault) before now
-answers_fault network order Fault before now h = h
-answers_fault network order Stall before now h = h
+pub answers_fault : (network : Project) (settings : Settings) (cert : List ℕ) (fault : OutFault) (before now : Seen)
+    → NothingPut before now ⊎ CutShort network settings cert before now
+    → AnswersRun network settings cert (status_of fault) before now
+answers_fault network settings cert Fault before now h = h
+answers_fault network settings cert Stall before now h = h
 
 pub cause_of_fault : (fault : OutFault) (before now : Faults) → OneRose fault before now
     → HasCause (status_of fault) before now
@@ -132,7 +132,7 @@ refusal_leaves line cause WriteFault before now h = tt
 refusal_leaves line cause InputRefused before now h = record { line = line; cause = cause; only = h }
 refusal_leaves line cause Undecided before now h = absurd h
 refusal_leaves line cause RoundsSpent before now h = absurd h
-refusal_leaves line cause DemandOutOfRange before now h = absurd h
+refusal_leaves line cause Demand before now h = absurd h
 refusal_leaves line cause Stalled before now h = tt
 
 refusal_holds : (line : ℕ) (cause : Cause) (status : Status) (cert : List ℕ) (before now : Seen)
@@ -145,7 +145,7 @@ refusal_holds line cause WriteFault cert before now h = inl h.written
 refusal_holds line cause InputRefused cert before now h = tt
 refusal_holds line cause Undecided cert before now h = absurd h
 refusal_holds line cause RoundsSpent cert before now h = absurd h
-refusal_holds line cause DemandOutOfRange cert before now h = absurd h
+refusal_holds line cause Demand cert before now h = absurd h
 refusal_holds line cause Stalled cert before now h = inl h.written
 
 pub refusal_opens : (line : ℕ) (cause : Cause) (status : Status) (before now : Seen) (start end : Openings)
@@ -158,7 +158,7 @@ refusal_opens line cause WriteFault before now start end h n e = inl e
 refusal_opens line cause InputRefused before now start end h n e = e
 refusal_opens line cause Undecided before now start end h n e = absurd h
 refusal_opens line cause RoundsSpent before now start end h n e = absurd h
-refusal_opens line cause DemandOutOfRange before now start end h n e = absurd h
+refusal_opens line cause Demand before now start end h n e = absurd h
 refusal_opens line cause Stalled before now start end h n e = inl e
 
 pub refusal_never_usage : (line : ℕ) (cause : Cause) (status : Status) (before now : Seen)
@@ -167,100 +167,100 @@ refusal_never_usage line cause status before now h = λ e. subst (λ s. AnswersR
 
 -- ---- networks
 
-run_leaves : (network : Project) (order : RunOrder) (status : Status) (before now : Seen)
-    → AnswersRun network order status before now → Leaves status before now
-run_leaves network order Done before now h = tt
-run_leaves network order OutOfMemory before now h = h
-run_leaves network order Usage before now h = absurd h
-run_leaves network order ReadFault before now h = absurd h
-run_leaves network order WriteFault before now h = tt
-run_leaves network order InputRefused before now h = absurd h
-run_leaves network order Undecided before now h = tt
-run_leaves network order RoundsSpent before now h = tt
-run_leaves network order DemandOutOfRange before now h = tt
-run_leaves network order Stalled before now h = tt
+run_leaves : (network : Project) (settings : Settings) (cert : List ℕ) (status : Status) (before now : Seen)
+    → AnswersRun network settings cert status before now → Leaves status before now
+run_leaves network settings cert Done before now h = tt
+run_leaves network settings cert OutOfMemory before now h = h
+run_leaves network settings cert Usage before now h = absurd h
+run_leaves network settings cert ReadFault before now h = absurd h
+run_leaves network settings cert WriteFault before now h = tt
+run_leaves network settings cert InputRefused before now h = absurd h
+run_leaves network settings cert Undecided before now h = tt
+run_leaves network settings cert RoundsSpent before now h = tt
+run_leaves network settings cert Demand before now h = tt
+run_leaves network settings cert Stalled before now h = tt
 
 -- where nothing or a front was put, nothing was written or the file holds it
-fronts_hold : (network : Project) (order : RunOrder) (before now : Seen)
-    → NothingPut before now ⊎ CutShort network order before now
-    → (now.written ≡ before.written) ⊎ (file_at now.files order.files.cert ≡ now.written)
-fronts_hold network order before now (inl h) = inl h.written
-fronts_hold network order before now (inr h) = inr h.held
+fronts_hold : (network : Project) (settings : Settings) (cert : List ℕ) (before now : Seen)
+    → NothingPut before now ⊎ CutShort network settings cert before now
+    → (now.written ≡ before.written) ⊎ (file_at now.files cert ≡ now.written)
+fronts_hold network settings cert before now (inl h) = inl h.written
+fronts_hold network settings cert before now (inr h) = inr h.held
 
-run_holds : (network : Project) (order : RunOrder) (status : Status) (before now : Seen)
-    → AnswersRun network order status before now → Holds status order.files.cert before now
-run_holds network order Done before now h = h.held
-run_holds network order OutOfMemory before now h = tt
-run_holds network order Usage before now h = tt
-run_holds network order ReadFault before now h = tt
-run_holds network order WriteFault before now h = fronts_hold network order before now h
-run_holds network order InputRefused before now h = tt
-run_holds network order Undecided before now h = h.held
-run_holds network order RoundsSpent before now h = h.held
-run_holds network order DemandOutOfRange before now h = h.held
-run_holds network order Stalled before now h = fronts_hold network order before now h
+run_holds : (network : Project) (settings : Settings) (cert : List ℕ) (status : Status) (before now : Seen)
+    → AnswersRun network settings cert status before now → Holds status cert before now
+run_holds network settings cert Done before now h = h.held
+run_holds network settings cert OutOfMemory before now h = tt
+run_holds network settings cert Usage before now h = tt
+run_holds network settings cert ReadFault before now h = tt
+run_holds network settings cert WriteFault before now h = fronts_hold network settings cert before now h
+run_holds network settings cert InputRefused before now h = tt
+run_holds network settings cert Undecided before now h = h.held
+run_holds network settings cert RoundsSpent before now h = h.held
+run_holds network settings cert Demand before now h = h.held
+run_holds network settings cert Stalled before now h = fronts_hold network settings cert before now h
 
-network_leaves : (network : Project) (order : RunOrder) (status : Status) (before now : Seen)
-    → AnswersNetwork network order status before now → Leaves status before now
-network_leaves network order status before now (inl h) = run_leaves network order status before now h.1
-network_leaves network order status before now (inr h) = refusal_leaves 0 (Unsupported 12) status before now h.1
+network_leaves : (network : Project) (settings : Settings) (cert : List ℕ) (status : Status) (before now : Seen)
+    → AnswersNetwork network settings cert status before now → Leaves status before now
+network_leaves network settings cert status before now (inl h) = run_leaves network settings cert status before now h.1
+network_leaves network settings cert status before now (inr h) = refusal_leaves 0 (Unsupported 12) status before now h.1
 
-network_holds : (network : Project) (order : RunOrder) (status : Status) (before now : Seen)
-    → AnswersNetwork network order status before now → Holds status order.files.cert before now
-network_holds network order status before now (inl h) = run_holds network order status before now h.1
-network_holds network order status before now (inr h) =
-    refusal_holds 0 (Unsupported 12) status order.files.cert before now h.1
+network_holds : (network : Project) (settings : Settings) (cert : List ℕ) (status : Status) (before now : Seen)
+    → AnswersNetwork network settings cert status before now → Holds status cert before now
+network_holds network settings cert status before now (inl h) = run_holds network settings cert status before now h.1
+network_holds network settings cert status before now (inr h) =
+    refusal_holds 0 (Unsupported 12) status cert before now h.1
 
-pub network_never_usage : (network : Project) (order : RunOrder) (status : Status) (before now : Seen)
-    → AnswersNetwork network order status before now → status ≢ Usage
-network_never_usage network order status before now (inl h) = λ e. subst (λ s. AnswersRun network order s before now) e h.1
-network_never_usage network order status before now (inr h) =
+pub network_never_usage : (network : Project) (settings : Settings) (cert : List ℕ) (status : Status) (before now : Seen)
+    → AnswersNetwork network settings cert status before now → status ≢ Usage
+network_never_usage network settings cert status before now (inl h) = λ e. subst (λ s. AnswersRun network settings cert s before now) e h.1
+network_never_usage network settings cert status before now (inr h) =
     refusal_never_usage 0 (Unsupported 12) status before now h.1
 
 -- want of memory leaves all untouched
-no_memory : (network : Project) (order : RunOrder) (before now : Seen)
-    → AnswersNetwork network order OutOfMemory before now → IsUntouched before now
-no_memory network order before now (inl h) = h.1
-no_memory network order before now (inr h) = h.1
+no_memory : (network : Project) (settings : Settings) (cert : List ℕ) (before now : Seen)
+    → AnswersNetwork network settings cert OutOfMemory before now → IsUntouched before now
+no_memory network settings cert before now (inl h) = h.1
+no_memory network settings cert before now (inr h) = h.1
 
-no_read : (network : Project) (order : RunOrder) (before now : Seen)
-    → AnswersNetwork network order ReadFault before now → IsUntouched before now
-no_read network order before now (inl h) = absurd h.1
-no_read network order before now (inr h) = h.1
+no_read : (network : Project) (settings : Settings) (cert : List ℕ) (before now : Seen)
+    → AnswersNetwork network settings cert ReadFault before now → IsUntouched before now
+no_read network settings cert before now (inl h) = absurd h.1
+no_read network settings cert before now (inr h) = h.1
 
 -- the answer of the network of a text is one of the text
-text_answers : (text : List ℕ) (network : Project) (order : RunOrder) (status : Status) (before now : Seen)
+text_answers : (text : List ℕ) (network : Project) (settings : Settings) (cert : List ℕ) (status : Status) (before now : Seen)
     → IsProject (rows_in (items_of text)) network
-    → AnswersNetwork network order status before now → AnswersText text order status before now
-text_answers text network order Done before now p h = record { network = network; is_network = p; holds = h }
-text_answers text network order OutOfMemory before now p h = no_memory network order before now h
-text_answers text network order Usage before now p h = record { network = network; is_network = p; holds = h }
-text_answers text network order ReadFault before now p h = no_read network order before now h
-text_answers text network order WriteFault before now p h = record { network = network; is_network = p; holds = h }
-text_answers text network order InputRefused before now p h = record { network = network; is_network = p; holds = h }
-text_answers text network order Undecided before now p h = record { network = network; is_network = p; holds = h }
-text_answers text network order RoundsSpent before now p h = record { network = network; is_network = p; holds = h }
-text_answers text network order DemandOutOfRange before now p h = record { network = network; is_network = p; holds = h }
-text_answers text network order Stalled before now p h = record { network = network; is_network = p; holds = h }
+    → AnswersNetwork network settings cert status before now → AnswersText text settings cert status before now
+text_answers text network settings cert Done before now p h = record { network = network; is_network = p; holds = h }
+text_answers text network settings cert OutOfMemory before now p h = no_memory network settings cert before now h
+text_answers text network settings cert Usage before now p h = record { network = network; is_network = p; holds = h }
+text_answers text network settings cert ReadFault before now p h = no_read network settings cert before now h
+text_answers text network settings cert WriteFault before now p h = record { network = network; is_network = p; holds = h }
+text_answers text network settings cert InputRefused before now p h = record { network = network; is_network = p; holds = h }
+text_answers text network settings cert Undecided before now p h = record { network = network; is_network = p; holds = h }
+text_answers text network settings cert RoundsSpent before now p h = record { network = network; is_network = p; holds = h }
+text_answers text network settings cert Demand before now p h = record { network = network; is_network = p; holds = h }
+text_answers text network settings cert Stalled before now p h = record { network = network; is_network = p; holds = h }
 
 -- ---- the whole command, where nothing was touched before the network was there
 
-pub leaves_since : (network : Project) (order : RunOrder) (status : Status) (before between now : Seen)
-    → IsUntouched before between → AnswersNetwork network order status between now → Leaves status before now
-leaves_since network order status before between now u h = network_leaves network order status before now
-    (since_before (λ b. AnswersNetwork network order status b now) before between u h)
+pub leaves_since : (network : Project) (settings : Settings) (cert : List ℕ) (status : Status) (before between now : Seen)
+    → IsUntouched before between → AnswersNetwork network settings cert status between now → Leaves status before now
+leaves_since network settings cert status before between now u h = network_leaves network settings cert status before now
+    (since_before (λ b. AnswersNetwork network settings cert status b now) before between u h)
 
-pub holds_since : (network : Project) (order : RunOrder) (status : Status) (before between now : Seen)
-    → IsUntouched before between → AnswersNetwork network order status between now
-    → Holds status order.files.cert before now
-holds_since network order status before between now u h = network_holds network order status before now
-    (since_before (λ b. AnswersNetwork network order status b now) before between u h)
+pub holds_since : (network : Project) (settings : Settings) (cert : List ℕ) (status : Status) (before between now : Seen)
+    → IsUntouched before between → AnswersNetwork network settings cert status between now
+    → Holds status cert before now
+holds_since network settings cert status before between now u h = network_holds network settings cert status before now
+    (since_before (λ b. AnswersNetwork network settings cert status b now) before between u h)
 
-pub run_since : (text : List ℕ) (network : Project) (order : RunOrder) (status : Status) (before between now : Seen)
+pub run_since : (text : List ℕ) (network : Project) (settings : Settings) (cert : List ℕ) (status : Status) (before between now : Seen)
     → IsUntouched before between → IsProject (rows_in (items_of text)) network
-    → AnswersNetwork network order status between now → AnswersText text order status before now
-run_since text network order status before between now u p h = text_answers text network order status before now p
-    (since_before (λ b. AnswersNetwork network order status b now) before between u h)
+    → AnswersNetwork network settings cert status between now → AnswersText text settings cert status before now
+run_since text network settings cert status before between now u p h = text_answers text network settings cert status before now p
+    (since_before (λ b. AnswersNetwork network settings cert status b now) before between u h)
 
 pub refused_since : (line : ℕ) (cause : Cause) (status : Status) (before between now : Seen)
     → IsUntouched before between → AnswersRefused line cause status between now
@@ -290,6 +290,12 @@ opens_once WriteFault start opened end o (inr e) = inr (rw o at e)
 opens_once InputRefused start opened end o h = h ∙ o
 opens_once Undecided start opened end o h = rw o at h
 opens_once RoundsSpent start opened end o h = rw o at h
-opens_once DemandOutOfRange start opened end o h = rw o at h
+opens_once Demand start opened end o h = rw o at h
 opens_once Stalled start opened end o (inl e) = inl (e ∙ o)
 opens_once Stalled start opened end o (inr e) = inr (rw o at e)
+
+-- the same fault is refused by the same line
+pub same_refusal : (line other : ℕ) (cause second : Cause) (status : Status) (before now : Seen) → line ≡ other
+    → cause ≡ second → AnswersRefused line cause status before now → AnswersRefused other second status before now
+same_refusal line other cause second status before now l c h =
+    subst (λ w. AnswersRefused other w status before now) c (subst (λ n. AnswersRefused n cause status before now) l h)

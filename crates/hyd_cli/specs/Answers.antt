@@ -12,14 +12,16 @@ use Rattle.hyd_net.specs.declared.cause.Cause.{Cause}
 use Rattle.hyd_net.specs.declared.cause.Cause.TheVariants.{Unsupported}
 use Rattle.hyd_spec.specs.Types.{Project}
 use Rattle.hyd_spec_input.specs.Project.{IsProject}
-use Rattle.hyd_spec_reports.specs.Headline.{Outcome, Sharpness, RunWrites, RunBreaksOff, outcome_number}
+use Rattle.hyd_spec_reports.specs.Headline.{Outcome, RunWrites, RunBreaksOff, outcome_number}
 use Rattle.hyd_report.specs.RefusedText.{refused_text_line}
+use Rattle.hyd_run.specs.Runs.{sharpness_of}
 use Rattle.hyd_sim.specs.View.{IsSingle}
+use Rattle.hyd_sim.specs.declared.settings.Settings.{Settings}
 use Rattle.hyd_words.specs.Orders.{RunOrder}
 use Rattle.hyd_cli.specs.Statuses.{number_of}
 use Rattle.hyd_cli.specs.Words.{usage_line}
 use Rattle.hyd_cli.specs.declared.status.Status.{Status}
-use Rattle.hyd_cli.specs.declared.status.Status.TheVariants.{Done, OutOfMemory, Usage, ReadFault, WriteFault, InputRefused, Undecided, RoundsSpent, DemandOutOfRange, Stalled}
+use Rattle.hyd_cli.specs.declared.status.Status.TheVariants.{Done, OutOfMemory, Usage, ReadFault, WriteFault, InputRefused, Undecided, RoundsSpent, Demand, Stalled}
 
 -- ---- what a desk tells
 
@@ -76,7 +78,7 @@ OpensOnce WriteFault before now = (now ≡ with_opened before) ⊎ (now ≡ with
 OpensOnce InputRefused before now = now ≡ with_opened before
 OpensOnce Undecided before now = now ≡ with_created (with_opened before)
 OpensOnce RoundsSpent before now = now ≡ with_created (with_opened before)
-OpensOnce DemandOutOfRange before now = now ≡ with_created (with_opened before)
+OpensOnce Demand before now = now ≡ with_created (with_opened before)
 OpensOnce Stalled before now = (now ≡ with_opened before) ⊎ (now ≡ with_created (with_opened before))
 
 -- Of these, what is opened and created once NET was read: CERT is created when all memory is taken that the run needs.
@@ -89,7 +91,7 @@ OpensCert WriteFault before now = (now ≡ before) ⊎ (now ≡ with_created bef
 OpensCert InputRefused before now = now ≡ before
 OpensCert Undecided before now = now ≡ with_created before
 OpensCert RoundsSpent before now = now ≡ with_created before
-OpensCert DemandOutOfRange before now = now ≡ with_created before
+OpensCert Demand before now = now ≡ with_created before
 OpensCert Stalled before now = (now ≡ before) ⊎ (now ≡ with_created before)
 
 -- The answer of a fault of a channel.
@@ -120,22 +122,22 @@ AnswersRefused line cause status before now = ⊥
 
 -- ---- runs
 
--- How sharp an order asks a run to be.
-abbrev pub sharpness_of : RunOrder → Sharpness
-sharpness_of order = record { width = order.width; tight = order.tight }
+-- What an order asks a run for.
+abbrev pub settings_of : RunOrder → Settings
+settings_of order = record { rounds = order.rounds; width = order.width; tight = order.tight }
 
 -- The certificate of a run of the network was written to the file created in this call, where files are told, its report
 -- was printed, and every history agrees with them; the status says how the run ended. The file of the name CERT holds
 -- what was written.
-pub record Delivered (network : Project) (order : RunOrder) (status : Status) (before now : Seen) : Type 0 where
+pub record Delivered (network : Project) (settings : Settings) (cert : List ℕ) (status : Status) (before now : Seen) : Type 0 where
   pub outcome : Outcome
   pub certificate : List ℕ
   pub report : List ℕ
-  pub run : RunWrites network order.rounds (sharpness_of order) outcome certificate report
+  pub run : RunWrites network settings.rounds (sharpness_of settings) outcome certificate report
   pub status_is : number_of status ≡ outcome_number outcome
   pub written : now.written ≡ where_told before.files certificate
   pub printed : now.printed ≡ append_known before.printed report
-  pub held : file_at now.files order.files.cert ≡ now.written
+  pub held : file_at now.files cert ≡ now.written
 
 -- Nothing was written or printed, as where the certificate's file couldn't be created.
 pub record NothingPut (before now : Seen) : Type 0 where
@@ -145,30 +147,30 @@ pub record NothingPut (before now : Seen) : Type 0 where
 -- A fault broke a run of the network off: what was written to the file created in this call, where files are told, and
 -- what was printed are fronts of the certificate and of the report of the run as far as it went, and every history agrees
 -- with it. The file of the name CERT holds what was written.
-pub record CutShort (network : Project) (order : RunOrder) (before now : Seen) : Type 0 where
+pub record CutShort (network : Project) (settings : Settings) (cert : List ℕ) (before now : Seen) : Type 0 where
   pub certificate : List ℕ
   pub report : List ℕ
-  pub run : RunBreaksOff network order.rounds (sharpness_of order) certificate report
+  pub run : RunBreaksOff network settings.rounds (sharpness_of settings) certificate report
   pub written : now.written ≡ where_told before.files certificate
   pub printed : now.printed ≡ append_known before.printed report
-  pub held : file_at now.files order.files.cert ≡ now.written
+  pub held : file_at now.files cert ≡ now.written
 
 -- What an answer says of a network that is run.
-abbrev pub AnswersRun : Project → RunOrder → Status → Seen → Seen → Type 0
-AnswersRun network order Done before now = Delivered network order Done before now
-AnswersRun network order Undecided before now = Delivered network order Undecided before now
-AnswersRun network order RoundsSpent before now = Delivered network order RoundsSpent before now
-AnswersRun network order DemandOutOfRange before now = Delivered network order DemandOutOfRange before now
-AnswersRun network order OutOfMemory before now = IsUntouched before now
-AnswersRun network order WriteFault before now = NothingPut before now ⊎ CutShort network order before now
-AnswersRun network order Stalled before now = NothingPut before now ⊎ CutShort network order before now
-AnswersRun network order status before now = ⊥
+abbrev pub AnswersRun : Project → Settings → List ℕ → Status → Seen → Seen → Type 0
+AnswersRun network settings cert Done before now = Delivered network settings cert Done before now
+AnswersRun network settings cert Undecided before now = Delivered network settings cert Undecided before now
+AnswersRun network settings cert RoundsSpent before now = Delivered network settings cert RoundsSpent before now
+AnswersRun network settings cert Demand before now = Delivered network settings cert Demand before now
+AnswersRun network settings cert OutOfMemory before now = IsUntouched before now
+AnswersRun network settings cert WriteFault before now = NothingPut before now ⊎ CutShort network settings cert before now
+AnswersRun network settings cert Stalled before now = NothingPut before now ⊎ CutShort network settings cert before now
+AnswersRun network settings cert status before now = ⊥
 
 -- What an answer says of a network that was read: one without tanks, controls and rules and of one instant is run, any
 -- other is refused, as cause 6 with detail 12.
-abbrev pub AnswersNetwork : Project → RunOrder → Status → Seen → Seen → Type 0
-AnswersNetwork network order status before now =
-    (IsSingle network × AnswersRun network order status before now)
+abbrev pub AnswersNetwork : Project → Settings → List ℕ → Status → Seen → Seen → Type 0
+AnswersNetwork network settings cert status before now =
+    (IsSingle network × AnswersRun network settings cert status before now)
     ⊎ ((IsSingle network → ⊥) × AnswersRefused 0 (Unsupported 12) status before now)
 
 -- This holds of a network that the rows of the text describe.
@@ -178,10 +180,10 @@ pub record OfNetwork (text : List ℕ) (P : Project → Type 0) : Type 0 where
   pub holds : P network
 
 -- What an answer says of a text without a fault: want of memory and a fault of reading leave all untouched.
-abbrev pub AnswersText : List ℕ → RunOrder → Status → Seen → Seen → Type 0
-AnswersText text order OutOfMemory before now = IsUntouched before now
-AnswersText text order ReadFault before now = IsUntouched before now
-AnswersText text order status before now = OfNetwork text (λ network. AnswersNetwork network order status before now)
+abbrev pub AnswersText : List ℕ → Settings → List ℕ → Status → Seen → Seen → Type 0
+AnswersText text settings cert OutOfMemory before now = IsUntouched before now
+AnswersText text settings cert ReadFault before now = IsUntouched before now
+AnswersText text settings cert status before now = OfNetwork text (λ network. AnswersNetwork network settings cert status before now)
 
 -- ---- whatever the text was
 
@@ -205,7 +207,7 @@ abbrev pub Holds : Status → List ℕ → Seen → Seen → Type 0
 Holds Done cert before now = file_at now.files cert ≡ now.written
 Holds Undecided cert before now = file_at now.files cert ≡ now.written
 Holds RoundsSpent cert before now = file_at now.files cert ≡ now.written
-Holds DemandOutOfRange cert before now = file_at now.files cert ≡ now.written
+Holds Demand cert before now = file_at now.files cert ≡ now.written
 Holds WriteFault cert before now = (now.written ≡ before.written) ⊎ (file_at now.files cert ≡ now.written)
 Holds Stalled cert before now = (now.written ≡ before.written) ⊎ (file_at now.files cert ≡ now.written)
 Holds status cert before now = ⊤

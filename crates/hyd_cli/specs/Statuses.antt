@@ -1,15 +1,15 @@
 -- The statuses of a command.
 use Rattle.std.specs.Prelude.{ℕ}
 use Rattle.hyd_spec_reports.specs.Headline.{Outcome, Finished, Stopped}
-use Rattle.hyd_spec_reports.specs.declared.StopCause.TheVariants.{Demand, RoundsSpent as Rounds}
+use Rattle.hyd_spec_reports.specs.declared.StopCause.TheVariants.{Demand as OutOfRange, RoundsSpent as Rounds}
 use Rattle.hyd_cli.specs.declared.status.Status.{Status}
-use Rattle.hyd_cli.specs.declared.status.Status.TheVariants.{Done, OutOfMemory, Usage, ReadFault, WriteFault, InputRefused, Undecided, RoundsSpent, DemandOutOfRange, Stalled}
+use Rattle.hyd_cli.specs.declared.status.Status.TheVariants.{Done, OutOfMemory, Usage, ReadFault, WriteFault, InputRefused, Undecided, RoundsSpent, Demand, Stalled}
 
 -- how a run ends, as a status
 abbrev pub status_of_outcome : Outcome → Status
 status_of_outcome Finished = Done
 status_of_outcome (Stopped (Rounds period problem side rounds)) = RoundsSpent
-status_of_outcome (Stopped (Demand period junction demand)) = DemandOutOfRange
+status_of_outcome (Stopped (OutOfRange period junction demand)) = Demand
 status_of_outcome (Stopped cause) = Undecided
 
 -- the exit status of the program
@@ -22,5 +22,5 @@ number_of WriteFault = 4
 number_of InputRefused = 5
 number_of Undecided = 6
 number_of RoundsSpent = 7
-number_of DemandOutOfRange = 8
+number_of Demand = 8
 number_of Stalled = 10

@@ -4,21 +4,19 @@ ghost use Rattle.std.specs.Prelude.{◌≡◌, ◌≢◌, ℕ, List, Option, Som
 ghost use Rattle.hyd_io.specs.Told.{IsTold, file_at};
 ghost use Rattle.hyd_net.specs.declared.cause.Cause.{Cause};
 ghost use Rattle.hyd_spec_input.specs.Faults.{IsFault, HasNoFault};
-ghost use Rattle.hyd_report.specs.RefusedText.{refused_text_line};
 ghost use Rattle.hyd_words.specs.Orders.{RunOrder};
-ghost use Rattle.hyd_words.specs.Seen.{run_seen};
 ghost use Rattle.hyd_cli.specs.Words.{command};
-ghost use Rattle.hyd_cli.specs.Answers.{seen, ChangesOnly, HasCause, OpensOnce, OpensCert, Leaves, Holds, AnswersUsage, AnswersRefused, AnswersText};
+ghost use Rattle.hyd_cli.specs.Answers.{seen, settings_of, ChangesOnly, HasCause, OpensOnce, OpensCert, Leaves, Holds, AnswersUsage, AnswersRefused, AnswersText};
 ghost use Rattle.hyd_cli.specs.declared.status.Status.TheVariants.{Usage};
 
 use crate::network::run_network;
 use crate::output::{print_refusal, print_usage};
 use crate::reading::{Unread, read_network};
 use crate::status::{Status, fault_status};
-use crate::words::order_of;
+use crate::words::{run_words, settings_of};
 use hyd_io::Desk;
 use hyd_net::Cause;
-use hyd_words::RunWords;
+use hyd_sim::Settings;
 use std::alloc::Global;
 
 /// Runs the command of the words after the program's name.
@@ -42,7 +40,7 @@ pub fn tool<D: Desk>(alloc: Global, words: &[String], desk: &mut D) -> Status
         → IsFault text line why → AnswersRefused line why result
         (seen D.files D.written D.printed desk.old) (seen D.files D.written D.printed desk.new) }
     ensures run { (order : RunOrder) (text : List ℕ) → command (map string_bytes words.now) ≡ Some order
-        → IsTold (D.files desk.old) order.files.net text → HasNoFault text → AnswersText text order result
+        → IsTold (D.files desk.old) order.files.net text → HasNoFault text → AnswersText text (settings_of order) order.files.cert result
         (seen D.files D.written D.printed desk.old) (seen D.files D.written D.printed desk.new) }
     ensures holds { (order : RunOrder) → command (map string_bytes words.now) ≡ Some order
         → Holds result order.files.cert
@@ -54,34 +52,46 @@ pub fn tool<D: Desk>(alloc: Global, words: &[String], desk: &mut D) -> Status
         → OpensOnce result (D.openings desk.old) (D.openings desk.new) }
     ensures never { command (map string_bytes words.now) ≡ None → D.openings desk.new ≡ D.openings desk.old }
 {
-    match order_of(words) {
-        Some(order) => run(alloc, order, desk),
+    match run_words(words) {
+        Some(words) => run(
+            alloc,
+            words.files.net,
+            words.files.cert,
+            settings_of(&words),
+            desk,
+        ),
         None => refuse_words(desk),
     }
 }
 
 /// Reads NET, runs its network, and writes CERT and prints the report.
-fn run<D: Desk>(alloc: Global, order: RunWords<'_>, desk: &mut D) -> Status
-    requires opens { IsTrue (D.may_open order.files.net.now) }
-    requires creates { IsTrue (D.may_create order.files.cert.now) }
+fn run<D: Desk>(
+    alloc: Global,
+    net: &str,
+    cert: &str,
+    settings: Settings,
+    desk: &mut D,
+) -> Status
+    requires opens { IsTrue (D.may_open net.now) }
+    requires creates { IsTrue (D.may_create cert.now) }
     ensures cause { HasCause result (D.counts desk.old) (D.counts desk.new) }
     ensures leaves { Leaves result
         (seen D.files D.written D.printed desk.old) (seen D.files D.written D.printed desk.new) }
     ensures never_usage { result ≢ Usage }
-    ensures refused { (text : List ℕ) (line : ℕ) (why : Cause) → IsTold (D.files desk.old) order.files.net.now text
+    ensures refused { (text : List ℕ) (line : ℕ) (why : Cause) → IsTold (D.files desk.old) net.now text
         → IsFault text line why → AnswersRefused line why result
         (seen D.files D.written D.printed desk.old) (seen D.files D.written D.printed desk.new) }
-    ensures run { (text : List ℕ) → IsTold (D.files desk.old) order.files.net.now text → HasNoFault text
-        → AnswersText text (run_seen order) result
+    ensures run { (text : List ℕ) → IsTold (D.files desk.old) net.now text → HasNoFault text
+        → AnswersText text settings cert.now result
         (seen D.files D.written D.printed desk.old) (seen D.files D.written D.printed desk.new) }
-    ensures holds { Holds result order.files.cert.now
+    ensures holds { Holds result cert.now
         (seen D.files D.written D.printed desk.old) (seen D.files D.written D.printed desk.new) }
-    ensures others { ChangesOnly order.files.cert.now
+    ensures others { ChangesOnly cert.now
         (seen D.files D.written D.printed desk.old) (seen D.files D.written D.printed desk.new) }
     ensures once { OpensOnce result (D.openings desk.old) (D.openings desk.new) }
 {
-    match read_network(alloc, order.files.net, desk) {
-        Ok(project) => run_network(alloc, project, order, desk),
+    match read_network(alloc, net, desk) {
+        Ok(project) => run_network(alloc, project, settings, cert, desk),
         Err(Unread::Fault(fault)) => refuse_text(fault.line, fault.cause, desk),
         Err(Unread::Ended(status)) => status,
     }

@@ -5,8 +5,6 @@ ghost use Rattle.hyd_net.specs.Sound.{Sound};
 ghost use Rattle.hyd_spec_certificates.specs.Record.{initial_standing};
 ghost use Rattle.hyd_sim.specs.View.{IsSingle, standing_of};
 ghost use Rattle.hyd_run.specs.Runs.{outcome_of};
-ghost use Rattle.hyd_words.specs.Orders.{RunOrder};
-ghost use Rattle.hyd_words.specs.Seen.{run_seen};
 ghost use Rattle.hyd_cli.specs.Answers.{seen, ChangesOnly, HasCause, OpensCert, AnswersRun, AnswersNetwork};
 ghost use Rattle.hyd_cli.specs.Statuses.{status_of_outcome};
 
@@ -18,7 +16,6 @@ use hyd_newton::{Finder, Gradient};
 use hyd_run::{RunEnd, run};
 use hyd_sim::{Settings, Sim};
 use hyd_spec_reports::StopCause;
-use hyd_words::RunWords;
 use std::alloc::Global;
 
 /// Whether a network has one period alone, and no tanks, controls and rules.
@@ -39,7 +36,7 @@ fn status_of_end(end: RunEnd) -> Status
     match end {
         RunEnd::Finished => Status::Done,
         RunEnd::Stopped(StopCause::RoundsSpent { .. }) => Status::RoundsSpent,
-        RunEnd::Stopped(StopCause::Demand { .. }) => Status::DemandOutOfRange,
+        RunEnd::Stopped(StopCause::Demand { .. }) => Status::Demand,
         RunEnd::Stopped(_) => Status::Undecided,
     }
 }
@@ -71,9 +68,7 @@ fn put_run<D: Desk, F: Finder>(
     requires start { standing_of sim.old ≡ initial_standing sim.old.project }
     requires creates { IsTrue (D.may_create cert.now) }
     ensures cause { HasCause result (D.counts desk.old) (D.counts desk.new) }
-    ensures answers { (order : RunOrder) → order.rounds ≡ sim.old.settings.rounds
-        → order.width ≡ sim.old.settings.width → order.tight ≡ sim.old.settings.tight
-        → order.files.cert ≡ cert.now → AnswersRun sim.old.project order result
+    ensures answers { AnswersRun sim.old.project sim.old.settings cert.now result
         (seen D.files D.written D.printed desk.old) (seen D.files D.written D.printed desk.new) }
     ensures others { ChangesOnly cert.now
         (seen D.files D.written D.printed desk.old) (seen D.files D.written D.printed desk.new) }
@@ -94,28 +89,24 @@ fn put_run<D: Desk, F: Finder>(
 fn run_single<D: Desk>(
     alloc: Global,
     project: Project,
-    order: RunWords<'_>,
+    settings: Settings,
+    cert: &str,
     desk: &mut D,
 ) -> Status
     requires sound { Sound project }
     requires single { IsSingle project }
-    requires creates { IsTrue (D.may_create order.files.cert.now) }
+    requires creates { IsTrue (D.may_create cert.now) }
     ensures cause { HasCause result (D.counts desk.old) (D.counts desk.new) }
-    ensures answers { AnswersRun project (run_seen order) result
+    ensures answers { AnswersRun project settings cert.now result
         (seen D.files D.written D.printed desk.old) (seen D.files D.written D.printed desk.new) }
-    ensures others { ChangesOnly order.files.cert.now
+    ensures others { ChangesOnly cert.now
         (seen D.files D.written D.printed desk.old) (seen D.files D.written D.printed desk.new) }
     ensures opens { OpensCert result (D.openings desk.old) (D.openings desk.new) }
 {
-    let settings = Settings {
-        rounds: order.rounds,
-        width: order.width,
-        tight: order.tight,
-    };
     let Ok((mut sim, mut finder)) = open_run(alloc, project, settings) else {
         return Status::OutOfMemory;
     };
-    put_run(&mut sim, &mut finder, order.files.cert, desk)
+    put_run(&mut sim, &mut finder, cert, desk)
 }
 
 /// Runs a network that was read, or refuses it: one with more than one period, a tank, a control or a rule isn't taken
@@ -123,20 +114,21 @@ fn run_single<D: Desk>(
 pub(crate) fn run_network<D: Desk>(
     alloc: Global,
     project: Project,
-    order: RunWords<'_>,
+    settings: Settings,
+    cert: &str,
     desk: &mut D,
 ) -> Status
     requires sound { Sound project }
-    requires creates { IsTrue (D.may_create order.files.cert.now) }
+    requires creates { IsTrue (D.may_create cert.now) }
     ensures cause { HasCause result (D.counts desk.old) (D.counts desk.new) }
-    ensures answers { AnswersNetwork project (run_seen order) result
+    ensures answers { AnswersNetwork project settings cert.now result
         (seen D.files D.written D.printed desk.old) (seen D.files D.written D.printed desk.new) }
-    ensures others { ChangesOnly order.files.cert.now
+    ensures others { ChangesOnly cert.now
         (seen D.files D.written D.printed desk.old) (seen D.files D.written D.printed desk.new) }
     ensures opens { OpensCert result (D.openings desk.old) (D.openings desk.new) }
 {
     if is_single(&project) {
-        return run_single(alloc, project, order, desk);
+        return run_single(alloc, project, settings, cert, desk);
     }
     refuse_text(0, Cause::Unsupported(12), desk)
 }

@@ -6,7 +6,7 @@ ghost use Rattle.hyd_net.specs.declared.cause.Cause.{Cause};
 ghost use Rattle.hyd_spec_input.specs.Faults.{IsFault, HasNoFault};
 ghost use Rattle.hyd_words.specs.Orders.{RunOrder};
 ghost use Rattle.hyd_cli.specs.Words.{command, words_behind_name};
-ghost use Rattle.hyd_cli.specs.Answers.{seen, ChangesOnly, HasCause, OpensOnce, Leaves, Holds, AnswersUsage, AnswersRefused, AnswersText};
+ghost use Rattle.hyd_cli.specs.Answers.{seen, settings_of, ChangesOnly, HasCause, OpensOnce, Leaves, Holds, AnswersUsage, AnswersRefused, AnswersText};
 ghost use Rattle.hyd_cli.specs.declared.status.Status.TheVariants.{Usage, OutOfMemory};
 
 use crate::command::tool;
@@ -47,7 +47,7 @@ pub fn start<D: Desk>(alloc: Global, given: io::Result<Args>, desk: &mut D) -> S
         → IsFault text line why → AnswersRefused line why result
         (seen D.files D.written D.printed desk.old) (seen D.files D.written D.printed desk.new) }
     ensures run { (order : RunOrder) (text : List ℕ) → command (words_behind_name given) ≡ Some order
-        → IsTold (D.files desk.old) order.files.net text → HasNoFault text → AnswersText text order result
+        → IsTold (D.files desk.old) order.files.net text → HasNoFault text → AnswersText text (settings_of order) order.files.cert result
         (seen D.files D.written D.printed desk.old) (seen D.files D.written D.printed desk.new) }
     ensures holds { (order : RunOrder) → command (words_behind_name given) ≡ Some order → Holds result order.files.cert
         (seen D.files D.written D.printed desk.old) (seen D.files D.written D.printed desk.new) }

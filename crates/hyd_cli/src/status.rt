@@ -28,7 +28,7 @@ pub enum Status {
     /// The run stopped: the rounds don't lead to a certificate.
     RoundsSpent = 7,
     /// The run stopped: a demand is out of range.
-    DemandOutOfRange = 8,
+    Demand = 8,
     /// A call of `write` or `print` took nothing of a nonempty piece.
     Stalled = 10,
 }

@@ -2,16 +2,29 @@
 
 ghost use Rattle.std.specs.Prelude.{◌≡◌, map, option_map, string_bytes};
 ghost use Rattle.hyd_words.specs.Seen.{run_seen};
+ghost use Rattle.hyd_cli.specs.Answers.{settings_of};
 ghost use Rattle.hyd_cli.specs.Words.{command};
 
+use hyd_sim::Settings;
 use hyd_words::{Command, RunWords, read_words};
 
-/// The order to run a network, where the words are one. The other commands aren't taken yet.
-pub(crate) fn order_of(words: &[String]) -> Option<RunWords<'_>>
+/// What the words ask for, where they are an order to run a network. The other commands aren't taken yet.
+pub(crate) fn run_words(words: &[String]) -> Option<RunWords<'_>>
     ensures { option_map run_seen result ≡ command (map string_bytes words.now) }
 {
     match read_words(words) {
-        Some(Command::Run(order)) => Some(order),
+        Some(Command::Run(words)) => Some(words),
         _ => None,
+    }
+}
+
+/// What an order asks a run for.
+pub(crate) fn settings_of(words: &RunWords<'_>) -> Settings
+    ensures { result ≡ settings_of (run_seen words.now) }
+{
+    Settings {
+        rounds: words.rounds,
+        width: words.width,
+        tight: words.tight,
     }
 }

@@ -37,7 +37,7 @@ pub(crate) const VALVES: &[Row] = &[
     Row {
         name: "a demand out of range",
         text: "[OPTIONS]\nUNITS CMD\nHEADLOSS C-M\n[JUNCTIONS]\nJ 0 100000000\n[RESERVOIRS]\nR 100\n[VALVES]\nV R J 304.8 TCV 100 0\n[PATTERNS]\n1 2\n",
-        status: Status::DemandOutOfRange,
+        status: Status::Demand,
         printed: "HYD 1\nSTOP period 0 time 0:00:00 DEMAND J 2000000000000000\n",
         written: Some("HYDCERT 1 1 0\nEND 0 STOPPED\n"),
     },
