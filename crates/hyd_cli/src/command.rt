@@ -22,8 +22,14 @@ use std::alloc::Global;
 /// Runs the command of the words after the program's name.
 ///
 /// `run NET CERT [--sweeps N] [--width W] [--tight]` reads the network of NET, writes its certificate to CERT and prints
-/// its report, each period as it is done. Nothing but NET is opened and nothing but CERT created, each once at most, and
-/// all memory is taken before CERT is created. A call on the desk that fails or stalls decides the status.
+/// its report. NET is opened once and CERT created once at most.
+///
+/// - `Usage`: the words aren't that command.
+/// - `InputRefused`: the text has a fault (one of more than 64 MiB among them), or its network has a tank, a control, a
+///   rule or a duration and isn't run yet.
+/// - `Done`, `Undecided`, `RoundsSpent`, `Demand`: how the run ended.
+/// - `OutOfMemory`: nothing was created, written or printed.
+/// - `ReadFault`, `WriteFault`, `Stalled`: a call on the desk failed or took nothing. Nothing more was called then.
 pub fn tool<D: Desk>(alloc: Global, words: &[String], desk: &mut D) -> Status
     requires opens { (order : RunOrder) → command (map string_bytes words.now) ≡ Some order
         → IsTrue (D.may_open order.files.net) }

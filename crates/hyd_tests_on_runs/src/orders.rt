@@ -38,7 +38,7 @@ fn other_words_print_the_usage_line(rt: HostRuntime) -> Result<(), Fail> {
     Ok(())
 }
 
-/// The status of the run of the first text with these words, and the last byte but one that it printed.
+/// The status of the run of the first text with these words.
 fn status_with(alloc: Global, words: &[&str]) -> Result<Status, AllocError> {
     let words = owned(alloc, words)?;
     let mut desk = MemDesk::new(alloc);
@@ -57,6 +57,8 @@ fn options_are_taken(rt: HostRuntime) -> Result<(), Fail> {
     assert_eq!(rt; status_with(alloc, tight_without)?, Status::RoundsSpent);
     let width: &[&str] = &["run", "n.inp", "--width", "0.000000001", "--", "n.cert"];
     assert_eq!(rt; status_with(alloc, width)?, Status::Done);
+    let narrow: &[&str] = &["run", "n.inp", "n.cert", "--width", "0.0000000001"];
+    assert_eq!(rt; status_with(alloc, narrow)?, Status::Usage);
     Ok(())
 }
 
