@@ -1,6 +1,6 @@
 //! The run of a network that was read.
 
-ghost use Rattle.std.specs.Prelude.{◌≡◌, ⊥, true, false, IsTrue, IfOk};
+ghost use Rattle.std.specs.Prelude.{◌≡◌, true, false, IsTrue, IfOk};
 ghost use Rattle.hyd_net.specs.Sound.{Sound};
 ghost use Rattle.hyd_spec_certificates.specs.Record.{initial_standing};
 ghost use Rattle.hyd_sim.specs.View.{IsSingle, standing_of};
