@@ -1,5 +1,6 @@
 -- How what a call leaves follows from what the calls in it leave.
 use Rattle.std.proofs.Common.{◌≡◌, ◌≢◌, ℕ, ℤ, Bool, List, [], ◌++◌, Option, None, Some, ◌⊎◌, inl, inr, ◌∙◌, refl, sym, ap, subst, is_some}
+use Rattle.std.specs.Option.{option_map_or}
 use Rattle.hyd_io.specs.Told.{Files, where_told, append_known, file_at, content_of, PutOut}
 use Rattle.hyd_io.specs.Counts.{with_opened, with_created}
 use Rattle.hyd_io.specs.declared.desk.Faults.{Faults}
@@ -14,7 +15,8 @@ use Rattle.hyd_spec_input.specs.Project.{IsProject}
 use Rattle.hyd_spec_reports.specs.Headline.{Outcome, Finished, Stopped, RunWrites, RunBreaksOff, outcome_number}
 use Rattle.hyd_spec_reports.specs.declared.StopCause.TheVariants.{NoCertificate, TankOpen, RuleOpen, ControlOpen, EventOpen, RoundsSpent as Rounds, Demand as OutOfRange}
 use Rattle.hyd_sim.specs.declared.settings.Settings.{Settings}
-use Rattle.hyd_run.specs.Pens.{OneRose}
+use Rattle.hyd_run.specs.Pens.{Told, OneRose, LeavesRest}
+use Rattle.hyd_run.specs.Runs.{IsPutOut, IsBrokenOff}
 use Rattle.hyd_cli.specs.Answers.{Seen, IsUntouched, NothingPut, Delivered, CutShort, PrintsRefusal, OnlyPrinted, OnlyPrintedFront, HasCause, status_of, OpensOnce, OpensCert, Leaves, Holds, AnswersRefused, AnswersRun, AnswersNetwork, AnswersText}
 use Rattle.hyd_cli.specs.Statuses.{number_of, status_of_outcome}
 use Rattle.hyd_cli.specs.declared.status.Status.{Status}
@@ -299,3 +301,59 @@ pub same_refusal : (line other : ℕ) (cause second : Cause) (status : Status) (
     → cause ≡ second → AnswersRefused line cause status before now → AnswersRefused other second status before now
 same_refusal line other cause second status before now l c h =
     subst (λ w. AnswersRefused other w status before now) c (subst (λ n. AnswersRefused n cause status before now) l h)
+
+-- ---- a run that was put out
+
+-- what a call can change, of all that a desk tells
+abbrev pub seen_of : Told → Seen
+seen_of told = record { files = told.files; written = told.written; printed = told.printed }
+
+some_same : (a b : List ℕ) → Some a ≡ Some b → a ≡ b
+some_same a b e = ap (λ (o : Option (List ℕ)). option_map_or (λ x. x) o []) e
+
+-- a new file is the target, and no other one
+pub other_target : (files : Option Files) (target : Option (List ℕ)) (name other : List ℕ)
+    → target ≡ where_told files name → other ≢ name → target ≢ Some other
+other_target None target name other t n = λ e. grind t e
+other_target (Some told) target name other t n = λ e. n (some_same other name (sym e ∙ t))
+
+-- what was printed since is what was printed after the call that left it as it was
+pub printed_since : (before created now : Option (List ℕ)) (text : List ℕ) → created ≡ before
+    → now ≡ append_known created text → now ≡ append_known before text
+printed_since before created now text e p = rw e at p
+
+pub delivered : (network : Project) (settings : Settings) (cert : List ℕ) (outcome : Outcome) (before : Seen)
+    (created after : Told) → IsPutOut network settings outcome created after → created.written ≡ where_told before.files []
+    → created.printed ≡ before.printed → created.target ≡ where_told before.files cert
+    → is_some created.files ≡ is_some before.files → LeavesRest created after
+    → after.written ≡ content_of after.files after.target
+    → AnswersRun network settings cert (status_of_outcome outcome) before (seen_of after)
+delivered network settings cert outcome before created after out begun printed target told leaves content =
+    answers_end network settings cert outcome before (seen_of after) (record {
+      outcome = outcome;
+      certificate = out.certificate;
+      report = out.report;
+      run = out.writes;
+      status_is = number_of_end outcome;
+      written = new_text before.files created.written after.written out.certificate begun out.written;
+      printed = printed_since before.printed created.printed after.printed out.report printed out.printed;
+      held = new_file before.files after.files after.target after.written cert (leaves.target_stays ∙ target)
+          (leaves.still_told ∙ told) content;
+    })
+
+pub cut_short : (network : Project) (settings : Settings) (cert : List ℕ) (fault : OutFault) (before : Seen)
+    (created after : Told) → IsBrokenOff network settings created after → created.written ≡ where_told before.files []
+    → created.printed ≡ before.printed → created.target ≡ where_told before.files cert
+    → is_some created.files ≡ is_some before.files → LeavesRest created after
+    → after.written ≡ content_of after.files after.target
+    → AnswersRun network settings cert (status_of fault) before (seen_of after)
+cut_short network settings cert fault before created after out begun printed target told leaves content =
+    answers_fault network settings cert fault before (seen_of after) (inr (record {
+      certificate = out.certificate;
+      report = out.report;
+      run = out.breaks_off;
+      written = new_text before.files created.written after.written out.certificate begun out.written;
+      printed = printed_since before.printed created.printed after.printed out.report printed out.printed;
+      held = new_file before.files after.files after.target after.written cert (leaves.target_stays ∙ target)
+          (leaves.still_told ∙ told) content;
+    }))
