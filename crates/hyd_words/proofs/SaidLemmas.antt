@@ -13,7 +13,7 @@ or_assoc false b c = refl
 add_assoc : (a b c : ℕ) → (a + b) + c ≡ a + (b + c)
 add_assoc a b c = omega arith
 
-joined_assoc : (a b c : Said) → joined (joined a b) c ≡ joined a (joined b c)
+pub joined_assoc : (a b c : Said) → joined (joined a b) c ≡ joined a (joined b c)
 joined_assoc a b c = λ i. record {
   sweeps_values = append_assoc a.sweeps_values b.sweeps_values c.sweeps_values i;
   width_values = append_assoc a.width_values b.width_values c.width_values i;
@@ -38,7 +38,7 @@ tight_first tight ps = omega arith
 tight_first (name v) ps = omega arith
 tight_first wrong ps = omega arith
 
-part_first : (p : Part) (ps : List Part) → said_by (p ∷ ps) ≡ joined (said_by (p ∷ [])) (said_by ps)
+pub part_first : (p : Part) (ps : List Part) → said_by (p ∷ ps) ≡ joined (said_by (p ∷ [])) (said_by ps)
 part_first p ps = λ i. record {
   sweeps_values = filter_map-append sweeps_value (p ∷ []) ps i;
   width_values = filter_map-append width_value (p ∷ []) ps i;

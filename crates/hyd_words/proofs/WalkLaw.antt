@@ -1,0 +1,507 @@
+-- clap's walk over words gives the command that the words are.
+use Rattle.std.proofs.Common.{◌≡◌, ◌⊎◌, ◌∙◌, ℕ, ◌+◌, ◌==◌, nat_le, not, ◌&&◌, ◌||◌, Bool, true, false, cond, List, [], ◌∷◌, ◌++◌, map, fold, length, Option, Some, None, IsUtf8, arith, refl, sym, ap, ap₂, subst, inl, inr, codes, bytes_eq, append-nil, option_map, option_and_then, ne_eqb, ◌^◌, ℤ, pos, String, string_bytes}
+use Rattle.std.specs.List.{list_all}
+use Rattle.std.proofs.lemmas.Str.{IsUtf8-string_bytes}
+use Rattle.clap.specs.Kinds.{Kinds, or_else}
+use Rattle.clap.specs.Faults.{defaults_fault, fault_of, given_default_fault, long_fault, settle_fault, step_fault, walk_fault}
+use Rattle.clap.specs.Simple.{built, matches_of}
+use Rattle.clap.proofs.FaultLemmas.{leaf_fault}
+use Rattle.clap.proofs.SimpleLemmas.{is_nil}
+use Rattle.clap.proofs.WalkLemmas.{both}
+use Rattle.hyd_words.specs.Asked.{asked}
+use Rattle.clap.specs.Walk.{Held, Row, Rule, Step, Text, Waiting, Walk, after_flag, after_step, arg_by_id, default_rows, has_row, idle, is_empty, long_met, next, option, plain_word, positional, reading_by, with_default, settled_rows, trailing, walked}
+use Rattle.hyd_num.specs.Numeral.{is_numeral}
+use Rattle.hyd_words.specs.Words.{Word, Part, Kind, Said, sweeps, width, tight, name, wrong, says, wants, ends, begins_with_dash, kind_of, with_value, parts_from, parts_waiting, said, said_by, joined}
+use Rattle.hyd_words.specs.Orders.{Order, RunOrder, IsNoOrder, has_names_alone, is_sound, number_within, width_in_ticks, IsNeverOrder, order_named, once, rounds_of, width_of, run, two_files, run_command, check_command, gen_command}
+use Rattle.hyd_words.proofs.SaidLemmas.{joined_assoc, part_first}
+use Rattle.hyd_words.proofs.RowLemmas.{rules, used_by, said_of, sweeps_used, width_used, name_used, tight_used}
+use Rattle.hyd_words.proofs.Lexing.{Lexed, closing, plain, short, long, IsPlain, IsShort, IsLong, and_false, kind_by, lexed, named_kind}
+use Rattle.hyd_words.proofs.WalkSteps.{shape, Pending, held, at, IsFree, IsWhole, IsFault, turn, step, name_held, name_step, name_fault, trailing_turn, trailing_step, turn_from, step_from, word_fails, plain_met, plain_fault, short_fails, long_fault_is, long_met_is, closing_turn, closing_step, first_faults}
+
+-- ---- what a walk comes to
+
+abbrev pub end_of : Walk → List Word → Held
+end_of w words = (fold (walked rules []) w words).held
+
+abbrev pub fault_from : Walk → List Word → Kinds
+fault_from w words = or_else (walk_fault shape [] w words) (settle_fault rules false (end_of w words))
+
+abbrev pub rows_at_end : Walk → List Word → List Row
+rows_at_end w words = settled_rows rules (end_of w words).pending (end_of w words).rows
+
+-- the command, where nothing failed
+abbrev pub order_if : Kinds → Option Order → Option Order
+order_if [] order = order
+order_if (k ∷ ks) order = None
+
+-- the walk from here gives the commands of what is said
+abbrev pub Comes : Walk → List Word → Said → Type 0
+Comes w words target = (word : Word)
+    → order_if (fault_from w words) (order_named word (said_of (rows_at_end w words))) ≡ order_named word target
+
+none_if_fault : (f : Kinds) (order : Option Order) → IsFault f → order_if f order ≡ None
+none_if_fault [] order h = absurd h
+none_if_fault (k ∷ ks) order h = refl
+
+go_on : (w after : Walk) (word : Word) (rest : List Word) (target : Said) → turn w word ≡ [] → step w word ≡ after
+    → Comes after rest target → Comes w (word ∷ rest) target
+unfolding walk_fault
+go_on w after word rest target passed is h =
+    let moved : Comes (step w word) rest target = subst (λ (v : Walk). Comes v rest target) (sym is) h in
+    λ named. (λ i. order_if (or_else (or_else (passed i) (walk_fault shape [] (step w word) rest))
+    (settle_fault rules false (end_of (step w word) rest)))
+    (order_named named (said_of (rows_at_end (step w word) rest)))) ∙ moved named
+
+fails_here : (w : Walk) (word : Word) (rest : List Word) (target : Said) → IsFault (turn w word) → IsNoOrder target
+    → Comes w (word ∷ rest) target
+unfolding walk_fault
+fails_here w word rest target h none = λ named.
+    none_if_fault _ _ (first_faults _ _ (first_faults _ _ h)) ∙ sym (none named)
+
+-- ---- what is no command
+
+wrong_is_none : (s : Said) → s.has_wrong ≡ true → IsNoOrder s
+wrong_is_none s e word = go (bytes_eq word (codes "run")) (bytes_eq word (codes "check")) (bytes_eq word (codes "gen"))
+  where
+    go : (a b c : Bool) → cond a (run_command s)
+        (cond b (check_command s) (cond c (gen_command s) None)) ≡ None
+    go true b c = rw e refl
+    go false true c = rw e refl
+    go false false true = rw e refl
+    go false false false = refl
+
+wrong_word : (s : Said) (ps : List Part) → s.has_wrong ≡ false → IsNoOrder (joined s (said_by (wrong ∷ ps)))
+wrong_word s ps e = wrong_is_none (joined s (said_by (wrong ∷ ps))) (rw e refl)
+
+wrong_here : (w : Walk) (word : Word) (rest : List Word) (s : Said) (ps : List Part) → IsFault (turn w word)
+    → s.has_wrong ≡ false → Comes w (word ∷ rest) (joined s (said_by (wrong ∷ ps)))
+wrong_here w word rest s ps h e =
+    fails_here w word rest (joined s (said_by (wrong ∷ ps))) h (wrong_word s ps e)
+
+-- ---- one part, and those behind it
+
+join_part : (s : Said) (p : Part) (ps : List Part)
+    → joined (joined s (said_by (p ∷ []))) (said_by ps) ≡ joined s (said_by (p ∷ ps))
+join_part s p ps = joined_assoc s (said_by (p ∷ [])) (said_by ps) ∙ ap (joined s) (sym (part_first p ps))
+
+next_part : (w : Walk) (words : List Word) (s now : Said) (p : Part) (ps : List Part) → now ≡ joined s (said_by (p ∷ []))
+    → Comes w words (joined now (said_by ps)) → Comes w words (joined s (said_by (p ∷ ps)))
+next_part w words s now p ps is h =
+    subst (Comes w words) (ap (λ (t : Said). joined t (said_by ps)) is ∙ join_part s p ps) h
+
+nothing_more : (rows : List Row) → said_of rows ≡ joined (said_of rows) (said_by [])
+nothing_more rows =
+    let s = said_of rows in
+    let count : s.tight_count ≡ s.tight_count + 0 = omega arith in
+    λ i. record {
+      sweeps_values = sym (append-nil s.sweeps_values) i;
+      width_values = sym (append-nil s.width_values) i;
+      tight_count = count i;
+      names = sym (append-nil s.names) i;
+      has_wrong = false;
+    }
+
+abbrev seen : List Row → Pending → Said
+seen rows p = said_of (settled_rows rules p rows)
+
+-- the end, where what is held is whole
+ends_whole : (is_trailing : Bool) (rows : List Row) (p : Pending) (waiting : Waiting) → IsWhole rows p
+    → Comes (at is_trailing rows p waiting) [] (joined (seen rows p) (said_by []))
+unfolding walk_fault
+ends_whole is_trailing rows p waiting whole = λ named.
+    (λ i. order_if (whole i) (order_named named (seen rows p)))
+    ∙ ap (order_named named) (nothing_more (settled_rows rules p rows))
+
+-- the end, where it is not
+ends_faulty : (is_trailing : Bool) (rows : List Row) (p : Pending) (waiting : Waiting) (target : Said)
+    → IsFault (settle_fault rules false (held rows p)) → IsNoOrder target → Comes (at is_trailing rows p waiting) [] target
+unfolding walk_fault
+ends_faulty is_trailing rows p waiting target h none = λ named. none_if_fault _ _ h ∙ sym (none named)
+
+-- ---- behind `--`
+
+trails : (words : List Word) (rows : List Row) (p : Pending) (waiting : Waiting) → IsWhole rows p
+    → Comes (at true rows p waiting) words (joined (seen rows p) (said_by (map name words)))
+trails [] rows p waiting whole = ends_whole true rows p waiting whole
+trails (word ∷ rest) rows p waiting whole =
+    go_on (at true rows p waiting) _ word rest (joined (seen rows p) (said_by (map name (word ∷ rest)))) (trailing_turn rows p waiting word ∙ whole) (trailing_step rows p waiting word)
+    (next_part _ rest (seen rows p) (seen (settled_rows rules p rows) (name_held word)) (name word) (map name rest)
+    (name_used word (settled_rows rules p rows))
+    (trails rest (settled_rows rules p rows) (name_held word) positional refl))
+
+trails_faulty : (words : List Word) (rows : List Row) (p : Pending) (waiting : Waiting) (target : Said)
+    → IsFault (settle_fault rules false (held rows p)) → IsNoOrder target → Comes (at true rows p waiting) words target
+trails_faulty [] rows p waiting target h none = ends_faulty true rows p waiting target h none
+trails_faulty (word ∷ rest) rows p waiting target h none =
+    fails_here (at true rows p waiting) word rest target (subst IsFault (sym (trailing_turn rows p waiting word)) h) none
+
+-- ---- an option whose value is the next word
+
+pub data Valued : Type 0 where
+  of_sweeps : Valued
+  of_width : Valued
+
+abbrev id_of : Valued → Text
+id_of of_sweeps = codes "sweeps"
+id_of of_width = codes "width"
+
+abbrev make_of : Valued → Word → Part
+make_of of_sweeps value = sweeps value
+make_of of_width value = width value
+
+abbrev unvalued : Valued → Pending
+unvalued o = Some (id_of o, [])
+
+abbrev Free : List Word → Type 0
+Free words = (rows : List Row) (p : Pending) (waiting : Waiting) → IsFree waiting → IsWhole rows p
+    → Comes (at false rows p waiting) words (joined (seen rows p) (said words))
+
+abbrev Waits : List Word → Type 0
+Waits words = (o : Valued) (rows : List Row)
+    → Comes (at false rows (unvalued o) (option (id_of o))) words
+    (joined (said_of rows) (said_by (parts_waiting words (Some (make_of o)))))
+
+unvalued_faults : (o : Valued) (rows : List Row) → IsFault (settle_fault rules false (held rows (unvalued o)))
+unvalued_faults of_sweeps rows = tt
+unvalued_faults of_width rows = tt
+
+-- ---- an option by its name
+
+abbrev pick : (is_tight is_sweeps is_width : Bool) → Option Rule
+pick is_tight is_sweeps is_width = cond (is_tight || false) (arg_by_id rules (codes "tight"))
+    (cond (is_sweeps || false) (arg_by_id rules (codes "sweeps"))
+    (cond (is_width || false) (arg_by_id rules (codes "width")) None))
+
+module _ (rows : List Row) (p : Pending) (waiting : Waiting) (word : Word) where
+  abbrev met_by : Option Rule → Option Word → Held × Step
+  met_by o v = after_flag rules waiting word (long_met rules o v (held rows p)).0 (long_met rules o v (held rows p)).1
+
+  abbrev turn_by : Option Rule → Option Word → Kinds
+  turn_by o v = or_else (long_fault rules false o v (held rows p)) (step_fault shape 1 (met_by o v).0 (met_by o v).1)
+
+  abbrev step_by : Option Rule → Option Word → Walk
+  step_by o v = after_step rules word (at false rows p waiting) (met_by o v).0 (met_by o v).1
+
+  long_turn : (k : IsLong word) → turn (at false rows p waiting) word
+      ≡ turn_by (pick (bytes_eq (codes "tight") k.0) (bytes_eq (codes "sweeps") k.0) (bytes_eq (codes "width") k.0)) k.1
+  long_turn k = λ i. or_else (long_fault_is rows p waiting word k i)
+      (step_fault shape 1 (long_met_is rows p waiting word k i).0 (long_met_is rows p waiting word k i).1)
+
+  long_step : (k : IsLong word) → step (at false rows p waiting) word
+      ≡ step_by (pick (bytes_eq (codes "tight") k.0) (bytes_eq (codes "sweeps") k.0) (bytes_eq (codes "width") k.0)) k.1
+  long_step k = step_from rows p waiting word _ _ (long_met_is rows p waiting word k)
+
+  -- where no option waits
+  free_long : (a b c : Bool) (v : Option Word) (rest : List Word) → IsWhole rows p → Free rest → Waits rest
+      → turn (at false rows p waiting) word ≡ turn_by (pick a b c) v
+      → step (at false rows p waiting) word ≡ step_by (pick a b c) v
+      → Comes (at false rows p waiting) (word ∷ rest)
+      (joined (seen rows p) (said_by (parts_from (kind_by a b c v) rest (parts_waiting rest))))
+  free_long true b c None rest whole f q t s =
+      go_on _ (at false (used_by (codes "tight") [] (settled_rows rules p rows)) None idle) word rest
+      (joined (seen rows p) (said_by (tight ∷ parts_waiting rest None)))
+      (t ∙ (λ i. or_else (or_else (whole i) []) [])) s
+      (next_part _ rest (seen rows p) _ tight (parts_waiting rest None) (tight_used (settled_rows rules p rows))
+      (f (used_by (codes "tight") [] (settled_rows rules p rows)) None idle (λ w h. refl) refl))
+  free_long true b c (Some v) rest whole f q t s =
+      wrong_here _ word rest (seen rows p) (parts_waiting rest None) (subst IsFault (sym t) tt) refl
+  free_long false true c None rest whole f q t s =
+      go_on _ (at false (settled_rows rules p rows) (unvalued of_sweeps) (option (codes "sweeps"))) word rest
+      (joined (seen rows p) (said_by (parts_waiting rest (Some (make_of of_sweeps)))))
+      (t ∙ (λ i. or_else (whole i) [])) s (q of_sweeps (settled_rows rules p rows))
+  free_long false true c (Some v) rest whole f q t s =
+      go_on _ (at false (used_by (codes "sweeps") (v ∷ []) (settled_rows rules p rows)) None idle) word rest
+      (joined (seen rows p) (said_by (sweeps v ∷ parts_waiting rest None)))
+      (t ∙ (λ i. or_else (or_else (whole i) []) [])) s
+      (next_part _ rest (seen rows p) _ (sweeps v) (parts_waiting rest None) (sweeps_used v (settled_rows rules p rows))
+      (f (used_by (codes "sweeps") (v ∷ []) (settled_rows rules p rows)) None idle (λ w h. refl) refl))
+  free_long false false true None rest whole f q t s =
+      go_on _ (at false (settled_rows rules p rows) (unvalued of_width) (option (codes "width"))) word rest
+      (joined (seen rows p) (said_by (parts_waiting rest (Some (make_of of_width)))))
+      (t ∙ (λ i. or_else (whole i) [])) s (q of_width (settled_rows rules p rows))
+  free_long false false true (Some v) rest whole f q t s =
+      go_on _ (at false (used_by (codes "width") (v ∷ []) (settled_rows rules p rows)) None idle) word rest
+      (joined (seen rows p) (said_by (width v ∷ parts_waiting rest None)))
+      (t ∙ (λ i. or_else (or_else (whole i) []) [])) s
+      (next_part _ rest (seen rows p) _ (width v) (parts_waiting rest None) (width_used v (settled_rows rules p rows))
+      (f (used_by (codes "width") (v ∷ []) (settled_rows rules p rows)) None idle (λ w h. refl) refl))
+  free_long false false false None rest whole f q t s =
+      wrong_here _ word rest (seen rows p) (parts_waiting rest None) (subst IsFault (sym t) tt) refl
+  free_long false false false (Some v) rest whole f q t s =
+      wrong_here _ word rest (seen rows p) (parts_waiting rest None) (subst IsFault (sym t) tt) refl
+
+-- where an option waits
+waits_long : (a b c : Bool) (v : Option Word) (o : Valued) (rows : List Row)
+    → IsFault (long_fault rules false (pick a b c) v (held rows (unvalued o)))
+waits_long true b c None o rows = first_faults _ _ (unvalued_faults o rows)
+waits_long true b c (Some v) o rows = tt
+waits_long false true c None o rows = unvalued_faults o rows
+waits_long false true c (Some v) o rows = first_faults _ _ (unvalued_faults o rows)
+waits_long false false true None o rows = unvalued_faults o rows
+waits_long false false true (Some v) o rows = first_faults _ _ (unvalued_faults o rows)
+waits_long false false false v o rows = tt
+
+-- ---- `-` as a value, which is no number
+
+abbrev dash : Word
+dash = codes "-"
+
+dash_no_rounds : number_within 6 0 100000 dash ≡ None
+dash_no_rounds = refl
+
+dash_no_width : width_in_ticks dash ≡ None
+unfolding is_numeral
+dash_no_width = refl
+
+once_never : {X : Type 0} (default : X) (read : Word → Option X) (v : Word) (xs ys : List Word) → read v ≡ None
+    → once default read ((xs ++ v ∷ []) ++ ys) ≡ None
+once_never default read v [] [] e = e
+once_never default read v [] (y ∷ ys) e = refl
+once_never default read v (x ∷ []) ys e = refl
+once_never default read v (x ∷ z ∷ zs) ys e = refl
+
+stands : (xs ys : List Word) (v : Word) → (length ((xs ++ v ∷ []) ++ ys) == 0) ≡ false
+stands [] ys v = ne_eqb _ _ (λ e. omega (arith, e))
+stands (x ∷ xs) ys v = ne_eqb _ _ (λ e. omega (arith, e))
+
+no_run : {X : Type 0} (b : Bool) (o : Option X) (f : X → Option RunOrder) → o ≡ None
+    → option_map run (cond b (option_and_then f o) None) ≡ None
+no_run {X = X} true o f e = ap (λ (p : Option X). option_map run (option_and_then f p)) e
+no_run false o f e = refl
+
+no_run_within : {X Y : Type 0} (b : Bool) (o : Option Y) (x : Option X) (f : Y → X → Option RunOrder) → x ≡ None
+    → option_map run (cond b (option_and_then (λ y. option_and_then (f y) x) o) None) ≡ None
+no_run_within false o x f e = refl
+no_run_within true None x f e = refl
+no_run_within {X = X} true (Some y) x f e = ap (λ (p : Option X). option_map run (option_and_then (f y) p)) e
+
+no_order_by : (s : Said) → run_command s ≡ None → has_names_alone s ≡ false → IsNoOrder s
+no_order_by s e h word = go (bytes_eq word (codes "run")) (bytes_eq word (codes "check")) (bytes_eq word (codes "gen"))
+  where
+    go : (a b c : Bool) → cond a (run_command s) (cond b (check_command s) (cond c (gen_command s) None)) ≡ None
+    go true b c = e
+    go false true c = rw h refl
+    go false false true = rw h refl
+    go false false false = refl
+
+dash_never : (o : Valued) (s : Said) → IsNeverOrder (joined s (said_by (make_of o dash ∷ [])))
+dash_never of_sweeps s more =
+    let all = joined (joined s (said_by (sweeps dash ∷ []))) more in
+    let none : rounds_of all.sweeps_values ≡ None =
+    once_never 200 (number_within 6 0 100000) dash s.sweeps_values more.sweeps_values dash_no_rounds in
+    no_order_by all (no_run (is_sound all) (rounds_of all.sweeps_values) _ none)
+    (and_false (not all.has_wrong) _ (and_false (all.tight_count == 0) _
+    (ap (λ (b : Bool). b && (length all.width_values == 0)) (stands s.sweeps_values more.sweeps_values dash))))
+dash_never of_width s more =
+    let all = joined (joined s (said_by (width dash ∷ []))) more in
+    let none : width_of all.width_values ≡ None =
+    once_never (pos (10 ^ 11)) width_in_ticks dash s.width_values more.width_values dash_no_width in
+    no_order_by all (no_run_within (is_sound all) (rounds_of all.sweeps_values) (width_of all.width_values) _ none)
+    (and_false (not all.has_wrong) _ (and_false (all.tight_count == 0) _
+    (and_false (length all.sweeps_values == 0) _ (stands s.width_values more.width_values dash))))
+
+same_orders : (w : Walk) (words : List Word) (a b : Said) → IsNoOrder a → IsNoOrder b → Comes w words a → Comes w words b
+same_orders w words a b no_a no_b h named = h named ∙ no_a named ∙ sym (no_b named)
+
+-- ---- one word more
+
+by_kind : (w : Walk) (word : Word) (rest : List Word) (s : Said) (k : Kind) → kind_of word ≡ k
+    → Comes w (word ∷ rest) (joined s (said_by (parts_from k rest (parts_waiting rest))))
+    → Comes w (word ∷ rest) (joined s (said (word ∷ rest)))
+by_kind w word rest s k e h =
+    subst (λ (j : Kind). Comes w (word ∷ rest) (joined s (said_by (parts_from j rest (parts_waiting rest))))) (sym e) h
+
+module _ (rest : List Word) (f : Free rest) (q : Waits rest) where
+  free_closing : (rows : List Row) (p : Pending) (waiting : Waiting) → IsWhole rows p
+      → Comes (at false rows p waiting) (codes "--" ∷ rest) (joined (seen rows p) (said (codes "--" ∷ rest)))
+  unfolding kind_of
+  free_closing rows p waiting whole =
+      go_on (at false rows p waiting) (at true rows p waiting) (codes "--") rest
+      (joined (seen rows p) (said (codes "--" ∷ rest))) (closing_turn rows p waiting) (closing_step rows p waiting)
+      (trails rest rows p waiting whole)
+
+  free_step : (word : Word) → Lexed word → (rows : List Row) (p : Pending) (waiting : Waiting) → IsFree waiting
+      → IsWhole rows p → Comes (at false rows p waiting) (word ∷ rest) (joined (seen rows p) (said (word ∷ rest)))
+  free_step word (closing e) rows p waiting free whole =
+      subst (λ (w : Word). Comes (at false rows p waiting) (w ∷ rest) (joined (seen rows p) (said (w ∷ rest)))) (sym e)
+      (free_closing rows p waiting whole)
+  free_step word (plain k) rows p waiting free whole =
+      let met = plain_met rows p waiting word k ∙ free word (held rows p) in
+      by_kind (at false rows p waiting) word rest (seen rows p) (says (name word)) k.3
+      (go_on (at false rows p waiting) (at false (settled_rows rules p rows) (name_held word) positional) word rest
+      (joined (seen rows p) (said_by (name word ∷ parts_waiting rest None)))
+      (turn_from rows p waiting word _ _ (plain_fault rows p waiting word k) met ∙ name_fault rows p ∙ whole)
+      (step_from rows p waiting word _ _ met ∙ name_step false rows p waiting word)
+      (next_part _ rest (seen rows p) (seen (settled_rows rules p rows) (name_held word)) (name word)
+      (parts_waiting rest None) (name_used word (settled_rows rules p rows))
+      (f (settled_rows rules p rows) (name_held word) positional (λ w h. refl) refl)))
+  free_step word (short k) rows p waiting free whole =
+      by_kind (at false rows p waiting) word rest (seen rows p) (says wrong) k.3.4
+      (wrong_here (at false rows p waiting) word rest (seen rows p) (parts_waiting rest None)
+      (short_fails rows p waiting word k) refl)
+  free_step word (long k) rows p waiting free whole =
+      by_kind (at false rows p waiting) word rest (seen rows p) (named_kind k.0 k.1) k.2.2
+      (free_long rows p waiting word (bytes_eq (codes "tight") k.0) (bytes_eq (codes "sweeps") k.0)
+      (bytes_eq (codes "width") k.0) k.1 rest whole f q (long_turn rows p waiting word k) (long_step rows p waiting word k))
+
+  -- the word is the value that an option waits for
+  valued_met : (o : Valued) (rows : List Row) (word : Word)
+      → plain_word rules (option (id_of o)) word (held rows (unvalued o))
+      ≡ (held rows (Some (id_of o, word ∷ [])), next idle)
+  valued_met of_sweeps rows word = refl
+  valued_met of_width rows word = refl
+
+  valued_whole : (o : Valued) (rows : List Row) (word : Word) → IsWhole rows (Some (id_of o, word ∷ []))
+  valued_whole of_sweeps rows word = refl
+  valued_whole of_width rows word = refl
+
+  valued_used : (o : Valued) (rows : List Row) (word : Word)
+      → seen rows (Some (id_of o, word ∷ [])) ≡ joined (said_of rows) (said_by (make_of o word ∷ []))
+  valued_used of_sweeps rows word = sweeps_used word rows
+  valued_used of_width rows word = width_used word rows
+
+  valued_on : (o : Valued) (rows : List Row) (word : Word) → IsPlain word
+      → Comes (at false rows (unvalued o) (option (id_of o))) (word ∷ rest)
+      (joined (said_of rows) (said_by (make_of o word ∷ parts_waiting rest None)))
+  valued_on o rows word k =
+      let met = plain_met rows (unvalued o) (option (id_of o)) word k ∙ valued_met o rows word in
+      go_on (at false rows (unvalued o) (option (id_of o))) (at false rows (Some (id_of o, word ∷ [])) idle) word rest
+      (joined (said_of rows) (said_by (make_of o word ∷ parts_waiting rest None)))
+      (turn_from rows (unvalued o) (option (id_of o)) word _ _
+      (plain_fault rows (unvalued o) (option (id_of o)) word k) met)
+      (step_from rows (unvalued o) (option (id_of o)) word _ _ met)
+      (next_part _ rest (said_of rows) (seen rows (Some (id_of o, word ∷ []))) (make_of o word)
+      (parts_waiting rest None) (valued_used o rows word)
+      (f rows (Some (id_of o, word ∷ [])) idle (λ w h. refl) (valued_whole o rows word)))
+
+  -- the value begins with `-`
+  waits_wrong : (o : Valued) (rows : List Row) (word : Word) → begins_with_dash word ≡ true
+      → Comes (at false rows (unvalued o) (option (id_of o))) (word ∷ rest)
+      (joined (said_of rows) (said_by (wrong ∷ parts_waiting rest None)))
+      → Comes (at false rows (unvalued o) (option (id_of o))) (word ∷ rest)
+      (joined (said_of rows) (said_by (parts_waiting (word ∷ rest) (Some (make_of o)))))
+  waits_wrong o rows word e h = subst (λ (b : Bool). Comes (at false rows (unvalued o) (option (id_of o))) (word ∷ rest)
+      (joined (said_of rows) (said_by (cond b wrong (make_of o word) ∷ parts_waiting rest None)))) (sym e) h
+
+  waits_plain : (o : Valued) (rows : List Row) (word : Word) → IsPlain word
+      → ((begins_with_dash word ≡ false) ⊎ (word ≡ codes "-"))
+      → Comes (at false rows (unvalued o) (option (id_of o))) (word ∷ rest)
+      (joined (said_of rows) (said_by (parts_waiting (word ∷ rest) (Some (make_of o)))))
+  waits_plain o rows word k (inl e) = subst (λ (b : Bool). Comes (at false rows (unvalued o) (option (id_of o))) (word ∷ rest)
+      (joined (said_of rows) (said_by (cond b wrong (make_of o word) ∷ parts_waiting rest None)))) (sym e)
+      (valued_on o rows word k)
+  waits_plain o rows word k (inr e) =
+      let never : IsNoOrder (joined (said_of rows) (said_by (make_of o word ∷ parts_waiting rest None))) =
+      subst (λ (w : Word). IsNoOrder (joined (said_of rows) (said_by (make_of o w ∷ parts_waiting rest None)))) (sym e)
+      (subst IsNoOrder (join_part (said_of rows) (make_of o dash) (parts_waiting rest None))
+      (dash_never o (said_of rows) (said_by (parts_waiting rest None)))) in
+      waits_wrong o rows word (ap begins_with_dash e)
+      (same_orders (at false rows (unvalued o) (option (id_of o))) (word ∷ rest)
+      (joined (said_of rows) (said_by (make_of o word ∷ parts_waiting rest None)))
+      (joined (said_of rows) (said_by (wrong ∷ parts_waiting rest None))) never
+      (wrong_word (said_of rows) (parts_waiting rest None) refl) (valued_on o rows word k))
+
+  waits_step : (word : Word) → Lexed word → (o : Valued) (rows : List Row)
+      → Comes (at false rows (unvalued o) (option (id_of o))) (word ∷ rest)
+      (joined (said_of rows) (said_by (parts_waiting (word ∷ rest) (Some (make_of o)))))
+  waits_step word (closing e) o rows =
+      waits_wrong o rows word (ap begins_with_dash e)
+      (subst (λ (w : Word). Comes (at false rows (unvalued o) (option (id_of o))) (w ∷ rest)
+      (joined (said_of rows) (said_by (wrong ∷ parts_waiting rest None)))) (sym e)
+      (go_on (at false rows (unvalued o) (option (id_of o))) (at true rows (unvalued o) (option (id_of o))) (codes "--") rest
+      (joined (said_of rows) (said_by (wrong ∷ parts_waiting rest None)))
+      (closing_turn rows (unvalued o) (option (id_of o))) (closing_step rows (unvalued o) (option (id_of o)))
+      (trails_faulty rest rows (unvalued o) (option (id_of o)) (joined (said_of rows) (said_by (wrong ∷ parts_waiting rest None)))
+      (unvalued_faults o rows) (wrong_word (said_of rows) (parts_waiting rest None) refl))))
+  waits_step word (plain k) o rows = waits_plain o rows word k k.4
+  waits_step word (short k) o rows = waits_wrong o rows word k.3.5
+      (wrong_here (at false rows (unvalued o) (option (id_of o))) word rest (said_of rows) (parts_waiting rest None)
+      (short_fails rows (unvalued o) (option (id_of o)) word k) refl)
+  waits_step word (long k) o rows = waits_wrong o rows word k.2.3
+      (wrong_here (at false rows (unvalued o) (option (id_of o))) word rest (said_of rows) (parts_waiting rest None)
+      (subst IsFault (sym (long_turn rows (unvalued o) (option (id_of o)) word k)) (first_faults _ _
+      (waits_long (bytes_eq (codes "tight") k.0) (bytes_eq (codes "sweeps") k.0) (bytes_eq (codes "width") k.0) k.1 o rows))) refl)
+
+-- ---- all the words
+
+abbrev pub AreTexts : List Word → Type 0
+AreTexts [] = Unit {0}
+AreTexts (word ∷ rest) = IsUtf8 word × AreTexts rest
+
+simulated : (words : List Word) → AreTexts words → Free words × Waits words
+simulated [] u = (
+  λ rows p waiting free whole. ends_whole false rows p waiting whole,
+  λ o rows. ends_faulty false rows (unvalued o) (option (id_of o)) (joined (said_of rows) (said_by (wrong ∷ [])))
+      (unvalued_faults o rows) (wrong_word (said_of rows) [] refl),
+)
+simulated (word ∷ rest) u =
+    let later = simulated rest u.1 in
+    let is = lexed word u.0 in
+    (free_step rest later.0 later.1 word is, waits_step rest later.0 later.1 word is)
+
+-- ---- clap's faults and matches at these words
+
+or_true : (b : Bool) → (b || true) ≡ true
+or_true true = refl
+or_true false = refl
+
+same_both : {X : Type 0} (b : Bool) (x : X) → cond b x x ≡ x
+same_both true x = refl
+same_both false x = refl
+
+or_nothing : (f : Kinds) → or_else f [] ≡ f
+or_nothing [] = refl
+or_nothing (k ∷ ks) = refl
+
+no_defaults_fault : (rows : List Row) (rs : List Rule) → list_all (λ a. is_empty a.defaults) rs ≡ true
+    → defaults_fault rows rs ≡ []
+unfolding defaults_fault
+no_defaults_fault rows [] e = refl
+no_defaults_fault rows (a ∷ rest) e =
+    let parts = both (is_empty a.defaults) (list_all (λ r. is_empty r.defaults) rest) e in
+    (λ i. or_else (cond (has_row a.id rows || parts.0 i) [] (given_default_fault a a.defaults))
+    (defaults_fault (with_default rows a) rest))
+    ∙ (λ i. or_else (cond (or_true (has_row a.id rows) i) [] (given_default_fault a a.defaults))
+    (defaults_fault (with_default rows a) rest))
+    ∙ no_defaults_fault (with_default rows a) rest parts.1
+
+no_defaults : (rows : List Row) (rs : List Rule) → list_all (λ a. is_empty a.defaults) rs ≡ true
+    → fold with_default rows rs ≡ rows
+no_defaults rows [] e = refl
+no_defaults rows (a ∷ rest) e =
+    let parts = both (is_empty a.defaults) (list_all (λ r. is_empty r.defaults) rest) e in
+    let none : a.defaults ≡ [] = is_nil a.defaults parts.0 in
+    let here : with_default rows a ≡ rows =
+    (λ i. cond (has_row a.id rows) rows (default_rows a.id (reading_by a) (none i) rows))
+    ∙ same_both (has_row a.id rows) rows in
+    ap (λ (rs : List Row). fold with_default rs rest) here ∙ no_defaults rows rest parts.1
+
+abbrev start : Walk
+start = at false [] None idle
+
+faults_are : (words : List Word) → fault_of asked words ≡ fault_from start words
+faults_are words =
+    leaf_fault (built asked) (held [] None) words refl
+    ∙ (λ i. or_else (walk_fault shape [] start words) (or_else (settle_fault rules false (end_of start words))
+    (or_else (no_defaults_fault (rows_at_end start words) rules refl i) [])))
+    ∙ ap (or_else (walk_fault shape [] start words)) (or_nothing (settle_fault rules false (end_of start words)))
+
+matches_are : (words : List Word) → matches_of asked words ≡ rows_at_end start words
+matches_are words = no_defaults (rows_at_end start words) rules refl
+
+nothing_first : (s : Said) → joined (said_of []) s ≡ s
+nothing_first s =
+    let count : 0 + s.tight_count ≡ s.tight_count = omega arith in
+    λ i. record s { tight_count = count i }
+
+-- where clap takes the words, its matches give the command, and where it doesn't they aren't one
+pub clap_orders : (words : List Word) → AreTexts words → (named : Word)
+    → order_if (fault_of asked words) (order_named named (said_of (matches_of asked words))) ≡ order_named named (said words)
+clap_orders words u named =
+    (λ i. order_if (faults_are words i) (order_named named (said_of (matches_are words i))))
+    ∙ (simulated words u).0 [] None idle (λ w h. refl) refl named
+    ∙ ap (order_named named) (nothing_first (said words))
+
+pub texts_of : {Z : Type 0} (words : List (String Z)) → AreTexts (map string_bytes words)
+texts_of [] = tt
+texts_of (word ∷ rest) = (IsUtf8-string_bytes word, texts_of rest)
