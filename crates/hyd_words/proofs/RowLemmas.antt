@@ -1,6 +1,6 @@
 -- What the rows of clap's matches say, use by use.
 use Rattle.std.proofs.Common.{◌≡◌, ◌∙◌, ℕ, ◌+◌, Bool, true, false, cond, List, [], ◌∷◌, ◌++◌, length, find, Option, Some, None, option_map, unwrap_or, refl, sym, ap, subst, arith, append-nil, codes, bytes_eq}
-use Rattle.clap.specs.Walk.{Row, Rule, Text, all_of, with_values}
+use Rattle.clap.specs.Walk.{Row, Rule, Text, with_values}
 use Rattle.clap.specs.Simple.{built}
 use Rattle.clap.specs.Walk.{arg_by_id, used_by_id}
 use Rattle.clap.specs.declared.builder.value_parser.Reading.{Reading}
@@ -8,11 +8,8 @@ use Rattle.clap.specs.declared.parser.matches.ValueSource.{ValueSource}
 use Rattle.clap.specs.declared.parser.matches.ValueSource.TheVariants.{CommandLine}
 use Rattle.clap.specs.declared.builder.value_parser.Reading.TheVariants.{AsWritten}
 use Rattle.hyd_words.specs.Words.{Word, Said, said_by, joined, sweeps, width, tight, name}
-use Rattle.hyd_words.specs.Asked.{asked}
+use Rattle.hyd_words.specs.Asked.{all_values, asked, said_of}
 use lib.Pointwise.{bytes_decides}
-
-abbrev pub all_values : Text → List Row → List Text
-all_values id rows = unwrap_or (all_of id rows) []
 
 same_id : (id : Text) (how : Reading) (s : ValueSource) (values : List Text) (rows : List Row)
     → all_values id (with_values id how s values rows) ≡ all_values id rows ++ values
@@ -44,16 +41,6 @@ other_id id other how s values (r ∷ rs) e = go (bytes_eq r.id id) refl (other_
         let differs : bytes_eq r.id other ≡ false = subst (λ (t : Text). bytes_eq t other ≡ false) (sym same) e in
         rw h (rw differs refl)
     go false h rest = next (bytes_eq r.id other) refl h rest
-
--- what these rows say
-abbrev pub said_of : List Row → Said
-said_of rows = record {
-  sweeps_values = all_values (codes "sweeps") rows;
-  width_values = all_values (codes "width") rows;
-  tight_count = length (all_values (codes "tight") rows);
-  names = all_values (codes "names") rows;
-  has_wrong = false;
-}
 
 abbrev pub rules : List Rule
 rules = (built asked).top.rules

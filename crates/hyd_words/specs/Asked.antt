@@ -1,8 +1,9 @@
 -- The command of clap that reads the words behind a command's name: it takes each option as often as it stands.
-use Rattle.std.specs.Prelude.{List, [], ◌∷◌, Some, codes, true}
-use Rattle.clap.specs.Walk.{Rule, Text}
+use Rattle.std.specs.Prelude.{List, [], ◌∷◌, length, Some, codes, true, false, unwrap_or}
+use Rattle.clap.specs.Walk.{Row, Rule, Text, all_of}
 use Rattle.clap.specs.Simple.{App, new_app, new_rule, new_shape, with_rule}
 use Rattle.clap.specs.declared.builder.action.ArgAction.TheVariants.{Append}
+use Rattle.hyd_words.specs.Words.{Said}
 
 -- `--name` with one value
 abbrev pub valued_rule : Text → Rule
@@ -33,3 +34,17 @@ bare = record (new_app (codes "hyd")) {
 abbrev pub asked : App
 asked = with_rule (with_rule (with_rule (with_rule bare tight_rule) (valued_rule (codes "sweeps")))
     (valued_rule (codes "width"))) names_rule
+
+-- the values of an argument, of all its uses
+abbrev pub all_values : Text → List Row → List Text
+all_values id rows = unwrap_or (all_of id rows) []
+
+-- what these matches say
+abbrev pub said_of : List Row → Said
+said_of rows = record {
+  sweeps_values = all_values (codes "sweeps") rows;
+  width_values = all_values (codes "width") rows;
+  tight_count = length (all_values (codes "tight") rows);
+  names = all_values (codes "names") rows;
+  has_wrong = false;
+}
