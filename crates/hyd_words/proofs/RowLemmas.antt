@@ -1,5 +1,7 @@
 -- What the rows of clap's matches say, use by use.
-use Rattle.std.proofs.Common.{◌≡◌, ◌∙◌, ℕ, ◌+◌, Bool, true, false, cond, List, [], ◌∷◌, ◌++◌, length, find, Option, Some, None, option_map, unwrap_or, refl, sym, ap, subst, arith, append-nil, codes, bytes_eq}
+use Rattle.std.proofs.Common.{◌≡◌, ◌∙◌, ℕ, ◌+◌, Bool, true, false, cond, List, [], ◌∷◌, ◌++◌, length, find, Option, Some, None, option_map, unwrap_or, refl, sym, ap, subst, arith, append-nil, codes, bytes_eq, Bor}
+use Rattle.std.specs.Option.{UnwrapsOrElse}
+use Rattle.hyd_words.specs.Seen.{texts_seen}
 use Rattle.clap.specs.Walk.{Row, Rule, Text, with_values}
 use Rattle.clap.specs.Simple.{built}
 use Rattle.clap.specs.Walk.{arg_by_id, used_by_id}
@@ -105,3 +107,12 @@ tight_used rows = λ i. record {
   names = kept (codes "tight") AsWritten CommandLine ([] ∷ []) rows (codes "names") refl i;
   has_wrong = false;
 }
+
+-- the values that are read where there are some, and none else
+pub values_read : (o : Option (Bor (List (Bor Text)))) (r : Bor (List (Bor Text))) (all : Option (List Text))
+    → UnwrapsOrElse o (λ x. x.now ≡ []) r → option_map (λ s. texts_seen s.now) o ≡ all
+    → texts_seen r.now ≡ unwrap_or all []
+values_read None r all h e =
+    ap texts_seen h ∙ ap (λ (texts : Option (List Text)). unwrap_or texts []) e
+values_read (Some x) r all h e =
+    ap (λ (b : Bor (List (Bor Text))). texts_seen b.now) h ∙ ap (λ (texts : Option (List Text)). unwrap_or texts []) e

@@ -1,4 +1,7 @@
 use Rattle.std.proofs.Common.{◌≡◌, ◌∙◌, ap, sym, string_bytes}
+use Rattle.clap.specs.Matches.{found_of}
+use Rattle.clap.specs.Walk.{rows_of}
+use Rattle.hyd_words.specs.Asked.{said_of}
 use Rattle.hyd_words.specs.Orders.{order_named}
 use Rattle.hyd_words.proofs.WalkLaw.{none_found, some_found}
 use Rattle.hyd_words.proofs.reader.read_words.Goals as goal
@@ -7,7 +10,7 @@ pub returns-in-Some-2 : goal.returns-in-Some-2
 returns-in-Some-2 c = record {
   command = c.order_named.ensures
       ∙ ap (order_named c.as_str.result.now) c.said_by.ensures
-      ∙ ap (λ named. order_named named _) c.as_str.ensures.value
+      ∙ ap (λ named. order_named named (said_of (rows_of (found_of c.in-Some-2.matches)))) c.as_str.ensures.value
       ∙ some_found c.args.words.now c.in-Some.behind.now c.in-Some.name.now c.in_ok-matches.field-0 c.in-Some-2.matches
       c.in-Some.ensures.cases.0 c.in_ok-matches.ensures c.in-Some-2.is;
 }
