@@ -1,11 +1,11 @@
 -- What a word is by itself, from the tests by which clap reads it.
 use Rattle.std.proofs.Common.{◌≡◌, ◌⊎◌, ◌∙◌, ℕ, ◌+◌, ◌==◌, ◌&&◌, ◌||◌, nat_eq, Bool, true, false, not, cond, List, [], ◌∷◌, ◌++◌, length, take, drop, Option, Some, None, slice_get, refl, sym, ap, ap₂, subst, inl, inr, true≢false, arith, codes, IsUtf8, bytes_eq, encode_utf8_all, eqb-true, ne_eqb, suc}
-use Rattle.std.specs.List.{list_any, starts_with, before_first, after_first, position_or_len}
+use Rattle.std.specs.List.{starts_with, before_first, after_first, position_or_len}
 use Rattle.std.specs.Char.{encode_utf8}
 use Rattle.std.specs.Str.{chars}
 use Rattle.std.proofs.lemmas.Str.{encodes-chars}
 use Rattle.clap.specs.Lexer.{long_of, short_of, has_byte, name_and_value}
-use Rattle.hyd_words.specs.Words.{Word, Part, Kind, sweeps, width, tight, name, wrong, says, wants, ends, begins_with_dash, kind_of, option_kind}
+use Rattle.hyd_words.specs.Words.{Word, Kind, sweeps, width, tight, name, wrong, says, wants, begins_with_dash, kind_of, option_kind}
 use lib.Pointwise.{bytes_decides}
 
 -- ---- words of bytes
@@ -54,10 +54,11 @@ IsSplit n t = (t ≡ take n t ++ 61 ∷ drop (n + 1) t) × (has_byte 61 (take n 
 split_later : (n x : ℕ) (xs : Word) → (x == 61) ≡ false → IsSplit n xs → IsSplit (1 + n) (x ∷ xs)
 split_later n x xs plain rest =
     let more : suc n ≡ 1 + n = omega arith in
-    let past : suc (n + 1) ≡ (1 + n) + 1 = omega arith in
-    (ap (λ (r : Word). x ∷ r) rest.0
-    ∙ ap₂ (λ (k m : ℕ). take k (x ∷ xs) ++ 61 ∷ drop m (x ∷ xs)) more past,
-    ap (λ (k : ℕ). has_byte 61 (take k (x ∷ xs))) (sym more) ∙ ap₂ (λ (a b : Bool). a || b) plain rest.1)
+    let past : suc (n + 1) ≡ (1 + n) + 1 = omega arith in (
+      ap (λ (r : Word). x ∷ r) rest.0
+          ∙ ap₂ (λ (k m : ℕ). take k (x ∷ xs) ++ 61 ∷ drop m (x ∷ xs)) more past,
+      ap (λ (k : ℕ). has_byte 61 (take k (x ∷ xs))) (sym more) ∙ ap₂ (λ (a b : Bool). a || b) plain rest.1,
+    )
 
 with_equals : (t : Word) → has_byte 61 t ≡ true → IsSplit (position_or_len is_equals t) t
 with_equals [] e = absurd (true≢false (sym e))

@@ -1,5 +1,5 @@
 -- What the rows of clap's matches say, use by use.
-use Rattle.std.proofs.Common.{◌≡◌, ◌∙◌, ℕ, ◌+◌, Bool, true, false, cond, List, [], ◌∷◌, ◌++◌, length, find, Option, Some, None, option_map, unwrap_or, refl, sym, ap, subst, arith, append-nil, codes, bytes_eq, Bor}
+use Rattle.std.proofs.Common.{◌≡◌, ◌∙◌, ◌+◌, Bool, true, false, List, [], ◌∷◌, ◌++◌, length, Option, Some, None, option_map, unwrap_or, refl, sym, ap, subst, arith, append-nil, codes, bytes_eq, Bor}
 use Rattle.std.specs.Option.{UnwrapsOrElse}
 use Rattle.hyd_words.specs.Seen.{texts_seen}
 use Rattle.clap.specs.Walk.{Row, Rule, Text, with_values}
@@ -9,8 +9,9 @@ use Rattle.clap.specs.declared.builder.value_parser.Reading.{Reading}
 use Rattle.clap.specs.declared.parser.matches.ValueSource.{ValueSource}
 use Rattle.clap.specs.declared.parser.matches.ValueSource.TheVariants.{CommandLine}
 use Rattle.clap.specs.declared.builder.value_parser.Reading.TheVariants.{AsWritten}
-use Rattle.hyd_words.specs.Words.{Word, Said, said_by, joined, sweeps, width, tight, name}
-use Rattle.hyd_words.specs.Asked.{all_values, asked, said_of}
+use Rattle.hyd_words.proofs.SaidLemmas.{joined}
+use Rattle.hyd_words.specs.Words.{Word, said_by, sweeps, width, tight, name}
+use Rattle.hyd_words.specs.Parser.{all_values, words_command, said_of}
 use lib.Pointwise.{bytes_decides}
 
 same_id : (id : Text) (how : Reading) (s : ValueSource) (values : List Text) (rows : List Row)
@@ -45,7 +46,7 @@ other_id id other how s values (r ∷ rs) e = go (bytes_eq r.id id) refl (other_
     go false h rest = next (bytes_eq r.id other) refl h rest
 
 abbrev pub rules : List Rule
-rules = (built asked).top.rules
+rules = (built words_command).top.rules
 
 abbrev pub used_by : Text → List Text → List Row → List Row
 used_by id values rows = used_by_id (arg_by_id rules id) values rows

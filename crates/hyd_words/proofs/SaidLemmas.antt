@@ -1,10 +1,19 @@
--- What is said part by part, and what can't become a command any more.
-use Rattle.std.proofs.Common.{◌≡◌, ℕ, ◌+◌, Bool, true, false, ◌||◌, List, [], ◌∷◌, ◌++◌, length, map, Some, refl, sym, ap, subst, ◌∙◌, arith, append_assoc, if◌then◌else◌}
+-- What is said part by part.
+use Rattle.std.proofs.Common.{◌≡◌, ℕ, ◌+◌, Bool, true, false, ◌||◌, List, [], ◌∷◌, ◌++◌, length, refl, arith, append_assoc}
 use Rattle.std.specs.Prelude.{filter}
 use Rattle.std.specs.List.{list_any}
 use Rattle.std.proofs.lemmas.List.Elements.{filter_map-append}
-use Rattle.hyd_words.specs.Words.{Word, Part, Kind, Said, sweeps, width, tight, name, wrong, says, kind_of, begins_with_dash, with_value, parts, parts_from, parts_waiting, sweeps_value, width_value, named, is_tight, is_wrong, said, said_by, joined}
-use Rattle.hyd_words.specs.Orders.{IsNoOrder, IsNeverOrder}
+use Rattle.hyd_words.specs.Words.{Part, Said, sweeps, width, tight, name, wrong, sweeps_value, width_value, named, is_tight, is_wrong, said_by}
+
+-- what is said first, and then this
+abbrev pub joined : Said → Said → Said
+joined first next = record {
+  sweeps_values = first.sweeps_values ++ next.sweeps_values;
+  width_values = first.width_values ++ next.width_values;
+  tight_count = first.tight_count + next.tight_count;
+  names = first.names ++ next.names;
+  has_wrong = first.has_wrong || next.has_wrong;
+}
 
 or_assoc : (a b c : Bool) → ((a || b) || c) ≡ (a || (b || c))
 or_assoc true b c = refl
@@ -46,4 +55,3 @@ part_first p ps = λ i. record {
   names = filter_map-append named (p ∷ []) ps i;
   has_wrong = wrong_first p ps i;
 }
-

@@ -1,5 +1,5 @@
 -- clap's walk over words gives the command that the words are.
-use Rattle.std.proofs.Common.{◌≡◌, ◌⊎◌, ◌∙◌, ℕ, ◌+◌, ◌==◌, nat_le, not, ◌&&◌, ◌||◌, Bool, true, false, cond, List, [], ◌∷◌, ◌++◌, map, fold, length, Option, Some, None, IsUtf8, arith, refl, sym, ap, ap₂, subst, inl, inr, codes, bytes_eq, append-nil, option_map, option_and_then, ne_eqb, ◌^◌, ℤ, pos, String, string_bytes, MatchOption, ◌≢◌}
+use Rattle.std.proofs.Common.{◌≡◌, ◌⊎◌, ◌∙◌, ◌+◌, ◌==◌, not, ◌&&◌, ◌||◌, Bool, true, false, cond, List, [], ◌∷◌, ◌++◌, map, fold, length, Option, Some, None, IsUtf8, arith, refl, sym, ap, subst, inl, inr, codes, bytes_eq, append-nil, option_map, option_and_then, ne_eqb, ◌^◌, pos, String, string_bytes, MatchOption, ◌≢◌}
 use Rattle.std.specs.List.{list_all}
 use Rattle.std.proofs.lemmas.Str.{IsUtf8-string_bytes}
 use Rattle.clap.specs.Kinds.{Kinds, or_else}
@@ -10,15 +10,23 @@ use Rattle.clap.proofs.SimpleLemmas.{is_nil}
 use Rattle.clap.proofs.WalkLemmas.{both}
 use Rattle.clap.specs.Matches.{found_of}
 use Rattle.clap.specs.declared.parser.matches.ArgMatches.{ArgMatches}
-use Rattle.hyd_words.specs.Asked.{asked, said_of}
-use Rattle.clap.specs.Walk.{Held, Row, Rule, Step, Text, Waiting, Walk, after_flag, after_step, arg_by_id, default_rows, has_row, idle, is_empty, long_met, next, option, plain_word, positional, reading_by, rows_of, with_default, settled_rows, trailing, walked}
+use Rattle.hyd_words.specs.Parser.{words_command, said_of}
+use Rattle.clap.specs.Walk.{Held, Row, Rule, Step, Text, Waiting, Walk, after_flag, after_step, arg_by_id, default_rows, has_row, idle, is_empty, long_met, next, option, plain_word, positional, reading_by, rows_of, with_default, settled_rows, walked}
 use Rattle.hyd_num.specs.Numeral.{is_numeral}
-use Rattle.hyd_words.specs.Words.{Word, Part, Kind, Said, sweeps, width, tight, name, wrong, says, wants, ends, begins_with_dash, kind_of, with_value, parts_from, parts_waiting, said, said_by, joined}
-use Rattle.hyd_words.specs.Orders.{Order, RunOrder, order_of, IsNoOrder, has_names_alone, is_sound, number_within, width_in_ticks, IsNeverOrder, order_named, once, rounds_of, width_of, run, two_files, run_command, check_command, gen_command}
-use Rattle.hyd_words.proofs.SaidLemmas.{joined_assoc, part_first}
+use Rattle.hyd_words.specs.Words.{Word, Part, Kind, Said, sweeps, width, tight, name, wrong, says, begins_with_dash, kind_of, parts_from, parts_waiting, said, said_by}
+use Rattle.hyd_words.specs.Orders.{Order, RunOrder, order_of, has_names_alone, is_sound, number_within, width_in_ticks, order_named, once, rounds_of, width_of, run, run_command, check_command, gen_command}
+use Rattle.hyd_words.proofs.SaidLemmas.{joined, joined_assoc, part_first}
 use Rattle.hyd_words.proofs.RowLemmas.{rules, used_by, sweeps_used, width_used, name_used, tight_used}
-use Rattle.hyd_words.proofs.Lexing.{Lexed, closing, plain, short, long, IsPlain, IsShort, IsLong, and_false, kind_by, lexed, named_kind}
-use Rattle.hyd_words.proofs.WalkSteps.{shape, Pending, held, at, IsFree, IsWhole, IsFault, turn, step, name_held, name_step, name_fault, trailing_turn, trailing_step, turn_from, step_from, word_fails, plain_met, plain_fault, short_fails, long_fault_is, long_met_is, closing_turn, closing_step, first_faults}
+use Rattle.hyd_words.proofs.Lexing.{Lexed, closing, plain, short, long, IsPlain, IsLong, and_false, kind_by, lexed, named_kind}
+use Rattle.hyd_words.proofs.WalkSteps.{shape, Pending, held, at, IsFree, IsWhole, IsFault, turn, step, name_held, name_step, name_fault, trailing_turn, trailing_step, turn_from, step_from, plain_met, plain_fault, short_fails, long_fault_is, long_met_is, closing_turn, closing_step, first_faults}
+
+-- no command has this said behind its name
+abbrev IsNoOrder : Said → Type 0
+IsNoOrder s = (word : Word) → order_named word s ≡ None
+
+-- whatever is said after this
+abbrev IsNeverOrder : Said → Type 0
+IsNeverOrder s = (more : Said) → IsNoOrder (joined s more)
 
 -- ---- what a walk comes to
 
@@ -481,14 +489,14 @@ no_defaults rows (a ∷ rest) e =
 abbrev start : Walk
 start = at false [] None idle
 
-faults_are : (words : List Word) → fault_of asked words ≡ fault_from start words
+faults_are : (words : List Word) → fault_of words_command words ≡ fault_from start words
 faults_are words =
-    leaf_fault (built asked) (held [] None) words refl
+    leaf_fault (built words_command) (held [] None) words refl
     ∙ (λ i. or_else (walk_fault shape [] start words) (or_else (settle_fault rules false (end_of start words))
     (or_else (no_defaults_fault (rows_at_end start words) rules refl i) [])))
     ∙ ap (or_else (walk_fault shape [] start words)) (or_nothing (settle_fault rules false (end_of start words)))
 
-matches_are : (words : List Word) → matches_of asked words ≡ rows_at_end start words
+matches_are : (words : List Word) → matches_of words_command words ≡ rows_at_end start words
 matches_are words = no_defaults (rows_at_end start words) rules refl
 
 nothing_first : (s : Said) → joined (said_of []) s ≡ s
@@ -498,7 +506,7 @@ nothing_first s =
 
 -- where clap takes the words, its matches give the command, and where it doesn't they aren't one
 pub clap_orders : (words : List Word) → AreTexts words → (named : Word)
-    → order_if (fault_of asked words) (order_named named (said_of (matches_of asked words))) ≡ order_named named (said words)
+    → order_if (fault_of words_command words) (order_named named (said_of (matches_of words_command words))) ≡ order_named named (said words)
 clap_orders words u named =
     (λ i. order_if (faults_are words i) (order_named named (said_of (matches_are words i))))
     ∙ (simulated words u).0 [] None idle (λ w h. refl) refl named
@@ -510,11 +518,11 @@ texts_of (word ∷ rest) = (IsUtf8-string_bytes word, texts_of rest)
 
 -- no fault: the matches give the command
 pub taken_orders : {Z : Type 0} (words : List (String Z)) (rows : List Row) (named : Word)
-    → fault_of asked (map string_bytes words) ≡ [] → rows ≡ matches_of asked (map string_bytes words)
+    → fault_of words_command (map string_bytes words) ≡ [] → rows ≡ matches_of words_command (map string_bytes words)
     → order_named named (said_of rows) ≡ order_named named (said (map string_bytes words))
 taken_orders words rows named none is =
     ap (λ (rs : List Row). order_named named (said_of rs)) is
-    ∙ (λ i. order_if (sym none i) (order_named named (said_of (matches_of asked (map string_bytes words)))))
+    ∙ (λ i. order_if (sym none i) (order_named named (said_of (matches_of words_command (map string_bytes words)))))
     ∙ clap_orders (map string_bytes words) (texts_of words) named
 
 none_if_some : (f : Kinds) (order : Option Order) → (f ≡ [] → ⊥) → None ≡ order_if f order
@@ -523,15 +531,15 @@ none_if_some (k ∷ ks) order h = refl
 
 -- a fault: they are no command
 pub refused_orders : {Z : Type 0} (words : List (String Z)) (named : Word)
-    → (fault_of asked (map string_bytes words) ≡ [] → ⊥) → None ≡ order_named named (said (map string_bytes words))
+    → (fault_of words_command (map string_bytes words) ≡ [] → ⊥) → None ≡ order_named named (said (map string_bytes words))
 refused_orders words named some =
     none_if_some _ _ some ∙ clap_orders (map string_bytes words) (texts_of words) named
 
 -- what clap finds, as the parser hands it out
 abbrev pub IsFound : {Z : Type 0} → List (String Z) → Option ArgMatches → Type 0
-IsFound words found = MatchOption found (fault_of asked (map string_bytes words) ≢ [])
-    (λ m. (fault_of asked (map string_bytes words) ≡ [])
-    × (rows_of (found_of m) ≡ matches_of asked (map string_bytes words)))
+IsFound words found = MatchOption found (fault_of words_command (map string_bytes words) ≢ [])
+    (λ m. (fault_of words_command (map string_bytes words) ≡ [])
+    × (rows_of (found_of m) ≡ matches_of words_command (map string_bytes words)))
 
 pub none_found : {Z : Type 0} (all words : List (String Z)) (first : String Z) (found : Option ArgMatches)
     → all ≡ first ∷ words → IsFound words found → found ≡ None → None ≡ order_of (map string_bytes all)

@@ -4,12 +4,11 @@ ghost use Rattle.std.specs.Prelude.{◌≡◌, map, option_map, string_bytes, If
 ghost use Rattle.hyd_words.specs.Orders.{order_of};
 ghost use Rattle.hyd_words.specs.Seen.{order_seen};
 
-use std::alloc::{AllocError, Global};
-
 use crate::command::Command;
 use crate::orders::order_named;
 use crate::parser::matches_in;
 use crate::said::said_by;
+use std::alloc::{AllocError, Global};
 
 /// The command of the words behind the program's name, or `None` exactly where they aren't one. The
 /// names in it are the words' own.

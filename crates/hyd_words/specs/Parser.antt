@@ -31,8 +31,8 @@ bare = record (new_app (codes "hyd")) {
   };
 }
 
-abbrev pub asked : App
-asked = with_rule (with_rule (with_rule (with_rule bare tight_rule) (valued_rule (codes "sweeps")))
+abbrev pub words_command : App
+words_command = with_rule (with_rule (with_rule (with_rule bare tight_rule) (valued_rule (codes "sweeps")))
     (valued_rule (codes "width"))) names_rule
 
 -- the values of an argument, of all its uses
