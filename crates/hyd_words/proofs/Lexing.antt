@@ -5,7 +5,7 @@ use Rattle.std.specs.Char.{encode_utf8}
 use Rattle.std.specs.Str.{chars}
 use Rattle.std.proofs.lemmas.Str.{encodes-chars}
 use Rattle.clap.specs.Lexer.{long_of, short_of, has_byte, name_and_value}
-use Rattle.hyd_words.specs.Words.{Word, Kind, sweeps, width, tight, name, wrong, says, wants, begins_with_dash, kind_of, option_kind}
+use Rattle.hyd_words.specs.Words.{Word, Kind, sweeps, width, tight, name, wrong, says, wants, begins_with_dash, kind_of, option_kind, ends}
 use lib.Pointwise.{bytes_decides}
 
 -- ---- words of bytes
@@ -155,7 +155,8 @@ kind_long t = go (has_byte 61 t) refl
         let parts = with_equals t h in
         ap (λ (w : Word). option_kind (45 ∷ 45 ∷ w)) parts.0
         ∙ kind_with_value (before_first is_equals t) (after_first is_equals t) parts.1
-        ∙ ap (λ (b : Bool). named_kind (before_first is_equals t) (cond b (Some (after_first is_equals t)) None)) (sym h)
+        ∙ ap (λ (b : Bool). named_kind (before_first is_equals t) (cond b (Some (after_first is_equals t)) None))
+        (sym h)
     go false h = kind_alone t h
         ∙ ap₂ (λ (w : Word) (b : Bool). named_kind w (cond b (Some (after_first is_equals t)) None))
         (sym (no_equals t h)) (sym h)
@@ -185,7 +186,14 @@ no_dash : (x : ℕ) (xs : Word) → (x == 45) ≡ false → IsPlain (x ∷ xs)
 unfolding kind_of
 no_dash x xs e =
     let swapped : (45 == x) ≡ false = eq_swapped 45 x ∙ e in
-    (rw e refl, rw e refl, rw e refl, rw (e, swapped) refl, inl (rw swapped refl))
+    (
+      ap (λ (b : Bool). b && bytes_eq xs (45 ∷ [])) e,
+      rw e refl,
+      rw e refl,
+      λ i. cond (e i && bytes_eq xs (45 ∷ [])) ends
+          (cond (not (swapped i && true) || bytes_eq (x ∷ xs) (codes "-")) (says (name (x ∷ xs))) (option_kind (x ∷ xs))),
+      inl (ap (λ (b : Bool). b && true) swapped),
+    )
 
 dash_alone : IsPlain (45 ∷ [])
 unfolding kind_of

@@ -32,7 +32,8 @@ other_id : (id other : Text) (how : Reading) (s : ValueSource) (values : List Te
 other_id id other how s values [] e = rw e refl
 other_id id other how s values (r ∷ rs) e = go (bytes_eq r.id id) refl (other_id id other how s values rs e)
   where
-    next : (b : Bool) → bytes_eq r.id other ≡ b → bytes_eq r.id id ≡ false → all_values other (with_values id how s values rs) ≡ all_values other rs
+    next : (b : Bool) → bytes_eq r.id other ≡ b → bytes_eq r.id id ≡ false
+        → all_values other (with_values id how s values rs) ≡ all_values other rs
         → all_values other (with_values id how s values (r ∷ rs)) ≡ all_values other (r ∷ rs)
     next true g h rest = rw (h, g) refl
     next false g h rest = rw h (rw g rest)
@@ -61,7 +62,8 @@ module _ (id : Text) (how : Reading) (s : ValueSource) (values : List Text) (row
   count_kept : bytes_eq id (codes "tight") ≡ false
       → length (all_values (codes "tight") after) ≡ length (all_values (codes "tight") rows) + 0
   count_kept e =
-      let more : length (all_values (codes "tight") rows) ≡ length (all_values (codes "tight") rows) + 0 = omega arith in
+      let count = length (all_values (codes "tight") rows) in
+      let more : count ≡ count + 0 = omega arith in
       ap (λ (xs : List Text). length xs) (other_id id (codes "tight") how s values rows e) ∙ more
 
 pub sweeps_used : (v : Word) (rows : List Row)

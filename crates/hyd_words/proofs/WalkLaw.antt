@@ -1,4 +1,4 @@
--- clap's walk over words gives the command that the words are.
+-- clap's walk over words gives the commands of what they say.
 use Rattle.std.proofs.Common.{◌≡◌, ◌⊎◌, ◌∙◌, ◌+◌, ◌==◌, not, ◌&&◌, ◌||◌, Bool, true, false, cond, List, [], ◌∷◌, ◌++◌, map, fold, length, Option, Some, None, IsUtf8, arith, refl, sym, ap, subst, inl, inr, codes, bytes_eq, append-nil, option_map, option_and_then, ne_eqb, ◌^◌, pos, String, string_bytes, MatchOption, ◌≢◌}
 use Rattle.std.specs.List.{list_all}
 use Rattle.std.proofs.lemmas.Str.{IsUtf8-string_bytes}
@@ -19,131 +19,7 @@ use Rattle.hyd_words.proofs.SaidLemmas.{joined, joined_assoc, part_first}
 use Rattle.hyd_words.proofs.RowLemmas.{rules, used_by, sweeps_used, width_used, name_used, tight_used}
 use Rattle.hyd_words.proofs.Lexing.{Lexed, closing, plain, short, long, IsPlain, IsLong, and_false, kind_by, lexed, named_kind}
 use Rattle.hyd_words.proofs.WalkSteps.{shape, Pending, held, at, IsFree, IsWhole, IsFault, turn, step, name_held, name_step, name_fault, trailing_turn, trailing_step, turn_from, step_from, plain_met, plain_fault, short_fails, long_fault_is, long_met_is, closing_turn, closing_step, first_faults}
-
--- no command has this said behind its name
-abbrev IsNoOrder : Said → Type 0
-IsNoOrder s = (word : Word) → order_named word s ≡ None
-
--- whatever is said after this
-abbrev IsNeverOrder : Said → Type 0
-IsNeverOrder s = (more : Said) → IsNoOrder (joined s more)
-
--- ---- what a walk comes to
-
-abbrev pub end_of : Walk → List Word → Held
-end_of w words = (fold (walked rules []) w words).held
-
-abbrev pub fault_from : Walk → List Word → Kinds
-fault_from w words = or_else (walk_fault shape [] w words) (settle_fault rules false (end_of w words))
-
-abbrev pub rows_at_end : Walk → List Word → List Row
-rows_at_end w words = settled_rows rules (end_of w words).pending (end_of w words).rows
-
--- the command, where nothing failed
-abbrev pub order_if : Kinds → Option Order → Option Order
-order_if [] order = order
-order_if (k ∷ ks) order = None
-
--- the walk from here gives the commands of what is said
-abbrev pub Comes : Walk → List Word → Said → Type 0
-Comes w words target = (word : Word)
-    → order_if (fault_from w words) (order_named word (said_of (rows_at_end w words))) ≡ order_named word target
-
-none_if_fault : (f : Kinds) (order : Option Order) → IsFault f → order_if f order ≡ None
-none_if_fault [] order h = absurd h
-none_if_fault (k ∷ ks) order h = refl
-
-go_on : (w after : Walk) (word : Word) (rest : List Word) (target : Said) → turn w word ≡ [] → step w word ≡ after
-    → Comes after rest target → Comes w (word ∷ rest) target
-unfolding walk_fault
-go_on w after word rest target passed is h =
-    let moved : Comes (step w word) rest target = subst (λ (v : Walk). Comes v rest target) (sym is) h in
-    λ named. (λ i. order_if (or_else (or_else (passed i) (walk_fault shape [] (step w word) rest))
-    (settle_fault rules false (end_of (step w word) rest)))
-    (order_named named (said_of (rows_at_end (step w word) rest)))) ∙ moved named
-
-fails_here : (w : Walk) (word : Word) (rest : List Word) (target : Said) → IsFault (turn w word) → IsNoOrder target
-    → Comes w (word ∷ rest) target
-unfolding walk_fault
-fails_here w word rest target h none = λ named.
-    none_if_fault _ _ (first_faults _ _ (first_faults _ _ h)) ∙ sym (none named)
-
--- ---- what is no command
-
-wrong_is_none : (s : Said) → s.has_wrong ≡ true → IsNoOrder s
-wrong_is_none s e word = go (bytes_eq word (codes "run")) (bytes_eq word (codes "check")) (bytes_eq word (codes "gen"))
-  where
-    go : (a b c : Bool) → cond a (run_command s)
-        (cond b (check_command s) (cond c (gen_command s) None)) ≡ None
-    go true b c = rw e refl
-    go false true c = rw e refl
-    go false false true = rw e refl
-    go false false false = refl
-
-wrong_word : (s : Said) (ps : List Part) → s.has_wrong ≡ false → IsNoOrder (joined s (said_by (wrong ∷ ps)))
-wrong_word s ps e = wrong_is_none (joined s (said_by (wrong ∷ ps))) (rw e refl)
-
-wrong_here : (w : Walk) (word : Word) (rest : List Word) (s : Said) (ps : List Part) → IsFault (turn w word)
-    → s.has_wrong ≡ false → Comes w (word ∷ rest) (joined s (said_by (wrong ∷ ps)))
-wrong_here w word rest s ps h e =
-    fails_here w word rest (joined s (said_by (wrong ∷ ps))) h (wrong_word s ps e)
-
--- ---- one part, and those behind it
-
-join_part : (s : Said) (p : Part) (ps : List Part)
-    → joined (joined s (said_by (p ∷ []))) (said_by ps) ≡ joined s (said_by (p ∷ ps))
-join_part s p ps = joined_assoc s (said_by (p ∷ [])) (said_by ps) ∙ ap (joined s) (sym (part_first p ps))
-
-next_part : (w : Walk) (words : List Word) (s now : Said) (p : Part) (ps : List Part) → now ≡ joined s (said_by (p ∷ []))
-    → Comes w words (joined now (said_by ps)) → Comes w words (joined s (said_by (p ∷ ps)))
-next_part w words s now p ps is h =
-    subst (Comes w words) (ap (λ (t : Said). joined t (said_by ps)) is ∙ join_part s p ps) h
-
-nothing_more : (rows : List Row) → said_of rows ≡ joined (said_of rows) (said_by [])
-nothing_more rows =
-    let s = said_of rows in
-    let count : s.tight_count ≡ s.tight_count + 0 = omega arith in
-    λ i. record {
-      sweeps_values = sym (append-nil s.sweeps_values) i;
-      width_values = sym (append-nil s.width_values) i;
-      tight_count = count i;
-      names = sym (append-nil s.names) i;
-      has_wrong = false;
-    }
-
-abbrev seen : List Row → Pending → Said
-seen rows p = said_of (settled_rows rules p rows)
-
--- the end, where what is held is whole
-ends_whole : (is_trailing : Bool) (rows : List Row) (p : Pending) (waiting : Waiting) → IsWhole rows p
-    → Comes (at is_trailing rows p waiting) [] (joined (seen rows p) (said_by []))
-unfolding walk_fault
-ends_whole is_trailing rows p waiting whole = λ named.
-    (λ i. order_if (whole i) (order_named named (seen rows p)))
-    ∙ ap (order_named named) (nothing_more (settled_rows rules p rows))
-
--- the end, where it is not
-ends_faulty : (is_trailing : Bool) (rows : List Row) (p : Pending) (waiting : Waiting) (target : Said)
-    → IsFault (settle_fault rules false (held rows p)) → IsNoOrder target → Comes (at is_trailing rows p waiting) [] target
-unfolding walk_fault
-ends_faulty is_trailing rows p waiting target h none = λ named. none_if_fault _ _ h ∙ sym (none named)
-
--- ---- behind `--`
-
-trails : (words : List Word) (rows : List Row) (p : Pending) (waiting : Waiting) → IsWhole rows p
-    → Comes (at true rows p waiting) words (joined (seen rows p) (said_by (map name words)))
-trails [] rows p waiting whole = ends_whole true rows p waiting whole
-trails (word ∷ rest) rows p waiting whole =
-    go_on (at true rows p waiting) _ word rest (joined (seen rows p) (said_by (map name (word ∷ rest)))) (trailing_turn rows p waiting word ∙ whole) (trailing_step rows p waiting word)
-    (next_part _ rest (seen rows p) (seen (settled_rows rules p rows) (name_held word)) (name word) (map name rest)
-    (name_used word (settled_rows rules p rows))
-    (trails rest (settled_rows rules p rows) (name_held word) positional refl))
-
-trails_faulty : (words : List Word) (rows : List Row) (p : Pending) (waiting : Waiting) (target : Said)
-    → IsFault (settle_fault rules false (held rows p)) → IsNoOrder target → Comes (at true rows p waiting) words target
-trails_faulty [] rows p waiting target h none = ends_faulty true rows p waiting target h none
-trails_faulty (word ∷ rest) rows p waiting target h none =
-    fails_here (at true rows p waiting) word rest target (subst IsFault (sym (trailing_turn rows p waiting word)) h) none
+use Rattle.hyd_words.proofs.WalkEnds.{Comes, IsNeverOrder, IsNoOrder, end_of, ends_faulty, ends_whole, fails_here, fault_from, go_on, join_part, next_part, none_if_fault, nothing_more, order_if, rows_at_end, seen, trails, trails_faulty, wrong_here, wrong_is_none, wrong_word}
 
 -- ---- an option whose value is the next word
 
@@ -151,33 +27,33 @@ pub data Valued : Type 0 where
   of_sweeps : Valued
   of_width : Valued
 
-abbrev id_of : Valued → Text
+abbrev pub id_of : Valued → Text
 id_of of_sweeps = codes "sweeps"
 id_of of_width = codes "width"
 
-abbrev make_of : Valued → Word → Part
+abbrev pub make_of : Valued → Word → Part
 make_of of_sweeps value = sweeps value
 make_of of_width value = width value
 
-abbrev unvalued : Valued → Pending
+abbrev pub unvalued : Valued → Pending
 unvalued o = Some (id_of o, [])
 
-abbrev Free : List Word → Type 0
+abbrev pub Free : List Word → Type 0
 Free words = (rows : List Row) (p : Pending) (waiting : Waiting) → IsFree waiting → IsWhole rows p
     → Comes (at false rows p waiting) words (joined (seen rows p) (said words))
 
-abbrev Waits : List Word → Type 0
+abbrev pub Waits : List Word → Type 0
 Waits words = (o : Valued) (rows : List Row)
     → Comes (at false rows (unvalued o) (option (id_of o))) words
     (joined (said_of rows) (said_by (parts_waiting words (Some (make_of o)))))
 
-unvalued_faults : (o : Valued) (rows : List Row) → IsFault (settle_fault rules false (held rows (unvalued o)))
+pub unvalued_faults : (o : Valued) (rows : List Row) → IsFault (settle_fault rules false (held rows (unvalued o)))
 unvalued_faults of_sweeps rows = tt
 unvalued_faults of_width rows = tt
 
 -- ---- an option by its name
 
-abbrev pick : (is_tight is_sweeps is_width : Bool) → Option Rule
+abbrev pub pick : (is_tight is_sweeps is_width : Bool) → Option Rule
 pick is_tight is_sweeps is_width = cond (is_tight || false) (arg_by_id rules (codes "tight"))
     (cond (is_sweeps || false) (arg_by_id rules (codes "sweeps"))
     (cond (is_width || false) (arg_by_id rules (codes "width")) None))
@@ -241,7 +117,7 @@ module _ (rows : List Row) (p : Pending) (waiting : Waiting) (word : Word) where
       wrong_here _ word rest (seen rows p) (parts_waiting rest None) (subst IsFault (sym t) tt) refl
 
 -- where an option waits
-waits_long : (a b c : Bool) (v : Option Word) (o : Valued) (rows : List Row)
+pub waits_long : (a b c : Bool) (v : Option Word) (o : Valued) (rows : List Row)
     → IsFault (long_fault rules false (pick a b c) v (held rows (unvalued o)))
 waits_long true b c None o rows = first_faults _ _ (unvalued_faults o rows)
 waits_long true b c (Some v) o rows = tt
@@ -253,39 +129,39 @@ waits_long false false false v o rows = tt
 
 -- ---- `-` as a value, which is no number
 
-abbrev dash : Word
+abbrev pub dash : Word
 dash = codes "-"
 
-dash_no_rounds : number_within 6 0 100000 dash ≡ None
+pub dash_no_rounds : number_within 6 0 100000 dash ≡ None
 dash_no_rounds = refl
 
-dash_no_width : width_in_ticks dash ≡ None
+pub dash_no_width : width_in_ticks dash ≡ None
 unfolding is_numeral
 dash_no_width = refl
 
-once_never : {X : Type 0} (default : X) (read : Word → Option X) (v : Word) (xs ys : List Word) → read v ≡ None
+pub once_never : {X : Type 0} (default : X) (read : Word → Option X) (v : Word) (xs ys : List Word) → read v ≡ None
     → once default read ((xs ++ v ∷ []) ++ ys) ≡ None
 once_never default read v [] [] e = e
 once_never default read v [] (y ∷ ys) e = refl
 once_never default read v (x ∷ []) ys e = refl
 once_never default read v (x ∷ z ∷ zs) ys e = refl
 
-stands : (xs ys : List Word) (v : Word) → (length ((xs ++ v ∷ []) ++ ys) == 0) ≡ false
+pub stands : (xs ys : List Word) (v : Word) → (length ((xs ++ v ∷ []) ++ ys) == 0) ≡ false
 stands [] ys v = ne_eqb _ _ (λ e. omega (arith, e))
 stands (x ∷ xs) ys v = ne_eqb _ _ (λ e. omega (arith, e))
 
-no_run : {X : Type 0} (b : Bool) (o : Option X) (f : X → Option RunOrder) → o ≡ None
+pub no_run : {X : Type 0} (b : Bool) (o : Option X) (f : X → Option RunOrder) → o ≡ None
     → option_map run (cond b (option_and_then f o) None) ≡ None
 no_run {X = X} true o f e = ap (λ (p : Option X). option_map run (option_and_then f p)) e
 no_run false o f e = refl
 
-no_run_within : {X Y : Type 0} (b : Bool) (o : Option Y) (x : Option X) (f : Y → X → Option RunOrder) → x ≡ None
+pub no_run_within : {X Y : Type 0} (b : Bool) (o : Option Y) (x : Option X) (f : Y → X → Option RunOrder) → x ≡ None
     → option_map run (cond b (option_and_then (λ y. option_and_then (f y) x) o) None) ≡ None
 no_run_within false o x f e = refl
 no_run_within true None x f e = refl
 no_run_within {X = X} true (Some y) x f e = ap (λ (p : Option X). option_map run (option_and_then (f y) p)) e
 
-no_order_by : (s : Said) → run_command s ≡ None → has_names_alone s ≡ false → IsNoOrder s
+pub no_order_by : (s : Said) → run_command s ≡ None → has_names_alone s ≡ false → IsNoOrder s
 no_order_by s e h word = go (bytes_eq word (codes "run")) (bytes_eq word (codes "check")) (bytes_eq word (codes "gen"))
   where
     go : (a b c : Bool) → cond a (run_command s) (cond b (check_command s) (cond c (gen_command s) None)) ≡ None
@@ -294,7 +170,7 @@ no_order_by s e h word = go (bytes_eq word (codes "run")) (bytes_eq word (codes 
     go false false true = rw h refl
     go false false false = refl
 
-dash_never : (o : Valued) (s : Said) → IsNeverOrder (joined s (said_by (make_of o dash ∷ [])))
+pub dash_never : (o : Valued) (s : Said) → IsNeverOrder (joined s (said_by (make_of o dash ∷ [])))
 dash_never of_sweeps s more =
     let all = joined (joined s (said_by (sweeps dash ∷ []))) more in
     let none : rounds_of all.sweeps_values ≡ None =
@@ -310,12 +186,13 @@ dash_never of_width s more =
     (and_false (not all.has_wrong) _ (and_false (all.tight_count == 0) _
     (and_false (length all.sweeps_values == 0) _ (stands s.width_values more.width_values dash))))
 
-same_orders : (w : Walk) (words : List Word) (a b : Said) → IsNoOrder a → IsNoOrder b → Comes w words a → Comes w words b
+pub same_orders : (w : Walk) (words : List Word) (a b : Said) → IsNoOrder a → IsNoOrder b → Comes w words a
+    → Comes w words b
 same_orders w words a b no_a no_b h named = h named ∙ no_a named ∙ sym (no_b named)
 
 -- ---- one word more
 
-by_kind : (w : Walk) (word : Word) (rest : List Word) (s : Said) (k : Kind) → kind_of word ≡ k
+pub by_kind : (w : Walk) (word : Word) (rest : List Word) (s : Said) (k : Kind) → kind_of word ≡ k
     → Comes w (word ∷ rest) (joined s (said_by (parts_from k rest (parts_waiting rest))))
     → Comes w (word ∷ rest) (joined s (said (word ∷ rest)))
 by_kind w word rest s k e h =
@@ -352,7 +229,8 @@ module _ (rest : List Word) (f : Free rest) (q : Waits rest) where
   free_step word (long k) rows p waiting free whole =
       by_kind (at false rows p waiting) word rest (seen rows p) (named_kind k.0 k.1) k.2.2
       (free_long rows p waiting word (bytes_eq (codes "tight") k.0) (bytes_eq (codes "sweeps") k.0)
-      (bytes_eq (codes "width") k.0) k.1 rest whole f q (long_turn rows p waiting word k) (long_step rows p waiting word k))
+      (bytes_eq (codes "width") k.0) k.1 rest whole f q (long_turn rows p waiting word k)
+      (long_step rows p waiting word k))
 
   -- the word is the value that an option waits for
   valued_met : (o : Valued) (rows : List Row) (word : Word)
@@ -397,7 +275,8 @@ module _ (rest : List Word) (f : Free rest) (q : Waits rest) where
       → ((begins_with_dash word ≡ false) ⊎ (word ≡ codes "-"))
       → Comes (at false rows (unvalued o) (option (id_of o))) (word ∷ rest)
       (joined (said_of rows) (said_by (parts_waiting (word ∷ rest) (Some (make_of o)))))
-  waits_plain o rows word k (inl e) = subst (λ (b : Bool). Comes (at false rows (unvalued o) (option (id_of o))) (word ∷ rest)
+  waits_plain o rows word k (inl e) = subst (λ (b : Bool).
+      Comes (at false rows (unvalued o) (option (id_of o))) (word ∷ rest)
       (joined (said_of rows) (said_by (cond b wrong (make_of o word) ∷ parts_waiting rest None)))) (sym e)
       (valued_on o rows word k)
   waits_plain o rows word k (inr e) =
@@ -418,10 +297,12 @@ module _ (rest : List Word) (f : Free rest) (q : Waits rest) where
       waits_wrong o rows word (ap begins_with_dash e)
       (subst (λ (w : Word). Comes (at false rows (unvalued o) (option (id_of o))) (w ∷ rest)
       (joined (said_of rows) (said_by (wrong ∷ parts_waiting rest None)))) (sym e)
-      (go_on (at false rows (unvalued o) (option (id_of o))) (at true rows (unvalued o) (option (id_of o))) (codes "--") rest
+      (go_on (at false rows (unvalued o) (option (id_of o))) (at true rows (unvalued o) (option (id_of o)))
+      (codes "--") rest
       (joined (said_of rows) (said_by (wrong ∷ parts_waiting rest None)))
       (closing_turn rows (unvalued o) (option (id_of o))) (closing_step rows (unvalued o) (option (id_of o)))
-      (trails_faulty rest rows (unvalued o) (option (id_of o)) (joined (said_of rows) (said_by (wrong ∷ parts_waiting rest None)))
+      (trails_faulty rest rows (unvalued o) (option (id_of o))
+      (joined (said_of rows) (said_by (wrong ∷ parts_waiting rest None)))
       (unvalued_faults o rows) (wrong_word (said_of rows) (parts_waiting rest None) refl))))
   waits_step word (plain k) o rows = waits_plain o rows word k k.4
   waits_step word (short k) o rows = waits_wrong o rows word k.3.5
@@ -430,7 +311,8 @@ module _ (rest : List Word) (f : Free rest) (q : Waits rest) where
   waits_step word (long k) o rows = waits_wrong o rows word k.2.3
       (wrong_here (at false rows (unvalued o) (option (id_of o))) word rest (said_of rows) (parts_waiting rest None)
       (subst IsFault (sym (long_turn rows (unvalued o) (option (id_of o)) word k)) (first_faults _ _
-      (waits_long (bytes_eq (codes "tight") k.0) (bytes_eq (codes "sweeps") k.0) (bytes_eq (codes "width") k.0) k.1 o rows))) refl)
+      (waits_long (bytes_eq (codes "tight") k.0) (bytes_eq (codes "sweeps") k.0) (bytes_eq (codes "width") k.0) k.1 o
+      rows))) refl)
 
 -- ---- all the words
 
@@ -438,7 +320,7 @@ abbrev pub AreTexts : List Word → Type 0
 AreTexts [] = Unit {0}
 AreTexts (word ∷ rest) = IsUtf8 word × AreTexts rest
 
-simulated : (words : List Word) → AreTexts words → Free words × Waits words
+pub simulated : (words : List Word) → AreTexts words → Free words × Waits words
 simulated [] u = (
   λ rows p waiting free whole. ends_whole false rows p waiting whole,
   λ o rows. ends_faulty false rows (unvalued o) (option (id_of o)) (joined (said_of rows) (said_by (wrong ∷ [])))
@@ -448,109 +330,3 @@ simulated (word ∷ rest) u =
     let later = simulated rest u.1 in
     let is = lexed word u.0 in
     (free_step rest later.0 later.1 word is, waits_step rest later.0 later.1 word is)
-
--- ---- clap's faults and matches at these words
-
-or_true : (b : Bool) → (b || true) ≡ true
-or_true true = refl
-or_true false = refl
-
-same_both : {X : Type 0} (b : Bool) (x : X) → cond b x x ≡ x
-same_both true x = refl
-same_both false x = refl
-
-or_nothing : (f : Kinds) → or_else f [] ≡ f
-or_nothing [] = refl
-or_nothing (k ∷ ks) = refl
-
-no_defaults_fault : (rows : List Row) (rs : List Rule) → list_all (λ a. is_empty a.defaults) rs ≡ true
-    → defaults_fault rows rs ≡ []
-unfolding defaults_fault
-no_defaults_fault rows [] e = refl
-no_defaults_fault rows (a ∷ rest) e =
-    let parts = both (is_empty a.defaults) (list_all (λ r. is_empty r.defaults) rest) e in
-    (λ i. or_else (cond (has_row a.id rows || parts.0 i) [] (given_default_fault a a.defaults))
-    (defaults_fault (with_default rows a) rest))
-    ∙ (λ i. or_else (cond (or_true (has_row a.id rows) i) [] (given_default_fault a a.defaults))
-    (defaults_fault (with_default rows a) rest))
-    ∙ no_defaults_fault (with_default rows a) rest parts.1
-
-no_defaults : (rows : List Row) (rs : List Rule) → list_all (λ a. is_empty a.defaults) rs ≡ true
-    → fold with_default rows rs ≡ rows
-no_defaults rows [] e = refl
-no_defaults rows (a ∷ rest) e =
-    let parts = both (is_empty a.defaults) (list_all (λ r. is_empty r.defaults) rest) e in
-    let none : a.defaults ≡ [] = is_nil a.defaults parts.0 in
-    let here : with_default rows a ≡ rows =
-    (λ i. cond (has_row a.id rows) rows (default_rows a.id (reading_by a) (none i) rows))
-    ∙ same_both (has_row a.id rows) rows in
-    ap (λ (rs : List Row). fold with_default rs rest) here ∙ no_defaults rows rest parts.1
-
-abbrev start : Walk
-start = at false [] None idle
-
-faults_are : (words : List Word) → fault_of words_command words ≡ fault_from start words
-faults_are words =
-    leaf_fault (built words_command) (held [] None) words refl
-    ∙ (λ i. or_else (walk_fault shape [] start words) (or_else (settle_fault rules false (end_of start words))
-    (or_else (no_defaults_fault (rows_at_end start words) rules refl i) [])))
-    ∙ ap (or_else (walk_fault shape [] start words)) (or_nothing (settle_fault rules false (end_of start words)))
-
-matches_are : (words : List Word) → matches_of words_command words ≡ rows_at_end start words
-matches_are words = no_defaults (rows_at_end start words) rules refl
-
-nothing_first : (s : Said) → joined (said_of []) s ≡ s
-nothing_first s =
-    let count : 0 + s.tight_count ≡ s.tight_count = omega arith in
-    λ i. record s { tight_count = count i }
-
--- where clap takes the words, its matches give the command, and where it doesn't they aren't one
-pub clap_orders : (words : List Word) → AreTexts words → (named : Word)
-    → order_if (fault_of words_command words) (order_named named (said_of (matches_of words_command words))) ≡ order_named named (said words)
-clap_orders words u named =
-    (λ i. order_if (faults_are words i) (order_named named (said_of (matches_are words i))))
-    ∙ (simulated words u).0 [] None idle (λ w h. refl) refl named
-    ∙ ap (order_named named) (nothing_first (said words))
-
-pub texts_of : {Z : Type 0} (words : List (String Z)) → AreTexts (map string_bytes words)
-texts_of [] = tt
-texts_of (word ∷ rest) = (IsUtf8-string_bytes word, texts_of rest)
-
--- no fault: the matches give the command
-pub taken_orders : {Z : Type 0} (words : List (String Z)) (rows : List Row) (named : Word)
-    → fault_of words_command (map string_bytes words) ≡ [] → rows ≡ matches_of words_command (map string_bytes words)
-    → order_named named (said_of rows) ≡ order_named named (said (map string_bytes words))
-taken_orders words rows named none is =
-    ap (λ (rs : List Row). order_named named (said_of rs)) is
-    ∙ (λ i. order_if (sym none i) (order_named named (said_of (matches_of words_command (map string_bytes words)))))
-    ∙ clap_orders (map string_bytes words) (texts_of words) named
-
-none_if_some : (f : Kinds) (order : Option Order) → (f ≡ [] → ⊥) → None ≡ order_if f order
-none_if_some [] order h = absurd (h refl)
-none_if_some (k ∷ ks) order h = refl
-
--- a fault: they are no command
-pub refused_orders : {Z : Type 0} (words : List (String Z)) (named : Word)
-    → (fault_of words_command (map string_bytes words) ≡ [] → ⊥) → None ≡ order_named named (said (map string_bytes words))
-refused_orders words named some =
-    none_if_some _ _ some ∙ clap_orders (map string_bytes words) (texts_of words) named
-
--- what clap finds, as the parser hands it out
-abbrev pub IsFound : {Z : Type 0} → List (String Z) → Option ArgMatches → Type 0
-IsFound words found = MatchOption found (fault_of words_command (map string_bytes words) ≢ [])
-    (λ m. (fault_of words_command (map string_bytes words) ≡ [])
-    × (rows_of (found_of m) ≡ matches_of words_command (map string_bytes words)))
-
-pub none_found : {Z : Type 0} (all words : List (String Z)) (first : String Z) (found : Option ArgMatches)
-    → all ≡ first ∷ words → IsFound words found → found ≡ None → None ≡ order_of (map string_bytes all)
-none_found {Z = Z} all words first found parted is none =
-    refused_orders words (string_bytes first) (subst (IsFound words) none is)
-    ∙ ap (λ (ws : List (String Z)). order_of (map string_bytes ws)) (sym parted)
-
-pub some_found : {Z : Type 0} (all words : List (String Z)) (first : String Z) (found : Option ArgMatches) (m : ArgMatches)
-    → all ≡ first ∷ words → IsFound words found → found ≡ Some m
-    → order_named (string_bytes first) (said_of (rows_of (found_of m))) ≡ order_of (map string_bytes all)
-some_found {Z = Z} all words first found m parted is some =
-    let facts : IsFound words (Some m) = subst (IsFound words) some is in
-    taken_orders words (rows_of (found_of m)) (string_bytes first) facts.0 facts.1
-    ∙ ap (λ (ws : List (String Z)). order_of (map string_bytes ws)) (sym parted)

@@ -68,7 +68,8 @@ name_step false rows None waiting word = refl
 name_step true rows (Some q) waiting word = rw (and_none (bytes_eq q.0 (codes "names"))) refl
 name_step false rows (Some q) waiting word = rw (and_none (bytes_eq q.0 (codes "names"))) refl
 
-pub name_fault : (rows : List Row) (p : Pending) → step_fault shape 1 (held rows p) value ≡ settle_fault rules false (held rows p)
+pub name_fault : (rows : List Row) (p : Pending)
+    → step_fault shape 1 (held rows p) value ≡ settle_fault rules false (held rows p)
 name_fault rows None = refl
 name_fault rows (Some q) = rw (and_none (bytes_eq q.0 (codes "names"))) refl
 
@@ -134,12 +135,15 @@ module _ (rows : List Row) (p : Pending) (waiting : Waiting) (word : Word) where
       (long_met rules (arg_by_long rules k.0) k.1 here).1
   long_met_is k = met_other ∙ (λ i. cond (k.2.0 i) (here, trailing 1) (long_or_other rules waiting word (k.2.1 i) here))
 
-pub closing_turn : (rows : List Row) (p : Pending) (waiting : Waiting) → turn (at false rows p waiting) (codes "--") ≡ []
+pub closing_turn : (rows : List Row) (p : Pending) (waiting : Waiting)
+    → turn (at false rows p waiting) (codes "--") ≡ []
 closing_turn rows p waiting = turn_from rows p waiting (codes "--") (held rows p) (trailing 1)
     (ap (λ (o : Option Text). other_fault shape o (codes "--") (held rows p)) (no_subcommand waiting (codes "--")))
-    (ap (λ (o : Option Text). subcommand_or_other rules o waiting 1 (codes "--") (held rows p)) (no_subcommand waiting (codes "--")))
+    (ap (λ (o : Option Text). subcommand_or_other rules o waiting 1 (codes "--") (held rows p))
+    (no_subcommand waiting (codes "--")))
 
 pub closing_step : (rows : List Row) (p : Pending) (waiting : Waiting)
     → step (at false rows p waiting) (codes "--") ≡ at true rows p waiting
 closing_step rows p waiting = step_from rows p waiting (codes "--") (held rows p) (trailing 1)
-    (ap (λ (o : Option Text). subcommand_or_other rules o waiting 1 (codes "--") (held rows p)) (no_subcommand waiting (codes "--")))
+    (ap (λ (o : Option Text). subcommand_or_other rules o waiting 1 (codes "--") (held rows p))
+    (no_subcommand waiting (codes "--")))

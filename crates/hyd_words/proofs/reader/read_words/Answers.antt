@@ -3,7 +3,7 @@ use Rattle.clap.specs.Matches.{found_of}
 use Rattle.clap.specs.Walk.{rows_of}
 use Rattle.hyd_words.specs.Parser.{said_of}
 use Rattle.hyd_words.specs.Orders.{order_named}
-use Rattle.hyd_words.proofs.WalkLaw.{none_found, some_found}
+use Rattle.hyd_words.proofs.ReadLaw.{none_found, some_found}
 use Rattle.hyd_words.proofs.reader.read_words.Goals as goal
 
 pub returns-in-Some-2 : goal.returns-in-Some-2
