@@ -185,8 +185,7 @@ pub data Lexed (word : Word) : Type 0 where
 no_dash : (x : ℕ) (xs : Word) → (x == 45) ≡ false → IsPlain (x ∷ xs)
 unfolding kind_of
 no_dash x xs e =
-    let swapped : (45 == x) ≡ false = eq_swapped 45 x ∙ e in
-    (
+    let swapped : (45 == x) ≡ false = eq_swapped 45 x ∙ e in (
       ap (λ (b : Bool). b && bytes_eq xs (45 ∷ [])) e,
       rw e refl,
       rw e refl,
@@ -216,7 +215,15 @@ one_dash : (x : ℕ) (xs : Word) → (x == 45) ≡ false → IsUtf8 (45 ∷ x �
 unfolding kind_of
 one_dash x xs e u =
     let letter = has_char x xs u in
-    (x, xs, letter.0, (rw e refl, rw e refl, rw e refl, letter.1, rw (e, eq_swapped 45 x ∙ e) refl, refl))
+    let swapped : (45 == x) ≡ false = eq_swapped 45 x ∙ e in
+    let word : Word = 45 ∷ x ∷ xs in
+    let kind : kind_of word ≡ says wrong = λ i. cond (e i && bytes_eq xs []) ends
+    (cond (e i && bytes_eq xs (codes "tight")) (says tight)
+    (cond (e i && bytes_eq xs (codes "sweeps")) (wants sweeps)
+    (cond (e i && bytes_eq xs (codes "width")) (wants width)
+    (cond (swapped i && starts_with nat_eq xs (codes "sweeps=")) (says (sweeps (drop 9 word)))
+    (cond (swapped i && starts_with nat_eq xs (codes "width=")) (says (width (drop 8 word))) (says wrong)))))) in
+    (x, xs, letter.0, (ap (λ (b : Bool). b && bytes_eq xs []) e, rw e refl, rw e refl, letter.1, kind, refl))
 
 two_dashes : (x : ℕ) (xs : Word) → IsLong (45 ∷ 45 ∷ x ∷ xs)
 unfolding kind_of

@@ -1,9 +1,9 @@
 -- What clap finds in words gives the command that they are.
-use Rattle.std.proofs.Common.{◌≡◌, ◌⊎◌, ◌∙◌, ◌+◌, ◌==◌, not, ◌&&◌, ◌||◌, Bool, true, false, cond, List, [], ◌∷◌, ◌++◌, map, fold, length, Option, Some, None, IsUtf8, arith, refl, sym, ap, subst, inl, inr, codes, bytes_eq, append-nil, option_map, option_and_then, ne_eqb, ◌^◌, pos, String, string_bytes, MatchOption, ◌≢◌}
+use Rattle.std.proofs.Common.{◌≡◌, ◌∙◌, ◌+◌, ◌||◌, Bool, true, false, cond, List, [], ◌∷◌, map, fold, Option, Some, None, arith, refl, sym, ap, subst, String, string_bytes, MatchOption, ◌≢◌}
 use Rattle.std.specs.List.{list_all}
 use Rattle.std.proofs.lemmas.Str.{IsUtf8-string_bytes}
 use Rattle.clap.specs.Kinds.{Kinds, or_else}
-use Rattle.clap.specs.Faults.{defaults_fault, fault_of, given_default_fault, long_fault, settle_fault, step_fault, walk_fault}
+use Rattle.clap.specs.Faults.{defaults_fault, fault_of, given_default_fault, settle_fault, walk_fault}
 use Rattle.clap.specs.Simple.{built, matches_of}
 use Rattle.clap.proofs.FaultLemmas.{leaf_fault}
 use Rattle.clap.proofs.SimpleLemmas.{is_nil}
@@ -11,15 +11,13 @@ use Rattle.clap.proofs.WalkLemmas.{both}
 use Rattle.clap.specs.Matches.{found_of}
 use Rattle.clap.specs.declared.parser.matches.ArgMatches.{ArgMatches}
 use Rattle.hyd_words.specs.Parser.{words_command, said_of}
-use Rattle.clap.specs.Walk.{Held, Row, Rule, Step, Text, Waiting, Walk, after_flag, after_step, arg_by_id, default_rows, has_row, idle, is_empty, long_met, next, option, plain_word, positional, reading_by, rows_of, with_default, settled_rows, walked}
-use Rattle.hyd_num.specs.Numeral.{is_numeral}
-use Rattle.hyd_words.specs.Words.{Word, Part, Kind, Said, sweeps, width, tight, name, wrong, says, begins_with_dash, kind_of, parts_from, parts_waiting, said, said_by}
-use Rattle.hyd_words.specs.Orders.{Order, RunOrder, order_of, has_names_alone, is_sound, number_within, width_in_ticks, order_named, once, rounds_of, width_of, run, run_command, check_command, gen_command}
-use Rattle.hyd_words.proofs.SaidLemmas.{joined, joined_assoc, part_first}
-use Rattle.hyd_words.proofs.RowLemmas.{rules, used_by, sweeps_used, width_used, name_used, tight_used}
-use Rattle.hyd_words.proofs.Lexing.{Lexed, closing, plain, short, long, IsPlain, IsLong, and_false, kind_by, lexed, named_kind}
-use Rattle.hyd_words.proofs.WalkSteps.{shape, Pending, held, at, IsFree, IsWhole, IsFault, turn, step, name_held, name_step, name_fault, trailing_turn, trailing_step, turn_from, step_from, plain_met, plain_fault, short_fails, long_fault_is, long_met_is, closing_turn, closing_step, first_faults}
-use Rattle.hyd_words.proofs.WalkEnds.{Comes, IsNeverOrder, IsNoOrder, end_of, ends_faulty, ends_whole, fails_here, fault_from, go_on, join_part, next_part, none_if_fault, nothing_more, order_if, rows_at_end, seen, trails, trails_faulty, wrong_here, wrong_is_none, wrong_word}
+use Rattle.clap.specs.Walk.{Row, Rule, Walk, default_rows, has_row, idle, is_empty, reading_by, rows_of, with_default}
+use Rattle.hyd_words.specs.Words.{Word, Said, said}
+use Rattle.hyd_words.specs.Orders.{Order, order_of, order_named}
+use Rattle.hyd_words.proofs.SaidLemmas.{joined}
+use Rattle.hyd_words.proofs.RowLemmas.{rules}
+use Rattle.hyd_words.proofs.WalkSteps.{shape, held, at}
+use Rattle.hyd_words.proofs.WalkEnds.{end_of, fault_from, order_if, rows_at_end}
 use Rattle.hyd_words.proofs.WalkLaw.{AreTexts, simulated}
 
 -- ---- clap's faults and matches at these words

@@ -1,24 +1,14 @@
 -- What clap's walk over words comes to, from where it stands.
-use Rattle.std.proofs.Common.{◌≡◌, ◌⊎◌, ◌∙◌, ◌+◌, ◌==◌, not, ◌&&◌, ◌||◌, Bool, true, false, cond, List, [], ◌∷◌, ◌++◌, map, fold, length, Option, Some, None, IsUtf8, arith, refl, sym, ap, subst, inl, inr, codes, bytes_eq, append-nil, option_map, option_and_then, ne_eqb, ◌^◌, pos, String, string_bytes, MatchOption, ◌≢◌}
-use Rattle.std.specs.List.{list_all}
-use Rattle.std.proofs.lemmas.Str.{IsUtf8-string_bytes}
+use Rattle.std.proofs.Common.{◌≡◌, ◌∙◌, ◌+◌, Bool, true, false, cond, List, [], ◌∷◌, map, fold, Option, None, arith, refl, sym, ap, subst, codes, bytes_eq, append-nil}
 use Rattle.clap.specs.Kinds.{Kinds, or_else}
-use Rattle.clap.specs.Faults.{defaults_fault, fault_of, given_default_fault, long_fault, settle_fault, step_fault, walk_fault}
-use Rattle.clap.specs.Simple.{built, matches_of}
-use Rattle.clap.proofs.FaultLemmas.{leaf_fault}
-use Rattle.clap.proofs.SimpleLemmas.{is_nil}
-use Rattle.clap.proofs.WalkLemmas.{both}
-use Rattle.clap.specs.Matches.{found_of}
-use Rattle.clap.specs.declared.parser.matches.ArgMatches.{ArgMatches}
-use Rattle.hyd_words.specs.Parser.{words_command, said_of}
-use Rattle.clap.specs.Walk.{Held, Row, Rule, Step, Text, Waiting, Walk, after_flag, after_step, arg_by_id, default_rows, has_row, idle, is_empty, long_met, next, option, plain_word, positional, reading_by, rows_of, with_default, settled_rows, walked}
-use Rattle.hyd_num.specs.Numeral.{is_numeral}
-use Rattle.hyd_words.specs.Words.{Word, Part, Kind, Said, sweeps, width, tight, name, wrong, says, begins_with_dash, kind_of, parts_from, parts_waiting, said, said_by}
-use Rattle.hyd_words.specs.Orders.{Order, RunOrder, order_of, has_names_alone, is_sound, number_within, width_in_ticks, order_named, once, rounds_of, width_of, run, run_command, check_command, gen_command}
+use Rattle.clap.specs.Faults.{settle_fault, walk_fault}
+use Rattle.hyd_words.specs.Parser.{said_of}
+use Rattle.clap.specs.Walk.{Held, Row, Waiting, Walk, positional, settled_rows, walked}
+use Rattle.hyd_words.specs.Words.{Word, Part, Said, name, wrong, said_by}
+use Rattle.hyd_words.specs.Orders.{Order, order_named, run_command, check_command, gen_command}
 use Rattle.hyd_words.proofs.SaidLemmas.{joined, joined_assoc, part_first}
-use Rattle.hyd_words.proofs.RowLemmas.{rules, used_by, sweeps_used, width_used, name_used, tight_used}
-use Rattle.hyd_words.proofs.Lexing.{Lexed, closing, plain, short, long, IsPlain, IsLong, and_false, kind_by, lexed, named_kind}
-use Rattle.hyd_words.proofs.WalkSteps.{shape, Pending, held, at, IsFree, IsWhole, IsFault, turn, step, name_held, name_step, name_fault, trailing_turn, trailing_step, turn_from, step_from, plain_met, plain_fault, short_fails, long_fault_is, long_met_is, closing_turn, closing_step, first_faults}
+use Rattle.hyd_words.proofs.RowLemmas.{rules, name_used}
+use Rattle.hyd_words.proofs.WalkSteps.{shape, Pending, held, at, IsWhole, IsFault, turn, step, name_held, trailing_turn, trailing_step, first_faults}
 
 -- no command has this said behind its name
 abbrev pub IsNoOrder : Said → Type 0
