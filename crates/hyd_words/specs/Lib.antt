@@ -1,3 +1,4 @@
 pub mod Words
 pub mod Orders
 pub mod Seen
+pub mod Parser

@@ -1,8 +1,8 @@
 -- The commands, and which words are one: the name of a command, then its options and names.
-use Rattle.std.specs.Prelude.{◌≡◌, ℕ, ◌+◌, ◌-◌, ◌*◌, ◌^◌, nat_le, nat_lt, ◌==◌, Bool, true, false, not, ◌&&◌, ◌||◌, List, [], ◌∷◌, length, Option, Some, None, option_map, option_and_then, bytes_eq, codes, if◌then◌else◌, ℤ, pos, ◌*ℤ◌, int_lt, int_le}
+use Rattle.std.specs.Prelude.{ℕ, ◌-◌, ◌^◌, nat_le, ◌==◌, Bool, not, ◌&&◌, List, [], ◌∷◌, length, Option, Some, None, option_map, option_and_then, bytes_eq, codes, if◌then◌else◌, ℤ, pos, ◌*ℤ◌, int_lt, int_le}
 use Rattle.std.specs.List.{list_all}
 use Rattle.hyd_num.specs.Numeral.{is_digit, is_numeral, nano_of, number}
-use Rattle.hyd_words.specs.Words.{Word, Said, said, joined}
+use Rattle.hyd_words.specs.Words.{Word, Said, said}
 
 -- the two files of a command: NET, the network, and CERT, its certificate
 pub record TwoFiles : Type 0 where
@@ -136,13 +136,3 @@ order_named word s =
 abbrev pub order_of : List Word → Option Order
 order_of [] = None
 order_of (word ∷ behind) = order_named word (said behind)
-
--- ---- what can't become a command
-
--- no command has this said behind its name
-abbrev pub IsNoOrder : Said → Type 0
-IsNoOrder s = (word : Word) → order_named word s ≡ None
-
--- whatever is said after this
-abbrev pub IsNeverOrder : Said → Type 0
-IsNeverOrder s = (more : Said) → IsNoOrder (joined s more)

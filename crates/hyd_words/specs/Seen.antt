@@ -1,14 +1,8 @@
 -- The commands that the reader hands out, and what it holds on its way, as the definitions see them.
-use Rattle.std.specs.Prelude.{ℕ, Bool, false, List, [], ◌∷◌, Option, Some, None, if◌then◌else◌}
+use Rattle.std.specs.Prelude.{false, List, map}
 use Rattle.std.specs.Borrow.{Bor}
-use Rattle.hyd_words.specs.Words.{Word, Part, Kind, Said, sweeps, width, tight, name, wrong, says, wants, ends}
-use Rattle.hyd_words.specs.declared.kinds.Valued.{Valued}
-use Rattle.hyd_words.specs.declared.kinds.Valued.TheVariants as valued
-use Rattle.hyd_words.specs.declared.kinds.WordKind.{WordKind}
-use Rattle.hyd_words.specs.declared.kinds.WordKind.TheVariants as kind
-use Rattle.hyd_words.specs.declared.said.Names.{Names}
-use Rattle.hyd_words.specs.declared.said.Names.TheVariants as names
-use Rattle.hyd_words.specs.declared.said.SaidSoFar.{SaidSoFar}
+use Rattle.hyd_words.specs.Words.{Word, Said}
+use Rattle.hyd_words.specs.declared.said.Said.{Said as Read}
 use Rattle.hyd_words.specs.Orders.{Order, RunOrder, GenOrder, TwoFiles, run, check, gen}
 use Rattle.hyd_words.specs.declared.command.Command.{Command}
 use Rattle.hyd_words.specs.declared.command.Command.TheVariants as command
@@ -31,39 +25,16 @@ order_seen (command.Run r) = run (run_seen r)
 order_seen (command.Check f) = check (files_seen f)
 order_seen (command.Gen g) = gen (gen_seen g)
 
--- what an option says with a value
-abbrev pub part_of : Valued → Word → Part
-part_of valued.Sweeps = sweeps
-part_of valued.Width = width
+-- the words behind references
+abbrev pub texts_seen : List (Bor Word) → List Word
+texts_seen = map (λ text. text.now)
 
--- what a word is by itself
-abbrev pub kind_seen : WordKind → Kind
-kind_seen (kind.Name word) = says (name word.now)
-kind_seen kind.Tight = says tight
-kind_seen (kind.Has option value) = says (part_of option value.now)
-kind_seen (kind.Wants option) = wants (part_of option)
-kind_seen kind.Ends = ends
-kind_seen kind.Wrong = says wrong
-
--- the value of an option, where it stands
-abbrev pub values_seen : Option (Bor Word) → List Word
-values_seen None = []
-values_seen (Some value) = value.now ∷ []
-
--- the words that stand by their positions, in order
-abbrev pub names_seen : Names → List Word
-names_seen names.Empty = []
-names_seen (names.One a) = a.now ∷ []
-names_seen (names.Two a b) = a.now ∷ b.now ∷ []
-names_seen (names.Three a b c) = a.now ∷ b.now ∷ c.now ∷ []
-names_seen (names.Four a b c d) = a.now ∷ b.now ∷ c.now ∷ d.now ∷ []
-
--- what has been said
-abbrev pub said_seen : SaidSoFar → Said
+-- what has been said, where nothing is wrong
+abbrev pub said_seen : Read → Said
 said_seen s = record {
-  sweeps_values = values_seen s.sweeps;
-  width_values = values_seen s.width;
-  tight_count = if s.tight then 1 else 0;
-  names = names_seen s.names;
+  sweeps_values = texts_seen s.sweeps_values.now;
+  width_values = texts_seen s.width_values.now;
+  tight_count = s.tight_count;
+  names = texts_seen s.names.now;
   has_wrong = false;
 }

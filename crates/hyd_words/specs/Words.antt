@@ -1,6 +1,6 @@
 -- What the words behind a command's name say, read from left to right: values of options, names, and what no command
 -- takes.
-use Rattle.std.specs.Prelude.{ℕ, ◌+◌, nat_eq, Bool, true, false, not, ◌||◌, List, [], ◌∷◌, ◌++◌, map, drop, Option, Some, None, bytes_eq, codes, if◌then◌else◌, filter, length}
+use Rattle.std.specs.Prelude.{ℕ, nat_eq, Bool, true, false, not, ◌||◌, List, [], ◌∷◌, map, drop, Option, Some, None, bytes_eq, codes, if◌then◌else◌, filter, length}
 use Rattle.std.specs.List.{starts_with, filter_map, list_any}
 
 -- one word, as bytes
@@ -115,16 +115,6 @@ said_by said = record {
   tight_count = length (filter is_tight said);
   names = filter_map named said;
   has_wrong = list_any is_wrong said;
-}
-
--- what is said first, and then this
-abbrev pub joined : Said → Said → Said
-joined first next = record {
-  sweeps_values = first.sweeps_values ++ next.sweeps_values;
-  width_values = first.width_values ++ next.width_values;
-  tight_count = first.tight_count + next.tight_count;
-  names = first.names ++ next.names;
-  has_wrong = first.has_wrong || next.has_wrong;
 }
 
 -- what these words say

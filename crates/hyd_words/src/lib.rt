@@ -3,9 +3,9 @@
 #![tactic(auto)]
 
 mod command;
-mod kinds;
 mod numbers;
 mod orders;
+mod parser;
 mod reader;
 mod said;
 

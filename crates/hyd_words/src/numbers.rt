@@ -4,7 +4,7 @@ ghost use Rattle.std.specs.Prelude.{◌≡◌, ◌≤◌, ◌<◌, ◌^◌, ◌*
 ghost use Rattle.std.specs.List.{list_all};
 ghost use Rattle.hyd_num.specs.Numeral.{is_digit, number};
 ghost use Rattle.hyd_words.specs.Orders as orders;
-ghost use Rattle.hyd_words.specs.Seen.{values_seen};
+ghost use Rattle.hyd_words.specs.Seen.{texts_seen};
 
 use hyd_num::{NumFault, read_decimal};
 
@@ -22,24 +22,26 @@ const DEFAULT_ROUNDS: u32 = 200;
 // 0.01 m in head ticks.
 const DEFAULT_WIDTH: i64 = 100_000_000_000;
 
-/// N, the greatest number of rounds.
-pub(crate) fn rounds_of(value: Option<&[u8]>) -> Option<u32>
-    ensures { result ≡ orders.rounds_of (values_seen value.entry) }
+/// N, the greatest number of rounds, by the values that are given for it.
+pub(crate) fn rounds_of(values: &[&str]) -> Option<u32>
+    ensures { result ≡ orders.rounds_of (texts_seen values.now) }
 {
-    let Some(value) = value else {
-        return Some(DEFAULT_ROUNDS);
-    };
-    number_within(value, 6, 0, 100_000)
+    match values {
+        [] => Some(DEFAULT_ROUNDS),
+        [value] => number_within(value.as_bytes(), 6, 0, 100_000),
+        _ => None,
+    }
 }
 
-/// W in head ticks.
-pub(crate) fn width_of(value: Option<&[u8]>) -> Option<i64>
-    ensures { result ≡ orders.width_of (values_seen value.entry) }
+/// W in head ticks, by the values that are given for it.
+pub(crate) fn width_of(values: &[&str]) -> Option<i64>
+    ensures { result ≡ orders.width_of (texts_seen values.now) }
 {
-    let Some(value) = value else {
-        return Some(DEFAULT_WIDTH);
-    };
-    width_in_ticks(value)
+    match values {
+        [] => Some(DEFAULT_WIDTH),
+        [value] => width_in_ticks(value.as_bytes()),
+        _ => None,
+    }
 }
 
 // A number of metres above 0 and at most 1,000, in head ticks.

@@ -2,14 +2,14 @@
 
 ghost use Rattle.std.specs.Prelude.{◌≡◌, ◌^◌, ◌-◌, option_map, not, ◌==◌, ◌||◌};
 ghost use Rattle.hyd_words.specs.Orders as orders;
-ghost use Rattle.hyd_words.specs.Seen.{said_seen, names_seen, order_seen, run_seen, gen_seen, files_seen};
+ghost use Rattle.hyd_words.specs.Seen.{said_seen, texts_seen, order_seen, run_seen, gen_seen, files_seen};
 
 use crate::command::{Command, Files, GenWords, RunWords};
 use crate::numbers::{number_within, rounds_of, width_of};
-use crate::said::{Names, SaidSoFar};
+use crate::said::Said;
 
 /// The command of this name, if what is said behind it fits.
-pub(crate) fn order_named<'a>(name: &str, said: SaidSoFar<'a>) -> Option<Command<'a>>
+pub(crate) fn order_named<'a>(name: &str, said: Said<'_, 'a>) -> Option<Command<'a>>
     ensures { option_map order_seen result ≡ orders.order_named name.now (said_seen said.entry) }
 {
     if name == "run" {
@@ -24,21 +24,24 @@ pub(crate) fn order_named<'a>(name: &str, said: SaidSoFar<'a>) -> Option<Command
     None
 }
 
-fn run_command(said: SaidSoFar<'_>) -> Option<Command<'_>>
+fn run_command<'a>(said: Said<'_, 'a>) -> Option<Command<'a>>
     ensures { option_map order_seen result ≡ orders.run_command (said_seen said.entry) }
 {
-    let rounds = rounds_of(said.sweeps)?;
-    let width = width_of(said.width)?;
+    if said.tight_count > 1 {
+        return None;
+    }
+    let rounds = rounds_of(said.sweeps_values)?;
+    let width = width_of(said.width_values)?;
     let files = two_files(said.names)?;
     Some(Command::Run(RunWords {
         files,
         rounds,
         width,
-        tight: said.tight,
+        tight: said.tight_count == 1,
     }))
 }
 
-fn check_command(said: SaidSoFar<'_>) -> Option<Command<'_>>
+fn check_command<'a>(said: Said<'_, 'a>) -> Option<Command<'a>>
     ensures { option_map order_seen result ≡ orders.check_command (said_seen said.entry) }
 {
     if has_options(said) {
@@ -48,7 +51,7 @@ fn check_command(said: SaidSoFar<'_>) -> Option<Command<'_>>
     Some(Command::Check(files))
 }
 
-fn gen_command(said: SaidSoFar<'_>) -> Option<Command<'_>>
+fn gen_command<'a>(said: Said<'_, 'a>) -> Option<Command<'a>>
     ensures { option_map order_seen result ≡ orders.gen_command (said_seen said.entry) }
 {
     if has_options(said) {
@@ -59,17 +62,17 @@ fn gen_command(said: SaidSoFar<'_>) -> Option<Command<'_>>
 }
 
 // Whether an option stands.
-fn has_options(said: SaidSoFar<'_>) -> bool
+fn has_options(said: Said<'_, '_>) -> bool
     ensures { result ≡ not (orders.has_names_alone (said_seen said.entry)) }
 {
-    said.tight || said.sweeps.is_some() || said.width.is_some()
+    said.tight_count > 0 || said.sweeps_values.len() > 0 || said.width_values.len() > 0
 }
 
-fn two_files(names: Names<'_>) -> Option<Files<'_>>
-    ensures { option_map files_seen result ≡ orders.two_files (names_seen names.entry) }
+fn two_files<'a>(names: &[&'a str]) -> Option<Files<'a>>
+    ensures { option_map files_seen result ≡ orders.two_files (texts_seen names.now) }
 {
     match names {
-        Names::Two(net, cert) => differing(net, cert),
+        [net, cert] => differing(net, cert),
         _ => None,
     }
 }
@@ -84,11 +87,11 @@ fn differing<'a>(net: &'a str, cert: &'a str) -> Option<Files<'a>>
     Some(Files { net, cert })
 }
 
-fn gen_words(names: Names<'_>) -> Option<GenWords<'_>>
-    ensures { option_map gen_seen result ≡ orders.gen_order (names_seen names.entry) }
+fn gen_words<'a>(names: &[&'a str]) -> Option<GenWords<'a>>
+    ensures { option_map gen_seen result ≡ orders.gen_order (texts_seen names.now) }
 {
     match names {
-        Names::Four(seed, junctions, net, cert) => gen_of(seed, junctions, net, cert),
+        [seed, junctions, net, cert] => gen_of(seed, junctions, net, cert),
         _ => None,
     }
 }
