@@ -3,3 +3,4 @@ pub mod Values
 pub mod Walking
 pub mod Turns
 pub mod Striding
+pub mod Apart

@@ -1,6 +1,7 @@
 -- What raises and sweeps give.
 -- Source: this program's; rounds in any order are chaotic iterations (Chazan and Miranker 1969).
-use Rattle.std.specs.Prelude.{◌≡◌, ◌≢◌, ℕ, ◌<◌, ℤ, pos, neg_ℤ, ◌+ℤ◌, ◌-ℤ◌, List, [], ◌∷◌, ◌++◌, length, take, All, Contains, slice_get, slice_set, slice_index_or, Option, Some, None, suc, zero, ⊤, ◌<ℤ◌, Bool, true, false}
+use Rattle.std.specs.Prelude.{◌≡◌, ◌≢◌, ℕ, ◌<◌, ◌≤◌, ℤ, pos, neg_ℤ, ◌+ℤ◌, ◌-ℤ◌, List, [], ◌∷◌, ◌++◌, length, take, All, Contains, slice_get, slice_set, slice_index_or, Option, Some, None, suc, zero, ⊤, ◌<ℤ◌, Bool, true, false}
+use Rattle.std.specs.List.{AllByRecursion}
 use Rattle.hyd_spec.specs.Lists.{Each}
 use Rattle.hyd_spec.specs.Assignment.{head_at}
 use Rattle.hyd_spec_certificates.specs.declared.Problem.{Problem}
@@ -9,7 +10,7 @@ use Rattle.hyd_spec_certificates.specs.declared.Side.TheVariants.{Upper, Lower}
 use Rattle.hyd_spec_certificates.specs.declared.HeldJunction.{HeldJunction}
 use Rattle.hyd_spec_certificates.specs.Grid.{Grid, GridJunction}
 use Rattle.hyd_spec_certificates.specs.Certificate.{box_limit, IsInBox, Suits, IsCertificateHolding, IsCandidateHolding, IsRaisedHolding, AreRoundsHolding, IsTightHolding}
-use Rattle.hyd_spec_certificates.specs.Climbing.{IsStart, LiesBeyond, HasParts, HasRounds}
+use Rattle.hyd_spec_certificates.specs.Climbing.{IsStart, LiesBeyond, HasParts, HasRounds, JoinsNone}
 use Rattle.hyd_spec_laws.specs.Sides.{along}
 use Rattle.hyd_sweep.specs.declared.answers.Raised.{Raised}
 use Rattle.hyd_sweep.specs.declared.answers.Raised.TheVariants.{Passed, Moved, NoValue}
@@ -147,3 +148,8 @@ SweepGives held grid problem side rounds old new RoundsSpent =
     × ((IsCertificateHolding held grid problem side v → ⊥)
     × (LiesBeyond side v new × (IsStart held grid problem side new
     × (IsCertificateHolding held grid problem side new → ⊥)))))
+
+-- where no link joins two junctions a sweep that may go one round doesn't spend its rounds
+abbrev pub EndsWhereApart : Grid → ℕ → Swept → Type 0
+EndsWhereApart grid rounds result =
+    AllByRecursion (JoinsNone (length grid.junctions)) grid.links → 1 ≤ rounds → result ≢ RoundsSpent

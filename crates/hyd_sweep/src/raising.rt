@@ -41,6 +41,7 @@ fn ticks_to_pass(net: &Net, problem: Problem, side: Side, u: &[i64], i: u32, roo
         → PassesWith (grid_of net.now) problem side u.now i (further side (head_at u.now i) k) }
 {
     let here = head_of(u, i);
+    // Where halving would no longer end within the aim's number of trials, it halves.
     let mut aim = Aim::new();
     let mut low = 0;
     let mut high = room + 1;
@@ -132,8 +133,7 @@ fn value(
 }
 
 /// Raises junction i: puts it to the nearest head in the box, its own or farther out, at which it passes with the other
-/// heads as they are. A held junction is put to its head, and has no value where its own lies beyond that. The balance
-/// of the junction is tried at 64 heads at most, which no clause says.
+/// heads as they are. A held junction is put to its head, and has no value where its own lies beyond that.
 pub fn raise(
     net: &Net,
     problem: Problem,

@@ -7,7 +7,7 @@ ghost use Rattle.hyd_spec_certificates.specs.Certificate.{IsInBox, Suits};
 ghost use Rattle.hyd_spec_certificates.specs.Climbing.{IsStart};
 ghost use Rattle.hyd_graph.specs.GridOf.{grid_of};
 ghost use Rattle.hyd_graph.specs.Nets.{HasProblem};
-ghost use Rattle.hyd_sweep.specs.Sweeps.{SuitsAt, RoundGives, SweepGives, HoldsInBox};
+ghost use Rattle.hyd_sweep.specs.Sweeps.{SuitsAt, RoundGives, SweepGives, EndsWhereApart, HoldsInBox};
 
 use crate::answers::{Raised, Swept};
 use crate::raising::{held_head, raise};
@@ -84,7 +84,8 @@ pub(crate) fn suits_everywhere(
     true
 }
 
-/// At most so many rounds in file order toward the tight vector, from heads that every certificate lies beyond.
+/// At most so many rounds in file order toward the tight vector, from heads that every certificate lies beyond. Where
+/// no link joins two junctions one round suffices.
 pub fn tighten(
     net: &Net,
     problem: Problem,
@@ -96,7 +97,8 @@ pub fn tighten(
     requires start { IsStart held (grid_of net.now) problem side u.old }
     requires pinned { HasProblem net.now problem }
     requires held_in_box { HoldsInBox held }
-    ensures { SweepGives held (grid_of net.now) problem side rounds u.old u.new result }
+    ensures sweep { SweepGives held (grid_of net.now) problem side rounds u.old u.new result }
+    ensures apart { EndsWhereApart (grid_of net.now) rounds result }
 {
     let _junctions = net.junctions();
     for spent in 0..rounds {

@@ -6,7 +6,7 @@ ghost use Rattle.hyd_spec_certificates.specs.declared.Side.TheVariants.{Upper, L
 ghost use Rattle.hyd_spec_certificates.specs.Climbing.{IsStart};
 ghost use Rattle.hyd_graph.specs.GridOf.{grid_of};
 ghost use Rattle.hyd_graph.specs.Nets.{HasProblem};
-ghost use Rattle.hyd_sweep.specs.Sweeps.{SweepGives, HoldsInBox};
+ghost use Rattle.hyd_sweep.specs.Sweeps.{SweepGives, EndsWhereApart, HoldsInBox};
 ghost use Rattle.hyd_sweep.specs.Strides.{SweepGoes};
 
 use crate::answers::Swept;
@@ -39,6 +39,7 @@ pub fn tighten_by_leaps(
     requires heads_each { length heads.old ≡ length u.old }
     ensures sweep { SweepGives held (grid_of net.now) problem side rounds u.old u.new result }
     ensures goes { SweepGoes held (grid_of net.now) problem side rounds u.old u.new result }
+    ensures apart { EndsWhereApart (grid_of net.now) rounds result }
 {
     let _junctions = net.junctions();
     for spent in 0..rounds {
@@ -116,6 +117,7 @@ impl Sweeper {
         requires held_in_box { HoldsInBox held }
         ensures sweep { SweepGives held (grid_of net.now) problem side rounds u.old u.new result }
         ensures goes { SweepGoes held (grid_of net.now) problem side rounds u.old u.new result }
+        ensures apart { EndsWhereApart (grid_of net.now) rounds result }
         ensures keeps { self.new ≡ self.old }
     {
         tighten_by_leaps(
@@ -145,6 +147,7 @@ impl Sweeper {
         requires pinned { HasProblem net.now problem }
         ensures sweep { SweepGives None (grid_of net.now) problem Upper rounds u.old u.new result }
         ensures goes { SweepGoes None (grid_of net.now) problem Upper rounds u.old u.new result }
+        ensures apart { EndsWhereApart (grid_of net.now) rounds result }
         ensures keeps { self.new ≡ self.old }
     {
         self.tighten(net, problem, Side::Upper, None, u, rounds)
@@ -158,6 +161,7 @@ impl Sweeper {
         requires pinned { HasProblem net.now problem }
         ensures sweep { SweepGives None (grid_of net.now) problem Lower rounds u.old u.new result }
         ensures goes { SweepGoes None (grid_of net.now) problem Lower rounds u.old u.new result }
+        ensures apart { EndsWhereApart (grid_of net.now) rounds result }
         ensures keeps { self.new ≡ self.old }
     {
         self.tighten(net, problem, Side::Lower, None, u, rounds)

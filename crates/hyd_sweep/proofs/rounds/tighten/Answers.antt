@@ -5,14 +5,15 @@ use Rattle.hyd_spec_certificates.specs.Climbing.{HasRounds}
 use Rattle.hyd_spec_raises.proofs.Sweeping.{has-begins}
 use Rattle.hyd_sweep.specs.Sweeps.{RoundGives}
 use Rattle.std.specs.Prelude.{Option}
+use Rattle.hyd_sweep.proofs.Apart.{spent-ends}
 use Rattle.hyd_sweep.proofs.Walking.{round-more, round-start, sweep-none, sweep-spent}
 use Rattle.hyd_sweep.proofs.rounds.tighten.Goals as goal
 
 pub loop-spent-init : goal.loop-spent-init
 loop-spent-init c = record { start = c.requires.start; rounds = has-begins c.args.held (grid_of c.args.net.now) c.junctions-junctions.ensures.steady c.args.problem c.args.side c.args.u.now c.requires.start.one_each }
 
-pub returns-in-Some : goal.returns-in-Some
-returns-in-Some c =
+pub returns-in-Some-clause-sweep : goal.returns-in-Some-clause-sweep
+returns-in-Some-clause-sweep c =
     sweep-none c.args.held (grid_of c.args.net.now) c.junctions-junctions.ensures.steady c.args.problem c.args.side c.args.rounds c.args.u.now c.loop-spent.u c.round.new.u c.in-Some.junction c.loop-spent.invariant.start
     (subst (λ (r : Option ℕ). RoundGives c.args.held (grid_of c.args.net.now) c.args.problem c.args.side c.loop-spent.u c.round.new.u r) c.in-Some.is c.round.ensures)
 
@@ -31,11 +32,16 @@ loop-spent-preserved c =
           (round-more held grid c.junctions-junctions.ensures.steady problem side c.loop-spent.spent c.args.u.now c.loop-spent.u c.round.new.u start.one_each c.loop-spent.invariant.rounds gives);
     }
 
-pub returns-else-suits_everywhere-2 : goal.returns-else-suits_everywhere-2
-returns-else-suits_everywhere-2 c =
+pub returns-else-suits_everywhere-2-clause-sweep : goal.returns-else-suits_everywhere-2-clause-sweep
+returns-else-suits_everywhere-2-clause-sweep c =
     let held = c.args.held in
     let grid = grid_of c.args.net.now in
     let all : c.loop-spent.spent ≡ c.args.rounds = (let a = c.loop-spent-test.false in let b = c.loop-spent.auto.spent-end in omega (arith, a, b)) in
     sweep-spent held grid c.junctions-junctions.ensures.steady c.args.problem c.args.side c.args.rounds c.args.u.now c.loop-spent.u c.loop-spent.invariant.start
     (subst (λ (n : ℕ). HasRounds held grid c.args.problem c.args.side n c.args.u.now c.loop-spent.u) all c.loop-spent.invariant.rounds)
     (λ each. false≢true (sym c.if-suits_everywhere-2.false ∙ c.suits_everywhere-2.ensures.1 each))
+
+pub returns-else-suits_everywhere-2-clause-apart : goal.returns-else-suits_everywhere-2-clause-apart
+returns-else-suits_everywhere-2-clause-apart c =
+    spent-ends c.args.held (grid_of c.args.net.now) c.args.problem c.args.side c.args.rounds c.args.u.now c.loop-spent.u
+    c.requires.start.one_each (returns-else-suits_everywhere-2-clause-sweep c)

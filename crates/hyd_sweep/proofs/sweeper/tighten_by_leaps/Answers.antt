@@ -7,6 +7,7 @@ use Rattle.hyd_sweep.specs.Sweeps.{RoundGives}
 use Rattle.hyd_sweep.specs.Strides.{AreLeapingRounds, no_round, one_round}
 use Rattle.hyd_sweep.proofs.Striding.{goes-on}
 use Rattle.std.specs.Prelude.{Option}
+use Rattle.hyd_sweep.proofs.Apart.{spent-ends}
 use Rattle.hyd_sweep.proofs.Walking.{round-more, round-start, sweep-none, sweep-spent}
 use Rattle.hyd_sweep.proofs.sweeper.tighten_by_leaps.Goals as goal
 
@@ -71,3 +72,8 @@ returns-else-suits_everywhere-2-clause-sweep c =
     sweep-spent held grid c.junctions-junctions.ensures.steady c.args.problem c.args.side c.args.rounds c.args.u.now c.loop-spent.u c.loop-spent.invariant.start
     (subst (λ (n : ℕ). HasRounds held grid c.args.problem c.args.side n c.args.u.now c.loop-spent.u) all c.loop-spent.invariant.rounds)
     (λ each. false≢true (sym c.if-suits_everywhere-2.false ∙ c.suits_everywhere-2.ensures.1 each))
+
+pub returns-else-suits_everywhere-2-clause-apart : goal.returns-else-suits_everywhere-2-clause-apart
+returns-else-suits_everywhere-2-clause-apart c =
+    spent-ends c.args.held (grid_of c.args.net.now) c.args.problem c.args.side c.args.rounds c.args.u.now c.loop-spent.u
+    c.requires.start.one_each (returns-else-suits_everywhere-2-clause-sweep c)
