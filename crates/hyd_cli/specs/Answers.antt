@@ -101,9 +101,10 @@ status_of Stall = Stalled
 
 -- ---- words that aren't a command
 
--- Usage, and the usage line alone was printed; or a fault came.
+-- Usage, and the usage line alone was printed; or want of memory, or a fault.
 abbrev pub AnswersUsage : Status → Seen → Seen → Type 0
 AnswersUsage Usage before now = OnlyPrinted usage_line before now
+AnswersUsage OutOfMemory before now = IsUntouched before now
 AnswersUsage ReadFault before now = ⊥
 AnswersUsage WriteFault before now = OnlyPrintedFront usage_line before now
 AnswersUsage Stalled before now = OnlyPrintedFront usage_line before now

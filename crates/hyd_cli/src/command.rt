@@ -58,15 +58,16 @@ pub fn tool<D: Desk>(alloc: Global, words: &[String], desk: &mut D) -> Status
         → OpensOnce result (D.openings desk.old) (D.openings desk.new) }
     ensures never { command (map string_bytes words.now) ≡ None → D.openings desk.new ≡ D.openings desk.old }
 {
-    match run_words(words) {
-        Some(words) => run(
+    match run_words(alloc, words) {
+        Ok(Some(words)) => run(
             alloc,
             words.files.net,
             words.files.cert,
             settings_of(&words),
             desk,
         ),
-        None => refuse_words(desk),
+        Ok(None) => refuse_words(desk),
+        Err(_) => Status::OutOfMemory,
     }
 }
 

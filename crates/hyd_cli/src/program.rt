@@ -26,8 +26,8 @@ pub fn run_program<R: AllocGlobal + Env + Files + Print + Drop>(rt: R) -> Status
     start(alloc, given, &mut desk)
 }
 
-/// Runs the command of the words that the system gives: its answer is that of `tool` on the words
-/// behind the program's name. Where the words can't be had as a whole there are none, which is no
+/// Runs the command of the words that the system gives: what is said of `tool` holds of it on the
+/// words behind the program's name. Where the words can't be had as a whole there are none, which is no
 /// command. Want of memory for the words leaves all untouched.
 pub fn start<D: Desk>(alloc: Global, given: io::Result<Args>, desk: &mut D) -> Status
     requires opens { (order : RunOrder) → command (words_behind_name given) ≡ Some order
@@ -37,7 +37,7 @@ pub fn start<D: Desk>(alloc: Global, given: io::Result<Args>, desk: &mut D) -> S
     ensures cause { HasCause result (D.counts desk.old) (D.counts desk.new) }
     ensures leaves { Leaves result
         (seen D.files D.written D.printed desk.old) (seen D.files D.written D.printed desk.new) }
-    ensures usage { command (words_behind_name given) ≡ None → (result ≡ OutOfMemory) ⊎ AnswersUsage result
+    ensures usage { command (words_behind_name given) ≡ None → AnswersUsage result
         (seen D.files D.written D.printed desk.old) (seen D.files D.written D.printed desk.new) }
     ensures no_words { IsErr given → AnswersUsage result
         (seen D.files D.written D.printed desk.old) (seen D.files D.written D.printed desk.new) }

@@ -1,20 +1,26 @@
 //! The words of a command that is taken.
 
-ghost use Rattle.std.specs.Prelude.{◌≡◌, map, option_map, string_bytes};
+ghost use Rattle.std.specs.Prelude.{◌≡◌, IfOk, map, option_map, string_bytes};
 ghost use Rattle.hyd_words.specs.Seen.{run_seen};
 ghost use Rattle.hyd_cli.specs.Answers.{settings_of};
 ghost use Rattle.hyd_cli.specs.Words.{command};
 
 use hyd_sim::Settings;
 use hyd_words::{Command, RunWords, read_words};
+use std::alloc::{AllocError, Global};
 
-/// What the words ask for, where they are an order to run a network. The other commands aren't taken yet.
-pub(crate) fn run_words(words: &[String]) -> Option<RunWords<'_>>
-    ensures { option_map run_seen result ≡ command (map string_bytes words.now) }
+/// What the words ask for, where they are an order to run a network. The other commands aren't taken yet. The error is
+/// want of memory.
+pub(crate) fn run_words(
+    alloc: Global,
+    words: &[String],
+) -> Result<Option<RunWords<'_>>, AllocError>
+    ensures { IfOk result (λ found. option_map run_seen found ≡ command (map string_bytes words.now)) }
 {
-    match read_words(words) {
-        Some(Command::Run(words)) => Some(words),
-        _ => None,
+    match read_words(alloc, words) {
+        Ok(Some(Command::Run(words))) => Ok(Some(words)),
+        Ok(_) => Ok(None),
+        Err(fault) => Err(fault),
     }
 }
 
