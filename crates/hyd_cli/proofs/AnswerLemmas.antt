@@ -1,6 +1,7 @@
 -- How what a call leaves follows from what the calls in it leave.
 use Rattle.std.proofs.Common.{◌≡◌, ◌≢◌, ℕ, ℤ, Bool, List, [], ◌++◌, Option, None, Some, ◌⊎◌, inl, inr, ◌∙◌, refl, sym, ap, subst, is_some}
 use Rattle.std.specs.Option.{option_map_or}
+use Rattle.std.proofs.lemmas.Bool.{false≢true}
 use Rattle.hyd_io.specs.Told.{Files, where_told, append_known, file_at, content_of, PutOut}
 use Rattle.hyd_io.specs.Counts.{with_opened, with_created}
 use Rattle.hyd_io.specs.declared.desk.Faults.{Faults}
@@ -53,8 +54,8 @@ pub new_file : (before files : Option Files) (target written : Option (List ℕ)
     → target ≡ where_told before name → is_some files ≡ is_some before → written ≡ content_of files target
     → file_at files name ≡ written
 new_file None None target written name t s w = sym (rw t at w)
-new_file None (Some told) target written name t s w = absurd s
-new_file (Some told) None target written name t s w = absurd s
+new_file None (Some told) target written name t s w = absurd (false≢true (sym s))
+new_file (Some told) None target written name t s w = absurd (false≢true s)
 new_file (Some old) (Some told) target written name t s w = sym (rw t at w)
 
 -- ---- the end of a run
@@ -314,7 +315,7 @@ some_same a b e = ap (λ (o : Option (List ℕ)). option_map_or (λ x. x) o []) 
 -- a new file is the target, and no other one
 pub other_target : (files : Option Files) (target : Option (List ℕ)) (name other : List ℕ)
     → target ≡ where_told files name → other ≢ name → target ≢ Some other
-other_target None target name other t n = λ e. grind t e
+other_target None target name other t n = λ e. false≢true (ap (λ (o : Option (List ℕ)). is_some o) (sym t ∙ e))
 other_target (Some told) target name other t n = λ e. n (some_same other name (sym e ∙ t))
 
 -- what was printed since is what was printed after the call that left it as it was

@@ -1,5 +1,5 @@
 -- What a run puts out, said of the moment before its file was created.
-use Rattle.std.proofs.Common.{◌≡◌, ◌∙◌, sym, subst, inl, inr, rules, search}
+use Rattle.std.proofs.Common.{◌≡◌, ◌∙◌, sym, subst, inl, inr, rules}
 use Rattle.hyd_io.specs.declared.desk.Faults.{Faults}
 use Rattle.hyd_run.specs.Pens.{told, OneRose}
 use Rattle.hyd_run.specs.Runs.{outcome_of}
@@ -18,7 +18,7 @@ returns-in-Ok-clause-answers g c =
     (sym c.status_of_end.ensures)
     (delivered c.args.sim.now.project c.args.sim.now.settings c.args.cert.now (outcome_of c.in-Ok.end) before
     (told g.D.Desk.files g.D.Desk.rest g.D.Desk.written g.D.Desk.printed g.D.Desk.target g.D.Desk.ready g.D.Desk.counts
-    g.D.Desk.openings c.create.new.desk)
+    g.D.Desk.openings c.create.new.self)
     (told g.D.Desk.files g.D.Desk.rest g.D.Desk.written g.D.Desk.printed g.D.Desk.target g.D.Desk.ready g.D.Desk.counts
     g.D.Desk.openings c.run.new.desk)
     c.in-Ok.ensures.whole (search rules) c.create.ensures.printed_stays (search rules) c.create.ensures.still_told
@@ -31,7 +31,7 @@ returns-in-Ok-clause-cause g c =
 
 pub returns-in-Ok-clause-others : goal.returns-in-Ok-clause-others
 returns-in-Ok-clause-others g c other differs =
-    c.run.ensures.leaves.others other (other_target (g.D.Desk.files c.args.desk.now) (g.D.Desk.target c.create.new.desk)
+    c.run.ensures.leaves.others other (other_target (g.D.Desk.files c.args.desk.now) (g.D.Desk.target c.create.new.self)
     c.args.cert.now other (search rules) differs) ∙ c.create.ensures.others other differs
 
 pub returns-in-Ok-clause-opens : goal.returns-in-Ok-clause-opens
@@ -50,7 +50,7 @@ returns-in-Err-clause-answers g c =
     (sym c.fault_status.ensures)
     (cut_short c.args.sim.now.project c.args.sim.now.settings c.args.cert.now c.in-Err.fault before
     (told g.D.Desk.files g.D.Desk.rest g.D.Desk.written g.D.Desk.printed g.D.Desk.target g.D.Desk.ready g.D.Desk.counts
-    g.D.Desk.openings c.create.new.desk)
+    g.D.Desk.openings c.create.new.self)
     (told g.D.Desk.files g.D.Desk.rest g.D.Desk.written g.D.Desk.printed g.D.Desk.target g.D.Desk.ready g.D.Desk.counts
     g.D.Desk.openings c.run.new.desk)
     c.in-Err.ensures.broken_off (search rules) c.create.ensures.printed_stays (search rules) c.create.ensures.still_told
@@ -58,14 +58,14 @@ returns-in-Err-clause-answers g c =
 
 pub returns-in-Err-clause-cause : goal.returns-in-Err-clause-cause
 returns-in-Err-clause-cause g c =
-    let steady : g.D.Desk.counts c.create.new.desk ≡ g.D.Desk.counts c.args.desk.now = search rules in
+    let steady : g.D.Desk.counts c.create.new.self ≡ g.D.Desk.counts c.args.desk.now = search rules in
     subst (λ (s : Status). HasCause s (g.D.Desk.counts c.args.desk.now) (g.D.Desk.counts c.run.new.desk))
     (sym c.fault_status.ensures) (cause_of_fault c.in-Err.fault _ _
     (subst (λ (n : Faults). OneRose c.in-Err.fault n (g.D.Desk.counts c.run.new.desk)) steady c.in-Err.ensures.cause))
 
 pub returns-in-Err-clause-others : goal.returns-in-Err-clause-others
 returns-in-Err-clause-others g c other differs =
-    c.run.ensures.leaves.others other (other_target (g.D.Desk.files c.args.desk.now) (g.D.Desk.target c.create.new.desk)
+    c.run.ensures.leaves.others other (other_target (g.D.Desk.files c.args.desk.now) (g.D.Desk.target c.create.new.self)
     c.args.cert.now other (search rules) differs) ∙ c.create.ensures.others other differs
 
 pub returns-in-Err-clause-opens : goal.returns-in-Err-clause-opens
