@@ -5,6 +5,7 @@ ghost use Rattle.std.specs.Prelude.{◌≡◌, ◌≤◌, ◌<◌, length};
 ghost use Rattle.hyd_graph.specs.Nets.{HasProblem};
 
 use crate::flows::put_misses;
+use crate::mending::mend;
 use crate::numbers::copy;
 use hyd_graph::Net;
 use hyd_spec_certificates::{Problem, Side};
@@ -162,5 +163,18 @@ impl Course {
             self.try_part(net, step, part);
         }
         copy(&self.trial, &mut self.heads);
+    }
+
+    /// Whether a few raises from the heads lead to where none of the junctions falls short of a certificate, which is put
+    /// as the proposal then.
+    pub(crate) fn mended(&mut self, net: &Net, side: Side, proposal: &mut [i64]) -> bool
+        ensures { length proposal.new ≡ length proposal.old }
+    {
+        copy(&self.heads, &mut self.trial);
+        if !mend(net, side, &mut self.trial) {
+            return false;
+        }
+        copy(&self.trial, proposal);
+        true
     }
 }

@@ -5,7 +5,7 @@ ghost use Rattle.std.specs.Prelude.{◌≡◌, ◌<◌, ◌≤◌, ◌*◌, ◌^
 
 use crate::numbers::{add_at, number_at};
 use hyd_check::{is_in_box, outflow};
-use hyd_graph::{Ends, Net};
+use hyd_graph::{Ends, Net, Tie};
 use hyd_law::{Law, OutLaw};
 use hyd_spec_certificates::Side;
 
@@ -37,6 +37,16 @@ pub(crate) fn low_flow(net: &Net, link: u32, difference: i64) -> i64
     narrowed(law.low(near))
 }
 
+// At least the flow of a link at a head difference.
+fn high_flow(net: &Net, link: u32, difference: i64) -> i64
+    requires { link < length net.now.ends }
+{
+    let _links = net.links();
+    let law = net.law(link);
+    let near = within_reach(difference);
+    narrowed(law.high(near))
+}
+
 // The flow of a link at a head difference, as the middle of its bounds.
 fn middle_flow(net: &Net, link: u32, difference: i64) -> i64
     requires { link < length net.now.ends }
@@ -57,12 +67,40 @@ fn middle_outflow(net: &Net, junction: u32, head: i64) -> i64 {
     narrowed((least + most) / 2)
 }
 
-/// At most what leaves a junction at a head beside its links.
-pub(crate) fn low_outflow(net: &Net, junction: u32, head: i64) -> i64 {
+/// What leaves a junction at a head beside its links: at most for UPPER, at least for LOWER.
+pub(crate) fn bound_outflow(net: &Net, side: Side, junction: u32, head: i64) -> i64 {
     if junction >= net.junctions() || !is_in_box(head) {
         return 0;
     }
-    narrowed(outflow(net, Side::Upper, junction, head))
+    narrowed(outflow(net, side, junction, head))
+}
+
+/// At most what leaves a junction at a head beside its links.
+pub(crate) fn low_outflow(net: &Net, junction: u32, head: i64) -> i64 {
+    bound_outflow(net, Side::Upper, junction, head)
+}
+
+/// What flows out of a junction at a head through a link end to a node at another head: at most for UPPER, at least for
+/// LOWER.
+pub(crate) fn bound_flow(net: &Net, side: Side, tie: Tie, head: i64, other: i64) -> i64 {
+    if tie.link >= net.links() {
+        return 0;
+    }
+    let difference = head.saturating_sub(other);
+    match (tie.out, side) {
+        (true, Side::Upper) => low_flow(net, tie.link, difference),
+        (true, Side::Lower) => high_flow(net, tie.link, difference),
+        (false, Side::Upper) => high_flow(
+            net,
+            tie.link,
+            difference.saturating_neg(),
+        ).saturating_neg(),
+        (false, Side::Lower) => low_flow(
+            net,
+            tie.link,
+            difference.saturating_neg(),
+        ).saturating_neg(),
+    }
 }
 
 /// Whether what leaves a junction beside its links is the same at every head.

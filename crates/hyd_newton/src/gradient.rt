@@ -129,8 +129,9 @@ impl Gradient {
         self.begin(net);
         for _ in 0..LOADED_STEPS {
             self.step(net, false);
-            copy(&self.course.heads, &mut self.proposal);
-            if serve(net, problem, side, &self.proposal) {
+            if self.course.mended(net, side, &mut self.proposal)
+                && serve(net, problem, side, &self.proposal)
+            {
                 return true;
             }
         }

@@ -7,6 +7,7 @@ mod exact;
 mod finder;
 mod flows;
 mod gradient;
+mod mending;
 mod numbers;
 mod progress;
 mod slopes;

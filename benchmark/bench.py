@@ -1,0 +1,182 @@
+#!/usr/bin/env python3
+"""Times runs of networks of one period without tanks, and tells which of them finish.
+
+    benchmark/bench.py build PROGRAM                    builds the program that is timed
+    benchmark/bench.py sizes PROGRAM [SIZE ..]          grids of so many junctions (100, 1000, 2000, 10000), where the time goes
+    benchmark/bench.py kinds PROGRAM COUNT SIZE [SEED]  COUNT random networks of each kind of networks.py with SIZE junctions,
+                                                        seeds from SEED on (1): how many finish without a round of raises
+    benchmark/bench.py rounds PROGRAM COUNT SIZE [SEED] the same networks, with nothing proposed and 300 rounds for each vector
+    benchmark/bench.py tight PROGRAM COUNT SIZE [SEED]  the same networks, with tight vectors and 100,000 rounds for each
+
+The program is main.txt over the crates of this repository, built without proofs: as `rt try` builds it, with its checks at run
+time, but at clang's -O3 and without a sanitizer, by a folder of links to the kit in which clang is called so. The network of each
+line is read, run and written in memory. Times are of the wall clock, the least of five runs; beside them stands the processor time
+of the whole process, which other work on the machine disturbs less. It stands outside the gate.
+"""
+import resource
+import shutil
+import subprocess
+import sys
+import tempfile
+from pathlib import Path
+
+import networks
+
+ROOT = Path(__file__).resolve().parent.parent
+MAIN = ROOT / 'benchmark' / 'main.txt'
+USES = ['hyd_cert', 'hyd_check', 'hyd_graph', 'hyd_inp', 'hyd_io', 'hyd_newton', 'hyd_report', 'hyd_sim',
+        'hyd_spec_certificates', 'hyd_spec_reports']
+TIMES = ['reading', 'ordering', 'opening', 'step', 'proposing', 'checking', 'writing']
+FIELDS = ['outcome', 'passes', 'width', 'junctions', 'links'] + TIMES + ['bytes']
+# Head intervals of a narrow record are at most 0.01 m wide, in head ticks.
+NARROW = 10 ** 11
+CLANG = '''#!/bin/bash
+words=()
+for word in "$@"; do
+  case "$word" in
+    -O0) words+=(-O3);;
+    -fsanitize=address) ;;
+    *) words+=("$word");;
+  esac
+done
+exec %s/toolchain/bin/clang "${words[@]}"
+'''
+LINKER = '''#!/bin/bash
+%s/toolchain/bin/ld.lld "$@" && cp program %s
+'''
+
+
+# ---------------------------------------------------------------- the program
+
+def crates_below(names):
+    """The crates of the repository that crates stand on, and their lines of crates.txt."""
+    below = {}
+    for line in (ROOT / 'crates.txt').read_text().splitlines():
+        name, colon, rest = line.partition(':')
+        if colon and not name.startswith('#'):
+            below[name] = rest.split()
+    out, todo = {}, list(names)
+    while todo:
+        name = todo.pop()
+        if name in below and name not in out:
+            out[name] = below[name]
+            todo += below[name]
+    return out
+
+
+def links_to_kit(folder, program):
+    """A folder of links to the kit, but for a clang that optimizes and a linker that keeps the program."""
+    kit = Path(shutil.which('rt')).resolve().parent.parent
+    (folder / 'bin').mkdir(parents=True)
+    (folder / 'toolchain' / 'bin').mkdir(parents=True)
+    for path in kit.iterdir():
+        if path.name not in ('bin', 'toolchain'):
+            (folder / path.name).symlink_to(path)
+    for path in (kit / 'bin').iterdir():
+        if path.name in ('rt', 'rtlib.py'):
+            shutil.copy(path, folder / 'bin')
+        else:
+            (folder / 'bin' / path.name).symlink_to(path)
+    (folder / 'toolchain' / 'lib').symlink_to(kit / 'toolchain' / 'lib')
+    for path in (kit / 'toolchain' / 'bin').iterdir():
+        if path.name not in ('clang', 'ld.lld'):
+            (folder / 'toolchain' / 'bin' / path.name).symlink_to(path)
+    for name, text in (('clang', CLANG % kit), ('ld.lld', LINKER % (kit, program))):
+        tool = folder / 'toolchain' / 'bin' / name
+        tool.write_text(text)
+        tool.chmod(0o755)
+    return folder / 'bin' / 'rt'
+
+
+def build(program):
+    """Builds the program, and keeps it under this name."""
+    program = Path(program).resolve()
+    crates = crates_below(USES)
+    with tempfile.TemporaryDirectory() as folder:
+        top = Path(folder) / 'copy'
+        for name in crates:
+            shutil.copytree(ROOT / 'crates' / name, top / 'crates' / name,
+                            ignore=shutil.ignore_patterns('out', 'proofs', 'must-fail'))
+        crates['benchmark'] = USES
+        main = top / 'crates' / 'benchmark' / 'src'
+        main.mkdir(parents=True)
+        shutil.copy(MAIN, main / 'main.rt')
+        (top / 'crates.txt').write_text(''.join('%s: %s\n' % (name, ' '.join(uses)) for name, uses in crates.items()))
+        subprocess.run(['git', 'init', '-q', str(top)], check=True)
+        rt = links_to_kit(Path(folder) / 'kit', program)
+        done = subprocess.run([str(rt), 'try', '--steps', '1'], cwd=main.parent, input=b'', capture_output=True)
+        if not program.exists():
+            sys.exit(done.stderr.decode()[-3000:])
+
+
+# ---------------------------------------------------------------- runs
+
+def run(program, text, rounds, tight, none):
+    """What the program tells of one network, with the processor time in microseconds: at most so many rounds for a vector,
+    tight vectors or not, nothing proposed or not."""
+    data = b'%d %d %d %d\n%s' % (rounds, tight, none, len(text), text.encode())
+    before = resource.getrusage(resource.RUSAGE_CHILDREN)
+    done = subprocess.run([program], input=data, capture_output=True)
+    after = resource.getrusage(resource.RUSAGE_CHILDREN)
+    words = done.stdout.decode().split()
+    if done.returncode or len(words) != len(FIELDS):
+        sys.exit('%s %s' % (done.returncode, done.stdout + done.stderr))
+    out = dict(zip(FIELDS, words[:2] + [int(word) for word in words[2:]]))
+    out['processor'] = 10 ** 6 * (after.ru_utime + after.ru_stime - before.ru_utime - before.ru_stime)
+    return out
+
+
+def least(program, text, count):
+    """The same of several runs, with the least of each time."""
+    runs = [run(program, text, 0, 0, 0) for _ in range(count)]
+    out = dict(runs[0])
+    for name in TIMES + ['processor']:
+        out[name] = min(one[name] for one in runs)
+    return out
+
+
+def is_narrow(got):
+    return got['outcome'] == 'done' and got['width'] <= NARROW
+
+
+# ---------------------------------------------------------------- tables
+
+def tell_sizes(program, sizes):
+    names = ['reading', 'ordering', 'opening', 'proposing', 'checking', 'rest of the step', 'writing', 'processor']
+    print('| junctions | ' + ' | '.join(names) + ' | width, ticks |')
+    for size in sizes:
+        got = least(program, networks.generated(7, size), 5)
+        got['rest of the step'] = got['step'] - got['proposing'] - got['checking']
+        print('| %d | %s | %.2g |%s' % (size, ' | '.join('%.1f' % (got[name] / 1000) for name in names), got['width'],
+                                         '' if is_narrow(got) else ' not narrow'))
+
+
+def tell_kinds(program, count, size, seed, rounds, tight, none):
+    for kind in networks.KINDS:
+        got = [(k, run(program, networks.network(kind, size, k), rounds, tight, none)) for k in range(seed, seed + count)]
+        narrow = [answer for _, answer in got if is_narrow(answer)]
+        widths = sorted(answer['width'] for answer in narrow) or [0]
+        times = sorted(answer['processor'] for _, answer in got)
+        print('| %s | %d of %d | %.2g | %.2g | %.1f | %.1f |' % (
+            kind, len(narrow), count, widths[len(widths) // 2], widths[-1], times[count // 2] / 1000, times[-1] / 1000))
+        for k, answer in got:
+            if not is_narrow(answer):
+                width = answer['width'] if answer['passes'] == 'true' else 0
+                print('    %s %d: %s, width %.2g' % (kind, k, answer['outcome'], width))
+
+
+def main():
+    words = sys.argv[1:]
+    if len(words) == 2 and words[0] == 'build':
+        build(words[1])
+    elif len(words) >= 2 and words[0] == 'sizes':
+        tell_sizes(words[1], [int(word) for word in words[2:]] or [100, 1000, 2000, 10000])
+    elif len(words) in (4, 5) and words[0] in ('kinds', 'rounds', 'tight'):
+        rounds, tight, none = {'kinds': (0, 0, 0), 'rounds': (300, 0, 1), 'tight': (100_000, 1, 0)}[words[0]]
+        tell_kinds(words[1], int(words[2]), int(words[3]), int(words[4]) if len(words) == 5 else 1, rounds, tight, none)
+    else:
+        sys.exit(__doc__)
+
+
+if __name__ == '__main__':
+    main()
