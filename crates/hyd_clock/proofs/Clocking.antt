@@ -8,10 +8,12 @@ use Rattle.hyd_spec_certificates.specs.Decided.{IsClockLength}
 use Rattle.hyd_clock.specs.Instants.{IsNextPattern, IsNextReport, ComesAt, IsFirstAmong}
 
 module _ (network : Project) (time pattern_at report_at alone e : ℕ) (patterns : IsNextPattern network time pattern_at)
-    (reports : IsNextReport network time report_at) (before : time < network.times.duration) (some : 1 ≤ network.times.hydraulic)
+    (reports : IsNextReport network time report_at) (before : time < network.times.duration)
+    (some : 1 ≤ network.times.hydraulic)
     (is : alone ≡ min (min (min (time + network.times.hydraulic) network.times.duration) pattern_at) report_at)
     (among : IsFirstAmong network time alone network.controls.list e) where
-  one-of : (alone ≡ time + network.times.hydraulic) ⊎ ((alone ≡ network.times.duration) ⊎ ((alone ≡ pattern_at) ⊎ (alone ≡ report_at)))
+  one-of : (alone ≡ time + network.times.hydraulic) ⊎ ((alone ≡ network.times.duration) ⊎ ((alone ≡ pattern_at) ⊎
+      (alone ≡ report_at)))
   one-of = elim (cases_lt (min (min (time + network.times.hydraulic) network.times.duration) pattern_at) report_at) [
     | inr more ↦ inr (inr (inr (omega (arith, is, more))))
     | inl less ↦ elim (cases_lt (min (time + network.times.hydraulic) network.times.duration) pattern_at) [
@@ -55,7 +57,8 @@ module _ (network : Project) (time pattern_at report_at alone e : ℕ) (patterns
   first-so : (k : ℕ) → EndsByClock network time k → e ≤ k
   first-so k (step later at) = let w = among.within in omega (arith, at, w, is)
   first-so k (duration later at) = let w = among.within in omega (arith, at, w, is)
-  first-so k (pattern later at) = let w = among.within in let l = patterns.least k (later, at) in omega (arith, l, w, is)
+  first-so k (pattern later at) = let w = among.within in let l = patterns.least k (later, at) in omega
+      (arith, l, w, is)
   first-so k (report later from at) =
       let w = among.within in let l = reports.least k (later, (from, at)) in omega (arith, l, w, is)
   first-so k (control_time control there at later) =

@@ -64,7 +64,8 @@ one-further network time cap controls i first next control h at among coming =
     subst (λ (cs : List Control). IsFirstAmong network time cap cs next) (sym is)
     (one-more network time cap (take i controls) control first next among coming)
 
-pub all-of-them : (network : Project) (time cap : ℕ) (controls all : List Control) (i first : ℕ) → length controls ≤ i → controls ≡ all
+pub all-of-them : (network : Project) (time cap : ℕ) (controls all : List Control) (i first : ℕ)
+    → length controls ≤ i → controls ≡ all
     → IsFirstAmong network time cap (take i controls) first → IsFirstAmong network time cap all first
 all-of-them network time cap controls all i first h are among =
     subst (λ (cs : List Control). IsFirstAmong network time cap cs first) (take_all i controls h ∙ are) among

@@ -15,7 +15,8 @@ later-report network time seconds from to =
         (let h = to.holds.0 in omega (arith, h)),
         (
           omega (arith, from),
-          ap (λ (n : ℕ). n % step) (let e : (time + seconds) - start ≡ (time - start) + seconds = omega (arith, from) in e) ∙ to.holds.1,
+          ap (λ (n : ℕ). n % step) (let e : (time + seconds) - start ≡ (time - start) + seconds = omega
+              (arith, from) in e) ∙ to.holds.1,
         ),
       );
       least = λ e h.

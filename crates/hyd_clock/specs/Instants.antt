@@ -17,7 +17,8 @@ IsNextPattern network time instant =
 -- the next report time
 abbrev pub IsNextReport : Project → ℕ → ℕ → Type 0
 IsNextReport network time instant =
-    IsLeast (λ e. (time < e) × ((network.times.report_start ≤ e) × ((e - network.times.report_start) % network.times.report ≡ 0)))
+    IsLeast (λ e. (time < e) × ((network.times.report_start ≤ e)
+    × ((e - network.times.report_start) % network.times.report ≡ 0)))
     instant
 
 -- the least number of seconds, at least 1, until the clock shows a time of day
@@ -38,6 +39,7 @@ IsFirstComing network time cap when instant = IsLeast (λ e. (e ≡ cap) ⊎ ((t
 pub record IsFirstAmong (network : Project) (time cap : ℕ) (controls : List Control) (instant : ℕ) : Type 0 where
   pub later : time < instant
   pub within : instant ≤ cap
-  pub reached : (instant ≡ cap) ⊎ ((control : Control) × (Contains controls control × ComesAt network control.when instant))
+  pub reached : (instant ≡ cap) ⊎ ((control : Control) × (Contains controls control
+      × ComesAt network control.when instant))
   pub none_before : (control : Control) (e : ℕ) → Contains controls control → time < e → ComesAt network control.when e
       → instant ≤ e

@@ -33,8 +33,8 @@ fn next_report(project: &Project, time: u32) -> u32
 }
 
 /// How long the clock lets a period last that begins at a time before the end of the run, in seconds: until a hydraulic
-/// step is over, the run ends, a step of the patterns begins, a report time comes, or a control acts by time or by clock,
-/// whichever comes first (EPANET 2.2 User Manual, chapter 3, hydraulic time steps).
+/// step is over, the run ends, a step of the patterns begins, a report time comes, or a control acts by time or by
+/// clock, whichever comes first (EPANET 2.2 User Manual, chapter 3, hydraulic time steps).
 pub fn clock_length(project: &Project, time: u32) -> u32
     requires sound { Sound project.now }
     requires before_end { time < project.now.times.duration }

@@ -51,4 +51,5 @@ one_more {X} {Y} {Z} view f xs list item i h before here =
 -- all of it
 pub all_there : {X Y : Type 0} (f : ℕ → X → Y) (xs : List X) (ys : List Y) (i : ℕ) → length xs ≤ i
     → ys ≡ take i (map_from f 0 xs) → ys ≡ map_from f 0 xs
-all_there {X} {Y} f xs ys i h is = is ∙ take_all i (map_from f 0 xs) (let size = as_long f 0 xs in omega (arith, size, h))
+all_there {X} {Y} f xs ys i h is = is ∙ take_all i (map_from f 0 xs) (let size = as_long f 0 xs in omega
+    (arith, size, h))

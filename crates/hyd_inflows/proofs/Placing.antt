@@ -44,18 +44,24 @@ is-box span box is =
     ap (λ (lo : ℤ). between lo span.hi) is.lo_is ∙ ap (λ (hi : ℤ). between box.lo hi) is.hi_is
 
 -- the span of a tank by its box is its inflow
-pub inflow_is : (network : Project) (net : NetView) (grid : Grid) (row : Record) (k : ℕ) (span : Span) → IsNetOf network net
+pub inflow_is : (network : Project) (net : NetView) (grid : Grid) (row : Record) (k : ℕ) (span : Span)
+    → IsNetOf network net
     → k < length row.pinned
-    → IsSpan span (inflow_box grid k (tank_node_of net k) (vector_of row (Pinned k) Lower) (vector_of row (Pinned k) Upper))
+    → IsSpan span (inflow_box grid k (tank_node_of net k) (vector_of row (Pinned k) Lower) (vector_of row
+    (Pinned k) Upper))
     → inflows_of span ≡ inflow_of_tank network grid row k
 inflow_is network net grid row k span of within is =
-    let box : Interval = inflow_box grid k (tank_node_of net k) (vector_of row (Pinned k) Lower) (vector_of row (Pinned k) Upper) in
-    let there = placed_first (λ k (vectors : Vectors). inflow_box grid k (tank_node network k) vectors.lower vectors.upper) k row.pinned nowhere no_vectors within in
-    is-box span box is ∙ ap (λ (node : ℕ). inflow_box grid k node (vector_of row (Pinned k) Lower) (vector_of row (Pinned k) Upper)) (node_is network net k of)
+    let box : Interval = inflow_box grid k (tank_node_of net k) (vector_of row (Pinned k) Lower) (vector_of row
+    (Pinned k) Upper) in
+    let there = placed_first (λ k (vectors : Vectors). inflow_box grid k
+    (tank_node network k) vectors.lower vectors.upper) k row.pinned nowhere no_vectors within in
+    is-box span box is ∙ ap (λ (node : ℕ). inflow_box grid k node (vector_of row (Pinned k) Lower) (vector_of row
+    (Pinned k) Upper)) (node_is network net k of)
     ∙ sym there
 
 -- a tank of the project has vectors that pin it
-pub pinned_there : (network : Project) (net : NetView) (row : Row) (k : ℕ) → IsNetOf network net → ArePinned (grid_of net) row
+pub pinned_there : (network : Project) (net : NetView) (row : Row) (k : ℕ) → IsNetOf network net
+    → ArePinned (grid_of net) row
     → k < length network.tanks.list → k < length (row_of row).pinned
 pinned_there network net row k of pinned h =
     let tanks = of.each_tank in

@@ -62,7 +62,8 @@ pub fn put_inflows(project: &Project, net: &Net, row: &Record, inflows: &mut Lis
     requires levels { TanksInOrder (grid_of net.now) }
     requires room { tank_count project.now ≤ length inflows.old.list + inflows.old.spare }
     ensures inflows { map inflows_of inflows.new.list
-        ≡ map_from (λ k tank. inflow_of_tank project.now (grid_of net.now) (row_of row.now) k) 0 project.now.tanks.list }
+        ≡ map_from (λ k tank. inflow_of_tank project.now (grid_of net.now)
+        (row_of row.now) k) 0 project.now.tanks.list }
     ensures small { All IsInflow inflows.new.list }
     ensures room { length inflows.old.list + inflows.old.spare ≤ length inflows.new.list + inflows.new.spare }
 {

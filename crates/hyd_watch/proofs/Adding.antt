@@ -34,8 +34,10 @@ none_yet network facts cap ends a b = record {
 }
 
 -- one more watched level
-pub one_more : (network : Project) (facts : Facts) (cap : ℕ) (watch : Watch) (watched : List Watch) (own ends both : Ends)
-    → IsReachedFirst may_reach network facts cap watch own.earliest → IsReachedFirst must_reach network facts cap watch own.latest
+pub one_more : (network : Project) (facts : Facts) (cap : ℕ) (watch : Watch) (watched : List Watch)
+    (own ends both : Ends)
+    → IsReachedFirst may_reach network facts cap watch own.earliest
+    → IsReachedFirst must_reach network facts cap watch own.latest
     → both.earliest ≡ min own.earliest ends.earliest → both.latest ≡ min own.latest ends.latest
     → AreEnds network facts cap watched ends → AreEnds network facts cap (watched ++ watch ∷ []) both
 one_more network facts cap watch watched own ends both first last a b are = record {
@@ -47,7 +49,8 @@ one_more network facts cap watch watched own ends both first last a b are = reco
 
 pub as_watched : (network : Project) (facts : Facts) (cap : ℕ) (some others : List Watch) (ends : Ends) → some ≡ others
     → AreEnds network facts cap some ends → AreEnds network facts cap others ends
-as_watched network facts cap some others ends e are = subst (λ (ws : List Watch). AreEnds network facts cap ws ends) e are
+as_watched network facts cap some others ends e are =
+    subst (λ (ws : List Watch). AreEnds network facts cap ws ends) e are
 
 pub no_more : (network : Project) (facts : Facts) (cap : ℕ) (watched : List Watch) (ends : Ends)
     → AreEnds network facts cap watched ends → AreEnds network facts cap (watched ++ []) ends
@@ -79,52 +82,65 @@ tank_more k (suc i) (x ∷ tanks) (s ∷ states) tank state at is =
     (later ∙ ap (λ (n : ℕ). (w ++ most_of n tank state) ++ least_of n tank state) n)
     ∙ ap (λ (ws : List Watch). most_of k x s ++ ws) (sym (append_assoc (least_of k x s) (w ++ m) l))
     ∙ sym (append_assoc (most_of k x s) (least_of k x s ++ (w ++ m)) l)
-    ∙ ap (λ (ws : List Watch). ws ++ l) (ap (λ (ws : List Watch). most_of k x s ++ ws) (sym (append_assoc (least_of k x s) w m))
+    ∙ ap (λ (ws : List Watch). ws ++ l) (ap (λ (ws : List Watch). most_of k x s ++ ws) (sym (append_assoc
+    (least_of k x s) w m))
     ∙ sym (append_assoc (most_of k x s) (least_of k x s ++ w) m))
 
-pub most_so : (network : Project) (facts : Facts) (cap k : ℕ) (here each : Tank) (state : TankState) (watched : List Watch) (ends : Ends)
+pub most_so : (network : Project) (facts : Facts) (cap k : ℕ) (here each : Tank) (state : TankState)
+    (watched : List Watch) (ends : Ends)
     → is_full state ≡ false → here ≡ each
     → AreEnds network facts cap (watched ++ record { tank = k; target = here.maximum; rising = true } ∷ []) ends
     → AreEnds network facts cap (watched ++ most_of k each state) ends
 most_so network facts cap k here each state watched ends lacks is are =
     as_watched network facts cap _ (watched ++ most_of k each state) ends
-    (ap (λ (b : Bool). watched ++ (if b then [] else record { tank = k; target = here.maximum; rising = true } ∷ [])) (sym lacks)
+    (ap (λ (b : Bool). watched ++ (if b then [] else record { tank = k; target = here.maximum; rising = true } ∷ []))
+    (sym lacks)
     ∙ ap (λ (t : Tank). watched ++ most_of k t state) is) are
 
-pub least_so : (network : Project) (facts : Facts) (cap k : ℕ) (here each : Tank) (state : TankState) (watched : List Watch) (ends : Ends)
+pub least_so : (network : Project) (facts : Facts) (cap k : ℕ) (here each : Tank) (state : TankState)
+    (watched : List Watch) (ends : Ends)
     → is_empty state ≡ false → here ≡ each
     → AreEnds network facts cap (watched ++ record { tank = k; target = here.minimum; rising = false } ∷ []) ends
     → AreEnds network facts cap (watched ++ least_of k each state) ends
 least_so network facts cap k here each state watched ends lacks is are =
     as_watched network facts cap _ (watched ++ least_of k each state) ends
-    (ap (λ (b : Bool). watched ++ (if b then [] else record { tank = k; target = here.minimum; rising = false } ∷ [])) (sym lacks)
+    (ap (λ (b : Bool). watched ++
+    (if b then [] else record { tank = k; target = here.minimum; rising = false } ∷ [])) (sym lacks)
     ∙ ap (λ (t : Tank). watched ++ least_of k t state) is) are
 
-pub no_most : (network : Project) (facts : Facts) (cap k : ℕ) (each : Tank) (state : TankState) (watched : List Watch) (ends : Ends)
+pub no_most : (network : Project) (facts : Facts) (cap k : ℕ) (each : Tank) (state : TankState)
+    (watched : List Watch) (ends : Ends)
     → is_full state ≡ true → AreEnds network facts cap watched ends
     → AreEnds network facts cap (watched ++ most_of k each state) ends
 no_most network facts cap k each state watched ends full are =
     as_watched network facts cap _ (watched ++ most_of k each state) ends
-    (ap (λ (b : Bool). watched ++ (if b then [] else record { tank = k; target = each.maximum; rising = true } ∷ [])) (sym full))
+    (ap (λ (b : Bool). watched ++ (if b then [] else record { tank = k; target = each.maximum; rising = true } ∷ []))
+    (sym full))
     (no_more network facts cap watched ends are)
 
-pub no_least : (network : Project) (facts : Facts) (cap k : ℕ) (each : Tank) (state : TankState) (watched : List Watch) (ends : Ends)
+pub no_least : (network : Project) (facts : Facts) (cap k : ℕ) (each : Tank) (state : TankState)
+    (watched : List Watch) (ends : Ends)
     → is_empty state ≡ true → AreEnds network facts cap watched ends
     → AreEnds network facts cap (watched ++ least_of k each state) ends
 no_least network facts cap k each state watched ends empty are =
     as_watched network facts cap _ (watched ++ least_of k each state) ends
-    (ap (λ (b : Bool). watched ++ (if b then [] else record { tank = k; target = each.minimum; rising = false } ∷ [])) (sym empty))
+    (ap (λ (b : Bool). watched ++
+    (if b then [] else record { tank = k; target = each.minimum; rising = false } ∷ [])) (sym empty))
     (no_more network facts cap watched ends are)
 
 pub tank_further : (network : Project) (facts : Facts) (cap i : ℕ) (tank : Tank) (state : TankState) (ends : Ends)
     → slice_get network.tanks.list i ≡ Some tank → slice_get facts.tanks.list i ≡ Some state
-    → AreEnds network facts cap ((tank_watches 0 (take i network.tanks.list) (take i facts.tanks.list) ++ most_of i tank state) ++ least_of i tank state) ends
+    → AreEnds network facts cap ((tank_watches 0 (take i network.tanks.list)
+    (take i facts.tanks.list) ++ most_of i tank state) ++ least_of i tank state) ends
     → AreEnds network facts cap (tank_watches 0 (take (i + 1) network.tanks.list) (take (i + 1) facts.tanks.list)) ends
 tank_further network facts cap i tank state ends at is are =
-    as_watched network facts cap _ (tank_watches 0 (take (i + 1) network.tanks.list) (take (i + 1) facts.tanks.list)) ends
-    (sym (ap (λ (n : ℕ). tank_watches 0 (take n network.tanks.list) (take n facts.tanks.list)) (let e : i + 1 ≡ suc i = omega arith in e)
+    as_watched network facts cap _ (tank_watches 0 (take (i + 1) network.tanks.list) (take
+    (i + 1) facts.tanks.list)) ends
+    (sym (ap (λ (n : ℕ). tank_watches 0 (take n network.tanks.list) (take n facts.tanks.list))
+    (let e : i + 1 ≡ suc i = omega arith in e)
     ∙ tank_more 0 i network.tanks.list facts.tanks.list tank state at is
-    ∙ ap (λ (n : ℕ). (tank_watches 0 (take i network.tanks.list) (take i facts.tanks.list) ++ most_of n tank state) ++ least_of n tank state)
+    ∙ ap (λ (n : ℕ). (tank_watches 0 (take i network.tanks.list)
+    (take i facts.tanks.list) ++ most_of n tank state) ++ least_of n tank state)
     (let same : 0 + i ≡ i = omega arith in same))) are
 
 pub all_tanks : (network : Project) (facts : Facts) (cap i : ℕ) (ends : Ends) → length network.tanks.list ≤ i
@@ -138,7 +154,8 @@ all_tanks network facts cap i ends a b are =
 
 -- ---- controls
 
-present_push : {X : Type 0} (xs : List (Option X)) (o : Option X) → present (xs ++ o ∷ []) ≡ present xs ++ present (o ∷ [])
+present_push : {X : Type 0} (xs : List (Option X)) (o : Option X)
+    → present (xs ++ o ∷ []) ≡ present xs ++ present (o ∷ [])
 present_push {X} [] o = refl
 present_push {X} (Some x ∷ xs) o = ap (λ (ys : List X). x ∷ ys) (present_push xs o)
 present_push {X} (None ∷ xs) o = present_push xs o
@@ -148,30 +165,36 @@ control_watches levels controls = present (map (watch_of levels) controls)
 
 control_more : (levels : List Interval) (controls : List Control) (i : ℕ) (control : Control) → i < length controls
     → control ≡ get_or controls i control
-    → control_watches levels (take (i + 1) controls) ≡ control_watches levels (take i controls) ++ present (watch_of levels control ∷ [])
+    → control_watches levels (take (i + 1) controls) ≡ control_watches levels (take i controls) ++ present
+    (watch_of levels control ∷ [])
 control_more levels controls i control h at =
-    ap (control_watches levels) (take_more controls i control h ∙ ap (λ (c : Control). take i controls ++ c ∷ []) (sym at))
+    ap (control_watches levels) (take_more controls i control h
+    ∙ ap (λ (c : Control). take i controls ++ c ∷ []) (sym at))
     ∙ ap present (map_push (watch_of levels) (take i controls) control)
     ∙ present_push (map (watch_of levels) (take i controls)) (watch_of levels control)
 
-pub control_further : (network : Project) (facts : Facts) (cap i : ℕ) (controls : List Control) (control : Control) (watched : List Watch)
+pub control_further : (network : Project) (facts : Facts) (cap i : ℕ) (controls : List Control) (control : Control)
+    (watched : List Watch)
     (ends : Ends) → i < length controls → control ≡ get_or controls i control
     → AreEnds network facts cap ((watched ++ control_watches (map levels_of facts.levels.list) (take i controls))
     ++ present (watch_of (map levels_of facts.levels.list) control ∷ [])) ends
-    → AreEnds network facts cap (watched ++ control_watches (map levels_of facts.levels.list) (take (i + 1) controls)) ends
+    → AreEnds network facts cap (watched ++ control_watches (map levels_of facts.levels.list) (take
+    (i + 1) controls)) ends
 control_further network facts cap i controls control watched ends h at are =
     let levels : List Interval = map levels_of facts.levels.list in
     as_watched network facts cap _ (watched ++ control_watches levels (take (i + 1) controls)) ends
     (append_assoc watched (control_watches levels (take i controls)) (present (watch_of levels control ∷ []))
     ∙ ap (λ (ws : List Watch). watched ++ ws) (sym (control_more levels controls i control h at))) are
 
-pub watched_so : (network : Project) (facts : Facts) (cap : ℕ) (watched : List Watch) (watch o : Option Watch) (ends : Ends)
+pub watched_so : (network : Project) (facts : Facts) (cap : ℕ) (watched : List Watch) (watch o : Option Watch)
+    (ends : Ends)
     → watch ≡ o → AreEnds network facts cap (watched ++ present (watch ∷ [])) ends
     → AreEnds network facts cap (watched ++ present (o ∷ [])) ends
 watched_so network facts cap watched watch o ends is are =
     subst (λ (w : Option Watch). AreEnds network facts cap (watched ++ present (w ∷ [])) ends) is are
 
-pub all_controls : (network : Project) (facts : Facts) (cap i : ℕ) (controls all : List Control) (watched : List Watch) (ends : Ends)
+pub all_controls : (network : Project) (facts : Facts) (cap i : ℕ) (controls all : List Control)
+    (watched : List Watch) (ends : Ends)
     → length controls ≤ i → controls ≡ all
     → AreEnds network facts cap (watched ++ control_watches (map levels_of facts.levels.list) (take i controls)) ends
     → AreEnds network facts cap (watched ++ control_watches (map levels_of facts.levels.list) all) ends

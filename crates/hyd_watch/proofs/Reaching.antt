@@ -55,7 +55,11 @@ each_is {X} xs ys k here each is are at =
 pub stocks_are : (network : Project) (grid : Grid) (standing : Standing) (row : Record) (facts : Facts)
     → AreStarted network grid standing row facts → (k : ℕ) → stocks_in facts k ≡ stocks_of_tank standing k
 stocks_are network grid standing row facts started k =
-    ap (λ (levels : List Interval). let s : Stocks = record { level = slice_index_or levels k nowhere; volume = (stocks_in facts k).volume } in s) started.levels
+    ap (λ (levels : List Interval). let s : Stocks = record {
+      level = slice_index_or levels k nowhere;
+      volume =
+          (stocks_in facts k).volume;
+    } in s) started.levels
     ∙ ap (λ (volumes : List Interval). let s : Stocks = record { level = slice_index_or standing.levels k nowhere; volume = slice_index_or volumes k nowhere } in s) started.volumes
 
 pub inflow_is : (network : Project) (grid : Grid) (standing : Standing) (row : Record) (facts : Facts)
@@ -67,24 +71,29 @@ inflow_is network grid standing row facts started k tank at =
     ∙ ap (inflow_of_tank network grid row) (let same : 0 + k ≡ k = omega arith in same)
 
 -- the first second of a watched level is that of its tank's stocks and inflow
-pub reached_first : (test : ReachTest) (network : Project) (facts : Facts) (cap : ℕ) (watch : Watch) (second : ℕ) (tank : Tank)
+pub reached_first : (test : ReachTest) (network : Project) (facts : Facts) (cap : ℕ) (watch : Watch) (second : ℕ)
+    (tank : Tank)
     (stocks : Stocks) (inflow : Interval)
-    → slice_get network.tanks.list watch.tank ≡ Some tank → stocks ≡ stocks_in facts watch.tank → inflow ≡ inflow_in facts watch.tank
+    → slice_get network.tanks.list watch.tank ≡ Some tank → stocks ≡ stocks_in facts watch.tank
+    → inflow ≡ inflow_in facts watch.tank
     → IsFirstSecond (test (walls_of network tank) tank stocks inflow watch.target watch.rising) cap second
     → IsReachedFirst test network facts cap watch second
 reached_first test network facts cap watch second tank stocks inflow at are is first = λ grid standing row started.
     let there = are ∙ stocks_are network grid standing row facts started watch.tank in
     let flow = is ∙ inflow_is network grid standing row facts started watch.tank tank at in
     one_watched test network grid standing row cap watch tank second at
-    (subst (λ (s : Stocks). IsFirstSecond (test (walls_of network tank) tank s (inflow_of_tank network grid row watch.tank) watch.target watch.rising) cap second) there
-    (subst (λ (q : Interval). IsFirstSecond (test (walls_of network tank) tank stocks q watch.target watch.rising) cap second) flow first))
+    (subst (λ (s : Stocks). IsFirstSecond (test (walls_of network tank) tank s
+    (inflow_of_tank network grid row watch.tank) watch.target watch.rising) cap second) there
+    (subst (λ (q : Interval). IsFirstSecond (test
+    (walls_of network tank) tank stocks q watch.target watch.rising) cap second) flow first))
 
 -- ---- the same levels in another order
 
 pub reordered : (test : ReachTest) (network : Project) (grid : Grid) (standing : Standing) (row : Record) (cap : ℕ)
     (some others : List Watch) (second : ℕ) → ((w : Watch) → Contains some w → Contains others w)
     → ((w : Watch) → Contains others w → Contains some w)
-    → IsFirstAmong test network grid standing row cap some second → IsFirstAmong test network grid standing row cap others second
+    → IsFirstAmong test network grid standing row cap some second
+    → IsFirstAmong test network grid standing row cap others second
 reordered test network grid standing row cap some others second there back among = record {
   within = among.within;
   reached = elim among.reached [
@@ -94,7 +103,8 @@ reordered test network grid standing row cap some others second there back among
   none_before = λ w c s some passes. among.none_before w (back w c) s some passes;
 }
 
-pub one_behind : (test : ReachTest) (network : Project) (facts : Facts) (cap : ℕ) (watch : Watch) (watched : List Watch) (f e : ℕ)
+pub one_behind : (test : ReachTest) (network : Project) (facts : Facts) (cap : ℕ) (watch : Watch)
+    (watched : List Watch) (f e : ℕ)
     → IsReachedFirst test network facts cap watch f → IsReachedAmong test network facts cap watched e
     → IsReachedAmong test network facts cap (watched ++ watch ∷ []) (min f e)
 one_behind test network facts cap watch watched f e first among = λ grid standing row started.
@@ -107,4 +117,5 @@ one_behind test network facts cap watch watched f e first among = λ grid standi
       | inl before ↦ contains-later Watch w watch watched before
       | inr is ↦ subst (λ (v : Watch). Contains (watch ∷ watched) v) is (contains-here Watch watch watched)
     ])
-    (one_more test network grid standing row cap watch watched e f (first grid standing row started) (among grid standing row started))
+    (one_more test network grid standing row cap watch watched e f (first grid standing row started)
+    (among grid standing row started))

@@ -14,9 +14,10 @@ use Rattle.hyd_tank.specs.Spans.{IsInflow, AreHeld}
 use Rattle.hyd_facts.specs.OfPeriod.{levels_of, volumes_of, flows_of}
 use Rattle.hyd_facts.specs.declared.facts.Facts.{Facts}
 
--- Facts hold what is known at a standing where a period starts, with the states of links after the controls of the start, and
--- what flows into each tank by the period's record.
-pub record AreStarted (network : Project) (grid : Grid) (standing : Standing) (row : Record) (facts : Facts) : Type 0 where
+-- Facts hold what is known at a standing where a period starts, with the states of links after the controls of the
+-- start, and what flows into each tank by the period's record.
+pub record AreStarted (network : Project) (grid : Grid) (standing : Standing) (row : Record)
+    (facts : Facts) : Type 0 where
   pub time : facts.time ≡ standing.time
   pub levels : map levels_of facts.levels.list ≡ standing.levels
   pub volumes : map volumes_of facts.volumes.list ≡ standing.volumes
@@ -36,7 +37,8 @@ stocks_in facts k = record {
 abbrev pub inflow_in : Facts → ℕ → Interval
 inflow_in facts k = slice_index_or (map flows_of facts.inflows.list) k nowhere
 
--- They have stocks, an inflow and a state for each tank; the stocks lie within the tank's bounds, and the inflows are in range.
+-- They have stocks, an inflow and a state for each tank; the stocks lie within the tank's bounds, and the inflows
+-- are in range.
 pub record HaveTanks (network : Project) (facts : Facts) : Type 0 where
   pub levels : length facts.levels.list ≡ tank_count network
   pub volumes : length facts.volumes.list ≡ tank_count network

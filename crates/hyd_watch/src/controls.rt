@@ -80,7 +80,8 @@ pub(crate) fn with_controls(project: &Project, facts: &Facts, cap: u32, ends: En
     requires tanks { HaveTanks project.now facts.now }
     ensures { (watched : List decided.Watch) → AreEnds project.now facts.now cap watched ends
         → AreEnds project.now facts.now cap
-        (watched ++ present (map (decided.watch_of (map levels_of facts.now.levels.list)) project.now.controls.list)) result }
+        (watched ++ present (map (decided.watch_of
+        (map levels_of facts.now.levels.list)) project.now.controls.list)) result }
 {
     let mut all = ends;
     for control in project.controls.as_slice() {

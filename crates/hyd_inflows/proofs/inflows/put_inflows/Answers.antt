@@ -37,12 +37,14 @@ loop-tank-preserved c =
     record {
       count = omega (arith, ap length listed, long, before);
       inflows = ap (map inflows_of) listed ∙ one_more inflows_of
-          (λ k (tank : Tank). inflow_of_tank network (grid_of net) row k) network.tanks.list c.loop-tank.inflows.list item i within
+          (λ k (tank : Tank). inflow_of_tank network
+          (grid_of net) row k) network.tanks.list c.loop-tank.inflows.list item i within
           c.loop-tank.invariant.inflows
           (λ tank at. inflow_is network net (grid_of net) row i item c.requires.of pinned c.inflow_of.ensures.inflow);
       small = subst (λ (xs : List Span). All IsInflow xs) (sym listed)
           (All-push IsInflow c.loop-tank.inflows.list item c.loop-tank.invariant.small c.inflow_of.ensures.small);
-      room = let room = c.loop-tank.invariant.room in let spare = c.append.ensures.spare in omega (arith, ap length listed, long, room, spare);
+      room = let room = c.loop-tank.invariant.room in let spare = c.append.ensures.spare in omega
+          (arith, ap length listed, long, room, spare);
     }
 
 pub returns-clause-inflows : goal.returns-clause-inflows

@@ -30,7 +30,8 @@ returns c = λ watched each state at is are.
     let e : here.minimum ≡ each.minimum = ap (λ (t : Tank). t.minimum) same in
     let read : Tank = get_or c.as_slice.result.now k here in
     let also : here.minimum ≡ read.minimum = ap (λ (t : Tank). t.minimum) c.index-as_slice-tank.is in
-    let kept : to_z w64 (of_z w64 read.minimum) ≡ here.minimum = omega (arith, ints, lowest, apart, bottom, top, e, also) in
+    let kept : to_z w64 (of_z w64 read.minimum) ≡ here.minimum = omega
+    (arith, ints, lowest, apart, bottom, top, e, also) in
     least_so network c.args.facts.now c.args.cap k here each state watched c.with_watch.result
     (sym (c.is_empty.ensures state is) ∙ c.if-is_empty.false) same
     (subst (λ (t : ℤ). AreEnds network c.args.facts.now c.args.cap

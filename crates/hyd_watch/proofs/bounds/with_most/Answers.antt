@@ -30,7 +30,8 @@ returns c = λ watched each state at is are.
     let e : here.maximum ≡ each.maximum = ap (λ (t : Tank). t.maximum) same in
     let read : Tank = get_or c.as_slice.result.now k here in
     let also : here.maximum ≡ read.maximum = ap (λ (t : Tank). t.maximum) c.index-as_slice-tank.is in
-    let kept : to_z w64 (of_z w64 read.maximum) ≡ here.maximum = omega (arith, ints, lowest, apart, bottom, top, e, also) in
+    let kept : to_z w64 (of_z w64 read.maximum) ≡ here.maximum = omega
+    (arith, ints, lowest, apart, bottom, top, e, also) in
     most_so network c.args.facts.now c.args.cap k here each state watched c.with_watch.result
     (sym (c.is_full.ensures state is) ∙ c.if-is_full.false) same
     (subst (λ (t : ℤ). AreEnds network c.args.facts.now c.args.cap

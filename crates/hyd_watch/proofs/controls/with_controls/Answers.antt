@@ -13,7 +13,8 @@ loop-control-preserved c = λ watched are.
     let controls = c.as_slice-control-items.result.now in
     control_further c.args.project.now facts c.args.cap c.loop-control.control-index controls c.control-item.result watched
     c.with_control-all.result c.loop-control-test.true c.control-item.is
-    (c.with_control-all.ensures (watched ++ control_watches (map levels_of facts.levels.list) (take c.loop-control.control-index controls))
+    (c.with_control-all.ensures (watched ++ control_watches (map levels_of facts.levels.list)
+    (take c.loop-control.control-index controls))
     (c.loop-control.invariant watched are))
 
 pub returns : goal.returns

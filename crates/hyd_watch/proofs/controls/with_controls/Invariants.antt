@@ -8,4 +8,5 @@ use Rattle.hyd_watch.proofs.controls.with_controls.Given as goal
 
 abbrev pub invariant-loop-control : goal.invariant-loop-control
 invariant-loop-control l = (watched : List Watch) → AreEnds l.project l.facts l.cap watched l.fn.ends
-    → AreEnds l.project l.facts l.cap (watched ++ control_watches (map levels_of l.facts.levels.list) (take l.control-index l.control-items)) l.all
+    → AreEnds l.project l.facts l.cap (watched ++ control_watches (map levels_of l.facts.levels.list)
+    (take l.control-index l.control-items)) l.all

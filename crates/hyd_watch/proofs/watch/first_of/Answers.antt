@@ -20,10 +20,12 @@ returns-clause-earliest c =
     let small = c.requires.watch.target in
     let kept : to_z w64 (of_z w64 c.args.watch.target) ≡ c.args.watch.target = omega (arith, ints, small) in
     let there = item_there network.tanks.list c.args.watch.tank c.requires.watch.tank in
-    reached_first may_reach network c.args.facts.now c.args.cap (watch_for c.args.watch) c.first_stock-earliest.result.0 there.0
+    reached_first may_reach network c.args.facts.now c.args.cap
+    (watch_for c.args.watch) c.first_stock-earliest.result.0 there.0
     (stocks_of c.stock_at-stock.result) (inflows_of c.inflow_at-inflow.result) there.1 c.stock_at-stock.ensures
     c.inflow_at-inflow.ensures.value
-    (subst (λ (target : ℤ). IsFirstSecond (may_reach (walls_of network there.0) there.0 (stocks_of c.stock_at-stock.result)
+    (subst (λ (target : ℤ). IsFirstSecond (may_reach (walls_of network there.0) there.0
+    (stocks_of c.stock_at-stock.result)
     (inflows_of c.inflow_at-inflow.result) target c.args.watch.rising) c.args.cap c.first_stock-earliest.result.0) kept
     (c.first_stock-earliest.ensures.earliest there.0 there.1))
 
@@ -33,9 +35,11 @@ returns-clause-latest c =
     let small = c.requires.watch.target in
     let kept : to_z w64 (of_z w64 c.args.watch.target) ≡ c.args.watch.target = omega (arith, ints, small) in
     let there = item_there network.tanks.list c.args.watch.tank c.requires.watch.tank in
-    reached_first must_reach network c.args.facts.now c.args.cap (watch_for c.args.watch) c.first_stock-earliest.result.1 there.0
+    reached_first must_reach network c.args.facts.now c.args.cap
+    (watch_for c.args.watch) c.first_stock-earliest.result.1 there.0
     (stocks_of c.stock_at-stock.result) (inflows_of c.inflow_at-inflow.result) there.1 c.stock_at-stock.ensures
     c.inflow_at-inflow.ensures.value
-    (subst (λ (target : ℤ). IsFirstSecond (must_reach (walls_of network there.0) there.0 (stocks_of c.stock_at-stock.result)
+    (subst (λ (target : ℤ). IsFirstSecond (must_reach (walls_of network there.0) there.0
+    (stocks_of c.stock_at-stock.result)
     (inflows_of c.inflow_at-inflow.result) target c.args.watch.rising) c.args.cap c.first_stock-earliest.result.1) kept
     (c.first_stock-earliest.ensures.latest there.0 there.1))
