@@ -6,6 +6,8 @@ ghost use Rattle.std.specs.List.{All};
 ghost use Rattle.hyd_net.specs.Sound.{Sound};
 ghost use Rattle.hyd_spec.specs.Types.{Rule};
 ghost use Rattle.hyd_spec.specs.Network.{nodes_before_tanks, tank_count};
+ghost use Rattle.hyd_spec.specs.Rules.{Readings};
+ghost use Rattle.hyd_ctrl.specs.Alike.{AreAlike};
 ghost use Rattle.hyd_ctrl.specs.Instants.{IsBounded, flow_interval, level_interval, lower_readings, upper_readings};
 ghost use Rattle.hyd_rules.specs.Values.{IsKnown, IsOpen, AreKnown, IsFirstOpen};
 
@@ -47,15 +49,18 @@ fn value_of(
     requires bounded { All IsBounded flows.now }
     requires each_level { length levels.now ≡ tank_count project.now }
     requires each_link { length links.now ≡ length project.now.links.list }
-    ensures known { IfOk result (λ value. (each : Rule) → slice_get project.now.rules.list rule ≡ Some each
-        → IsKnown project.now time
-        (lower_readings low.now (map flow_interval flows.now) (map level_interval levels.now) links.now)
-        (upper_readings high.now (map flow_interval flows.now) (map level_interval levels.now) links.now) each value) }
-    ensures open { IfErr result (λ found. (each : Rule) → slice_get project.now.rules.list rule ≡ Some each
-        → IsOpen project.now time
-        (lower_readings low.now (map flow_interval flows.now) (map level_interval levels.now) links.now)
-        (upper_readings high.now (map flow_interval flows.now) (map level_interval levels.now) links.now)
-        rule each found) }
+    ensures known { IfOk result (λ value. (lower upper : Readings) (each : Rule)
+        → AreAlike project.now (lower_readings low.now (map flow_interval flows.now)
+        (map level_interval levels.now) links.now) lower
+        → AreAlike project.now (upper_readings high.now (map flow_interval flows.now)
+        (map level_interval levels.now) links.now) upper
+        → slice_get project.now.rules.list rule ≡ Some each → IsKnown project.now time lower upper each value) }
+    ensures open { IfErr result (λ found. (lower upper : Readings) (each : Rule)
+        → AreAlike project.now (lower_readings low.now (map flow_interval flows.now)
+        (map level_interval levels.now) links.now) lower
+        → AreAlike project.now (upper_readings high.now (map flow_interval flows.now)
+        (map level_interval levels.now) links.now) upper
+        → slice_get project.now.rules.list rule ≡ Some each → IsOpen project.now time lower upper rule each found) }
 {
     match decide(project, rule, low, high, flows, levels, links, time) {
         Truth::True => Ok(true),
@@ -71,7 +76,8 @@ fn value_of(
 
 /// Puts the value of each rule at an instant of a period, where all are decided (EPANET 2.2 User Manual, [RULES]).
 /// Fails
-/// with the first rule that is open.
+/// with the first rule that is open. Both are so by any readings that differ in the heads of tanks alone, which no rule
+/// looks at.
 ///
 /// `low` and `high` are the heads of junctions and then of reservoirs from below and from above, `flows` the flows of
 /// links, `levels` the levels of tanks carried to the instant, `links` the states that links were commanded to be in,
@@ -94,12 +100,18 @@ pub fn decide_all(
     requires each_level { length levels.now ≡ tank_count project.now }
     requires each_link { length links.now ≡ length project.now.links.list }
     requires each_value { length values.old ≡ length project.now.rules.list }
-    ensures decided { OnOk result (AreKnown project.now time
-        (lower_readings low.now (map flow_interval flows.now) (map level_interval levels.now) links.now)
-        (upper_readings high.now (map flow_interval flows.now) (map level_interval levels.now) links.now) values.new) }
-    ensures open { IfErr result (IsFirstOpen project.now time
-        (lower_readings low.now (map flow_interval flows.now) (map level_interval levels.now) links.now)
-        (upper_readings high.now (map flow_interval flows.now) (map level_interval levels.now) links.now)) }
+    ensures decided { OnOk result ((lower upper : Readings)
+        → AreAlike project.now (lower_readings low.now (map flow_interval flows.now)
+        (map level_interval levels.now) links.now) lower
+        → AreAlike project.now (upper_readings high.now (map flow_interval flows.now)
+        (map level_interval levels.now) links.now) upper
+        → AreKnown project.now time lower upper values.new) }
+    ensures open { IfErr result (λ found. (lower upper : Readings)
+        → AreAlike project.now (lower_readings low.now (map flow_interval flows.now)
+        (map level_interval levels.now) links.now) lower
+        → AreAlike project.now (upper_readings high.now (map flow_interval flows.now)
+        (map level_interval levels.now) links.now) upper
+        → IsFirstOpen project.now time lower upper found) }
     ensures each { length values.new ≡ length values.old }
 {
     for rule in 0..values.len() {
