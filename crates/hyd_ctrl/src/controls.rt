@@ -120,7 +120,9 @@ fn open_level(levels: &[LevelSpan], control: &Control) -> Option<LevelSpan>
     None
 }
 
-fn find_open(project: &Project, levels: &[LevelSpan]) -> Result<(), LevelOpen>
+/// Whether each level control is decided at the level intervals of tanks (head ticks above their bottoms). Fails with
+/// [`LevelOpen`], the first one that isn't, exactly where one isn't.
+pub fn find_open(project: &Project, levels: &[LevelSpan]) -> Result<(), LevelOpen>
     requires sound { Sound project.now }
     requires each_level { length levels.now ≡ tank_count project.now }
     ensures decided { OnOk result (ControlsAreDecided project.now (map level_interval levels.now)) }

@@ -15,5 +15,5 @@ mod states;
 
 pub use actions::act;
 pub use changes::Changes;
-pub use controls::{LevelOpen, settle};
+pub use controls::{LevelOpen, find_open, settle};
 pub use rules::decide;
