@@ -1,6 +1,6 @@
 //! The run of a network that was read.
 
-ghost use Rattle.std.specs.Prelude.{◌≡◌, true, false, IsTrue, IfOk};
+ghost use Rattle.std.specs.Prelude.{◌≡◌, true, false, IsTrue};
 ghost use Rattle.hyd_net.specs.Sound.{Sound};
 ghost use Rattle.hyd_spec_certificates.specs.Record.{initial_standing};
 ghost use Rattle.hyd_sim.specs.View.{IsSingle, standing_of};
@@ -11,7 +11,7 @@ ghost use Rattle.hyd_cli.specs.Statuses.{status_of_outcome};
 use crate::command::refuse_text;
 use crate::status::{Status, fault_status};
 use hyd_io::{Channel, Desk, Pen};
-use hyd_net::{Cause, OutOfMemory, Project};
+use hyd_net::{Cause, Project};
 use hyd_newton::{Finder, Gradient};
 use hyd_run::{RunEnd, run};
 use hyd_sim::{Settings, Sim};
@@ -41,23 +41,6 @@ fn status_of_end(end: RunEnd) -> Status
     }
 }
 
-/// A run of a network at its start and the gradient method, with all the memory that the two need.
-fn open_run(
-    alloc: Global,
-    project: Project,
-    settings: Settings,
-) -> Result<(Sim, Gradient), OutOfMemory>
-    requires sound { Sound project }
-    requires single { IsSingle project }
-    ensures standing { IfOk result (λ both. standing_of both.0 ≡ initial_standing project) }
-    ensures project { IfOk result (λ both. both.0.project ≡ project) }
-    ensures settings { IfOk result (λ both. both.0.settings ≡ settings) }
-{
-    let sim = Sim::open(alloc, project, settings)?;
-    let finder = Gradient::open(alloc, sim.net())?;
-    Ok((sim, finder))
-}
-
 /// Creates CERT, and puts a run out, the certificate into it and the report on standard output.
 fn put_run<D: Desk, F: Finder>(
     sim: &mut Sim,
@@ -85,6 +68,23 @@ fn put_run<D: Desk, F: Finder>(
     }
 }
 
+/// Opens the gradient method for a run at its start, and puts the run out.
+fn run_by_gradient<D: Desk>(alloc: Global, sim: &mut Sim, cert: &str, desk: &mut D) -> Status
+    requires start { standing_of sim.old ≡ initial_standing sim.old.project }
+    requires creates { IsTrue (D.may_create cert.now) }
+    ensures cause { HasCause result (D.counts desk.old) (D.counts desk.new) }
+    ensures answers { AnswersRun sim.old.project sim.old.settings cert.now result
+        (seen D.files D.written D.printed desk.old) (seen D.files D.written D.printed desk.new) }
+    ensures others { ChangesOnly cert.now
+        (seen D.files D.written D.printed desk.old) (seen D.files D.written D.printed desk.new) }
+    ensures opens { OpensCert result (D.openings desk.old) (D.openings desk.new) }
+{
+    match Gradient::open(alloc, sim.net()) {
+        Ok(mut finder) => put_run(sim, &mut finder, cert, desk),
+        Err(_) => Status::OutOfMemory,
+    }
+}
+
 /// Runs a network that has one period alone, and no tanks, controls and rules.
 fn run_single<D: Desk>(
     alloc: Global,
@@ -103,10 +103,10 @@ fn run_single<D: Desk>(
         (seen D.files D.written D.printed desk.old) (seen D.files D.written D.printed desk.new) }
     ensures opens { OpensCert result (D.openings desk.old) (D.openings desk.new) }
 {
-    let Ok((mut sim, mut finder)) = open_run(alloc, project, settings) else {
-        return Status::OutOfMemory;
-    };
-    put_run(&mut sim, &mut finder, cert, desk)
+    match Sim::open(alloc, project, settings) {
+        Ok(mut sim) => run_by_gradient(alloc, &mut sim, cert, desk),
+        Err(_) => Status::OutOfMemory,
+    }
 }
 
 /// Runs a network that was read, or refuses it: one with more than one period, a tank, a control or a rule isn't taken

@@ -22,7 +22,7 @@ returns-in-Ok-clause-answers g c =
     (told g.D.Desk.files g.D.Desk.rest g.D.Desk.written g.D.Desk.printed g.D.Desk.target g.D.Desk.ready g.D.Desk.counts
     g.D.Desk.openings c.run.new.desk)
     c.in-Ok.ensures.whole (search rules) c.create.ensures.printed_stays (search rules) c.create.ensures.still_told
-    c.run.ensures.leaves (g.D.Desk.is_content c.run.new.desk))
+    c.run.ensures.leaves (search rules))
 
 pub returns-in-Ok-clause-cause : goal.returns-in-Ok-clause-cause
 returns-in-Ok-clause-cause g c =
@@ -54,7 +54,7 @@ returns-in-Err-clause-answers g c =
     (told g.D.Desk.files g.D.Desk.rest g.D.Desk.written g.D.Desk.printed g.D.Desk.target g.D.Desk.ready g.D.Desk.counts
     g.D.Desk.openings c.run.new.desk)
     c.in-Err.ensures.broken_off (search rules) c.create.ensures.printed_stays (search rules) c.create.ensures.still_told
-    c.run.ensures.leaves (g.D.Desk.is_content c.run.new.desk))
+    c.run.ensures.leaves (search rules))
 
 pub returns-in-Err-clause-cause : goal.returns-in-Err-clause-cause
 returns-in-Err-clause-cause g c =
