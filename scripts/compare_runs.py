@@ -5,11 +5,12 @@
 
 OTHER is the folder of an independent program in Python: its module `fuzz` makes texts, its module `cli` runs them. Of
 COUNT texts (5,000 where it isn't given) most are networks of a single instant, their tanks made reservoirs, without
-controls, rules and a duration; some of these get a fault, and a few texts stay as they were made. Each is run by both with
-`--tight`, some with another number of rounds, and the printed bytes, those of the certificate and the exit status must be
-the same. Where rounds are spent (status 7) in one of the two, the other may differ; where no certificate exists, another
-junction may be named if the independent program says that it hangs on the order of raises. A text without a fault that
-isn't such a network must be refused.
+controls, rules and a duration; some of these get a fault, and a few texts stay as they were made. Each is run by both, some
+with another number of rounds. With `--tight` the printed bytes, those of the certificate and the exit status must be the
+same. Where rounds are spent (status 7) in one of the two, the other may differ; where no certificate exists, another
+junction may be named if the independent program says that it hangs on the order of raises. Without `--tight` the record
+may be another one that is narrow: then the other program must accept it, and print the same report of it. A text without a
+fault that isn't such a network must be refused.
 
 The program of this repository is built without proofs, as `rt try` builds it, its checks at run time left in, but without
 a sanitizer, by a folder of links to the kit whose linker keeps the program. PROGRAM=FILE in the environment names one that
@@ -24,12 +25,15 @@ import shutil
 import subprocess
 import sys
 import tempfile
+from decimal import Decimal
 from pathlib import Path
 
 from compare_input import ROOT, change_numbers, crates_below
 
 MANY_PERIODS = (5, b'REFUSED line 0 cause 6 detail 12\n', None)
 SPENT = 7
+# A head tick is 10^-13 m.
+HEAD_TICKS = 10 ** 13
 SECONDS = 120
 CLANG = '''#!/bin/bash
 words=()
@@ -129,7 +133,11 @@ def steady(fuzz, rng):
 def made(fuzz, rng):
     """A text, and the words behind `run NET CERT`."""
     how = rng.randrange(20)
-    words = ['--tight'] if rng.randrange(8) else ['--tight', '--sweeps', rng.choice('0 1 2 5 20 1000'.split())]
+    words = ['--tight'] if rng.randrange(3) else []
+    if not words and rng.randrange(2):
+        words += ['--width', rng.choice('0.000000001 0.0000001 0.00001 0.01 1000'.split())]
+    if rng.randrange(8) == 0:
+        words += ['--sweeps', rng.choice('0 1 2 5 20 1000'.split())]
     maker = fuzz.Maker(rng, True) if how == 0 else steady(fuzz, rng)
     text = maker.make()
     if how == 1:
@@ -154,6 +162,26 @@ def expected(cli, text, words, audit=None):
     return status, printed, files.get('n.cert')
 
 
+def agreed(cli, text, words, tight, got):
+    """What the independent program answers to a run, or, where tight vectors aren't asked for, what it answers to the
+    record found: that is to be tight or narrow, and valid."""
+    if '--tight' in words or got[0] != 0 or tight[0] not in (0, SPENT) or got[2] == tight[2]:
+        return tight
+    if not is_narrow(got[2], words[words.index('--width') + 1] if '--width' in words else '0.01'):
+        return ('a narrow record',) + tight[1:]
+    return cli.Tool({'n.inp': text, 'n.cert': got[2]}, 'e').call(['check', 'n.inp', 'n.cert']) + (got[2],)
+
+
+def is_narrow(cert, width):
+    """Whether the head intervals of a record are at most so many metres wide."""
+    heads = {b'MU': [], b'ML': []}
+    for line in cert.splitlines():
+        if line[:2] in heads:
+            heads[line[:2]].append(int(line[2:]))
+    most = int(Decimal(width) * HEAD_TICKS)
+    return all(upper - lower <= most for upper, lower in zip(heads[b'MU'], heads[b'ML']))
+
+
 def found(program, text, words):
     """This repository's answer."""
     with tempfile.TemporaryDirectory() as folder:
@@ -176,9 +204,12 @@ def compared(job):
     import cli
     import fuzz
     text, words = made(fuzz, random.Random(seed))
-    want, got = expected(cli, text, words), found(program, text, words)
-    notes = []
-    if want != got and SPENT not in (want[0], got[0]):
+    got, notes = found(program, text, words), []
+    tight = expected(cli, text, words)
+    want = agreed(cli, text, words, tight, got)
+    if want == got != tight:
+        notes.append('another narrow record')
+    elif want != got and SPENT not in (want[0], got[0]):
         expected(cli, text, words, notes)
     return seed, text, words, want, got, notes
 
@@ -186,7 +217,7 @@ def compared(job):
 def comparison(want, got, notes):
     """How the two answers compare; only `DIFFERENT` is an error."""
     if want == got:
-        return 'same'
+        return notes[0] if notes else 'same'
     if SPENT in (want[0], got[0]):
         return 'rounds spent'
     fronts = [answer[1].rpartition(b' NOCERT ')[2].rpartition(b' ')[0] for answer in (want, got)]
