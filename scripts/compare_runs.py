@@ -214,12 +214,12 @@ def compared(job):
     return seed, text, words, want, got, notes
 
 
-def comparison(want, got, notes):
+def comparison(words, want, got, notes):
     """How the two answers compare; only `DIFFERENT` is an error."""
     if want == got:
         return notes[0] if notes else 'same'
     if SPENT in (want[0], got[0]):
-        return 'rounds spent'
+        return 'rounds spent, %s' % ('as many as asked for' if '--sweeps' in words else '200')
     fronts = [answer[1].rpartition(b' NOCERT ')[2].rpartition(b' ')[0] for answer in (want, got)]
     if notes and want[0] == got[0] == 6 and want[2] == got[2] and fronts[0] == fronts[1] != b'':
         return 'another junction without a value'
@@ -273,7 +273,7 @@ def main():
         with multiprocessing.Pool(int(os.environ.get('JOBS', '2'))) as pool:
             for done in pool.imap_unordered(compared, jobs, 4):
                 seed, text, words, want, got, notes = done
-                how = comparison(want, got, notes)
+                how = comparison(words, want, got, notes)
                 statuses['%s found %s: %s' % (want[0], got[0], how)] += 1
                 kinds.update(kind(line) for line in got[1].decode('latin-1').splitlines())
                 if how == 'DIFFERENT':
