@@ -72,13 +72,7 @@ pub fn tool<D: Desk>(alloc: Global, words: &[String], desk: &mut D) -> Status
 }
 
 /// Reads NET, runs its network, and writes CERT and prints the report.
-fn run<D: Desk>(
-    alloc: Global,
-    net: &str,
-    cert: &str,
-    settings: Settings,
-    desk: &mut D,
-) -> Status
+fn run<D: Desk>(alloc: Global, net: &str, cert: &str, settings: Settings, desk: &mut D) -> Status
     requires opens { IsTrue (D.may_open net.now) }
     requires creates { IsTrue (D.may_create cert.now) }
     ensures cause { HasCause result (D.counts desk.old) (D.counts desk.new) }

@@ -42,12 +42,7 @@ fn status_of_end(end: RunEnd) -> Status
 }
 
 /// Creates CERT, and puts a run out, the certificate into it and the report on standard output.
-fn put_run<D: Desk, F: Finder>(
-    sim: &mut Sim,
-    finder: &mut F,
-    cert: &str,
-    desk: &mut D,
-) -> Status
+fn put_run<D: Desk, F: Finder>(sim: &mut Sim, finder: &mut F, cert: &str, desk: &mut D) -> Status
     requires start { standing_of sim.old ≡ initial_standing sim.old.project }
     requires creates { IsTrue (D.may_create cert.now) }
     ensures cause { HasCause result (D.counts desk.old) (D.counts desk.new) }

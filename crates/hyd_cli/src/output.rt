@@ -28,11 +28,7 @@ pub(crate) fn print_usage<D: Desk>(desk: &mut D) -> Result<(), OutFault>
 }
 
 /// Prints the line of a text that is refused.
-pub(crate) fn print_refusal<D: Desk>(
-    line: u32,
-    cause: Cause,
-    desk: &mut D,
-) -> Result<(), OutFault>
+pub(crate) fn print_refusal<D: Desk>(line: u32, cause: Cause, desk: &mut D) -> Result<(), OutFault>
     ensures prints { Prints (refused_text_line line cause) result
         (seen D.files D.written D.printed desk.old) (seen D.files D.written D.printed desk.new)
         (D.counts desk.old) (D.counts desk.new) }

@@ -11,10 +11,7 @@ use std::alloc::{AllocError, Global};
 
 /// What the words ask for, where they are an order to run a network. The other commands aren't taken yet. The error is
 /// want of memory.
-pub(crate) fn run_words(
-    alloc: Global,
-    words: &[String],
-) -> Result<Option<RunWords<'_>>, AllocError>
+pub(crate) fn run_words(alloc: Global, words: &[String]) -> Result<Option<RunWords<'_>>, AllocError>
     ensures { IfOk result (λ found. option_map run_seen found ≡ command (map string_bytes words.now)) }
 {
     match read_words(alloc, words) {

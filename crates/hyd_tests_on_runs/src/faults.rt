@@ -60,7 +60,9 @@ const FAULTS: &[Fault] = &[
         failing: 6,
         starving: 0,
         status: Status::WriteFault,
-        written: Some("HYDCERT 1 1 0\nPERIOD 0 0 0\nMU 998718316144933\nML 998718316123912\nEND 1 FINISHED\n"),
+        written: Some(
+            "HYDCERT 1 1 0\nPERIOD 0 0 0\nMU 998718316144933\nML 998718316123912\nEND 1 FINISHED\n",
+        ),
     },
 ];
 
@@ -100,7 +102,10 @@ fn a_text_of_64_mib_and_a_byte_is_refused(rt: HostRuntime) -> Result<(), Fail> {
     desk.add("n.inp", text.as_slice())?;
     let words = owned(alloc, &WORDS)?;
     assert_eq!(rt; tool(alloc, &words, &mut desk), Status::InputRefused);
-    assert_eq!(rt; desk.printed(), b"REFUSED line 0 cause 7 detail 1\n".as_slice());
+    assert_eq!(rt;
+        desk.printed(),
+        b"REFUSED line 0 cause 7 detail 1\n".as_slice()
+    );
     let opened_alone = Openings {
         opened: 1,
         created: 0,

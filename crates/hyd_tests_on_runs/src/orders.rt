@@ -81,7 +81,10 @@ fn words_behind_the_name_are_the_command(rt: HostRuntime) -> Result<(), Fail> {
     for word in WORDS {
         given.push(String::from_str(alloc, word)?)?;
     }
-    assert_eq!(rt; start(alloc, Ok(given.into_iter()), &mut desk), Status::Done);
+    assert_eq!(rt;
+        start(alloc, Ok(given.into_iter()), &mut desk),
+        Status::Done
+    );
     assert_eq!(rt; desk.printed(), VALVES[0].printed.as_bytes());
     assert_eq!(rt; Status::Usage.number(), 2);
     Ok(())

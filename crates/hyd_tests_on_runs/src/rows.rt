@@ -18,14 +18,18 @@ pub(crate) const VALVES: &[Row] = &[
         text: "[OPTIONS]\nUNITS CMD\nHEADLOSS C-M\n[JUNCTIONS]\nJ 0 1000\n[RESERVOIRS]\nR 100\n[VALVES]\nV R J 304.8 TCV 100 0\n",
         status: Status::Done,
         printed: "HYD 1\nTIME 0:00:00\nJUNCTION J head 99.8718 99.8719 pressure 99.8718 99.8719 outflow 999.9999 1000.0001\nRESERVOIR R head 100.0000 100.0000\nLINK V flow 999.9999 1000.0001 status ACTIVE\nDONE 1\n",
-        written: Some("HYDCERT 1 1 0\nPERIOD 0 0 0\nMU 998718316144933\nML 998718316123912\nEND 1 FINISHED\n"),
+        written: Some(
+            "HYDCERT 1 1 0\nPERIOD 0 0 0\nMU 998718316144933\nML 998718316123912\nEND 1 FINISHED\n",
+        ),
     },
     Row {
         name: "no demand",
         text: "[OPTIONS]\nUNITS CMD\nHEADLOSS C-M\n[JUNCTIONS]\nJ 0 0\n[RESERVOIRS]\nR 100\n[VALVES]\nV R J 304.8 TCV 100 0\n",
         status: Status::Done,
         printed: "HYD 1\nTIME 0:00:00\nJUNCTION J head 99.9999 100.0001 pressure 99.9999 100.0001 outflow -0.0001 0.0001\nRESERVOIR R head 100.0000 100.0000\nLINK V flow -0.0009 0.0009 status ACTIVE\nDONE 1\n",
-        written: Some("HYDCERT 1 1 0\nPERIOD 0 0 0\nMU 1000000000000001\nML 999999999999999\nEND 1 FINISHED\n"),
+        written: Some(
+            "HYDCERT 1 1 0\nPERIOD 0 0 0\nMU 1000000000000001\nML 999999999999999\nEND 1 FINISHED\n",
+        ),
     },
     Row {
         name: "too great a demand",
@@ -46,7 +50,9 @@ pub(crate) const VALVES: &[Row] = &[
         text: "[OPTIONS]\nUNITS CMD\nHEADLOSS C-M\n[JUNCTIONS]\nJ 0 1000\n[RESERVOIRS]\nR 100\n[VALVES]\nV R J 304.8 FCV 5000 0\n",
         status: Status::Done,
         printed: "HYD 1\nTIME 0:00:00\nJUNCTION J head 99.9999 100.0000 pressure 99.9999 100.0000 outflow 999.9999 1000.0001\nRESERVOIR R head 100.0000 100.0000\nLINK V flow 999.9992 1000.0001 status OPEN\nDONE 1\n",
-        written: Some("HYDCERT 1 1 0\nPERIOD 0 0 0\nMU 999999998754178\nML 999999998754177\nEND 1 FINISHED\n"),
+        written: Some(
+            "HYDCERT 1 1 0\nPERIOD 0 0 0\nMU 999999998754178\nML 999999998754177\nEND 1 FINISHED\n",
+        ),
     },
     Row {
         name: "a flow control valve that is too small",
@@ -60,7 +66,9 @@ pub(crate) const VALVES: &[Row] = &[
         text: "[OPTIONS]\nUNITS CMD\nHEADLOSS C-M\n[JUNCTIONS]\nA 0 0\nB 0 1000\n[RESERVOIRS]\nR 100\n[VALVES]\nV R A 304.8 TCV 100 0\nW A B 304.8 TCV 100 0\n",
         status: Status::Done,
         printed: "HYD 1\nTIME 0:00:00\nJUNCTION A head 99.8718 99.8719 pressure 99.8718 99.8719 outflow -0.0001 0.0001\nJUNCTION B head 99.7436 99.7437 pressure 99.7436 99.7437 outflow 999.9999 1000.0001\nRESERVOIR R head 100.0000 100.0000\nLINK V flow 999.9999 1000.0001 status ACTIVE\nLINK W flow 999.9999 1000.0001 status ACTIVE\nDONE 1\n",
-        written: Some("HYDCERT 1 2 0\nPERIOD 0 0 0\nMU 998718316158263\nMU 997436632303196\nML 998718316110583\nML 997436632234495\nEND 1 FINISHED\n"),
+        written: Some(
+            "HYDCERT 1 2 0\nPERIOD 0 0 0\nMU 998718316158263\nMU 997436632303196\nML 998718316110583\nML 997436632234495\nEND 1 FINISHED\n",
+        ),
     },
     Row {
         name: "two junctions without a source",
@@ -122,21 +130,27 @@ pub(crate) const OTHERS: &[Row] = &[
         text: "[OPTIONS]\nUNITS CFS\nHEADLOSS C-M\n[JUNCTIONS]\nJ 0 0\n[RESERVOIRS]\nA 0\nB 40\n[CURVES]\nC 1 30\n[PUMPS]\nU A J HEAD C\n[VALVES]\nV J B 12 TCV 100 0\n",
         status: Status::Done,
         printed: "HYD 1\nTIME 0:00:00\nJUNCTION J head 39.9999 40.0001 pressure 17.3319 17.3321 outflow -0.0001 0.0001\nRESERVOIR A head 0.0000 0.0000\nRESERVOIR B head 40.0000 40.0000\nLINK U flow -0.0001 0.0001 status UNSURE\nLINK V flow -0.0001 0.0001 status ACTIVE\nDONE 1\n",
-        written: Some("HYDCERT 1 1 0\nPERIOD 0 0 0\nMU 121920000000001\nML 121919999999999\nEND 1 FINISHED\n"),
+        written: Some(
+            "HYDCERT 1 1 0\nPERIOD 0 0 0\nMU 121920000000001\nML 121919999999999\nEND 1 FINISHED\n",
+        ),
     },
     Row {
         name: "demands by pressure",
         text: "[OPTIONS]\nUNITS CMD\nHEADLOSS C-M\nDEMAND MODEL PDA\nMINIMUM PRESSURE 10\nREQUIRED PRESSURE 20\n[JUNCTIONS]\nA 0 1000\nB 0 1000\nC 0 1000\n[RESERVOIRS]\nRA 5\nRB 12.5\nRC 25\n[VALVES]\nVA RA A 300 FCV 5000 0\nVB RB B 300 FCV 5000 0\nVC RC C 300 FCV 5000 0\n",
         status: Status::Done,
         printed: "HYD 1\nTIME 0:00:00\nJUNCTION A head 4.9999 5.0001 pressure 4.9999 5.0001 outflow -0.0001 0.0001\nJUNCTION B head 12.4999 12.5000 pressure 12.4999 12.5000 outflow 499.9999 500.0000\nJUNCTION C head 24.9999 25.0000 pressure 24.9999 25.0000 outflow 999.9999 1000.0001\nRESERVOIR RA head 5.0000 5.0000\nRESERVOIR RB head 12.5000 12.5000\nRESERVOIR RC head 25.0000 25.0000\nLINK VA flow -0.0009 0.0009 status OPEN\nLINK VB flow 499.9996 500.0005 status OPEN\nLINK VC flow 999.9992 1000.0001 status OPEN\nDONE 1\n",
-        written: Some("HYDCERT 1 3 0\nPERIOD 0 0 0\nMU 50000000000001\nMU 124999999377089\nMU 249999998754178\nML 49999999999999\nML 124999999377088\nML 249999998754177\nEND 1 FINISHED\n"),
+        written: Some(
+            "HYDCERT 1 3 0\nPERIOD 0 0 0\nMU 50000000000001\nMU 124999999377089\nMU 249999998754178\nML 49999999999999\nML 124999999377088\nML 249999998754177\nEND 1 FINISHED\n",
+        ),
     },
     Row {
         name: "an emitter below its junction",
         text: "[OPTIONS]\nUNITS CMD\nHEADLOSS C-M\n[JUNCTIONS]\nJ 10 0\n[EMITTERS]\nJ 100\n[RESERVOIRS]\nR 6\n[VALVES]\nV R J 300 FCV 5000 0\n",
         status: Status::Done,
         printed: "HYD 1\nTIME 0:00:00\nJUNCTION J head 6.0000 6.0001 pressure -4.0000 -3.9999 outflow -200.0001 -199.9999\nRESERVOIR R head 6.0000 6.0000\nLINK V flow -200.0004 -199.9995 status OPEN\nDONE 1\n",
-        written: Some("HYDCERT 1 1 0\nPERIOD 0 0 0\nMU 60000000249165\nML 60000000249164\nEND 1 FINISHED\n"),
+        written: Some(
+            "HYDCERT 1 1 0\nPERIOD 0 0 0\nMU 60000000249165\nML 60000000249164\nEND 1 FINISHED\n",
+        ),
     },
     Row {
         name: "a pump with a curve of four points",

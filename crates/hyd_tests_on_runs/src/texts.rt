@@ -13,9 +13,11 @@ fn runs_so(alloc: Global, words: &[String], row: &Row) -> Result<bool, AllocErro
     desk.add("n.inp", row.text.as_bytes())?;
     let status = tool(alloc, words, &mut desk);
     let written = row.written.map(|text| text.as_bytes());
-    Ok(status == row.status
-        && desk.printed() == row.printed.as_bytes()
-        && desk.file("n.cert") == written)
+    Ok(
+        status == row.status
+            && desk.printed() == row.printed.as_bytes()
+            && desk.file("n.cert") == written,
+    )
 }
 
 /// The name of the first row that doesn't run as it is to.
