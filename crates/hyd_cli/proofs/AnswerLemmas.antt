@@ -1,5 +1,5 @@
 -- How what a call leaves follows from what the calls in it leave.
-use Rattle.std.proofs.Common.{◌≡◌, ◌≢◌, ℕ, ℤ, Bool, List, [], ◌++◌, Option, None, Some, ◌⊎◌, inl, inr, ◌∙◌, refl, sym, ap, subst, is_some}
+use Rattle.std.proofs.Common.{◌≡◌, ◌≢◌, ℕ, List, [], Option, None, Some, ◌⊎◌, inl, inr, ◌∙◌, refl, sym, ap, subst, is_some}
 use Rattle.std.specs.Option.{option_map_or}
 use Rattle.std.proofs.lemmas.Bool.{false≢true}
 use Rattle.hyd_io.specs.Told.{Files, where_told, append_known, file_at, content_of, PutOut}
@@ -13,12 +13,12 @@ use Rattle.hyd_net.specs.declared.cause.Cause.{Cause}
 use Rattle.hyd_net.specs.declared.cause.Cause.TheVariants.{Unsupported}
 use Rattle.hyd_spec.specs.Types.{Project}
 use Rattle.hyd_spec_input.specs.Project.{IsProject}
-use Rattle.hyd_spec_reports.specs.Headline.{Outcome, Finished, Stopped, RunWrites, RunBreaksOff, outcome_number}
+use Rattle.hyd_spec_reports.specs.Headline.{Outcome, Finished, Stopped, outcome_number}
 use Rattle.hyd_spec_reports.specs.declared.StopCause.TheVariants.{NoCertificate, TankOpen, RuleOpen, ControlOpen, EventOpen, RoundsSpent as Rounds, Demand as OutOfRange}
 use Rattle.hyd_sim.specs.declared.settings.Settings.{Settings}
 use Rattle.hyd_run.specs.Pens.{Told, OneRose, LeavesRest}
 use Rattle.hyd_run.specs.Runs.{IsPutOut, IsBrokenOff}
-use Rattle.hyd_cli.specs.Answers.{Seen, IsUntouched, NothingPut, Delivered, CutShort, PrintsRefusal, OnlyPrinted, OnlyPrintedFront, HasCause, status_of, OpensOnce, OpensCert, Leaves, Holds, AnswersRefused, AnswersRun, AnswersNetwork, AnswersText}
+use Rattle.hyd_cli.specs.Answers.{Seen, IsUntouched, NothingPut, Delivered, CutShort, HasCause, status_of, OpensOnce, OpensCert, Leaves, Holds, AnswersRefused, AnswersRun, AnswersNetwork, AnswersText}
 use Rattle.hyd_cli.specs.Statuses.{number_of, status_of_outcome}
 use Rattle.hyd_cli.specs.declared.status.Status.{Status}
 use Rattle.hyd_cli.specs.declared.status.Status.TheVariants.{Done, OutOfMemory, Usage, ReadFault, WriteFault, InputRefused, Undecided, RoundsSpent, Demand, Stalled}

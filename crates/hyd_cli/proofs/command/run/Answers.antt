@@ -1,8 +1,8 @@
 -- What the calls of a run leave, said of its start.
-use Rattle.std.proofs.Common.{◌≡◌, ℕ, List, Option, ap, ◌∙◌}
+use Rattle.std.proofs.Common.{Option, ap, ◌∙◌}
 use Rattle.hyd_io.specs.Told.{Files, file_at}
 use Rattle.hyd_spec_networks.proofs.OneFault.{one_fault, no_fault_beside}
-use Rattle.hyd_cli.specs.Answers.{Seen, seen, AnswersRefused}
+use Rattle.hyd_cli.specs.Answers.{seen}
 use Rattle.hyd_cli.proofs.AnswerLemmas.{leaves_since, holds_since, run_since, refused_since, refused_leaves_since, refused_holds_since, same_refusal, opens_once, network_never_usage, refusal_never_usage}
 use Rattle.hyd_cli.proofs.command.run.Goals as goal
 

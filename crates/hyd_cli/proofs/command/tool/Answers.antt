@@ -1,12 +1,11 @@
 -- What the words ask for is the order that they are.
-use Rattle.std.proofs.Common.{◌≡◌, ℕ, List, Some, sym, ◌∙◌, subst}
-use Rattle.std.specs.Prelude.{map, string_bytes, Option}
+use Rattle.std.proofs.Common.{◌≡◌, Some, sym, ◌∙◌, subst}
+use Rattle.std.specs.Prelude.{map, string_bytes}
 use Rattle.std.proofs.lemmas.Option.{same_Some}
 use Rattle.hyd_io.specs.Told.{IsTold}
 use Rattle.hyd_sim.specs.declared.settings.Settings.{Settings}
-use Rattle.hyd_words.specs.Orders.{RunOrder}
 use Rattle.hyd_words.specs.Seen.{run_seen}
-use Rattle.hyd_cli.specs.Answers.{seen, ChangesOnly, Holds, AnswersRefused, AnswersText}
+use Rattle.hyd_cli.specs.Answers.{seen, AnswersText}
 use Rattle.hyd_cli.specs.Words.{command}
 use Rattle.hyd_cli.proofs.command.tool.Goals as goal
 

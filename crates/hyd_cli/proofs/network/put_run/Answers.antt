@@ -1,5 +1,5 @@
 -- What a run puts out, said of the moment before its file was created.
-use Rattle.std.proofs.Common.{◌≡◌, ◌∙◌, sym, subst, inl, inr, rules}
+use Rattle.std.proofs.Common.{◌≡◌, ◌∙◌, sym, subst, rules}
 use Rattle.hyd_io.specs.declared.desk.Faults.{Faults}
 use Rattle.hyd_run.specs.Pens.{told, OneRose}
 use Rattle.hyd_run.specs.Runs.{outcome_of}
