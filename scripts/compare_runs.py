@@ -38,11 +38,7 @@ SECONDS = 120
 CLANG = '''#!/bin/bash
 words=()
 for word in "$@"; do
-  case "$word" in
-    -O0) words+=(%s);;
-    -fsanitize=address) ;;
-    *) words+=("$word");;
-  esac
+  [ "$word" = -fsanitize=address ] || words+=("$word")
 done
 exec %s/toolchain/bin/clang "${words[@]}"
 '''
@@ -70,7 +66,7 @@ def links_to_kit(folder, program):
     for path in (kit / 'toolchain' / 'bin').iterdir():
         if path.name not in ('clang', 'ld.lld'):
             (folder / 'toolchain' / 'bin' / path.name).symlink_to(path)
-    for name, text in (('clang', CLANG % ('-O1', kit)), ('ld.lld', LINKER % (kit, program))):
+    for name, text in (('clang', CLANG % kit), ('ld.lld', LINKER % (kit, program))):
         tool = folder / 'toolchain' / 'bin' / name
         tool.write_text(text)
         tool.chmod(0o755)
