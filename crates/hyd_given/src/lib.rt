@@ -1,0 +1,8 @@
+//! Networks as tests give them: the states of links, and nets put into periods.
+#![tactic(auto)]
+
+mod periods;
+mod states;
+
+pub use periods::{is_problem, put_at, set, span};
+pub use states::{Order, command, starts};

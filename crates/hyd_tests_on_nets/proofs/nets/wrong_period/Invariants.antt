@@ -1,0 +1,6 @@
+use Rattle.hyd_graph.specs.Periods.{IsNetOf}
+use Rattle.hyd_graph.specs.Settings.{AreStates}
+use Rattle.hyd_tests_on_nets.proofs.nets.wrong_period.Given as goal
+
+abbrev pub invariant-loop-part : goal.invariant-loop-part
+invariant-loop-part l = IsNetOf l.project l.net × AreStates l.project l.states

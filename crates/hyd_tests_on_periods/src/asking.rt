@@ -1,0 +1,97 @@
+//! What small networks say: each is read, its net put into its period, and asked.
+#![tactic(auto)]
+
+ghost use Rattle.hyd_net.specs.Sound.{Sound};
+ghost use Rattle.hyd_graph.specs.GridOf.{grid_of};
+ghost use Rattle.hyd_bounds.specs.Bounds.{TanksInOrder};
+
+use crate::boxes::are_bounds;
+use crate::given::read;
+use crate::networks::{Network, networks, two_junctions, without_source};
+use crate::tight::{are_found, are_proposed, are_spent};
+use hyd_given::put_at;
+use hyd_graph::Net;
+use hyd_net::{OutOfMemory, Project};
+use std::alloc::Global;
+use std::test::Fail;
+
+/// What is asked.
+#[derive(Clone, Copy, Drop)]
+enum Asked {
+    /// Whether sweeps find the tight vectors, and these are sharp.
+    Found,
+    /// Whether flows and words between them are as the network says.
+    Bounded,
+    /// Whether rounds are spent.
+    Spent,
+    /// Whether the gradient method proposes certificates.
+    Proposed,
+}
+
+// Whether it is so of a net in its period.
+fn is_so_in(alloc: Global, net: &Net, network: &Network, asked: Asked) -> Result<bool, OutOfMemory>
+    requires { TanksInOrder (grid_of net.now) }
+{
+    match asked {
+        Asked::Found => are_found(alloc, net, network.rows),
+        Asked::Bounded => Ok(are_bounds(net, network)),
+        Asked::Spent => are_spent(alloc, net),
+        Asked::Proposed => are_proposed(alloc, net),
+    }
+}
+
+// Whether it is so of a network that was read.
+fn is_so_of(
+    alloc: Global,
+    project: &Project,
+    network: &Network,
+    asked: Asked,
+) -> Result<bool, OutOfMemory>
+    requires { Sound project.now }
+{
+    let mut net = Net::open(alloc, project)?;
+    if !put_at(alloc, &mut net, project, network.time, network.levels)? {
+        return Ok(false);
+    }
+    is_so_in(alloc, &net, network, asked)
+}
+
+// Whether what is asked is so of a network.
+fn is_so(alloc: Global, network: &Network, asked: Asked) -> Result<bool, Fail> {
+    let project = read(alloc, network.text)?;
+    Ok(is_so_of(alloc, &project, network, asked)?)
+}
+
+// The number of the first network of which it isn't so.
+fn first_other(alloc: Global, networks: &[Network], asked: Asked) -> Result<Option<usize>, Fail> {
+    for (number, network) in networks.iter().enumerate() {
+        if !is_so(alloc, network, asked)? {
+            return Ok(Some(number));
+        }
+    }
+    Ok(None)
+}
+
+#[test]
+fn tight_vectors_are_found(rt: HostRuntime) -> Result<(), Fail> {
+    assert_eq!(rt; first_other(rt.alloc(), networks(), Asked::Found)?, None);
+    Ok(())
+}
+
+#[test]
+fn flows_and_words_between_them(rt: HostRuntime) -> Result<(), Fail> {
+    assert_eq!(rt; first_other(rt.alloc(), networks(), Asked::Bounded)?, None);
+    Ok(())
+}
+
+#[test]
+fn without_a_source_rounds_are_spent(rt: HostRuntime) -> Result<(), Fail> {
+    assert!(rt; is_so(rt.alloc(), &without_source(), Asked::Spent)?);
+    Ok(())
+}
+
+#[test]
+fn proposals_are_certificates(rt: HostRuntime) -> Result<(), Fail> {
+    assert!(rt; is_so(rt.alloc(), &two_junctions(), Asked::Proposed)?);
+    Ok(())
+}

@@ -1,0 +1,14 @@
+//! The tests of crates that reckon with a network in a period: certificates, sweeps, proposals and boxes, on
+//! networks read from texts, against values worked out by an independent program.
+#![tactic(auto)]
+
+#[cfg(test)]
+mod asking;
+#[cfg(test)]
+mod boxes;
+#[cfg(test)]
+mod given;
+#[cfg(test)]
+mod networks;
+#[cfg(test)]
+mod tight;
