@@ -1,15 +1,13 @@
 -- The great emitter's capacity is out of range, and that is the fault of its text.
-use Rattle.std.proofs.Common.{◌≡◌, ℕ, zero, suc, ◌+◌, ◌*◌, ◌^◌, ◌<◌, List, [], ◌∷◌, codes, take, Option, Some, None, refl, arith, pos, neg_ℤ, inl, inr, Bool, true, false, true≢false, lit≤, lit<, subst, sym}
-use Rattle.std.specs.Prelude.{slice_get}
+use Rattle.std.proofs.Common.{◌≡◌, ℕ, zero, suc, ◌+◌, ◌*◌, ◌^◌, ◌<◌, List, [], ◌∷◌, codes, take, Option, Some, None, refl, arith, pos, neg_ℤ, inl, inr, true, false, true≢false, lit≤, lit<, subst, sym}
 use borrow.Author.Differences.{up}
 use Rattle.hyd_num.proofs.Rounding.{IsDown-from_cut, IsUp-exact, IsUp-next}
 use Rattle.hyd_num.specs.declared.binary.Scaled.{Scaled}
-use Rattle.hyd_num.specs.declared.pairs.Pair.{Pair}
 use Rattle.hyd_num.specs.declared.decimals.Decimal.{Decimal}
 use Rattle.hyd_num.specs.declared.units.FlowUnit.TheVariants.{Mgd}
 use Rattle.hyd_num.specs.declared.capacities.Origin.TheVariants.{Emitter}
 use Rattle.hyd_num.specs.Numeral.{is_numeral, magnitude_of, nano_of}
-use Rattle.hyd_num.specs.Scaled.{numerator, denominator, IsDown, IsUp}
+use Rattle.hyd_num.specs.Scaled.{numerator, denominator, IsDown}
 use Rattle.hyd_num.specs.Refusal.{IsRefused}
 use Rattle.hyd_lex.specs.Bytes.{words_in, is_keyword}
 use Rattle.hyd_lex.specs.Headings.{read_section, is_passed_over, heading_kind}
