@@ -1,8 +1,8 @@
 //! A file as EPANET's editor saves it, and the network that an independent program reads from it.
 #![tactic(auto)]
 
-use crate::shown::{network, shown};
-use hyd_net::same;
+use crate::sameness::say_the_same;
+use crate::shown::network_in_words;
 use std::alloc::Global;
 use std::test::Fail;
 
@@ -113,16 +113,18 @@ fn saved(alloc: Global, with_places: bool) -> Result<String, Fail> {
 #[test]
 fn the_network_of_a_saved_file(rt: HostRuntime) -> Result<(), Fail> {
     let alloc = rt.alloc();
-    let found = network(alloc, saved(alloc, true)?.as_str())?;
-    assert_eq!(rt; shown(alloc, &found)?.as_str(), NETWORK);
+    let text = saved(alloc, true)?;
+    let found = network_in_words(alloc, text.as_str())?;
+    assert_eq!(rt; found.as_str(), NETWORK);
     Ok(())
 }
 
 #[test]
 fn places_on_the_map_say_nothing(rt: HostRuntime) -> Result<(), Fail> {
     let alloc = rt.alloc();
-    let with_places = network(alloc, saved(alloc, true)?.as_str())?;
-    let without = network(alloc, saved(alloc, false)?.as_str())?;
-    assert!(rt; same(&with_places, &without));
+    let with_places = saved(alloc, true)?;
+    let without = saved(alloc, false)?;
+    let are_same = say_the_same(alloc, with_places.as_str(), without.as_str())?;
+    assert!(rt; are_same);
     Ok(())
 }

@@ -11,16 +11,16 @@ use std::alloc::Global;
 use std::fmt::{Debug, Write};
 use std::test::Fail;
 
-/// The network of a text that has no fault.
-pub(crate) fn network(alloc: Global, text: &str) -> Result<Project, Fail> {
+/// The network of a text that has no fault, in words.
+pub(crate) fn network_in_words(alloc: Global, text: &str) -> Result<String, Fail> {
     match read_project(alloc, text.as_bytes()) {
-        Ok(project) => Ok(project),
+        Ok(project) => shown(alloc, &project),
         Err(_) => Err(Fail::new("the text has no fault")),
     }
 }
 
 /// A network in words.
-pub(crate) fn shown(alloc: Global, project: &Project) -> Result<String, Fail> {
+fn shown(alloc: Global, project: &Project) -> Result<String, Fail> {
     let mut out = String::new(alloc);
     put_options(&mut out, &project.options)?;
     put_times(&mut out, &project.times)?;

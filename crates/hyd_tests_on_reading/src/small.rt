@@ -1,7 +1,9 @@
 //! Small texts, and the networks that an independent program reads from them.
 #![tactic(auto)]
 
-use crate::shown::{network, shown};
+use crate::shown::network_in_words;
+use std::alloc::Global;
+use std::process::Abort;
 use std::test::Fail;
 
 // A line `=` parts a text from its network, a line `#` one text from the next.
@@ -265,13 +267,19 @@ If Pressure(0) More 49240710823909..49240710823910
 Then 0 throttle 20000000000 6702069693396298529*2^-34..6702069693396298533*2^-34
 ";
 
+/// Tries that the network of an example's text is the one that the example says.
+fn try_example(rt: &impl Abort, alloc: Global, example: &str) -> Result<(), Fail> {
+    let (text, expected) = example.split_once("=\n").unwrap_or((example, ""));
+    let found = network_in_words(alloc, text)?;
+    assert_eq!(rt; found.as_str(), expected);
+    Ok(())
+}
+
 #[test]
 fn networks_of_small_texts(rt: HostRuntime) -> Result<(), Fail> {
     let alloc = rt.alloc();
     for example in NETWORKS.split("#\n") {
-        let (text, expected) = example.split_once("=\n").unwrap_or((example, ""));
-        let found = network(alloc, text)?;
-        assert_eq!(rt; shown(alloc, &found)?.as_str(), expected);
+        try_example(&rt, alloc, example)?;
     }
     Ok(())
 }

@@ -1,7 +1,11 @@
 //! A town with most kinds of rows, and the network that an independent program reads from it.
 #![tactic(auto)]
 
-use crate::shown::{network, shown};
+use crate::shown::network_in_words;
+use hyd_inp::read_project;
+use hyd_net::{Names, Project};
+use std::alloc::Global;
+use std::fmt::Write;
 use std::test::Fail;
 
 pub(crate) const TOWN: &str = "[TITLE]
@@ -198,41 +202,50 @@ Or Clock Unequal 14400..14400
 Then 9 Closed
 ";
 
-// The IDs in the order of their numbers.
-const NODES: &str = "J1 J2 J3 R1 R2 R3 T1 T2";
+// The IDs in the order of their numbers, and one that is none.
+const NODES: &str = "J1 J2 J3 R1 R2 R3 T1 T2 P1";
 
-const LINKS: &str = "P1 P2 P3 P4 U1 U2 U3 U4 V1 V2 V3 V4 V5";
+const LINKS: &str = "P1 P2 P3 P4 U1 U2 U3 U4 V1 V2 V3 V4 V5 J1";
+
+const NUMBERS: &str = "0 1 2 3 4 5 6 7 none\n0 1 2 3 4 5 6 7 8 9 10 11 12 none";
+
+/// The numbers of IDs among nodes or among links.
+fn numbers(alloc: Global, ids: &str, names: &Names) -> Result<String, Fail> {
+    let mut out = String::new(alloc);
+    for id in ids.split(' ') {
+        match names.number(id.as_bytes()) {
+            Some(number) => write!(out, "{number} ")?,
+            None => out.push_str("none")?,
+        }
+    }
+    Ok(out)
+}
+
+/// The numbers of the IDs of nodes and of links.
+fn all_numbers(alloc: Global, town: &Project) -> Result<String, Fail> {
+    let nodes = numbers(alloc, NODES, &town.node_ids)?;
+    let links = numbers(alloc, LINKS, &town.link_ids)?;
+    Ok(format!(in alloc; "{nodes}\n{links}")?)
+}
+
+/// The numbers of the IDs in the town.
+fn numbers_of_the_town(alloc: Global) -> Result<String, Fail> {
+    match read_project(alloc, TOWN.as_bytes()) {
+        Ok(town) => all_numbers(alloc, &town),
+        Err(_) => Err(Fail::new("the town has no fault")),
+    }
+}
 
 #[test]
 fn the_network_of_a_town(rt: HostRuntime) -> Result<(), Fail> {
-    let alloc = rt.alloc();
-    let town = network(alloc, TOWN)?;
-    assert_eq!(rt; shown(alloc, &town)?.as_str(), NETWORK);
+    let found = network_in_words(rt.alloc(), TOWN)?;
+    assert_eq!(rt; found.as_str(), NETWORK);
     Ok(())
 }
 
 #[test]
-fn numbers_of_nodes(rt: HostRuntime) -> Result<(), Fail> {
-    let town = network(rt.alloc(), TOWN)?;
-    for (place, id) in NODES.split(' ').enumerate() {
-        assert_eq!(rt;
-            town.node_ids.number(id.as_bytes()),
-            u32::try_from(place).ok()
-        );
-    }
-    assert_eq!(rt; town.node_ids.number(b"P1"), None);
-    Ok(())
-}
-
-#[test]
-fn numbers_of_links(rt: HostRuntime) -> Result<(), Fail> {
-    let town = network(rt.alloc(), TOWN)?;
-    for (place, id) in LINKS.split(' ').enumerate() {
-        assert_eq!(rt;
-            town.link_ids.number(id.as_bytes()),
-            u32::try_from(place).ok()
-        );
-    }
-    assert_eq!(rt; town.link_ids.number(b"J1"), None);
+fn ids_have_numbers(rt: HostRuntime) -> Result<(), Fail> {
+    let found = numbers_of_the_town(rt.alloc())?;
+    assert_eq!(rt; found.as_str(), NUMBERS);
     Ok(())
 }
