@@ -89,3 +89,7 @@ every_section =
     ++ codes "OR NODE J PRESSURE BELOW 4\nAND SYSTEM CLOCKTIME = 3 PM\nAND PUMP U SETTING > 0.5\n"
     ++ codes "OR VALVE V FLOW ABOVE 2\nTHEN VALVE V SETTING IS 5\nAND PIPE P STATUS = CLOSED\n"
     ++ codes "ELSE PUMP U STATUS IS OPEN\nPRIORITY 3\n"
+
+-- an emitter that passes 10^12 gallons a day at one pound a square inch, where a file may ask for no more
+abbrev pub great_emitter : List ℕ
+great_emitter = codes "[OPTIONS]\nUNITS MGD\nHEADLOSS C-M\n[JUNCTIONS]\nJ 0\n[EMITTERS]\nJ 1000000\n"

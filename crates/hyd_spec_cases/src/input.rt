@@ -1,10 +1,10 @@
-//! Small texts of input files, each with the line and cause of its fault, as an independent reader has them. Capacities
-//! out of range are left out.
+//! Small texts of input files, each with the line and cause of its fault, as an independent reader has them.
 #![tactic(auto, unfolding(hyd_lex::specs::Lines::items_of, hyd_lex::specs::Lines::kind_of, hyd_lex::specs::Headings::read_section, hyd_lex::specs::Headings::is_passed_over, hyd_lex::specs::Headings::heading_kind, hyd_lex::specs::Bytes::words_in, hyd_lex::specs::Bytes::is_keyword, hyd_num::specs::Numeral::is_numeral, hyd_num::specs::Numeral::magnitude_of, hyd_num::specs::Numeral::nano_of, hyd_spec_input::specs::Keywords::flow_unit, hyd_spec_input::specs::Keywords::option_word, hyd_spec_input::specs::Keywords::time_word, hyd_spec_input::specs::Keywords::link_word, hyd_spec_input::specs::Keywords::node_word, hyd_spec_input::specs::Keywords::object_word, hyd_spec_input::specs::Keywords::attribute_word, hyd_spec_input::specs::Keywords::relation_word, hyd_spec_input::specs::Keywords::rule_word, hyd_spec_input::specs::Moments::unit_seconds))]
 
 ghost use Rattle.std.specs.Prelude.{◌≡◌, ◌++◌, codes, replicate, Some, None};
 ghost use Rattle.hyd_net.specs.declared.cause.Cause.TheVariants.{Syntax, Number, Range, DuplicateId, UnknownName, Unsupported, Limit, Missing};
-ghost use Rattle.hyd_spec_cases.specs.Input.{fault_of, front, one_valve, town, pump_with, valve_with, tank_with, tanks, every_section};
+ghost use Rattle.hyd_spec_cases.specs.Input.{fault_of, front, one_valve, town, pump_with, valve_with, tank_with, tanks, every_section, great_emitter};
+ghost use Rattle.hyd_spec_input.specs.Faults.{IsFault};
 
 /// Texts without a fault: one that has every section and every kind of row, and a valve.
 pub fn whole_texts()
@@ -213,4 +213,9 @@ pub fn limits()
 pub fn lacks()
     ensures formula { fault_of (codes "") ≡ Some (0, Unsupported 1) }
     ensures source { fault_of front ≡ Some (0, Missing) }
+{}
+
+/// A capacity out of range: an emitter in millions of gallons a day with the greatest coefficient that a row may have.
+pub fn capacity()
+    ensures fault { IsFault great_emitter 7 (Limit 13) }
 {}

@@ -1,0 +1,13 @@
+//! The tests of networks that are read from input files: each part of them, against an independent program.
+#![tactic(auto)]
+
+#[cfg(test)]
+mod sameness;
+#[cfg(test)]
+mod saved;
+#[cfg(test)]
+mod shown;
+#[cfg(test)]
+mod small;
+#[cfg(test)]
+mod town;
