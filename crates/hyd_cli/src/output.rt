@@ -1,9 +1,10 @@
 //! Lines that are printed, and nothing else done.
 
-ghost use Rattle.std.specs.Prelude.{◌≡◌};
+ghost use Rattle.std.specs.Prelude.{◌≡◌, IfErr, OnOk, OnErr};
+ghost use Rattle.hyd_io.specs.declared.output.Channel.TheVariants.{Report};
+ghost use Rattle.hyd_io.specs.Output.{HasOutCause};
+ghost use Rattle.hyd_io.specs.Told.{append_known, PutOut};
 ghost use Rattle.hyd_report.specs.RefusedText.{refused_text_line};
-ghost use Rattle.hyd_cli.specs.Answers.{seen};
-ghost use Rattle.hyd_cli.specs.Printing.{Prints};
 ghost use Rattle.hyd_cli.specs.Words.{usage_line};
 
 use hyd_io::{Channel, Desk, OutFault, Pen};
@@ -15,28 +16,38 @@ const USAGE: &[u8] =
 
 /// Prints the usage line.
 pub(crate) fn print_usage<D: Desk>(desk: &mut D) -> Result<(), OutFault>
-    ensures prints { Prints usage_line result
-        (seen D.files D.written D.printed desk.old) (seen D.files D.written D.printed desk.new)
-        (D.counts desk.old) (D.counts desk.new) }
+    ensures whole { OnOk result (D.printed desk.new ≡ append_known (D.printed desk.old) usage_line) }
+    ensures prefix { OnErr result (PutOut (D.printed desk.old) (D.printed desk.new) usage_line) }
+    ensures cause { IfErr result (λ fault. HasOutCause Report fault (D.counts desk.old) (D.counts desk.new)) }
+    ensures steady { OnOk result (D.counts desk.new ≡ D.counts desk.old) }
+    ensures files_stay { D.files desk.new ≡ D.files desk.old }
+    ensures written_stays { D.written desk.new ≡ D.written desk.old }
     ensures openings_stay { D.openings desk.new ≡ D.openings desk.old }
 {
     let mut pen = Pen::new(Channel::Report);
-    if let Err(fault) = pen.put(desk, USAGE) {
-        return Err(fault);
+    match pen.put(desk, USAGE) {
+        Ok(()) => {}
+        Err(fault) => return Err(fault),
     }
     pen.flush(desk)
 }
 
 /// Prints the line of a text that is refused.
 pub(crate) fn print_refusal<D: Desk>(line: u32, cause: Cause, desk: &mut D) -> Result<(), OutFault>
-    ensures prints { Prints (refused_text_line line cause) result
-        (seen D.files D.written D.printed desk.old) (seen D.files D.written D.printed desk.new)
-        (D.counts desk.old) (D.counts desk.new) }
+    ensures whole { OnOk result
+        (D.printed desk.new ≡ append_known (D.printed desk.old) (refused_text_line line cause)) }
+    ensures prefix { OnErr result
+        (PutOut (D.printed desk.old) (D.printed desk.new) (refused_text_line line cause)) }
+    ensures cause { IfErr result (λ fault. HasOutCause Report fault (D.counts desk.old) (D.counts desk.new)) }
+    ensures steady { OnOk result (D.counts desk.new ≡ D.counts desk.old) }
+    ensures files_stay { D.files desk.new ≡ D.files desk.old }
+    ensures written_stays { D.written desk.new ≡ D.written desk.old }
     ensures openings_stay { D.openings desk.new ≡ D.openings desk.old }
 {
     let mut pen = Pen::new(Channel::Report);
-    if let Err(fault) = put_refused_text(line, cause, &mut pen, desk) {
-        return Err(fault);
+    match put_refused_text(line, cause, &mut pen, desk) {
+        Ok(()) => {}
+        Err(fault) => return Err(fault),
     }
     pen.flush(desk)
 }

@@ -1,6 +1,7 @@
 -- What the calls of a run leave, said of its start.
 use Rattle.std.proofs.Common.{Option, ap, ◌∙◌}
 use Rattle.hyd_io.specs.Told.{Files, file_at}
+use Rattle.hyd_spec_input.specs.Faults.{IsFault}
 use Rattle.hyd_spec_networks.proofs.OneFault.{one_fault, no_fault_beside}
 use Rattle.hyd_cli.specs.Answers.{seen}
 use Rattle.hyd_cli.proofs.AnswerLemmas.{leaves_since, holds_since, run_since, refused_since, refused_leaves_since, refused_holds_since, same_refusal, opens_once, network_never_usage, refusal_never_usage}
@@ -77,8 +78,9 @@ returns-in-Err-Fault-clause-refused g c text line cause told fault =
 
 pub returns-in-Err-Fault-clause-run : goal.returns-in-Err-Fault-clause-run
 returns-in-Err-Fault-clause-run g c text told none =
-    absurd (no_fault_beside text c.in-Err-Fault.fault.line c.in-Err-Fault.fault.cause
-    (c.in-Err-Fault.ensures.fault text told) none)
+    let found : IsFault text c.in-Err-Fault.fault.line c.in-Err-Fault.fault.cause =
+    rw c.in-Err-Fault.field-0-is at (c.in-Err-Fault.ensures.fault text told) in
+    absurd (no_fault_beside text c.in-Err-Fault.fault.line c.in-Err-Fault.fault.cause found none)
 
 pub returns-in-Err-Fault-clause-holds : goal.returns-in-Err-Fault-clause-holds
 returns-in-Err-Fault-clause-holds g c =
