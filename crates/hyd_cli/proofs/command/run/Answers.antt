@@ -70,8 +70,9 @@ returns-in-Err-Fault-clause-refused g c text line cause told fault =
     let before = seen g.D.Desk.files g.D.Desk.written g.D.Desk.printed c.args.desk.now in
     let between = seen g.D.Desk.files g.D.Desk.written g.D.Desk.printed c.read_network.new.desk in
     let now = seen g.D.Desk.files g.D.Desk.written g.D.Desk.printed c.refuse_text.new.desk in
-    let same = one_fault text c.in-Err-Fault.fault.line line c.in-Err-Fault.fault.cause cause
-    (c.in-Err-Fault.ensures.fault text told) fault in
+    let found : IsFault text c.in-Err-Fault.fault.line c.in-Err-Fault.fault.cause =
+    rw c.in-Err-Fault.field-0-is at (c.in-Err-Fault.ensures.fault text told) in
+    let same = one_fault text c.in-Err-Fault.fault.line line c.in-Err-Fault.fault.cause cause found fault in
     same_refusal c.in-Err-Fault.fault.line line c.in-Err-Fault.fault.cause cause c.refuse_text.result before now
     same.lines same.causes (refused_since _ _ c.refuse_text.result before between now c.read_network.ensures.untouched
     c.refuse_text.ensures.answers)
