@@ -23,6 +23,9 @@ from pathlib import Path
 import networks
 
 ROOT = Path(__file__).resolve().parent.parent
+sys.path.insert(0, str(ROOT / 'scripts'))
+from unproved import crates_below, links_to_kit
+
 MAIN = ROOT / 'benchmark' / 'main.txt'
 USES = ['hyd_cert', 'hyd_check', 'hyd_graph', 'hyd_inp', 'hyd_io', 'hyd_newton', 'hyd_report', 'hyd_sim',
         'hyd_spec_certificates', 'hyd_spec_reports']
@@ -41,52 +44,9 @@ for word in "$@"; do
 done
 exec %s/toolchain/bin/clang "${words[@]}"
 '''
-LINKER = '''#!/bin/bash
-%s/toolchain/bin/ld.lld "$@" && cp program %s
-'''
 
 
 # ---------------------------------------------------------------- the program
-
-def crates_below(names):
-    """The crates of the repository that crates stand on, and their lines of crates.txt."""
-    below = {}
-    for line in (ROOT / 'crates.txt').read_text().splitlines():
-        name, colon, rest = line.partition(':')
-        if colon and not name.startswith('#'):
-            below[name] = rest.split()
-    out, todo = {}, list(names)
-    while todo:
-        name = todo.pop()
-        if name in below and name not in out:
-            out[name] = below[name]
-            todo += below[name]
-    return out
-
-
-def links_to_kit(folder, program):
-    """A folder of links to the kit, but for a clang that optimizes and a linker that keeps the program."""
-    kit = Path(shutil.which('rt')).resolve().parent.parent
-    (folder / 'bin').mkdir(parents=True)
-    (folder / 'toolchain' / 'bin').mkdir(parents=True)
-    for path in kit.iterdir():
-        if path.name not in ('bin', 'toolchain'):
-            (folder / path.name).symlink_to(path)
-    for path in (kit / 'bin').iterdir():
-        if path.name in ('rt', 'rtlib.py'):
-            shutil.copy(path, folder / 'bin')
-        else:
-            (folder / 'bin' / path.name).symlink_to(path)
-    (folder / 'toolchain' / 'lib').symlink_to(kit / 'toolchain' / 'lib')
-    for path in (kit / 'toolchain' / 'bin').iterdir():
-        if path.name not in ('clang', 'ld.lld'):
-            (folder / 'toolchain' / 'bin' / path.name).symlink_to(path)
-    for name, text in (('clang', CLANG % kit), ('ld.lld', LINKER % (kit, program))):
-        tool = folder / 'toolchain' / 'bin' / name
-        tool.write_text(text)
-        tool.chmod(0o755)
-    return folder / 'bin' / 'rt'
-
 
 def build(program):
     """Builds the program, and keeps it under this name."""
@@ -103,7 +63,7 @@ def build(program):
         shutil.copy(MAIN, main / 'main.rt')
         (top / 'crates.txt').write_text(''.join('%s: %s\n' % (name, ' '.join(uses)) for name, uses in crates.items()))
         subprocess.run(['git', 'init', '-q', str(top)], check=True)
-        rt = links_to_kit(Path(folder) / 'kit', program)
+        rt = links_to_kit(Path(folder) / 'kit', program, CLANG)
         done = subprocess.run([str(rt), 'try', '--steps', '1'], cwd=main.parent, input=b'', capture_output=True)
         if not program.exists():
             sys.exit(done.stderr.decode()[-3000:])

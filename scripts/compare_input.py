@@ -21,8 +21,8 @@ import tempfile
 from pathlib import Path
 
 import differences
+from unproved import ROOT, crates_below
 
-ROOT = Path(__file__).resolve().parent.parent
 MAIN = ROOT / 'scripts' / 'compare_input_main.txt'
 USES = ['hyd_inp', 'hyd_net']
 # `rt try` gives no answer past 1 MiB.
@@ -114,22 +114,6 @@ def expected(reader, text):
 
 
 # ---------------------------------------------------------------- the program's answers
-
-def crates_below(names):
-    """The crates of the repository that crates stand on, and their lines of crates.txt."""
-    below = {}
-    for line in (ROOT / 'crates.txt').read_text().splitlines():
-        name, colon, rest = line.partition(':')
-        if colon and not name.startswith('#'):
-            below[name] = rest.split()
-    out, todo = {}, list(names)
-    while todo:
-        name = todo.pop()
-        if name in below and name not in out:
-            out[name] = below[name]
-            todo += below[name]
-    return out
-
 
 def run(texts):
     """What this repository's program prints of each text."""

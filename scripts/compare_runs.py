@@ -28,7 +28,8 @@ import tempfile
 from decimal import Decimal
 from pathlib import Path
 
-from compare_input import ROOT, change_numbers, crates_below
+from compare_input import ROOT, change_numbers
+from unproved import crates_below, links_to_kit
 
 MANY_PERIODS = (5, b'REFUSED line 0 cause 6 detail 12\n', None)
 SPENT = 7
@@ -42,36 +43,9 @@ for word in "$@"; do
 done
 exec %s/toolchain/bin/clang "${words[@]}"
 '''
-LINKER = '''#!/bin/bash
-%s/toolchain/bin/ld.lld "$@" && cp program %s
-'''
 
 
 # ---------------------------------------------------------------- the program
-
-def links_to_kit(folder, program):
-    """A folder of links to the kit, but for a clang without a sanitizer and a linker that keeps the program."""
-    kit = Path(shutil.which('rt')).resolve().parent.parent
-    (folder / 'bin').mkdir(parents=True)
-    (folder / 'toolchain' / 'bin').mkdir(parents=True)
-    for path in kit.iterdir():
-        if path.name not in ('bin', 'toolchain'):
-            (folder / path.name).symlink_to(path)
-    for path in (kit / 'bin').iterdir():
-        if path.name in ('rt', 'rtlib.py'):
-            shutil.copy(path, folder / 'bin')
-        else:
-            (folder / 'bin' / path.name).symlink_to(path)
-    (folder / 'toolchain' / 'lib').symlink_to(kit / 'toolchain' / 'lib')
-    for path in (kit / 'toolchain' / 'bin').iterdir():
-        if path.name not in ('clang', 'ld.lld'):
-            (folder / 'toolchain' / 'bin' / path.name).symlink_to(path)
-    for name, text in (('clang', CLANG % kit), ('ld.lld', LINKER % (kit, program))):
-        tool = folder / 'toolchain' / 'bin' / name
-        tool.write_text(text)
-        tool.chmod(0o755)
-    return folder / 'bin' / 'rt'
-
 
 def build(program):
     """Builds the program `hyd`, and keeps it under this name."""
@@ -83,7 +57,7 @@ def build(program):
                             ignore=shutil.ignore_patterns('out', 'proofs', 'must-fail'))
         (top / 'crates.txt').write_text(''.join('%s: %s\n' % (name, ' '.join(uses)) for name, uses in crates.items()))
         subprocess.run(['git', 'init', '-q', str(top)], check=True)
-        rt = links_to_kit(Path(folder) / 'kit', program)
+        rt = links_to_kit(Path(folder) / 'kit', program, CLANG)
         done = subprocess.run([str(rt), 'try', '--steps', '1', '--seconds', '600'], cwd=top / 'crates' / 'hyd',
                               input=b'', capture_output=True, env={**os.environ, 'TMPDIR': folder})
         if not program.exists():
