@@ -9,3 +9,4 @@ pub mod Walking
 pub mod Basins
 pub mod Aims
 pub mod Keeping
+pub mod Initial

@@ -42,6 +42,11 @@ level_stock level = record { level = level; volume = pos 0 }
 abbrev pub cylinder : Tank → Walls
 cylinder tank = Cylinder (unsigned_abs tank.area)
 
+-- the stocks with which a run begins: exactly the initial level, and exactly the volume that is kept at it
+abbrev pub initial_stocks : Walls → Tank → Stocks
+initial_stocks walls tank =
+    record { level = exactly tank.initial; volume = exactly (kept_volume walls tank.initial) }
+
 -- ---- what is asked
 
 -- an inflow of at most 10^27 flow ticks either way

@@ -7,7 +7,7 @@ ghost use Rattle.hyd_spec.specs.Types.{VolumePoint};
 ghost use Rattle.hyd_net.specs.Ranges.{Lies};
 ghost use Rattle.hyd_net.specs.Curves.{volume_knots, value_at, IsVolumeCurve};
 ghost use Rattle.hyd_net.specs.Sizes.{IsShapeOf};
-ghost use Rattle.hyd_spec.specs.Tank.{Curve, level_bounds, content_bounds, has_reached};
+ghost use Rattle.hyd_spec.specs.Tank.{Curve, kept_volume, level_bounds, content_bounds, has_reached};
 ghost use Rattle.hyd_spec_certificates.specs.Interval.{Interval};
 ghost use Rattle.hyd_spec_certificates.specs.Stocks.{Stocks, lower_level, upper_level, contents_after, levels_at, next_stocks, carried_stocks};
 ghost use Rattle.hyd_spec_certificates.specs.FirstSeconds.{IsFirstSecond, IsEarliestSecond, IsLatestSecond};
@@ -41,6 +41,15 @@ fn volume_at(tank: &Tank, points: &[VolumePoint], level: i64) -> Mixed
     ensures at_most { HoldsAt (λ (p : VolumePoint). IsAtMost p.volume result) points.now (length points.now - 1) }
 {
     value_at(points, Known::Level, 1, i128::from(level))
+}
+
+/// The volume that is kept at a level between minimum and maximum: that of the curve, cut to whole volume ticks.
+pub(crate) fn kept_at(tank: &Tank, points: &[VolumePoint], level: i64) -> i64
+    requires tank { IsBasin tank.now points.now }
+    requires level { Lies tank.now.minimum tank.now.maximum level }
+    ensures { result ≡ kept_volume (Curve points.now) level }
+{
+    volume_at(tank, points, level).floor_of(1) as i64
 }
 
 fn volume_bounds(tank: &Tank, points: &[VolumePoint]) -> Bounds

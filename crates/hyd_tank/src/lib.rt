@@ -13,4 +13,4 @@ mod stocks;
 pub use levels::{first_second, level_at, next_level};
 pub use spans::{Stock, VolumeSpan};
 pub use states::state_of;
-pub use stocks::{first_stock, next_stock, stock_at};
+pub use stocks::{first_stock, initial_stock, next_stock, stock_at};

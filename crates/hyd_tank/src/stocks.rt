@@ -1,8 +1,9 @@
-//! Stocks of tanks with and without a volume curve: what they become after some seconds of a constant inflow, and when
+//! Stocks of tanks with and without a volume curve: with which a run begins, what they become after some seconds of a constant inflow, and when
 //! they reach a target level (EPANET 2.2 User Manual, chapter 3, tanks and curves).
 #![tactic(auto)]
 
 ghost use Rattle.std.specs.Prelude.{◌≡◌, ◌*◌, ◌^◌, ◌<◌, ◌≤◌, unsigned_abs, ℕ, ℤ, length, slice_get, Some};
+ghost use Rattle.hyd_net.specs.Ranges.{Lies};
 ghost use Rattle.hyd_net.specs.Sound.{Sound};
 ghost use Rattle.hyd_spec.specs.Types.{Tank};
 ghost use Rattle.hyd_spec.specs.Tank.{Stock as OneStock, shape_points, walls_of, has_reached, carried_level, IsNextStock};
@@ -10,13 +11,14 @@ ghost use Rattle.hyd_spec_certificates.specs.Interval.{Interval};
 ghost use Rattle.hyd_spec_certificates.specs.Stocks.{Stocks, next_stocks, carried_stocks, may_reach, must_reach};
 ghost use Rattle.hyd_spec_certificates.specs.FirstSeconds.{IsFirstSecond, IsEarliestSecond, IsLatestSecond};
 ghost use Rattle.hyd_spec_laws.specs.Laws.{LiesIn, LiesAround, StockLies, IsInside, AreInside, HasStock};
-ghost use Rattle.hyd_tank.specs.Spans.{inflows_of, levels_of, stocks_of, IsInflow, AreHeld, IsTankOf};
+ghost use Rattle.hyd_tank.specs.Spans.{initial_stocks, inflows_of, levels_of, stocks_of, IsInflow, AreHeld, IsTankOf};
 
-use crate::curved::{carried_from, first_from, next_from};
+use crate::curved::{carried_from, first_from, kept_at, next_from};
 use crate::levels::{first_second, level_at, next_level};
 use crate::spans::{Stock, VolumeSpan};
 use hyd_net::{Project, Tank, VolumePoint};
 use hyd_num::Span;
+use hyd_spec_certificates::LevelSpan;
 
 /// The volume that is kept of a tank without a volume curve.
 const NO_VOLUME: VolumeSpan = VolumeSpan { lo: 0, hi: 0 };
@@ -33,6 +35,30 @@ fn points_of(project: &Project, shape: u32) -> &[VolumePoint]
     ensures { result.now ≡ shape_points project.now shape }
 {
     project.shapes.as_slice()[shape as usize].as_slice()
+}
+
+fn initial_of(project: &Project, tank: &Tank) -> Stock
+    requires tank { IsTankOf project.now tank.now }
+    requires initial { Lies tank.now.minimum tank.now.maximum tank.now.initial }
+    ensures { stocks_of result ≡ initial_stocks (walls_of project.now tank.now) tank.now }
+{
+    let level = LevelSpan {
+        lo: tank.initial,
+        hi: tank.initial,
+    };
+    match tank.shape {
+        None => Stock {
+            level,
+            volume: NO_VOLUME,
+        },
+        Some(shape) => {
+            let kept = kept_at(tank, points_of(project, shape), tank.initial);
+            Stock {
+                level,
+                volume: VolumeSpan { lo: kept, hi: kept },
+            }
+        }
+    }
 }
 
 fn next_of(project: &Project, tank: &Tank, stock: Stock, inflow: Span, seconds: u32) -> Stock
@@ -95,6 +121,19 @@ fn first_of(
             cap,
         ),
     }
+}
+
+/// The stock with which a run begins: exactly the tank's initial level and, with a volume curve, exactly the volume at it,
+/// cut to whole volume ticks. The project is sound.
+pub fn initial_stock(project: &Project, tank: u32) -> Stock
+    requires sound { Sound project.now }
+    requires tank { tank < length project.now.tanks.list }
+    ensures value { (each : Tank) → slice_get project.now.tanks.list tank ≡ Some each
+        → stocks_of result ≡ initial_stocks (walls_of project.now each) each }
+    ensures held { (each : Tank) → slice_get project.now.tanks.list tank ≡ Some each
+        → AreHeld (walls_of project.now each) each (stocks_of result) }
+{
+    initial_of(project, &tank_at(project, tank))
 }
 
 /// The stock with which the next period begins after so many seconds of an inflow (flow ticks). Each end of the level of a
