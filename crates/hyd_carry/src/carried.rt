@@ -42,10 +42,8 @@ fn add_level(levels: &mut List<LevelSpan>, level: LevelSpan)
 }
 
 /// Puts the levels of tanks carried to so many seconds after the start of a period. The facts hold the stocks at its
-/// start
-/// and what flows into its tanks. What the list held before goes. It has room for an item for each tank, so no
-/// memory is
-/// taken.
+/// start and what flows into its tanks. What the list held before goes. It has room for an item for each tank, so no
+/// memory is taken.
 pub fn put_carried(project: &Project, facts: &Facts, seconds: u32, levels: &mut List<LevelSpan>)
     requires sound { Sound project.now }
     requires tanks { HaveTanks project.now facts.now }

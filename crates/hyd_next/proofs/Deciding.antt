@@ -1,7 +1,8 @@
 -- States of tanks, decided or open, one after another.
-use Rattle.std.proofs.Common.{◌≡◌, ℕ, ◌+◌, ◌<◌, Bool, false, List, length, refl, ap, sym, ◌∙◌, subst, arith}
-use Rattle.std.specs.Prelude.{Option, Some, None, slice_get, slice_index_or, position, is_none}
+use Rattle.std.proofs.Common.{◌≡◌, ℕ, zero, suc, ◌+◌, ◌<◌, Bool, false, List, [], ◌∷◌, length, refl, ap, sym, ◌∙◌, subst, arith}
+use Rattle.std.specs.Prelude.{Option, Some, None, map, slice_get, slice_index_or, position, is_none}
 use Rattle.std.proofs.lemmas.Int.{ints}
+use Rattle.std.proofs.lemmas.List.{length-map}
 use Rattle.hyd_net.specs.Sound.{Sound}
 use Rattle.hyd_net.specs.Sizes.{IsTank}
 use Rattle.hyd_spec.specs.Types.{Project, Tank}
@@ -10,6 +11,7 @@ use Rattle.hyd_spec.specs.Lists.{map_from}
 use Rattle.hyd_spec_certificates.specs.Interval.{Interval}
 use Rattle.hyd_spec_certificates.specs.Stocks.{state_of}
 use Rattle.hyd_spec_certificates.specs.Decided.{nowhere}
+use Rattle.hyd_spec_certificates.specs.Valid.{AreStates}
 use Rattle.hyd_spec_reports.specs.Stops.{open_states}
 use Rattle.hyd_tank.specs.Spans.{IsTankOfRange}
 use Rattle.hyd_ctrl.proofs.Positions as places
@@ -76,3 +78,28 @@ pub state_is : (tanks : List Tank) (k : ℕ) (here each : Tank) (level at_place 
 state_is tanks k here each level at_place state found at is value =
     let same : here ≡ each = cc (found, at) in
     value ∙ ap (λ (t : Tank). state_of t level) same ∙ ap (state_of each) is
+
+-- ---- all states decided
+
+somes : {X : Type 0} (xs : List X) (k : ℕ) (d : Option X) → k < length xs
+    → is_none (slice_index_or (map {B = Option X} Some xs) k d) ≡ false
+somes {X} [] k d h = absurd (omega (arith, h))
+somes {X} (x ∷ xs) zero d h = refl
+somes {X} (x ∷ xs) (suc k) d h = somes xs k d (omega (arith, h))
+
+pub none_open : (network : Project) (levels : List Interval) (states : List TankState)
+    → AreStates network levels states → position (λ (b : Bool). b) (open_states network levels) ≡ None
+none_open network levels states are =
+    places.none_is (λ (b : Bool). b) (open_states network levels) (λ k d h.
+    let tanks : List Tank = network.tanks.list in
+    let at : ℕ → Tank → Option TankState = λ k tank. state_of tank (slice_index_or levels k nowhere) in
+    let size = as_long (λ k (tank : Tank). is_none (at k tank)) 0 tanks in
+    let within : k < length tanks = omega (arith, h, size) in
+    let there = item_there tanks k within in
+    let same : length states ≡ length tanks =
+    sym (length-map states (λ (s : TankState). Some s)) ∙ sym (ap length are) ∙ as_long at 0 tanks in
+    let state : at k there.0 ≡ slice_index_or (map {B = Option TankState} Some states) k None =
+    sym (placed_first at k tanks None there.0 within ∙ ap (at k) (item_is tanks k there.0 there.0 there.1))
+    ∙ ap (λ (os : List (Option TankState)). slice_index_or os k None) are in
+    open_is network levels k there.0 d within there.1 ∙ ap is_none state
+    ∙ somes states k None (omega (arith, within, same)))

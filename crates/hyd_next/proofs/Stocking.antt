@@ -23,7 +23,7 @@ use Rattle.hyd_watch.proofs.Reaching.{stocks_are, inflow_is}
 use Rattle.hyd_next.specs.Next.{next_in, stocks_among}
 
 -- two numbered maps that agree at each item
-same_from : {X Y : Type 0} (f g : ℕ → X → Y) (from : ℕ) (xs : List X)
+pub same_from : {X Y : Type 0} (f g : ℕ → X → Y) (from : ℕ) (xs : List X)
     → ((k : ℕ) (x : X) → slice_get xs k ≡ Some x → f (from + k) x ≡ g (from + k) x)
     → map_from f from xs ≡ map_from g from xs
 same_from {X} {Y} f g from [] same = refl
@@ -52,7 +52,7 @@ abbrev pub volumes_in : Project → Facts → ℕ → List Interval
 volumes_in network facts seconds = map_from (λ k tank.
     (next_in network facts seconds k tank).volume) 0 network.tanks.list
 
-at_first : (k : ℕ) → 0 + k ≡ k
+pub at_first : (k : ℕ) → 0 + k ≡ k
 at_first k = omega arith
 
 pub levels_are : (network : Project) (grid : Grid) (standing : Standing) (row : Record) (facts : Facts) (seconds : ℕ)

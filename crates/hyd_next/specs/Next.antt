@@ -1,6 +1,6 @@
 -- What the next period begins with.
 -- Source: EPANET 2.2 User Manual, chapter 3 (tanks), between two ends.
-use Rattle.std.specs.Prelude.{◌≡◌, ℕ, List, Some, map, slice_get, slice_index_or, position}
+use Rattle.std.specs.Prelude.{◌≡◌, ℕ, List, Some, None, map, slice_get, slice_index_or, position}
 use Rattle.hyd_spec.specs.Types.{Project, Tank}
 use Rattle.hyd_spec.specs.Tank.{walls_of}
 use Rattle.hyd_spec_certificates.specs.Interval.{Interval}
@@ -12,7 +12,10 @@ use Rattle.hyd_tank.specs.declared.spans.VolumeSpan.{VolumeSpan}
 use Rattle.hyd_facts.specs.OfPeriod.{levels_of, volumes_of}
 use Rattle.hyd_facts.specs.declared.facts.Facts.{Facts}
 use Rattle.hyd_watch.specs.Started.{stocks_in, inflow_in}
+use Rattle.hyd_ctrl.specs.Starts.{IsFirstOpen as IsFirstControl}
 use Rattle.hyd_next.specs.declared.states.TankOpen.{TankOpen}
+use Rattle.hyd_next.specs.declared.settled.Unsettled.{Unsettled}
+use Rattle.hyd_next.specs.declared.settled.Unsettled.TheVariants.{Tank as TankIsOpen, Control as ControlIsOpen}
 
 -- the stocks of a tank some seconds after the start of the period of some facts
 abbrev pub next_in : Project → Facts → ℕ → ℕ → Tank → Stocks
@@ -30,3 +33,11 @@ stocks_among levels volumes k = record {
 pub record IsFirstOpen (network : Project) (levels : List Interval) (found : TankOpen) : Type 0 where
   pub first : position (λ is_open. is_open) (open_states network levels) ≡ Some found.tank
   pub level : slice_get levels found.tank ≡ Some (record { lo = found.lo; hi = found.hi })
+
+-- the first matter of tanks that is open at levels: the first tank whose state is, or where each state is decided the
+-- first level control that is
+abbrev pub IsUnsettled : Project → List LevelSpan → Unsettled → Type 0
+IsUnsettled network levels (TankIsOpen found) = IsFirstOpen network (map levels_of levels) found
+IsUnsettled network levels (ControlIsOpen found) =
+    (position (λ is_open. is_open) (open_states network (map levels_of levels)) ≡ None)
+    × IsFirstControl network levels found

@@ -36,8 +36,8 @@ fn next_of(project: &Project, facts: &Facts, tank: u32, seconds: u32) -> Stock
     next_stock(project, tank, stock, inflow, seconds)
 }
 
-// Appends levels, for which there is room.
-fn add_level(levels: &mut List<LevelSpan>, level: LevelSpan)
+/// Appends levels, for which there is room.
+pub(crate) fn add_level(levels: &mut List<LevelSpan>, level: LevelSpan)
     requires { 0 < levels.old.spare }
     ensures list { levels.new.list ≡ levels.old.list ++ level ∷ [] }
     ensures spare { levels.old.spare ≤ levels.new.spare + 1 }
@@ -45,8 +45,8 @@ fn add_level(levels: &mut List<LevelSpan>, level: LevelSpan)
     levels.push(level).unwrap();
 }
 
-// Appends volumes, for which there is room.
-fn add_volume(volumes: &mut List<VolumeSpan>, volume: VolumeSpan)
+/// Appends volumes, for which there is room.
+pub(crate) fn add_volume(volumes: &mut List<VolumeSpan>, volume: VolumeSpan)
     requires { 0 < volumes.old.spare }
     ensures list { volumes.new.list ≡ volumes.old.list ++ volume ∷ [] }
     ensures spare { volumes.old.spare ≤ volumes.new.spare + 1 }
@@ -77,6 +77,8 @@ pub fn put_stocks(
         → map volumes_of volumes.new.list ≡ volumes_next project.now grid standing row seconds }
     ensures held { (k : ℕ) (each : Tank) → slice_get project.now.tanks.list k ≡ Some each
         → AreHeld (walls_of project.now each) each (stocks_among levels.new.list volumes.new.list k) }
+    ensures levels_count { length levels.new.list ≡ tank_count project.now }
+    ensures volumes_count { length volumes.new.list ≡ tank_count project.now }
     ensures levels_stay { length levels.old.list + levels.old.spare ≤ length levels.new.list + levels.new.spare }
     ensures volumes_stay { length volumes.old.list + volumes.old.spare ≤ length volumes.new.list + volumes.new.spare }
 {

@@ -31,6 +31,8 @@ none_yet network facts cap ends a b = record {
       (none_watched may_reach network grid standing row cap);
   latest = λ grid standing row started. subst (IsFirstAmong must_reach network grid standing row cap []) (sym b)
       (none_watched must_reach network grid standing row cap);
+  within = omega (arith, a);
+  some = λ h. omega (arith, a, h);
 }
 
 -- one more watched level
@@ -38,13 +40,16 @@ pub one_more : (network : Project) (facts : Facts) (cap : ℕ) (watch : Watch) (
     (own ends both : Ends)
     → IsReachedFirst may_reach network facts cap watch own.earliest
     → IsReachedFirst must_reach network facts cap watch own.latest
+    → (0 < cap → 0 < own.earliest)
     → both.earliest ≡ min own.earliest ends.earliest → both.latest ≡ min own.latest ends.latest
     → AreEnds network facts cap watched ends → AreEnds network facts cap (watched ++ watch ∷ []) both
-one_more network facts cap watch watched own ends both first last a b are = record {
+one_more network facts cap watch watched own ends both first last some a b are = record {
   earliest = subst (IsReachedAmong may_reach network facts cap (watched ++ watch ∷ [])) (sym a)
       (one_behind may_reach network facts cap watch watched own.earliest ends.earliest first are.earliest);
   latest = subst (IsReachedAmong must_reach network facts cap (watched ++ watch ∷ [])) (sym b)
       (one_behind must_reach network facts cap watch watched own.latest ends.latest last are.latest);
+  within = let w = are.within in omega (arith, a, w);
+  some = λ h. let here = some h in let there = are.some h in omega (arith, a, here, there);
 }
 
 pub as_watched : (network : Project) (facts : Facts) (cap : ℕ) (some others : List Watch) (ends : Ends) → some ≡ others

@@ -39,6 +39,9 @@ IsReachedAmong test network facts cap watched second = (grid : Grid) (standing :
 pub record AreEnds (network : Project) (facts : Facts) (cap : ℕ) (watched : List Watch) (ends : Ends) : Type 0 where
   pub earliest : IsReachedAmong may_reach network facts cap watched ends.earliest
   pub latest : IsReachedAmong must_reach network facts cap watched ends.latest
+  -- the earliest isn't after the cap, and is a second or more where the cap is
+  pub within : ends.earliest ≤ cap
+  pub some : 0 < cap → 0 < ends.earliest
 
 -- the maximum of tank number k, where it isn't full
 abbrev pub most_of : ℕ → Tank → TankState → List Watch

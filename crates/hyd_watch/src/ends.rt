@@ -1,7 +1,7 @@
 //! All watched levels of a period.
 #![tactic(auto)]
 
-ghost use Rattle.std.specs.Prelude.{◌≤◌};
+ghost use Rattle.std.specs.Prelude.{◌<◌, ◌≤◌};
 ghost use Rattle.hyd_net.specs.Sound.{Sound};
 ghost use Rattle.hyd_spec_certificates.specs.Grid.{Grid};
 ghost use Rattle.hyd_spec_certificates.specs.Record.{Record, Standing};
@@ -29,6 +29,8 @@ pub fn level_ends(project: &Project, facts: &Facts, cap: u32) -> Ends
     ensures latest { (grid : Grid) (standing : Standing) (row : Record)
         → AreStarted project.now grid standing row facts.now
         → IsClockLength project.now standing.time cap → IsLatestEnd project.now grid standing row result.latest }
+    ensures within { result.earliest ≤ cap }
+    ensures some { 0 < cap → 0 < result.earliest }
 {
     let bounds = bound_ends(project, facts, cap);
     with_controls(project, facts, cap, bounds)

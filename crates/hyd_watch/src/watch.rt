@@ -1,7 +1,7 @@
 //! One watched level.
 #![tactic(auto)]
 
-ghost use Rattle.std.specs.Prelude.{◌++◌, ◌∷◌, [], List};
+ghost use Rattle.std.specs.Prelude.{◌<◌, ◌≤◌, ◌++◌, ◌∷◌, [], List};
 ghost use Rattle.hyd_net.specs.Sound.{Sound};
 ghost use Rattle.hyd_spec_certificates.specs.Stocks.{may_reach, must_reach};
 ghost use Rattle.hyd_spec_certificates.specs.Decided as decided;
@@ -35,6 +35,8 @@ fn first_of(project: &Project, facts: &Facts, watch: Watch, cap: u32) -> Ends
     requires watch { IsWatch project.now watch }
     ensures earliest { IsReachedFirst may_reach project.now facts.now cap (watch_for watch) result.earliest }
     ensures latest { IsReachedFirst must_reach project.now facts.now cap (watch_for watch) result.latest }
+    ensures within { result.earliest ≤ cap }
+    ensures some { 0 < cap → 0 < result.earliest }
 {
     let stock = stock_at(facts, watch.tank);
     let inflow = inflow_at(facts, watch.tank);

@@ -15,3 +15,13 @@ returns-clause-latest c = λ grid standing row started clock.
     (c.with_controls.ensures
     (tank_watches 0 c.args.project.now.tanks.list c.args.facts.now.tanks.list) c.bound_ends-bounds.ensures)
     grid standing row started clock
+
+pub returns-clause-within : goal.returns-clause-within
+returns-clause-within c =
+    (c.with_controls.ensures
+    (tank_watches 0 c.args.project.now.tanks.list c.args.facts.now.tanks.list) c.bound_ends-bounds.ensures).within
+
+pub returns-clause-some : goal.returns-clause-some
+returns-clause-some c =
+    (c.with_controls.ensures
+    (tank_watches 0 c.args.project.now.tanks.list c.args.facts.now.tanks.list) c.bound_ends-bounds.ensures).some

@@ -1,4 +1,4 @@
-use Rattle.std.proofs.Common.{◌≡◌, ℤ, sym, subst, to_z, of_z, arith}
+use Rattle.std.proofs.Common.{◌≡◌, inl, inr, ℤ, refl, sym, subst, to_z, of_z, arith}
 use Rattle.std.specs.Int.{w64}
 use Rattle.std.proofs.lemmas.Int.{ints}
 use Rattle.hyd_spec.specs.Tank.{walls_of}
@@ -43,3 +43,16 @@ returns-clause-latest c =
     (stocks_of c.stock_at-stock.result)
     (inflows_of c.inflow_at-inflow.result) target c.args.watch.rising) c.args.cap c.first_stock-earliest.result.1) kept
     (c.first_stock-earliest.ensures.latest there.0 there.1))
+
+pub returns-clause-within : goal.returns-clause-within
+returns-clause-within c =
+    let there = item_there c.args.project.now.tanks.list c.args.watch.tank c.requires.watch.tank in
+    (c.first_stock-earliest.ensures.earliest there.0 there.1).least c.args.cap (inl refl)
+
+pub returns-clause-some : goal.returns-clause-some
+returns-clause-some c = λ h.
+    let there = item_there c.args.project.now.tanks.list c.args.watch.tank c.requires.watch.tank in
+    elim (c.first_stock-earliest.ensures.earliest there.0 there.1).holds [
+      | inl is ↦ omega (arith, is, h)
+      | inr reached ↦ let l = reached.0 in omega (arith, l)
+    ]

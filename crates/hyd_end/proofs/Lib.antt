@@ -1,0 +1,4 @@
+pub mod Acting
+pub mod Trying
+pub mod Walking
+pub mod Deciding

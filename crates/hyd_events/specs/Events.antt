@@ -1,0 +1,15 @@
+-- Events at the end of a period, by what is known at its start and its carried levels.
+use Rattle.std.specs.Prelude.{List, ◌++◌}
+use Rattle.hyd_spec.specs.Types.{Project}
+use Rattle.hyd_spec.specs.declared.TankState.{TankState}
+use Rattle.hyd_spec.specs.Lists.{map_from, present}
+use Rattle.hyd_spec_certificates.specs.Interval.{Interval}
+use Rattle.hyd_spec_reports.specs.declared.Event.{Event}
+use Rattle.hyd_spec_reports.specs.Report.{tank_events, control_event}
+
+-- The events of tanks by their states at the start, then those of level controls by the levels there, both at carried
+-- levels.
+abbrev pub events_by : Project → List TankState → List Interval → List Interval → List Event
+events_by network states levels carried =
+    tank_events 0 network.tanks.list states carried
+    ++ present (map_from (control_event levels carried) 0 network.controls.list)

@@ -1,0 +1,113 @@
+//! Events of level controls.
+#![tactic(auto)]
+
+ghost use Rattle.std.specs.Prelude.{◌≡◌, ◌<◌, ◌≤◌, ◌+◌, ◌++◌, Some, length, map, slice_get, slice_index_or};
+ghost use Rattle.hyd_net.specs.Sound.{Sound};
+ghost use Rattle.hyd_net.specs.Commands.{IsControl};
+ghost use Rattle.hyd_spec.specs.Types.{Control as Each};
+ghost use Rattle.hyd_spec.specs.Lists.{map_from, present};
+ghost use Rattle.hyd_spec.specs.Network.{tank_count};
+ghost use Rattle.hyd_spec_certificates.specs.Verdict.{is_yes};
+ghost use Rattle.hyd_spec_certificates.specs.Decided.{acts_on, control_truth, nowhere};
+ghost use Rattle.hyd_spec_reports.specs.Report.{control_event};
+ghost use Rattle.hyd_facts.specs.OfPeriod.{levels_of};
+
+use crate::listed::add_event;
+use hyd_net::{Control, List, Project, When};
+use hyd_spec_certificates::LevelSpan;
+use hyd_spec_reports::{Event, EventKind};
+
+// Whether a level control holds on a whole level interval. ABOVE means at least, and BELOW at most.
+fn holds(level: &LevelSpan, above: bool, ticks: i64) -> bool
+    ensures { result ≡ is_yes (control_truth (levels_of level.now) above ticks) }
+{
+    if above {
+        level.lo >= ticks && level.hi >= ticks
+    } else {
+        level.lo <= ticks && level.hi <= ticks
+    }
+}
+
+fn level_at(levels: &[LevelSpan], tank: u32) -> LevelSpan
+    requires { tank < length levels.now }
+    ensures { levels_of result ≡ slice_index_or (map levels_of levels.now) tank nowhere }
+{
+    levels[tank as usize]
+}
+
+// Whether a level control holds at the levels of its tank.
+fn acts(levels: &[LevelSpan], tank: u32, above: bool, ticks: i64) -> bool
+    requires { tank < length levels.now }
+    ensures { result ≡ acts_on (map levels_of levels.now) tank above ticks }
+{
+    let level = level_at(levels, tank);
+    holds(&level, above, ticks)
+}
+
+// The event of a level control that didn't hold before and holds at the carried levels.
+fn control_event(
+    project: &Project,
+    number: u32,
+    control: &Control,
+    before: &[LevelSpan],
+    carried: &[LevelSpan],
+) -> Option<Event>
+    requires control { IsControl project.now control.now }
+    requires each_before { length before.now ≡ tank_count project.now }
+    requires each_carried { length carried.now ≡ tank_count project.now }
+    ensures { result ≡ control_event (map levels_of before.now) (map levels_of carried.now) number control.now }
+{
+    let _project = project;
+    let When::Level { tank, above, ticks } = control.when else {
+        return None;
+    };
+    if acts(before, tank, above, ticks) {
+        return None;
+    }
+    if acts(carried, tank, above, ticks) {
+        return Some(Event {
+            tank,
+            what: EventKind::Control(number),
+        });
+    }
+    None
+}
+
+// The event of the control of a number.
+fn event_at(
+    project: &Project,
+    before: &[LevelSpan],
+    carried: &[LevelSpan],
+    number: u32,
+) -> Option<Event>
+    requires sound { Sound project.now }
+    requires in_range { number < length project.now.controls.list }
+    requires each_before { length before.now ≡ tank_count project.now }
+    requires each_carried { length carried.now ≡ tank_count project.now }
+    ensures { (each : Each) → slice_get project.now.controls.list number ≡ Some each
+        → result ≡ control_event (map levels_of before.now) (map levels_of carried.now) number each }
+{
+    let control = &project.controls.as_slice()[number as usize];
+    control_event(project, number, control, before, carried)
+}
+
+/// Appends the events of level controls in order, by the levels of tanks at the start and the carried ones at the end.
+pub(crate) fn add_controls(
+    project: &Project,
+    before: &[LevelSpan],
+    carried: &[LevelSpan],
+    events: &mut List<Event>,
+)
+    requires sound { Sound project.now }
+    requires each_before { length before.now ≡ tank_count project.now }
+    requires each_carried { length carried.now ≡ tank_count project.now }
+    requires fit { length project.now.controls.list ≤ events.old.spare }
+    ensures events { events.new.list ≡ events.old.list
+        ++ present (map_from (control_event (map levels_of before.now) (map levels_of carried.now)) 0
+        project.now.controls.list) }
+    ensures room { length events.old.list + events.old.spare ≤ length events.new.list + events.new.spare }
+{
+    for number in 0..project.controls.len() {
+        add_event(events, event_at(project, before, carried, number as u32));
+    }
+}
