@@ -16,7 +16,7 @@ use std::num::{nearest_i64_to_f64, saturating_f64_to_i64};
 const BOX_LIMIT: i64 = 1_000_000_000_000_000_000;
 
 /// One part of a step in head ticks.
-const HEAD_TICK_PART: f64 = 0.0625;
+pub(crate) const HEAD_TICK_PART: f64 = 0.0625;
 
 /// How often a step that goes too far is halved.
 const HALVINGS: u32 = 58;

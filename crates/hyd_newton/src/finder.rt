@@ -1,7 +1,7 @@
 //! What finds certificates.
 #![tactic(auto)]
 
-ghost use Rattle.std.specs.Prelude.{◌≡◌, ℤ, List, length, Option, None};
+ghost use Rattle.std.specs.Prelude.{◌≡◌, ℤ, List, length, Option, None, false};
 ghost use Rattle.hyd_graph.specs.Nets.{HasProblem};
 ghost use Rattle.hyd_newton.specs.Told.{Leaves};
 
@@ -22,6 +22,24 @@ pub trait Finder {
         ensures one_each { length out.new ≡ length out.old }
         ensures told { told self.new ≡ told self.old }
         ensures tells { Leaves (told self.old) net.now problem side out.new };
+
+    /// Whether it proposes where a search for the tight vector of a problem and side starts. Then it leaves heads in
+    /// `out`, one for each junction, that every certificate may lie beyond, and in `order` the junctions in an order in
+    /// which turns may show that. It may leave what it likes.
+    fn start(
+        &mut self,
+        net: &Net,
+        problem: Problem,
+        side: Side,
+        out: &mut [i64],
+        order: &mut [u32],
+    ) -> bool
+        requires one_each { length out.old ≡ length net.now.junctions }
+        requires place_each { length order.old ≡ length net.now.junctions }
+        requires pinned { HasProblem net.now problem }
+        ensures one_each { length out.new ≡ length out.old }
+        ensures place_each { length order.new ≡ length order.old }
+        ensures told { told self.new ≡ told self.old };
 }
 
 /// Proposes nothing: it leaves the heads as they are.
@@ -36,4 +54,20 @@ impl Finder for Null {
         ensures told { ◌≡◌ {A = Option (List ℤ)} None None }
         ensures as_it_is { out.new ≡ out.old }
     {}
+
+    fn start(
+        &mut self,
+        _net: &Net,
+        _problem: Problem,
+        _side: Side,
+        out: &mut [i64],
+        order: &mut [u32],
+    ) -> bool
+        ensures none { result ≡ false }
+        ensures one_each { length out.new ≡ length out.old }
+        ensures place_each { length order.new ≡ length order.old }
+        ensures told { ◌≡◌ {A = Option (List ℤ)} None None }
+    {
+        false
+    }
 }

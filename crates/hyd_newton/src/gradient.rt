@@ -5,11 +5,13 @@ ghost use Rattle.std.specs.Prelude.{◌≡◌, ℤ, List, length, Option, None};
 ghost use Rattle.hyd_graph.specs.Nets.{HasProblem};
 
 use crate::course::Course;
+use crate::descent::Descent;
 use crate::exact::serve;
 use crate::finder::Finder;
 use crate::numbers::{copy, fill, multiply, number_at};
 use crate::progress::Progress;
 use crate::tangent::Tangent;
+use crate::turns::copy_order;
 use crate::weights::{greatest_ratio, put_weights};
 use hyd_graph::Net;
 use hyd_spec_certificates::{Problem, Side};
@@ -27,6 +29,11 @@ const LOADED_STEPS: u32 = 8;
 /// How often loads are doubled.
 const LOADS: u32 = 25;
 
+/// The most steps from a certificate toward the tight vector, and how often sets of junctions are lowered after each.
+const DESCENTS: u32 = 200;
+
+const LOWERINGS: u32 = 10;
+
 /// Finds certificates by the gradient method: Newton steps on whole head ticks to heads at which the junctions' flows
 /// balance (Todini and Pilati 1988), then to heads at which a little is left over at each junction, or lacks, until
 /// the check of certificates passes.
@@ -37,6 +44,7 @@ pub struct Gradient {
     links: u32,
     tangent: Tangent,
     course: Course,
+    descent: Descent,
     /// Heads of the junctions near their balance, of the last problem and side.
     middle: Vec<i64>,
     /// The weights of the junctions there.
@@ -57,6 +65,7 @@ impl Gradient {
             links: net.links(),
             tangent: Tangent::open(alloc, net)?,
             course: Course::open(alloc, net)?,
+            descent: Descent::open(alloc, net)?,
             middle: vec![in alloc; 0i64; junctions]?,
             weights: vec![in alloc; 0i64; junctions]?,
             proposal: vec![in alloc; 0i64; junctions]?,
@@ -168,6 +177,27 @@ impl Gradient {
         self.find_middle(net);
         self.find_shifted(net, problem, side)
     }
+
+    // One step from the certificate toward where the junctions pass by nothing.
+    fn close(&mut self, net: &Net, side: Side) {
+        self.descent.put_over(net, side, &mut self.course.misses);
+        self.tangent
+            .put(net, &self.descent.heads, &self.course.misses);
+        self.tangent.solve(&self.course.misses);
+        self.descent.go(net, side, self.tangent.step());
+    }
+
+    // Whether the tight vector is reached from the proposal.
+    fn descend(&mut self, net: &Net, side: Side) -> bool {
+        self.descent.begin(&self.course.heads, &self.proposal);
+        for _ in 0..DESCENTS {
+            self.close(net, side);
+            if self.descent.settles(net, side, LOWERINGS) {
+                return true;
+            }
+        }
+        false
+    }
 }
 
 impl Finder for Gradient {
@@ -177,5 +207,21 @@ impl Finder for Gradient {
         if self.find(net, problem, side) {
             copy(&self.proposal, out);
         }
+    }
+
+    fn start(
+        &mut self,
+        net: &Net,
+        problem: Problem,
+        side: Side,
+        out: &mut [i64],
+        order: &mut [u32],
+    ) -> bool {
+        if !self.find(net, problem, side) || !self.descend(net, side) {
+            return false;
+        }
+        copy(&self.descent.heads, out);
+        copy_order(&self.descent.order, order);
+        true
     }
 }

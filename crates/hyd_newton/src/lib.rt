@@ -3,6 +3,7 @@
 #![tactic(auto)]
 
 mod course;
+mod descent;
 mod exact;
 mod finder;
 mod flows;
@@ -12,6 +13,7 @@ mod numbers;
 mod progress;
 mod slopes;
 mod tangent;
+mod turns;
 mod weights;
 
 pub use finder::{Finder, Null};

@@ -38,21 +38,28 @@ fn net_outflow(net: &Net, side: Side, heads: &[i64], junction: u32, head: i64) -
     sum
 }
 
-// Whether a junction passes at a head, as the check of certificates asks.
-fn passes(net: &Net, side: Side, heads: &[i64], junction: u32, head: i64) -> bool {
+/// By how much a junction passes at a head: less than 0 where it falls short.
+pub(crate) fn over(net: &Net, side: Side, heads: &[i64], junction: u32, head: i64) -> i64 {
     if junction >= net.junctions() {
-        return true;
+        return 0;
     }
     let outflow = net_outflow(net, side, heads, junction, head);
-    let over = match side {
+    let outward = match side {
         Side::Upper => outflow,
         Side::Lower => outflow.saturating_neg(),
     };
-    over > net.margin(junction)
+    outward
+        .saturating_sub(net.margin(junction))
+        .saturating_sub(1)
 }
 
-// The head so many ticks farther out.
-fn further(side: Side, head: i64, ticks: i64) -> i64 {
+/// Whether a junction passes at a head, as the check of certificates asks.
+pub(crate) fn passes(net: &Net, side: Side, heads: &[i64], junction: u32, head: i64) -> bool {
+    over(net, side, heads, junction, head) >= 0
+}
+
+/// The head so many ticks farther out.
+pub(crate) fn further(side: Side, head: i64, ticks: i64) -> i64 {
     match side {
         Side::Upper => head.saturating_add(ticks),
         Side::Lower => head.saturating_sub(ticks),

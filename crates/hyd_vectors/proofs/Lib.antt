@@ -1,2 +1,4 @@
 pub mod Turning
 pub mod Telling
+pub mod Reaching
+pub mod Spending

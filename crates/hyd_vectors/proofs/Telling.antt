@@ -1,5 +1,5 @@
 -- Vectors that are sought and found.
-use Rattle.std.proofs.Common.{◌≡◌, ℕ, ℤ, Bool, true, false, List, sym, subst}
+use Rattle.std.proofs.Common.{◌≡◌, ℕ, ℤ, Bool, false, List, sym, subst}
 use Rattle.std.specs.Prelude.{Option, Result, Ok, Err, OnOk}
 use Rattle.hyd_spec_certificates.specs.declared.Problem.{Problem}
 use Rattle.hyd_spec_certificates.specs.declared.Side.{Side}

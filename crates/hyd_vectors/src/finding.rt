@@ -1,13 +1,15 @@
 //! One vector: proposed and checked, or found by rounds.
 #![tactic(auto)]
 
-ghost use Rattle.std.specs.Prelude.{◌≡◌, ℤ, List, length, false, IfErr, OnOk, OnErr, IsTrue};
+ghost use Rattle.std.specs.Prelude.{◌≡◌, ℤ, List, length, None, false, IfErr, OnOk, OnErr, IsTrue};
 ghost use Rattle.hyd_spec_certificates.specs.Certificate.{IsTight};
+ghost use Rattle.hyd_spec_certificates.specs.Climbing.{IsStart};
 ghost use Rattle.hyd_graph.specs.GridOf.{grid_of};
 ghost use Rattle.hyd_graph.specs.Nets.{HasProblem};
 ghost use Rattle.hyd_vectors.specs.Vectors.{IsFound, IsTold, IsSought, IsOffered, Lacks};
 
 use crate::lack::Lack;
+use crate::starting::Starter;
 use hyd_check::check;
 use hyd_graph::Net;
 use hyd_newton::Finder;
@@ -37,8 +39,8 @@ fn propose<F: Finder>(
     check(net, problem, side, heads).is_ok()
 }
 
-/// The tight vector of a problem and side, by at most so many rounds of raises with leaps between them.
-pub(crate) fn sweep(
+// The tight vector of a problem and side, by at most so many rounds of raises from a start, with leaps between them.
+fn sweep(
     net: &Net,
     problem: Problem,
     side: Side,
@@ -47,6 +49,7 @@ pub(crate) fn sweep(
     heads: &mut [i64],
 ) -> Result<(), Lack>
     requires one_each { length heads.old ≡ length net.now.junctions }
+    requires start { IsStart None (grid_of net.now) problem side heads.old }
     requires room { sweeper.old ≡ length heads.old }
     requires pinned { HasProblem net.now problem }
     ensures tight { OnOk result (IsTight (grid_of net.now) problem side heads.new) }
@@ -55,7 +58,6 @@ pub(crate) fn sweep(
     ensures room { sweeper.new ≡ sweeper.old }
 {
     let _junctions = net.junctions();
-    begin(side, heads);
     match sweeper.tighten(net, problem, side, None, heads, rounds) {
         Swept::Least => Ok(()),
         Swept::NoCertificate { junction } => Err(Lack::NoCertificate {
@@ -67,8 +69,8 @@ pub(crate) fn sweep(
     }
 }
 
-/// The vector that is sought of a problem and side: where it is to be tight, by rounds; else the finder's where that
-/// passes, and by rounds where it doesn't.
+/// The vector that is sought of a problem and side: where it is to be tight, by rounds from a start of the finder's; else
+/// the finder's where that passes, and by rounds where it doesn't.
 pub(crate) fn find<F: Finder>(
     net: &Net,
     finder: &mut F,
@@ -76,10 +78,12 @@ pub(crate) fn find<F: Finder>(
     problem: Problem,
     side: Side,
     rounds: u32,
+    starter: &mut Starter,
     sweeper: &mut Sweeper,
     heads: &mut [i64],
 ) -> Result<(), Lack>
     requires one_each { length heads.old ≡ length net.now.junctions }
+    requires starter_room { starter.old ≡ length heads.old }
     requires room { sweeper.old ≡ length heads.old }
     requires pinned { HasProblem net.now problem }
     ensures sought { OnOk result
@@ -88,14 +92,18 @@ pub(crate) fn find<F: Finder>(
     ensures unoffered { OnErr result ((w : List ℤ)
         → IsOffered tight (F.told finder.old) (grid_of net.now) (length net.now.tanks) problem side w → ⊥) }
     ensures each { length heads.new ≡ length heads.old }
+    ensures starter_room { starter.new ≡ starter.old }
     ensures room { sweeper.new ≡ sweeper.old }
     ensures told { F.told finder.new ≡ F.told finder.old }
 {
+    let _junctions = net.junctions();
     if tight {
+        starter.start(net, finder, problem, side, rounds, heads);
         return sweep(net, problem, side, rounds, sweeper, heads);
     }
     if propose(net, finder, problem, side, heads) {
         return Ok(());
     }
+    begin(side, heads);
     sweep(net, problem, side, rounds, sweeper, heads)
 }

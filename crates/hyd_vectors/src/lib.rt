@@ -1,9 +1,11 @@
-//! The vectors of a period's record: proposed by a finder and checked, or else found by rounds of raises.
+//! The vectors of a period's record: proposed by a finder and checked, or else found by rounds of raises. Rounds toward
+//! a tight vector begin where the finder says, if every certificate lies beyond that.
 #![tactic(auto)]
 
 mod finding;
 mod lack;
 mod search;
+mod starting;
 
 pub use lack::Lack;
 pub use search::Search;

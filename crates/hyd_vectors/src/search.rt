@@ -9,8 +9,9 @@ ghost use Rattle.hyd_graph.specs.GridOf.{grid_of};
 ghost use Rattle.hyd_graph.specs.Nets.{HasProblem};
 ghost use Rattle.hyd_vectors.specs.Vectors.{IsSought, LacksFirst, EachBefore, OfEach, Stays, Fits};
 
-use crate::finding::{find, sweep};
+use crate::finding::find;
 use crate::lack::Lack;
+use crate::starting::Starter;
 use hyd_cert::Record;
 use hyd_graph::Net;
 use hyd_newton::Finder;
@@ -25,6 +26,7 @@ use std::marker::Model;
 pub struct Search {
     rounds: u32,
     heads: Vec<i64>,
+    starter: Starter,
     sweeper: Sweeper,
 }
 
@@ -36,7 +38,7 @@ impl Model for Search {
 
     ghost view = { λ s. record { junctions = length s.heads.items; rounds = s.rounds } };
 
-    ghost invariant = { λ s. s.sweeper ≡ length s.heads.items };
+    ghost invariant = { λ s. (s.starter ≡ length s.heads.items) × (s.sweeper ≡ length s.heads.items) };
 }
 
 impl Search {
@@ -45,10 +47,12 @@ impl Search {
         ensures { IfOk result (λ s. s ≡ record { junctions = junctions; rounds = rounds }) }
     {
         let heads = vec![in alloc; 0i64; junctions as usize]?;
+        let starter = Starter::open(alloc, junctions)?;
         let sweeper = Sweeper::open(alloc, junctions)?;
         Ok(Search {
             rounds,
             heads,
+            starter,
             sweeper,
         })
     }
@@ -83,6 +87,7 @@ impl Search {
             problem,
             side,
             self.rounds,
+            &mut self.starter,
             &mut self.sweeper,
             &mut self.heads,
         )?;
