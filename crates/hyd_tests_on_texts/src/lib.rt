@@ -6,6 +6,8 @@ mod cert;
 #[cfg(test)]
 mod first_rows;
 #[cfg(test)]
+mod generated;
+#[cfg(test)]
 mod lines;
 #[cfg(test)]
 mod network_rows;

@@ -1,0 +1,10 @@
+//! The text of a generated network: an input file of any number of junctions, of which a seed decides the demands.
+#![tactic(auto)]
+
+mod junctions;
+mod pipes;
+mod text;
+
+pub use text::generate;
+/// The error of a call that found no memory.
+pub use std::alloc::AllocError as OutOfMemory;
