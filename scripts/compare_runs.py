@@ -1,27 +1,32 @@
 #!/usr/bin/env python3
-"""Compares runs of steady networks with an independent program on random texts.
+"""Compares runs with an independent program on random texts.
 
-    scripts/compare_runs.py OTHER [COUNT [SEED]]
+    scripts/compare_runs.py [--steady] OTHER [COUNT [SEED]]
 
 OTHER is the folder of an independent program in Python: its module `fuzz` makes texts, its module `cli` runs them. Of
-COUNT texts (5,000 where it isn't given) most are networks of a single instant, their tanks made reservoirs, without
-controls, rules and a duration; some of these get a fault, and a few texts stay as they were made. Each is run by both, some
-with another number of rounds. With `--tight` the printed bytes, those of the certificate and the exit status must be the
-same. Where rounds are spent (status 7) in one of the two, the other may differ; where no certificate exists, another
-junction may be named if the independent program says that it hangs on the order of raises. Without `--tight` the record
-may be another one that is narrow: then the other program must accept it, and print the same report of it. A text without a
-fault that isn't such a network must be refused.
+COUNT texts (10,000 where it isn't given) most are as they are made: networks with tanks, controls and rules over some
+hours. With `--steady` they are networks of a single instant, their tanks made reservoirs, without controls, rules and
+a duration. Some get changed numbers, some a fault. Each is run by both, some with another number of rounds; a text is
+left out whose run has more than 200 periods, or on which the other program spends more than a minute. With `--tight`
+the printed bytes, those of the certificate and the exit status must be the same. Where rounds are spent (status 7) in
+one of the two, the other may differ; where no certificate exists, another junction may be named if the independent
+program says that it hangs on the order of raises. Without `--tight` records may be others that are narrow: then the
+other program must accept each and print the same report of it, each must be narrow or hold the tightest vectors, and
+where the run stopped the other must stop so at the standing that these records leave. It says how many lines, events,
+stops and statuses of each kind came.
 
-The program of this repository is built without proofs, as `rt try` builds it, its checks at run time left in, but without
-a sanitizer, by a folder of links to the kit whose linker keeps the program. PROGRAM=FILE in the environment names one that
-is built; where there is none yet, it is built and kept there. KEEP=FOLDER keeps the texts that differ, and both answers.
-JOBS=N runs so many at once (2). It stands outside the gate.
+The program of this repository is built without proofs, as `rt try` builds it, its checks at run time left in, but
+optimized and without a sanitizer, by a folder of links to the kit whose linker keeps the program. PROGRAM=FILE in the
+environment names one that is built; where there is none yet, it is built and kept there. KEEP=FOLDER keeps the texts
+that differ, and both answers. JOBS=N runs so many at once (2). It stands outside the gate.
 """
 import collections
+import copy
 import multiprocessing
 import os
 import random
 import shutil
+import signal
 import subprocess
 import sys
 import tempfile
@@ -31,15 +36,21 @@ from pathlib import Path
 from compare_input import ROOT, change_numbers
 from unproved import crates_below, links_to_kit
 
-MANY_PERIODS = (5, b'REFUSED line 0 cause 6 detail 12\n', None)
 SPENT = 7
+MOST_PERIODS = 200
 # A head tick is 10^-13 m.
 HEAD_TICKS = 10 ** 13
+# The most seconds of the clock for this program, and of the processor for the other one.
 SECONDS = 120
+OTHER_SECONDS = 60
 CLANG = '''#!/bin/bash
 words=()
 for word in "$@"; do
-  [ "$word" = -fsanitize=address ] || words+=("$word")
+  case "$word" in
+    -O0) words+=(-O3);;
+    -fsanitize=address) ;;
+    *) words+=("$word");;
+  esac
 done
 exec %s/toolchain/bin/clang "${words[@]}"
 '''
@@ -100,7 +111,7 @@ def steady(fuzz, rng):
     return Steady(rng, True)
 
 
-def made(fuzz, rng):
+def made(fuzz, rng, is_steady):
     """A text, and the words behind `run NET CERT`."""
     how = rng.randrange(20)
     words = ['--tight'] if rng.randrange(3) else []
@@ -108,7 +119,7 @@ def made(fuzz, rng):
         words += ['--width', rng.choice('0.000000001 0.0000001 0.00001 0.01 1000'.split())]
     if rng.randrange(8) == 0:
         words += ['--sweeps', rng.choice('0 1 2 5 20 1000'.split())]
-    maker = fuzz.Maker(rng, True) if how == 0 else steady(fuzz, rng)
+    maker = steady(fuzz, rng) if is_steady else fuzz.Maker(rng, True)
     text = maker.make()
     if how == 1:
         return maker.fault(), words
@@ -120,36 +131,89 @@ def made(fuzz, rng):
 # ---------------------------------------------------------------- answers: status, printed bytes, certificate
 
 def expected(cli, text, words, audit=None):
-    """The independent program's answer, or the refusal of a network that this one doesn't take."""
-    try:
-        project = cli.read_project(text, 'e')
-    except cli.Refused:
-        project = None
-    if project and (project.tanks or project.controls or project.rules or project.duration):
-        return MANY_PERIODS
+    """The independent program's answer, with the tightest vectors; None where its run has too many periods."""
     files = {'n.inp': text}
-    status, printed = cli.Tool(files, 'e', audit).call(['run', 'n.inp', 'n.cert'] + words)
+    try:
+        status, printed = cli.Tool(files, 'e', audit, MOST_PERIODS).call(['run', 'n.inp', 'n.cert'] + words)
+    except cli.TooManyPeriods:
+        return None
     return status, printed, files.get('n.cert')
 
 
-def agreed(cli, text, words, tight, got):
-    """What the independent program answers to a run, or, where tight vectors aren't asked for, what it answers to the
-    record found: that is to be tight or narrow, and valid."""
-    if '--tight' in words or got[0] != 0 or tight[0] not in (0, SPENT) or got[2] == tight[2]:
+def agreed(cli, text, words, got, audit=None):
+    """What the independent program answers to a run: with the tightest vectors where they are asked for or the run has
+    them, else along the records that were found."""
+    tight = expected(cli, text, words, audit)
+    if '--tight' in words or tight is None or tight[0] not in (0, 6, 7, 8) or got[0] not in (0, 6, 8) or got == tight:
         return tight
-    if not is_narrow(got[2], words[words.index('--width') + 1] if '--width' in words else '0.01'):
-        return ('a narrow record',) + tight[1:]
-    return cli.Tool({'n.inp': text, 'n.cert': got[2]}, 'e').call(['check', 'n.inp', 'n.cert']) + (got[2],)
+    return followed(cli, text, words, got, audit)
 
 
-def is_narrow(cert, width):
-    """Whether the head intervals of a record are at most so many metres wide."""
-    heads = {b'MU': [], b'ML': []}
-    for line in cert.splitlines():
-        if line[:2] in heads:
-            heads[line[:2]].append(int(line[2:]))
+def followed(cli, text, words, got, audit):
+    """What the independent program answers along the records that were found: it accepts each, and where the run
+    stopped it looks for the next one itself."""
+    options = cli.parse_words(['run', 'n.inp', 'n.cert'] + words, 'e')[2]
+    sim = cli.Sim(cli.read_project(text, 'e'), options['sweeps'], audit)
+    try:
+        printed, end = accepted(cli, sim, options, got[2])
+    except (cli.CertFault, cli.CertRefused, Unsharp) as fault:
+        return 'record %d: %s %s' % (sim.number, type(fault).__name__, fault), b'', None
+    if end != ('END', sim.number, sim.finished):
+        return 'END %s' % (end,), b'', None
+    status, words = 0, ('DONE', sim.number)
+    if not sim.finished:
+        try:
+            sim.step()
+            return 'no stop behind record %d' % sim.number, b'', None
+        except cli.Stop as stop:
+            status, words = stop.status, ('STOP period', sim.number, 'time', cli.clock(sim.time)) + stop.words
+    return status, b'HYD 1\n' + printed + (' '.join(map(str, words)) + '\n').encode('latin-1'), got[2]
+
+
+class Unsharp(Exception):
+    """A record that is neither narrow nor tight."""
+
+
+def accepted(cli, sim, options, cert):
+    """The report of the records of a certificate, and its end."""
+    reader, printed = cli.Tool({}, 'e').reader(sim.project, cert), []
+    while True:
+        item = reader.next()
+        if item[0] == 'END':
+            return b''.join(printed), item
+        before = copy.copy(sim)
+        period = sim.accept(*item[1:5])
+        if not is_narrow(period, options.get('width', '0.01')) and not is_tight(cli, before, period.vectors):
+            raise Unsharp
+        printed.append(cli.put_report(sim.project, period))
+
+
+def is_tight(cli, sim, vectors):
+    """Whether these are the tightest vectors at the standing of a run. They are taken to be where the rounds of the
+    independent program don't reach these."""
+    period = sim.start()
+    try:
+        for problem, side in vectors:
+            sim.find(period, problem, side)
+    except cli.Stop as stop:
+        return stop.status == SPENT
+    return period.vectors == vectors
+
+
+def is_narrow(period, width):
+    """Whether a record is narrow for a width in metres: its head intervals are at most that much wider than the widest
+    level interval, and the level intervals at its end at most twice as wide as at its start and a hundredth of that
+    width."""
     most = int(Decimal(width) * HEAD_TICKS)
-    return all(upper - lower <= most for upper, lower in zip(heads[b'MU'], heads[b'ML']))
+    before = [stock.level[1] - stock.level[0] for stock in period.stocks]
+    after = before if period.last else [stock.level[1] - stock.level[0] for stock in period.next_stocks]
+    return all(upper - lower <= most + max(before, default=0) for upper, lower in zip(*main_vectors(period))) \
+        and all(100 * new <= 200 * old + most for old, new in zip(before, after))
+
+
+def main_vectors(period):
+    """The vectors above and below all heads."""
+    return [period.vectors[None, side] for side in ('UPPER', 'LOWER')]
 
 
 def found(program, text, words):
@@ -168,26 +232,36 @@ def found(program, text, words):
 
 def compared(job):
     """The text of a seed, the words, both answers, and what the independent program says of a free outcome."""
-    program, folder, seed = job
+    program, folder, is_steady, seed = job
     if folder not in sys.path:
         sys.path.insert(0, folder)
     import cli
     import fuzz
-    text, words = made(fuzz, random.Random(seed))
+    text, words = made(fuzz, random.Random(seed), is_steady)
     got, notes = found(program, text, words), []
-    tight = expected(cli, text, words)
-    want = agreed(cli, text, words, tight, got)
-    if want == got != tight:
-        notes.append('another narrow record')
-    elif want != got and SPENT not in (want[0], got[0]):
-        expected(cli, text, words, notes)
+    signal.signal(signal.SIGVTALRM, give_up)
+    signal.setitimer(signal.ITIMER_VIRTUAL, OTHER_SECONDS)
+    try:
+        want = agreed(cli, text, words, got)
+        if want is not None and want != got and SPENT not in (want[0], got[0]):
+            want = agreed(cli, text, words, got, notes)
+    except TimeoutError:
+        want = None
+    signal.setitimer(signal.ITIMER_VIRTUAL, 0)
     return seed, text, words, want, got, notes
+
+
+def give_up(*_):
+    """Ends the other program's work on a text."""
+    raise TimeoutError
 
 
 def comparison(words, want, got, notes):
     """How the two answers compare; only `DIFFERENT` is an error."""
+    if want is None:
+        return 'left out'
     if want == got:
-        return notes[0] if notes else 'same'
+        return 'same'
     if SPENT in (want[0], got[0]):
         return 'rounds spent, %s' % ('as many as asked for' if '--sweeps' in words else '200')
     fronts = [answer[1].rpartition(b' NOCERT ')[2].rpartition(b' ')[0] for answer in (want, got)]
@@ -199,18 +273,26 @@ def comparison(words, want, got, notes):
 # ---------------------------------------------------------------- what came
 
 def kind(line):
-    """The kind of a line of a report: its first word, and for a link its status."""
+    """The kind of a line of a report: its first word and, of some, what it says of a state, an event or a cause."""
     words = line.split()
-    if words[0] == 'STOP':
-        return 'STOP ' + ' '.join(words[5:6] if words[5] == 'DEMAND' else words[5:8])
-    if words[0] == 'REFUSED':
+    first = words[0]
+    if first == 'STOP':
+        cause = words[5]
+        if cause == 'NOCERT' or cause == 'ROUNDS':
+            return 'STOP %s %s %s' % (cause, words[6], words[7] if words[6] == 'MAIN' else words[8])
+        return 'STOP ' + cause
+    if first == 'REFUSED':
         return 'REFUSED cause ' + words[4]
-    return '%s %s' % (words[0], words[-1]) if words[0] == 'LINK' else words[0]
+    if first in ('LINK', 'TANK'):
+        return '%s %s' % (first, words[-1])
+    if first in ('CONTROL', 'RULE'):
+        return '%s %s' % (first, words[5])
+    return 'EVENT ' + words[4] if first == 'EVENT' else first
 
 
 def tell(seed, text, words, want, got, notes):
     """Prints a text whose answers differ, and the first lines that do."""
-    print('text', seed, 'run', *words, 'status expected', want[0], 'found', got[0], *notes)
+    print('text', seed, 'run', *words, 'status expected', want[0], 'found', got[0], *notes[:3])
     for name, left, right in (('report', want[1], got[1]), ('certificate', want[2], got[2])):
         lines = [(part or b'').decode('latin-1').split('\n') + ['(end)'] for part in (left, right)]
         place = next((k for k, (a, b) in enumerate(zip(*lines)) if a != b), None)
@@ -230,21 +312,23 @@ def keep(folder, seed, text, want, got):
 
 
 def main():
-    if len(sys.argv) < 2:
+    given = [word for word in sys.argv[1:] if word != '--steady']
+    if not given:
         sys.exit(__doc__)
-    count = int(sys.argv[2]) if len(sys.argv) > 2 else 5_000
-    first = int(sys.argv[3]) if len(sys.argv) > 3 else 1
+    is_steady = '--steady' in sys.argv[1:]
+    count = int(given[1]) if len(given) > 1 else 10_000
+    first = int(given[2]) if len(given) > 2 else 1
     statuses, kinds, wrong = collections.Counter(), collections.Counter(), []
     with tempfile.TemporaryDirectory() as folder:
         program = Path(os.environ.get('PROGRAM', Path(folder) / 'program')).resolve()
         if not program.exists():
             build(program)
-        jobs = [(str(program), sys.argv[1], '%d/%d' % (first, k)) for k in range(count)]
+        jobs = [(str(program), given[0], is_steady, '%d/%d' % (first, k)) for k in range(count)]
         with multiprocessing.Pool(int(os.environ.get('JOBS', '2'))) as pool:
             for done in pool.imap_unordered(compared, jobs, 4):
                 seed, text, words, want, got, notes = done
                 how = comparison(words, want, got, notes)
-                statuses['%s found %s: %s' % (want[0], got[0], how)] += 1
+                statuses['%s found %s: %s' % ('-' if want is None else want[0], got[0], how)] += 1
                 kinds.update(kind(line) for line in got[1].decode('latin-1').splitlines())
                 if how == 'DIFFERENT':
                     wrong.append(done)
@@ -255,7 +339,7 @@ def main():
     print('%d texts, %d differ' % (count, len(wrong)))
     for name, many in sorted(statuses.items()):
         print('status', name, many)
-    for name, many in kinds.most_common():
+    for name, many in sorted(kinds.items()):
         print('lines', name, many)
     sys.exit(1 if wrong else 0)
 

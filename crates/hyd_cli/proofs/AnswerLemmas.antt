@@ -10,7 +10,6 @@ use Rattle.hyd_io.specs.declared.output.OutFault.{OutFault}
 use Rattle.hyd_io.specs.declared.output.OutFault.TheVariants.{Fault, Stalled as Stall}
 use Rattle.hyd_lex.specs.Lines.{items_of, rows_in}
 use Rattle.hyd_net.specs.declared.cause.Cause.{Cause}
-use Rattle.hyd_net.specs.declared.cause.Cause.TheVariants.{Unsupported}
 use Rattle.hyd_spec.specs.Types.{Project}
 use Rattle.hyd_spec_input.specs.Project.{IsProject}
 use Rattle.hyd_spec_reports.specs.Headline.{Outcome, Finished, Stopped, outcome_number}
@@ -18,7 +17,7 @@ use Rattle.hyd_spec_reports.specs.declared.StopCause.TheVariants.{NoCertificate,
 use Rattle.hyd_sim.specs.declared.settings.Settings.{Settings}
 use Rattle.hyd_run.specs.Pens.{Told, OneRose, LeavesRest}
 use Rattle.hyd_run.specs.Runs.{IsPutOut, IsBrokenOff}
-use Rattle.hyd_cli.specs.Answers.{Seen, IsUntouched, NothingPut, Delivered, CutShort, HasCause, status_of, OpensOnce, OpensCert, Leaves, Holds, AnswersRefused, AnswersRun, AnswersNetwork, AnswersText}
+use Rattle.hyd_cli.specs.Answers.{Seen, IsUntouched, NothingPut, Delivered, CutShort, HasCause, status_of, OpensOnce, OpensCert, Leaves, Holds, AnswersRefused, AnswersRun, AnswersText}
 use Rattle.hyd_cli.specs.Statuses.{number_of, status_of_outcome}
 use Rattle.hyd_cli.specs.declared.status.Status.{Status}
 use Rattle.hyd_cli.specs.declared.status.Status.TheVariants.{Done, OutOfMemory, Usage, ReadFault, WriteFault, InputRefused, Undecided, RoundsSpent, Demand, Stalled}
@@ -203,42 +202,18 @@ run_holds network settings cert RoundsSpent before now h = h.held
 run_holds network settings cert Demand before now h = h.held
 run_holds network settings cert Stalled before now h = fronts_hold network settings cert before now h
 
-network_leaves : (network : Project) (settings : Settings) (cert : List ℕ) (status : Status) (before now : Seen)
-    → AnswersNetwork network settings cert status before now → Leaves status before now
-network_leaves network settings cert status before now (inl h) = run_leaves network settings cert status before now h.1
-network_leaves network settings cert status before now (inr h) = refusal_leaves 0 (Unsupported 12) status before now h.1
-
-network_holds : (network : Project) (settings : Settings) (cert : List ℕ) (status : Status) (before now : Seen)
-    → AnswersNetwork network settings cert status before now → Holds status cert before now
-network_holds network settings cert status before now (inl h) = run_holds network settings cert status before now h.1
-network_holds network settings cert status before now (inr h) =
-    refusal_holds 0 (Unsupported 12) status cert before now h.1
-
-pub network_never_usage : (network : Project) (settings : Settings) (cert : List ℕ) (status : Status) (before now : Seen)
-    → AnswersNetwork network settings cert status before now → status ≢ Usage
-network_never_usage network settings cert status before now (inl h) = λ e. subst (λ s. AnswersRun network settings cert s before now) e h.1
-network_never_usage network settings cert status before now (inr h) =
-    refusal_never_usage 0 (Unsupported 12) status before now h.1
-
--- want of memory leaves all untouched
-no_memory : (network : Project) (settings : Settings) (cert : List ℕ) (before now : Seen)
-    → AnswersNetwork network settings cert OutOfMemory before now → IsUntouched before now
-no_memory network settings cert before now (inl h) = h.1
-no_memory network settings cert before now (inr h) = h.1
-
-no_read : (network : Project) (settings : Settings) (cert : List ℕ) (before now : Seen)
-    → AnswersNetwork network settings cert ReadFault before now → IsUntouched before now
-no_read network settings cert before now (inl h) = absurd h.1
-no_read network settings cert before now (inr h) = h.1
+pub run_never_usage : (network : Project) (settings : Settings) (cert : List ℕ) (status : Status) (before now : Seen)
+    → AnswersRun network settings cert status before now → status ≢ Usage
+run_never_usage network settings cert status before now h = λ e. subst (λ s. AnswersRun network settings cert s before now) e h
 
 -- the answer of the network of a text is one of the text
 text_answers : (text : List ℕ) (network : Project) (settings : Settings) (cert : List ℕ) (status : Status) (before now : Seen)
     → IsProject (rows_in (items_of text)) network
-    → AnswersNetwork network settings cert status before now → AnswersText text settings cert status before now
+    → AnswersRun network settings cert status before now → AnswersText text settings cert status before now
 text_answers text network settings cert Done before now p h = record { network = network; is_network = p; holds = h }
-text_answers text network settings cert OutOfMemory before now p h = no_memory network settings cert before now h
+text_answers text network settings cert OutOfMemory before now p h = h
 text_answers text network settings cert Usage before now p h = record { network = network; is_network = p; holds = h }
-text_answers text network settings cert ReadFault before now p h = no_read network settings cert before now h
+text_answers text network settings cert ReadFault before now p h = absurd h
 text_answers text network settings cert WriteFault before now p h = record { network = network; is_network = p; holds = h }
 text_answers text network settings cert InputRefused before now p h = record { network = network; is_network = p; holds = h }
 text_answers text network settings cert Undecided before now p h = record { network = network; is_network = p; holds = h }
@@ -249,21 +224,21 @@ text_answers text network settings cert Stalled before now p h = record { networ
 -- ---- the whole command, where nothing was touched before the network was there
 
 pub leaves_since : (network : Project) (settings : Settings) (cert : List ℕ) (status : Status) (before between now : Seen)
-    → IsUntouched before between → AnswersNetwork network settings cert status between now → Leaves status before now
-leaves_since network settings cert status before between now u h = network_leaves network settings cert status before now
-    (since_before (λ b. AnswersNetwork network settings cert status b now) before between u h)
+    → IsUntouched before between → AnswersRun network settings cert status between now → Leaves status before now
+leaves_since network settings cert status before between now u h = run_leaves network settings cert status before now
+    (since_before (λ b. AnswersRun network settings cert status b now) before between u h)
 
 pub holds_since : (network : Project) (settings : Settings) (cert : List ℕ) (status : Status) (before between now : Seen)
-    → IsUntouched before between → AnswersNetwork network settings cert status between now
+    → IsUntouched before between → AnswersRun network settings cert status between now
     → Holds status cert before now
-holds_since network settings cert status before between now u h = network_holds network settings cert status before now
-    (since_before (λ b. AnswersNetwork network settings cert status b now) before between u h)
+holds_since network settings cert status before between now u h = run_holds network settings cert status before now
+    (since_before (λ b. AnswersRun network settings cert status b now) before between u h)
 
 pub run_since : (text : List ℕ) (network : Project) (settings : Settings) (cert : List ℕ) (status : Status) (before between now : Seen)
     → IsUntouched before between → IsProject (rows_in (items_of text)) network
-    → AnswersNetwork network settings cert status between now → AnswersText text settings cert status before now
+    → AnswersRun network settings cert status between now → AnswersText text settings cert status before now
 run_since text network settings cert status before between now u p h = text_answers text network settings cert status before now p
-    (since_before (λ b. AnswersNetwork network settings cert status b now) before between u h)
+    (since_before (λ b. AnswersRun network settings cert status b now) before between u h)
 
 pub refused_since : (line : ℕ) (cause : Cause) (status : Status) (before between now : Seen)
     → IsUntouched before between → AnswersRefused line cause status between now

@@ -9,13 +9,11 @@ use Rattle.hyd_io.specs.Counts.{with_read_fault, with_write_fault, with_print_fa
 use Rattle.hyd_io.specs.Told.{Files, where_told, append_known, file_at, PutOut}
 use Rattle.hyd_lex.specs.Lines.{items_of, rows_in}
 use Rattle.hyd_net.specs.declared.cause.Cause.{Cause}
-use Rattle.hyd_net.specs.declared.cause.Cause.TheVariants.{Unsupported}
 use Rattle.hyd_spec.specs.Types.{Project}
 use Rattle.hyd_spec_input.specs.Project.{IsProject}
 use Rattle.hyd_spec_reports.specs.Headline.{Outcome, RunWrites, RunBreaksOff, outcome_number}
 use Rattle.hyd_report.specs.RefusedText.{refused_text_line}
 use Rattle.hyd_run.specs.Runs.{sharpness_of}
-use Rattle.hyd_sim.specs.View.{IsSingle}
 use Rattle.hyd_sim.specs.declared.settings.Settings.{Settings}
 use Rattle.hyd_words.specs.Orders.{RunOrder}
 use Rattle.hyd_cli.specs.Statuses.{number_of}
@@ -167,13 +165,6 @@ AnswersRun network settings cert WriteFault before now = NothingPut before now �
 AnswersRun network settings cert Stalled before now = NothingPut before now ⊎ CutShort network settings cert before now
 AnswersRun network settings cert status before now = ⊥
 
--- What an answer says of a network that was read: one without tanks, controls and rules and of one instant is run, any
--- other is refused, as cause 6 with detail 12.
-abbrev pub AnswersNetwork : Project → Settings → List ℕ → Status → Seen → Seen → Type 0
-AnswersNetwork network settings cert status before now =
-    (IsSingle network × AnswersRun network settings cert status before now)
-    ⊎ ((IsSingle network → ⊥) × AnswersRefused 0 (Unsupported 12) status before now)
-
 -- This holds of a network that the rows of the text describe.
 pub record OfNetwork (text : List ℕ) (P : Project → Type 0) : Type 0 where
   pub network : Project
@@ -184,7 +175,7 @@ pub record OfNetwork (text : List ℕ) (P : Project → Type 0) : Type 0 where
 abbrev pub AnswersText : List ℕ → Settings → List ℕ → Status → Seen → Seen → Type 0
 AnswersText text settings cert OutOfMemory before now = IsUntouched before now
 AnswersText text settings cert ReadFault before now = IsUntouched before now
-AnswersText text settings cert status before now = OfNetwork text (λ network. AnswersNetwork network settings cert status before now)
+AnswersText text settings cert status before now = OfNetwork text (λ network. AnswersRun network settings cert status before now)
 
 -- ---- whatever the text was
 

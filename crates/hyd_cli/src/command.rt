@@ -25,8 +25,7 @@ use std::alloc::Global;
 /// its report. NET is opened once and CERT created once at most.
 ///
 /// - `Usage`: the words aren't that command.
-/// - `InputRefused`: the text has a fault (one of more than 64 MiB among them), or its network has a tank, a control, a
-///   rule or a duration and isn't run yet.
+/// - `InputRefused`: the text has a fault (one of more than 64 MiB among them).
 /// - `Done`, `Undecided`, `RoundsSpent`, `Demand`: how the run ended.
 /// - `OutOfMemory`: nothing was created, written or printed.
 /// - `ReadFault`, `WriteFault`, `Stalled`: a call on the desk failed or took nothing. Nothing more was called then.
@@ -112,7 +111,7 @@ fn refuse_words<D: Desk>(desk: &mut D) -> Status
 }
 
 /// Prints the line of a text that is refused.
-pub(crate) fn refuse_text<D: Desk>(line: u32, cause: Cause, desk: &mut D) -> Status
+fn refuse_text<D: Desk>(line: u32, cause: Cause, desk: &mut D) -> Status
     ensures cause { HasCause result (D.counts desk.old) (D.counts desk.new) }
     ensures answers { AnswersRefused line cause result
         (seen D.files D.written D.printed desk.old) (seen D.files D.written D.printed desk.new) }

@@ -1,33 +1,21 @@
 //! The run of a network that was read.
 
-ghost use Rattle.std.specs.Prelude.{◌≡◌, true, false, IsTrue};
+ghost use Rattle.std.specs.Prelude.{◌≡◌, IsTrue};
 ghost use Rattle.hyd_net.specs.Sound.{Sound};
 ghost use Rattle.hyd_spec_certificates.specs.Record.{initial_standing};
-ghost use Rattle.hyd_sim.specs.View.{IsSingle, standing_of};
+ghost use Rattle.hyd_sim.specs.View.{standing_of};
 ghost use Rattle.hyd_run.specs.Runs.{outcome_of};
-ghost use Rattle.hyd_cli.specs.Answers.{seen, ChangesOnly, HasCause, OpensCert, AnswersRun, AnswersNetwork};
+ghost use Rattle.hyd_cli.specs.Answers.{seen, ChangesOnly, HasCause, OpensCert, AnswersRun};
 ghost use Rattle.hyd_cli.specs.Statuses.{status_of_outcome};
 
-use crate::command::refuse_text;
 use crate::status::{Status, fault_status};
 use hyd_io::{Channel, Desk, Pen};
-use hyd_net::{Cause, Project};
+use hyd_net::Project;
 use hyd_newton::{Finder, Gradient};
 use hyd_run::{RunEnd, run};
 use hyd_sim::{Settings, Sim};
 use hyd_spec_reports::StopCause;
 use std::alloc::Global;
-
-/// Whether a network has one period alone, and no tanks, controls and rules.
-fn is_single(project: &Project) -> bool
-    ensures yes { result ≡ true → IsSingle project.now }
-    ensures no { result ≡ false → IsSingle project.now → ⊥ }
-{
-    project.tanks.len() == 0
-        && project.controls.len() == 0
-        && project.rules.len() == 0
-        && project.times.duration == 0
-}
 
 /// The status of the end of a run.
 fn status_of_end(end: RunEnd) -> Status
@@ -80,8 +68,8 @@ fn run_by_gradient<D: Desk>(alloc: Global, sim: &mut Sim, cert: &str, desk: &mut
     }
 }
 
-/// Runs a network that has one period alone, and no tanks, controls and rules.
-fn run_single<D: Desk>(
+/// Runs a network that was read.
+pub(crate) fn run_network<D: Desk>(
     alloc: Global,
     project: Project,
     settings: Settings,
@@ -89,7 +77,6 @@ fn run_single<D: Desk>(
     desk: &mut D,
 ) -> Status
     requires sound { Sound project }
-    requires single { IsSingle project }
     requires creates { IsTrue (D.may_create cert.now) }
     ensures cause { HasCause result (D.counts desk.old) (D.counts desk.new) }
     ensures answers { AnswersRun project settings cert.now result
@@ -102,28 +89,4 @@ fn run_single<D: Desk>(
         Ok(mut sim) => run_by_gradient(alloc, &mut sim, cert, desk),
         Err(_) => Status::OutOfMemory,
     }
-}
-
-/// Runs a network that was read, or refuses it: one with more than one period, a tank, a control or a rule isn't taken
-/// yet.
-pub(crate) fn run_network<D: Desk>(
-    alloc: Global,
-    project: Project,
-    settings: Settings,
-    cert: &str,
-    desk: &mut D,
-) -> Status
-    requires sound { Sound project }
-    requires creates { IsTrue (D.may_create cert.now) }
-    ensures cause { HasCause result (D.counts desk.old) (D.counts desk.new) }
-    ensures answers { AnswersNetwork project settings cert.now result
-        (seen D.files D.written D.printed desk.old) (seen D.files D.written D.printed desk.new) }
-    ensures others { ChangesOnly cert.now
-        (seen D.files D.written D.printed desk.old) (seen D.files D.written D.printed desk.new) }
-    ensures opens { OpensCert result (D.openings desk.old) (D.openings desk.new) }
-{
-    if is_single(&project) {
-        return run_single(alloc, project, settings, cert, desk);
-    }
-    refuse_text(0, Cause::Unsupported(12), desk)
 }

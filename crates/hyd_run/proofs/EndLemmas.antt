@@ -1,5 +1,5 @@
 -- The beginning and the end of a run.
-use Rattle.std.proofs.Common.{◌≡◌, ℕ, ◌≤◌, List, [], Option, None, sym, ap, subst, ◌∙◌, arith}
+use Rattle.std.proofs.Common.{◌≡◌, ℕ, ◌<◌, ◌^◌, List, [], Option, None, sym, ap, subst, ◌∙◌, arith}
 use Rattle.std.specs.Prelude.{IsTrue, Result, Ok, Err, IfOk, IfErr, OnOk}
 use Rattle.hyd_net.specs.Sound.{Sound}
 use Rattle.hyd_spec.specs.Types.{Project}
@@ -55,7 +55,7 @@ begun-cut network settings fault header before now same cut =
 -- the last lines were put in, or a fault cut them off
 pub ended : (network project : Project) (settings : Settings) (outcome : Outcome) (left : Standing) (start before
     now : Moment) (records : ℕ)
-    → project ≡ network → records ≡ left.number → left.number ≤ 1 → EndsSo network left settings.rounds outcome
+    → project ≡ network → records ≡ left.number → left.number < 2 ^ 32 → EndsSo network left settings.rounds outcome
     → PutIn (end_line records (is_finished outcome)) (last_line project left records outcome) before now
     → IsSoFar network (sharpness_of settings) left start before → IsWhole network settings outcome start now
 ended network project settings outcome left start before now records same counted few ends put =

@@ -1,10 +1,9 @@
 -- From a period that was done to what is found, and what its report needs.
-use Rattle.std.proofs.Common.{◌≡◌, ℕ, zero, suc, ◌<◌, ◌^◌, ℤ, pos, ◌-ℤ◌, ◌≤ℤ◌, List, [], ◌∷◌}
-use Rattle.std.proofs.Common.{◌++◌, length, map, slice_get, Some, refl, sym, ap, subst, ◌∙◌, arith}
+use Rattle.std.proofs.Common.{◌≡◌, ℕ, zero, suc, ◌<◌, ◌≤◌, ◌+◌, ◌^◌, ℤ, pos, ◌-ℤ◌, ◌≤ℤ◌, List, [], ◌∷◌}
+use Rattle.std.proofs.Common.{◌++◌, length, slice_get, Some, refl, sym, ap, ◌∙◌, arith}
 use Rattle.std.proofs.lemmas.Int.{ints}
-use Rattle.std.proofs.lemmas.List.{length-map}
 use Rattle.std.proofs.lemmas.List.Elements.{All-from_get_or}
-use Rattle.hyd_spec.specs.Types.{Project, Tank}
+use Rattle.hyd_spec.specs.Types.{Project}
 use Rattle.hyd_spec.specs.Lists.{map_from}
 use Rattle.hyd_spec.specs.Assignment.{head_at}
 use Rattle.hyd_spec.specs.Network.{junction_count, tank_count}
@@ -12,11 +11,10 @@ use Rattle.hyd_spec_certificates.specs.declared.Problem.TheVariants.{Main, Pinne
 use Rattle.hyd_spec_certificates.specs.declared.Side.{Side}
 use Rattle.hyd_spec_certificates.specs.declared.Side.TheVariants.{Upper, Lower}
 use Rattle.hyd_spec_certificates.specs.Interval.{Interval}
-use Rattle.hyd_spec_certificates.specs.Grid.{Grid, tank_intervals}
+use Rattle.hyd_spec_certificates.specs.Grid.{Grid}
 use Rattle.hyd_spec_certificates.specs.Certificate.{IsCertificate}
 use Rattle.hyd_spec_certificates.specs.Record.{Record, Standing, Vectors, no_vectors}
 use Rattle.hyd_spec_certificates.specs.Valid.{AreCertificates, IsValid, LeadsOn, continues, finishes}
-use Rattle.hyd_spec_certificates.specs.Decided.{inflow_of_tank}
 use Rattle.hyd_spec_reports.specs.CertificateText.{IsRow, IsVector as IsRowVector}
 use Rattle.hyd_spec_laws.specs.Laws.{IsSteady}
 use Rattle.hyd_spec_nesting.proofs.TwoSides.{heads_below_plus}
@@ -26,9 +24,10 @@ use Rattle.hyd_graph.specs.Periods.{IsNetOf}
 use Rattle.hyd_graph.proofs.Counts.{junctions_count}
 use Rattle.hyd_graph.proofs.Sounding.{long_zipped}
 use Rattle.hyd_bounds.specs.Bounds.{TanksInOrder}
-use Rattle.hyd_facts.specs.OfPeriod.{AreFacts, levels_of, flows_of}
 use Rattle.hyd_facts.specs.declared.facts.Facts.{Facts}
 use Rattle.hyd_report.specs.Periods.{AreBounds, AreTankFacts}
+use Rattle.hyd_watch.specs.Started.{HaveTanks}
+use Rattle.hyd_sim.specs.View.{SimView, IsSim, standing_of}
 
 -- ---- bounds
 
@@ -63,28 +62,15 @@ bounds-of network net row of steady order certificates =
           (ends-in-order 0 (grid_of net).tanks order) k in omega (arith, ints, f))) m;
     }
 
--- ---- networks without tanks
+-- ---- tanks
 
-pub no-order : (network : Project) (levels : List Interval) (grid : Grid) → network.tanks.list ≡ []
-    → grid.tanks ≡ tank_intervals network.tanks.list levels → TanksInOrder grid
-no-order network levels grid none are =
-    subst (λ (xs : List Interval). (k : ℕ) (x : Interval) → slice_get xs k ≡ Some x → x.lo ≤ℤ x.hi)
-    (sym (are ∙ ap (λ (ts : List Tank). tank_intervals ts levels) none)) (λ k x at. absurd (cc))
-
-pub no-tank-facts : (network : Project) (grid : Grid) (standing : Standing) (row : Record) (facts : Facts)
-    → network.tanks.list ≡ [] → standing.levels ≡ [] → standing.tanks ≡ [] → AreFacts network grid standing row facts
-    → AreTankFacts network facts
-no-tank-facts network grid standing row facts none levels tanks are =
-    let empty : tank_count network ≡ 0 = ap length none in
-    let flows : map flows_of facts.inflows.list ≡ [] =
-    are.inflows ∙ ap (map_from (λ (k : ℕ) (tank : Tank). inflow_of_tank network grid row k) 0) none in
-    let no_flow : length facts.inflows.list ≡ 0 = sym (length-map facts.inflows.list flows_of) ∙ ap length flows in
-    record {
-      levels = sym (length-map facts.levels.list levels_of) ∙ (ap length (are.levels ∙ levels) ∙ sym empty);
-      inflows = no_flow ∙ sym empty;
-      states = ap length (are.tanks ∙ tanks) ∙ sym empty;
-      small = λ k d inside. absurd (omega (arith, inside, no_flow));
-    }
+pub tank-facts-of : (network : Project) (facts : Facts) → HaveTanks network facts → AreTankFacts network facts
+tank-facts-of network facts have = record {
+  levels = have.levels;
+  inflows = have.inflows;
+  states = have.tanks;
+  small = λ k d inside. (let s = have.small k d inside in record { low = s.lo; high = s.hi });
+}
 
 -- ---- records that a certificate can hold
 
@@ -118,6 +104,19 @@ grid-count network net of =
     junctions_count net.junctions net.demands (of.each_demand ∙ same) ∙ sym same
 
 -- ---- the number of the next standing
+
+-- no more periods were done than a run has seconds, but for the one at its end
+pub few-periods : (sim : SimView) → IsSim sim → (standing_of sim).number ≤ suc sim.project.times.duration
+few-periods sim is =
+    let few : sim.here.number ≤ sim.here.time + 1 = is.standing.few in
+    let time : sim.here.time ≤ sim.project.times.duration = is.standing.tidy.in_time in
+    omega (arith, few, time)
+
+pub small-number : (sim : SimView) → IsSim sim → (standing_of sim).number < 2 ^ 32
+small-number sim is =
+    let few = few-periods sim is in
+    let most = is.sound.times.duration in
+    omega (arith, few, most)
 
 pub number-next : (network : Project) (standing : Standing) (grid : Grid) (row : Record) (next : Standing)
     → IsValid network standing grid row next → next.number ≡ suc standing.number

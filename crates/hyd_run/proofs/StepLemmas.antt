@@ -1,5 +1,5 @@
 -- What the steps of a run find and put in.
-use Rattle.std.proofs.Common.{◌≡◌, ◌<◌, ◌^◌, true, false, length, Option}
+use Rattle.std.proofs.Common.{◌≡◌, suc, ◌<◌, ◌^◌, true, false, length, Option}
 use Rattle.std.proofs.Common.{Some, refl, sym, ap, subst, ◌∙◌, arith}
 use Rattle.std.specs.Prelude.{IfSome}
 use Rattle.std.proofs.lemmas.List.{length-map}
@@ -29,7 +29,7 @@ use Rattle.hyd_report.specs.Lines.{texts}
 use Rattle.hyd_run.specs.Pens.{Moment, PutIn, IsCutOff}
 use Rattle.hyd_run.specs.Runs.{sharpness_of, IsStep, IsSoFar, IsCutShort, DidPeriod, LostPeriod, IsOver, periods_left}
 use Rattle.hyd_spec_reports.specs.Headline.{Outcome}
-use Rattle.hyd_run.proofs.PeriodLemmas.{no-order, no-tank-facts, row-fits, grid-count, number-next}
+use Rattle.hyd_run.proofs.PeriodLemmas.{tank-facts-of, few-periods, row-fits, grid-count, number-next}
 use Rattle.hyd_run.proofs.RunLemmas.{so-far-more, so-far-cut}
 
 -- what a period found
@@ -43,14 +43,8 @@ found-of before now = record {
 }
 
 module _ (before now : SimView) (is : IsSim now) (period : IsPeriod before now) where
-  pub in-order : TanksInOrder (grid_of now.net)
-  in-order = no-order now.project (standing_of before).levels (grid_of now.net) is.single.no_tanks
-      period.valid.is_grid.tank_heads
-
   pub tank-facts : AreTankFacts now.project now.facts
-  tank-facts = no-tank-facts now.project (grid_of now.net) (standing_of before) (row_of now.row) now.facts
-      is.single.no_tanks refl refl
-      period.facts
+  tank-facts = tank-facts-of now.project now.facts period.have
 
   each-link : length (grid_of now.net).links ≡ length now.project.links.list
   each-link =
@@ -78,19 +72,19 @@ module _ (before now : SimView) (is : IsSim now) (period : IsPeriod before now) 
         period.valid;
   }
 
-  pub fewer-left : periods_left now < periods_left before
+  pub fewer-left : periods_left now.project (standing_of now) < periods_left now.project (standing_of before)
   fewer-left =
-      let next = number-next now.project (standing_of before) (grid_of now.net) (row_of now.row) (standing_of now)
-      period.valid in
-      let few = is.few in
+      let next : (standing_of now).number ≡ suc (standing_of before).number =
+      number-next now.project (standing_of before) (grid_of now.net) (row_of now.row) (standing_of now) period.valid in
+      let few = few-periods now is in
       omega (arith, next, few)
 
 -- a run that is over has finished
-pub over-finished : (before now : SimView) (moment : Moment) → before.finished ≡ true → now ≡ before
+pub over-finished : (before now : SimView) (moment : Moment) → (standing_of before).finished ≡ true → now ≡ before
     → IsOver Finished before now moment moment
 over-finished before now moment finished same = record {
   stays = ap standing_of same;
-  ends_so = ap (λ (s : SimView). s.finished) same ∙ finished;
+  ends_so = ap (λ (s : SimView). (standing_of s).finished) same ∙ finished;
   nothing = refl;
 }
 
@@ -99,7 +93,7 @@ pub over-stopped : (before now : SimView) (cause : StopCause) (moment : Moment) 
     → standing_of now ≡ standing_of before → IsOver (Stopped cause) before now moment moment
 over-stopped before now cause moment is stopped same = record {
   stays = same;
-  ends_so = subst (λ (o : Option StopCause). IfSome o (λ (c : StopCause). (now.finished ≡ false)
+  ends_so = subst (λ (o : Option StopCause). IfSome o (λ (c : StopCause). (now.here.finished ≡ false)
       × Stops now.project (standing_of now) now.settings.rounds c)) stopped is.stopped;
   nothing = refl;
 }
@@ -169,7 +163,7 @@ module _ (before now : SimView) (is : IsSim now) (period : IsPeriod before now) 
   certificates-there = rw (p, n, r) period.valid.certificates
 
   pub order-there : TanksInOrder (grid_of net)
-  order-there = rw n (in-order before now is period)
+  order-there = rw n period.order
 
   pub tanks-there : AreTankFacts project facts
   tanks-there = rw (p, f) (tank-facts before now is period)

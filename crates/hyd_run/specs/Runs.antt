@@ -109,15 +109,15 @@ pub record IsCutShort (network : Project) (settings : Settings) (fault : OutFaul
 
 -- ---- a step
 
--- How many periods may still be due: today a run has one.
-abbrev pub periods_left : SimView → ℕ
-periods_left sim = 1 - sim.number
+-- How many periods may still be due at a standing: each but the last lasts a second at least.
+abbrev pub periods_left : Project → Standing → ℕ
+periods_left network standing = suc network.times.duration - standing.number
 
 -- A period was due and was found, and its record and its report were put in at the pens.
 pub record DidPeriod (sim now : SimView) (before after : Moment) : Type 0 where
   pub found : Found
   pub step : IsStep now.project (sharpness_of now.settings) (standing_of sim) (standing_of now) found
-  pub fewer : periods_left now < periods_left sim
+  pub fewer : periods_left now.project (standing_of now) < periods_left now.project (standing_of sim)
   pub put : PutIn (record_text found.row) (texts now.project found.lines) before after
 
 -- It was found, and a fault cut its record and its report off.

@@ -1,6 +1,5 @@
 //! A run of a network from its first step to its last line, put out as it goes: the certificate through one pen and
-//! the report
-//! through another.
+//! the report through another.
 #![tactic(auto)]
 
 mod outcome;

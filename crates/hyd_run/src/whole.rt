@@ -115,8 +115,7 @@ fn finish<D: Desk>(
 /// - `Stalled`: such a call took nothing, and the stalls rose by one.
 ///
 /// After either nothing more is called, and what was written and printed are fronts of the certificate and of the
-/// report
-/// of the run as far as it went.
+/// report of the run as far as it went.
 pub fn run<D: Desk, F: Finder>(
     sim: &mut Sim,
     finder: &mut F,

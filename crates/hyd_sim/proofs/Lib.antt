@@ -1,3 +1,12 @@
+pub mod Attempting
+pub mod Fitting
 pub mod Lacking
+pub mod Leaving
+pub mod Moving
+pub mod Opening
+pub mod Placing
+pub mod Proposed
+pub mod Proposing
 pub mod Running
 pub mod Starting
+pub mod Widths

@@ -1,6 +1,8 @@
--- The period of a run that has one.
+-- The periods of a run.
 use Rattle.std.proofs.Common.{◌≡◌, ℕ, zero, suc, ◌+◌, ◌<◌, ◌≤◌, ℤ, pos, ◌+ℤ◌, ◌-ℤ◌, ◌*ℤ◌, ◌≤ℤ◌, Bool, true, false, List, [], ◌∷◌, ◌++◌, length, map, refl, sym, ap, subst, ◌∙◌, arith, ◌⊎◌, inl, inr}
-use Rattle.std.specs.Prelude.{Option, MatchBool, unsigned_abs}
+use Rattle.std.specs.Prelude.{unsigned_abs, if◌then◌else◌}
+use Rattle.std.proofs.Common.{◌≢◌, eq-eqb}
+use Rattle.std.proofs.lemmas.Bool.{ne_eqb}
 use Rattle.std.proofs.lemmas.Option.{slice_get_within, get_or_from_slice_get}
 use Rattle.hyd_spec.specs.Quantity.{demand_of}
 use Rattle.std.proofs.lemmas.Int.{ints}
@@ -13,20 +15,9 @@ use Rattle.hyd_spec_certificates.specs.declared.Problem.TheVariants.{Main, Pinne
 use Rattle.hyd_spec_certificates.specs.declared.Side.{Side}
 use Rattle.hyd_spec_certificates.specs.Grid.{Grid}
 use Rattle.hyd_spec_certificates.specs.Certificate.{IsCertificate, IsTight}
-use Rattle.hyd_spec_certificates.specs.Narrow.{IsNarrow, widest}
-use Rattle.hyd_spec_certificates.specs.Decided.{level_of_tank, inflow_of_tank, links_at, acts_on}
-use Rattle.hyd_spec_certificates.specs.Interval.{Interval, width}
 use Rattle.hyd_spec_certificates.specs.Record.{Record, Standing, Vectors, vector_of}
-use Rattle.hyd_spec_certificates.specs.Valid.{IsProblem, IsGridAt, DemandsAreInRange, AreCertificates, IsValid, Finishes, finishes, demand_limit}
-use Rattle.hyd_spec_reports.specs.Stops.{Stops, IsFirstDemand, EarlierHaveCertificates, HasNoCertificate, SpendsRounds}
-use Rattle.hyd_spec_reports.specs.Report.{changes_at, control_changes, EndBrings, at_end}
-use Rattle.hyd_spec_reports.specs.declared.Event.{Event}
-use Rattle.hyd_spec.specs.Lists.{map_from}
-use Rattle.hyd_spec.specs.Start.{patterned}
-use Rattle.hyd_spec.specs.Types.{Control}
-use Rattle.hyd_spec.specs.declared.Change.{Change}
-use Rattle.hyd_facts.specs.OfPeriod.{AreFacts, levels_of, volumes_of, flows_of}
-use Rattle.hyd_facts.specs.declared.facts.Facts.{Facts}
+use Rattle.hyd_spec_certificates.specs.Valid.{IsProblem, IsGridAt, DemandsAreInRange, AreCertificates, demand_limit}
+use Rattle.hyd_spec_reports.specs.Stops.{Stops, IsFirstDemand, IsTightRow, EarlierHaveCertificates, HasNoCertificate, SpendsRounds}
 use Rattle.hyd_cert.specs.RecordView.{IsProblemOf}
 use Rattle.hyd_cert.specs.Vectors.{problems_in, behind_two}
 use Rattle.hyd_graph.proofs.Sounding.{long_zipped}
@@ -36,11 +27,15 @@ use Rattle.hyd_graph.specs.Periods.{IsNetOf}
 use Rattle.hyd_vectors.specs.Vectors.{OfEach, Lacks, HasNone, AreSpent}
 use Rattle.hyd_vectors.specs.declared.lack.Lack.{Lack}
 use Rattle.hyd_vectors.specs.declared.lack.Lack.TheVariants.{NoCertificate as LacksCertificate, RoundsSpent as SpentRounds}
-use Rattle.hyd_sim.specs.Sharp.{HasVectors, LacksOne, AreClose, stop_of}
-use Rattle.hyd_sim.specs.Bare.{IsBare}
-use Rattle.hyd_sim.specs.View.{IsSingle, standing_at}
-use Rattle.hyd_sim.specs.Steps.{AreTight, IsSharp}
-use Rattle.hyd_sim.specs.declared.settings.Settings.{Settings}
+use Rattle.hyd_close.specs.Opens.{IsOpenAt}
+use Rattle.hyd_close.specs.declared.close.Close.{Close}
+use Rattle.hyd_close.specs.declared.open.Open.{Open}
+use Rattle.hyd_close.specs.declared.open.Open.TheVariants.{Rule as RuleIsFound, Event as EventIsFound, Tank as TankIsFound, Control as ControlIsFound}
+use Rattle.hyd_sim.specs.Sharp.{LacksOne, stop_of, open_stop_of}
+use Rattle.hyd_sim.specs.Attempts.{next_standing, last_standing, later_standing}
+use Rattle.hyd_sim.specs.Steps.{AreTight}
+use Rattle.hyd_sim.specs.declared.standing.Standing.{Standing as Here}
+use Rattle.hyd_sim.proofs.Leaving.{rule-stops, event-stops, tank-stops, control-stops}
 
 -- a net has the junctions of its project
 pub net-junctions : (project : Project) (net : NetView) → IsNetOf project net
@@ -134,77 +129,51 @@ certificates-of network grid tanks row each pinned all = record {
       (subst (λ (n : ℕ). IsProblemOf n problem) (sym each) (problem-of network problem is));
 }
 
--- vectors that are sharp enough, of a network without tanks
-pub sharp-of : (network : Project) (settings : Settings) (standing : Standing) (grid : Grid) (tanks : ℕ)
-    (row : Record) (next : Standing) → tanks ≡ tank_count network → standing.levels ≡ [] → next.levels ≡ []
-    → HasVectors settings grid tanks row → IsSharp network settings standing grid row next
-sharp-of network settings standing grid tanks row next each levels after has = by settings.tight has.sharp
-  where
-    tight : OfEach (IsTight grid) tanks row → AreTight network grid row
-    tight all = λ problem side is. all problem side
-        (subst (λ (n : ℕ). IsProblemOf n problem) (sym each) (problem-of network problem is))
+-- what is tight of each problem is so of the network's
+pub tight-of : (network : Project) (grid : Grid) (row : Record)
+    → OfEach (IsTight grid) (tank_count network) row → AreTight network grid row
+tight-of network grid row all = λ problem side is. all problem side (problem-of network problem is)
 
-    narrow : AreClose settings.width row → IsNarrow settings.width standing row next
-    narrow close = record {
-      heads = subst (λ (xs : List Interval). Each row.main.upper
-          (λ j upper. (upper -ℤ head_at row.main.lower j) ≤ℤ (settings.width +ℤ widest xs))) (sym levels)
-          (λ j upper at. let c = close j upper at in omega (arith, ints, c));
-      levels = subst (λ (xs : List Interval). Each xs (λ k level.
-          (pos 100 *ℤ width level) ≤ℤ ((pos 200 *ℤ width (level_of_tank standing k)) +ℤ settings.width))) (sym after)
-          (λ k level at. absurd (cc));
-    }
-
-    by : (asked : Bool) → MatchBool asked (OfEach (IsTight grid) tanks row) (OfEach (IsTight grid) tanks row ⊎ AreClose settings.width row)
-        → MatchBool asked (AreTight network grid row) (AreTight network grid row ⊎ IsNarrow settings.width standing row next)
-    by true all = tight all
-    by false (inl all) = inl (tight all)
-    by false (inr close) = inr (narrow close)
-
--- the facts of a period that lasts no time, of a network without tanks and controls
-pub facts-of : (network : Project) (number : ℕ) (commanded links : List LinkState) (grid : Grid) (row : Record)
-    (facts : Facts) → IsSingle network → row.length ≡ 0 → IsBare links facts
-    → links ≡ links_at network (standing_at number commanded false) → facts.changes.list ≡ []
-    → AreFacts network grid (standing_at number commanded false) row facts
-facts-of network number commanded links grid row facts single short bare are unchanged = record {
-  time = bare.time;
-  length = bare.length_is ∙ sym short;
-  levels = ap (map levels_of) bare.levels;
-  volumes = ap (map volumes_of) bare.volumes;
-  inflows = ap (map flows_of) bare.inflows
-      ∙ sym (ap (map_from (λ k tank. inflow_of_tank network grid row k) 0) single.no_tanks);
-  tanks = bare.tanks;
-  links = bare.links_are ∙ are;
-  by_rules = [];
-  changes = unchanged ∙ sym (ap (λ (xs : List Change). xs ++ []) none);
-  brings = subst (λ (es : List Event). EndBrings network grid standing row es []) (sym bare.events)
-      (at_end (sym single.one_instant));
-}
-  where
-    standing : Standing
-    standing = standing_at number commanded false
-
-    none : changes_at network standing ≡ []
-    none = ap (λ (cs : List Control).
-        control_changes network 0 (acts_on []) 0 cs (patterned network 0 commanded)) single.no_controls
-
--- the record of such a period is valid
-pub valid-of : (network : Project) (number : ℕ) (commanded : List LinkState) (grid : Grid) (row : Record)
-    → IsSingle network → row.number ≡ number → row.time ≡ 0 → row.length ≡ 0 → DemandsAreInRange network 0
-    → IsGridAt network (standing_at number commanded false) grid → AreCertificates network grid row
-    → IsValid network (standing_at number commanded false) grid row (standing_at (number + 1) commanded true)
-valid-of network number commanded grid row single numbered timed short in_range is certificates = record {
-  unfinished = refl;
-  number = numbered;
-  time = timed;
-  demands = in_range;
+-- tight vectors make a tight row
+pub tight-row : (network : Project) (standing : Standing) (grid : Grid) (row : Record)
+    → DemandsAreInRange network standing.time → IsGridAt network standing grid → length row.pinned ≡ tank_count network
+    → OfEach (IsTight grid) (tank_count network) row → IsTightRow network standing grid row
+tight-row network standing grid row in_range is pinned all = record {
+  in_range = in_range;
   is_grid = is;
-  certificates = certificates;
-  leads_on = finishes (record {
-    is_last = sym single.one_instant;
-    no_length = short;
-    next_is = ap (λ (n : ℕ). standing_at n commanded true) (let e : number + 1 ≡ suc number = omega arith in e);
-  });
+  one_each = pinned;
+  each = tight-of network grid row all;
 }
+
+-- a matter that tight vectors leave open stops the run
+pub open-stops : (network : Project) (standing : Standing) (rounds : ℕ) (grid : Grid) (row : Record)
+    → IsTightRow network standing grid row → (found : Open) → IsOpenAt network grid standing row found
+    → Stops network standing rounds (open_stop_of standing.number found)
+open-stops network standing rounds grid row tight (RuleIsFound found) o =
+    rule-stops network standing rounds grid row tight found.rule found.clause found.lo found.hi o
+open-stops network standing rounds grid row tight (EventIsFound earliest latest) o =
+    event-stops network standing rounds grid row tight earliest latest o
+open-stops network standing rounds grid row tight (TankIsFound found) o =
+    tank-stops network standing rounds grid row tight o.seconds o.links o.leaves found.tank found.lo found.hi
+    o.at_levels.first o.at_levels.level
+open-stops network standing rounds grid row tight (ControlIsFound found) o =
+    let at = o.at_levels in
+    control-stops network standing rounds grid row tight o.seconds o.links o.leaves found.control at.tank at.above
+    at.ticks at.control found.lo found.hi at.tanks_decided at.first at.is_control at.is_level at.level_is
+
+-- ---- the standing behind a period
+
+pub at-last : (network : Project) (here : Here) (seconds : ℕ) (close : Close) → here.time ≡ network.times.duration
+    → next_standing network here seconds close ≡ last_standing here
+at-last network here seconds close e =
+    ap (λ (b : Bool). if b then last_standing here else later_standing here seconds close)
+    (eq-eqb here.time network.times.duration e)
+
+pub at-later : (network : Project) (here : Here) (seconds : ℕ) (close : Close) → here.time ≢ network.times.duration
+    → next_standing network here seconds close ≡ later_standing here seconds close
+at-later network here seconds close e =
+    ap (λ (b : Bool). if b then last_standing here else later_standing here seconds close)
+    (ne_eqb here.time network.times.duration e)
 
 -- a demand in range isn't one that is out of range
 pub no-demand-out : (network : Project) (time j : ℕ) (demand : ℤ) → DemandsAreInRange network time

@@ -1,13 +1,30 @@
 -- The states of links at the start of a period.
 use Rattle.std.proofs.Common.{◌≡◌, ℕ, zero, suc, ◌<◌, Bool, true, false, List, [], ◌∷◌, length, refl, sym, ap, subst, arith}
-use Rattle.std.specs.Prelude.{Result, Ok, Err, OnOk, is_err, slice_index_or, All}
+use Rattle.std.proofs.Common.{◌≤◌, map, ◌∙◌}
+use Rattle.std.specs.Prelude.{Result, Ok, Err, OnOk, IfErr, is_err, slice_index_or, All}
+use Rattle.std.proofs.lemmas.List.{length-map}
 use Rattle.std.specs.List.{AllZip}
 use Rattle.std.proofs.lemmas.Bool.{true≢false}
 use Rattle.hyd_net.specs.States.{CanHave}
 use Rattle.hyd_net.specs.Made.{IsStateMade}
 use Rattle.hyd_spec.specs.Types.{Project, Link, LinkState}
 use Rattle.hyd_spec_histories.specs.Agreement.{IsOwnState}
+use Rattle.hyd_spec.specs.Tank.{walls_of}
+use Rattle.hyd_spec_certificates.specs.Valid.{ControlsAreDecided}
+use Rattle.hyd_spec_certificates.specs.declared.LevelSpan.{LevelSpan}
+use Rattle.hyd_tank.specs.Spans.{AreHeld}
+use Rattle.hyd_tank.specs.declared.spans.VolumeSpan.{VolumeSpan}
+use Rattle.hyd_ctrl.specs.Starts.{IsFirstOpen}
+use Rattle.hyd_ctrl.specs.declared.controls.LevelOpen.{LevelOpen}
+use Rattle.hyd_facts.specs.OfPeriod.{levels_of, volumes_of}
+use Rattle.hyd_facts.specs.Room.{HasRoom}
+use Rattle.hyd_facts.specs.declared.facts.Facts.{Facts}
 use Rattle.hyd_graph.specs.Settings.{AreStates}
+use Rattle.hyd_next.specs.Next.{stocks_among}
+use Rattle.hyd_close.specs.Begun.{AreReady}
+use Rattle.hyd_sim.specs.View.{IsStanding}
+use Rattle.hyd_sim.specs.declared.standing.Standing.{Standing as Here}
+use Rattle.hyd_sim.proofs.Proposing.{no-open-control}
 
 -- what holds of an answer that is no error
 pub not-err : {A E : Type 0} (P : Type 0) (result : Result A E) → is_err result ≡ false → OnOk result P → P
@@ -15,7 +32,7 @@ not-err P (Ok value) e p = p
 not-err P (Err fault) e p = absurd (true≢false e)
 
 module _ (network : Project) where
-  zip-length : (links : List Link) (states : List LinkState) → AllZip (IsOwnState network) links states
+  pub zip-length : (links : List Link) (states : List LinkState) → AllZip (IsOwnState network) links states
       → length states ≡ length links
   zip-length [] [] all = refl
   zip-length [] (s ∷ states) all = absurd all
@@ -48,3 +65,34 @@ module _ (network : Project) where
     can = zip-can network.links.list states all;
     made = zip-made network.links.list states all;
   }
+
+-- a control that is decided is none that is open
+pub none-unsure : (network : Project) (levels : List LevelSpan) → ControlsAreDecided network (map levels_of levels)
+    → (found : LevelOpen) → IsFirstOpen network levels found → ⊥
+none-unsure network levels decided found first =
+    no-open-control network (map levels_of levels) decided found.control first.level.tank first.level.above
+    first.level.ticks first.control first.first first.is_control first.level.is_level
+
+pub decided-settles : {T : Type 0} (network : Project) (levels : List LevelSpan)
+    → ControlsAreDecided network (map levels_of levels) → (result : Result T LevelOpen)
+    → IfErr result (IsFirstOpen network levels) → is_err result ≡ false
+decided-settles network levels decided (Ok value) first = refl
+decided-settles network levels decided (Err found) first = absurd (none-unsure network levels decided found first)
+
+-- facts of a start are ready
+pub ready-of : (network : Project) (here : Here) (facts : Facts) → IsStanding network here
+    → facts.levels.list ≡ here.stocks.levels.list → facts.volumes.list ≡ here.stocks.volumes.list
+    → facts.tanks.list ≡ here.stocks.tanks.list → length facts.links.list ≡ length network.links.list
+    → length facts.changes.list ≤ length network.controls.list → HasRoom network facts → AreReady network facts
+ready-of network here facts is levels volumes tanks links changes room = record {
+  levels = ap length levels ∙ sym (length-map here.stocks.levels.list levels_of) ∙ is.tidy.levels_each;
+  volumes = ap length volumes ∙ sym (length-map here.stocks.volumes.list volumes_of) ∙ is.tidy.volumes_each;
+  tanks = ap length tanks ∙ is.tidy.tanks_each;
+  links = links;
+  held = λ k tank at. subst (λ (vs : List VolumeSpan). AreHeld (walls_of network tank) tank
+      (stocks_among facts.levels.list vs k)) (sym volumes)
+      (subst (λ (ls : List LevelSpan). AreHeld (walls_of network tank) tank
+      (stocks_among ls here.stocks.volumes.list k)) (sym levels) (is.held k tank at));
+  changes = changes;
+  room = room;
+}

@@ -1,4 +1,4 @@
-pub mod Bare
+pub mod Attempts
 pub mod Sharp
 pub mod View
 pub mod Steps

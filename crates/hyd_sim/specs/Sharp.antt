@@ -1,31 +1,30 @@
--- The vectors that a period gets, and the stop where it lacks one.
+-- How sharp a record is, and the stop where a period lacks a vector or a matter is open.
 -- Source: this program's.
-use Rattle.std.specs.Prelude.{◌≡◌, ◌⊎◌, ℕ, ◌<◌, ℤ, ◌-ℤ◌, ◌≤ℤ◌, Bool, true, List, MatchBool}
+use Rattle.std.specs.Prelude.{◌≡◌, ◌⊎◌, ℕ, ◌<◌, ℤ, pos, ◌+ℤ◌, ◌-ℤ◌, ◌*ℤ◌, ◌≤ℤ◌, List, slice_index_or}
 use Rattle.hyd_spec.specs.Assignment.{head_at}
 use Rattle.hyd_spec.specs.Lists.{Each}
 use Rattle.hyd_spec_certificates.specs.declared.Problem.{Problem}
 use Rattle.hyd_spec_certificates.specs.declared.Side.{Side}
+use Rattle.hyd_spec_certificates.specs.Interval.{Interval, width}
+use Rattle.hyd_spec_certificates.specs.Narrow.{widest}
+use Rattle.hyd_spec_certificates.specs.Decided.{nowhere}
 use Rattle.hyd_spec_certificates.specs.Grid.{Grid}
-use Rattle.hyd_spec_certificates.specs.Certificate.{IsCertificate, IsTight}
-use Rattle.hyd_spec_certificates.specs.Record.{Record, vector_of}
+use Rattle.hyd_spec_certificates.specs.Certificate.{IsCertificate}
 use Rattle.hyd_spec_reports.specs.Stops.{turn}
 use Rattle.hyd_spec_reports.specs.declared.StopCause.{StopCause}
-use Rattle.hyd_spec_reports.specs.declared.StopCause.TheVariants.{NoCertificate, RoundsSpent}
+use Rattle.hyd_spec_reports.specs.declared.StopCause.TheVariants.{NoCertificate, RoundsSpent, RuleOpen, EventOpen, TankOpen, ControlOpen}
 use Rattle.hyd_cert.specs.RecordView.{IsProblemOf}
-use Rattle.hyd_vectors.specs.Vectors.{OfEach, Lacks}
+use Rattle.hyd_close.specs.declared.open.Open.{Open}
+use Rattle.hyd_close.specs.declared.open.Open.TheVariants.{Rule, Event, Tank, Control}
+use Rattle.hyd_vectors.specs.Vectors.{Lacks}
 use Rattle.hyd_vectors.specs.declared.lack.Lack.{Lack}
 use Rattle.hyd_vectors.specs.declared.lack.Lack.TheVariants.{NoCertificate as LacksCertificate, RoundsSpent as SpentRounds}
-use Rattle.hyd_sim.specs.declared.settings.Settings.{Settings}
 
--- the head intervals are at most so many ticks wide
-abbrev pub AreClose : ℤ → Record → Type 0
-AreClose width row = Each row.main.upper (λ j h. (h -ℤ head_at row.main.lower j) ≤ℤ width)
-
--- each vector is a certificate; all are tight, or, where that isn't asked for, heads are close
-pub record HasVectors (settings : Settings) (grid : Grid) (tanks : ℕ) (row : Record) : Type 0 where
-  pub certificates : OfEach (IsCertificate grid) tanks row
-  pub sharp : MatchBool settings.tight (OfEach (IsTight grid) tanks row)
-      (OfEach (IsTight grid) tanks row ⊎ AreClose settings.width row)
+-- head intervals between two vectors and level intervals before and after a period are narrow for a width
+pub record AreNarrow (W : ℤ) (upper lower : List ℤ) (before after : List Interval) : Type 0 where
+  pub heads : Each upper (λ j h. (h -ℤ head_at lower j) ≤ℤ (W +ℤ widest before))
+  pub levels : Each after (λ k level.
+      (pos 100 *ℤ width level) ≤ℤ ((pos 200 *ℤ width (slice_index_or before k nowhere)) +ℤ W))
 
 -- a problem and side lacks a vector, and those before it have one
 pub record LacksOne (grid : Grid) (tanks rounds : ℕ) (lack : Lack) : Type 0 where
@@ -40,3 +39,10 @@ pub record LacksOne (grid : Grid) (tanks rounds : ℕ) (lack : Lack) : Type 0 wh
 abbrev pub stop_of : ℕ → ℕ → Lack → StopCause
 stop_of number rounds (LacksCertificate problem side junction) = NoCertificate number problem side junction
 stop_of number rounds (SpentRounds problem side) = RoundsSpent number problem side rounds
+
+-- the stop of a period with an open matter
+abbrev pub open_stop_of : ℕ → Open → StopCause
+open_stop_of number (Rule found) = RuleOpen number found.rule found.clause found.lo found.hi
+open_stop_of number (Event earliest latest) = EventOpen number earliest latest
+open_stop_of number (Tank found) = TankOpen number found.tank found.lo found.hi
+open_stop_of number (Control found) = ControlOpen number found.control found.lo found.hi

@@ -1,8 +1,8 @@
 -- What a step of a run gives.
 -- Source: this program's.
-use Rattle.std.specs.Prelude.{◌≡◌, ◌⊎◌, ℕ, ◌+◌, ℤ, Bool, true, false, List, Option, Some, None, MatchBool}
-use Rattle.hyd_spec.specs.Types.{Project, LinkState}
-use Rattle.hyd_spec.specs.Lists.{Each}
+use Rattle.std.specs.Prelude.{◌≡◌, ◌⊎◌, ℕ, ℤ, true, List, Option, Some, None, MatchBool}
+use Rattle.hyd_spec.specs.Types.{Project}
+use Rattle.hyd_spec.specs.Network.{tank_count}
 use Rattle.hyd_spec_certificates.specs.declared.Problem.{Problem}
 use Rattle.hyd_spec_certificates.specs.declared.Side.{Side}
 use Rattle.hyd_spec_certificates.specs.Grid.{Grid}
@@ -13,15 +13,19 @@ use Rattle.hyd_spec_certificates.specs.Valid.{IsProblem, IsGridAt, IsValid}
 use Rattle.hyd_spec_reports.specs.Stops.{Stops}
 use Rattle.hyd_cert.specs.RecordView.{row_of}
 use Rattle.hyd_cert.specs.declared.record.Record.{Record as Row}
-use Rattle.hyd_facts.specs.declared.facts.Facts.{Facts}
-use Rattle.hyd_graph.specs.NetView.{NetView}
 use Rattle.hyd_facts.specs.OfPeriod.{AreFacts}
+use Rattle.hyd_facts.specs.declared.facts.Facts.{Facts}
 use Rattle.hyd_graph.specs.GridOf.{grid_of, states_of}
+use Rattle.hyd_graph.specs.NetView.{NetView}
 use Rattle.hyd_graph.specs.Settings.{AreStates}
+use Rattle.hyd_bounds.specs.Bounds.{TanksInOrder}
+use Rattle.hyd_watch.specs.Started.{HaveTanks}
+use Rattle.hyd_close.specs.declared.close.Close.{Close}
 use Rattle.hyd_vectors.specs.Vectors.{AreTold}
-use Rattle.hyd_spec.specs.Network.{tank_count}
-use Rattle.hyd_sim.specs.View.{SimView, standing_at, standing_of}
+use Rattle.hyd_sim.specs.Attempts.{next_standing, IsMade}
+use Rattle.hyd_sim.specs.View.{SimView, standing_for, standing_of}
 use Rattle.hyd_sim.specs.declared.settings.Settings.{Settings}
+use Rattle.hyd_sim.specs.declared.standing.Standing.{Standing as Here}
 use Rattle.hyd_sim.specs.declared.steps.Step.{Step}
 use Rattle.hyd_sim.specs.declared.steps.Step.TheVariants.{Period, Finished, Stop}
 
@@ -42,23 +46,40 @@ abbrev pub IsToldAt : Option (List ℤ) → Project → Standing → Record → 
 IsToldAt told network standing w =
     (grid : Grid) → IsGridAt network standing grid → AreTold told grid (tank_count network) w
 
--- the period of a number was done, from the states that links were commanded to be in: its record is valid at the
--- standing before and leads on to the one after, the net is that of the period, with links in the states of the facts,
--- the facts are its own, and the record is as sharp as the settings ask
-pub record IsDone (network : Project) (settings : Settings) (number : ℕ) (commanded : List LinkState) (net : NetView)
-    (row : Row) (facts : Facts) : Type 0 where
-  pub valid : IsValid network (standing_at number commanded false) (grid_of net) (row_of row)
-      (standing_at (number + 1) commanded true)
-  pub facts_are : AreFacts network (grid_of net) (standing_at number commanded false) (row_of row) facts
+-- a record that the finder tells is valid at a standing and narrow
+pub record IsProposal (told : Option (List ℤ)) (network : Project) (width : ℤ) (standing : Standing) (w : Record)
+    : Type 0 where
+  pub told_at : IsToldAt told network standing w
+  pub grid : Grid
+  pub next : Standing
+  pub valid : IsValid network standing grid w next
+  pub narrow : IsNarrow width standing w next
+
+-- a period was done, and its record is as sharp as the settings ask
+pub record IsDone (network : Project) (settings : Settings) (here : Here) (net : NetView) (row : Row) (facts : Facts)
+    (close : Close) : Type 0 where
+  pub made : IsMade network here net row facts close
+  pub sharp : IsSharp network settings (standing_for here) (grid_of net) (row_of row)
+      (next_standing network here row.length close)
+
+-- from one standing to another a period was done: its record is valid and leads on, the net is that of the period, with
+-- links in the states of the facts, the facts are its own, and the record is as sharp as the settings ask
+pub record IsAdvanced (network : Project) (settings : Settings) (before : Standing) (net : NetView) (row : Row)
+    (facts : Facts) (now : Standing) : Type 0 where
+  pub valid : IsValid network before (grid_of net) (row_of row) now
+  pub facts_are : AreFacts network (grid_of net) before (row_of row) facts
+  pub have : HaveTanks network facts
+  pub order : TanksInOrder (grid_of net)
   pub states : AreStates network (states_of net)
   pub links : states_of net ≡ facts.links.list
-  pub sharp : IsSharp network settings (standing_at number commanded false) (grid_of net) (row_of row)
-      (standing_at (number + 1) commanded true)
+  pub sharp : IsSharp network settings before (grid_of net) (row_of row) now
 
 -- a step did a period, and the run stands behind it
 pub record IsPeriod (before now : SimView) : Type 0 where
   pub valid : IsValid now.project (standing_of before) (grid_of now.net) (row_of now.row) (standing_of now)
   pub facts : AreFacts now.project (grid_of now.net) (standing_of before) (row_of now.row) now.facts
+  pub have : HaveTanks now.project now.facts
+  pub order : TanksInOrder (grid_of now.net)
   pub states : AreStates now.project (states_of now.net)
   pub links : states_of now.net ≡ now.facts.links.list
   pub sharp : IsSharp now.project now.settings (standing_of before) (grid_of now.net) (row_of now.row)
@@ -69,7 +90,7 @@ pub record IsPeriod (before now : SimView) : Type 0 where
 -- holds at its standing, and the standing stays
 abbrev pub StepGives : SimView → SimView → Step → Type 0
 StepGives before now Period = IsPeriod before now
-StepGives before now Finished = (before.finished ≡ true) × (now ≡ before)
+StepGives before now Finished = ((standing_of before).finished ≡ true) × (now ≡ before)
 StepGives before now (Stop cause) =
     (now.stopped ≡ Some cause) × ((standing_of now ≡ standing_of before)
     × Stops now.project (standing_of now) now.settings.rounds cause)

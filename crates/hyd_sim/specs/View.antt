@@ -1,20 +1,28 @@
 -- A run as contracts see it.
-use Rattle.std.specs.Prelude.{◌≡◌, ◌≤◌, ℕ, Bool, false, List, [], length, map, Option, IfSome}
+use Rattle.std.specs.Prelude.{◌≡◌, ◌≤◌, ℕ, ◌+◌, Bool, false, List, length, map, Option, IfSome}
 use Rattle.hyd_net.specs.Sound.{Sound}
 use Rattle.hyd_spec.specs.Types.{Project, LinkState}
 use Rattle.hyd_spec_certificates.specs.Record.{Standing}
 use Rattle.hyd_spec_reports.specs.CertificateText.{version_of}
 use Rattle.hyd_spec_reports.specs.Stops.{Stops}
 use Rattle.hyd_spec_reports.specs.declared.StopCause.{StopCause}
+use Rattle.hyd_spec_histories.specs.Agreement.{IsKept}
+use Rattle.hyd_spec_nesting.specs.Nesting.{IsTidy}
 use Rattle.hyd_cert.specs.Lines.{Header}
 use Rattle.hyd_cert.specs.RecordView.{header_of}
 use Rattle.hyd_cert.specs.declared.record.Record.{Record}
+use Rattle.hyd_facts.specs.OfPeriod.{levels_of, volumes_of}
 use Rattle.hyd_facts.specs.declared.facts.Facts.{Facts}
 use Rattle.hyd_facts.specs.Room.{HasRoom}
 use Rattle.hyd_graph.specs.NetView.{NetView}
 use Rattle.hyd_graph.specs.Periods.{IsNetOf}
+use Rattle.hyd_next.specs.Room.{HasRoom as HasNextRoom}
+use Rattle.hyd_next.specs.declared.next.Next.{Next}
+use Rattle.hyd_close.specs.Closing.{HasRoom as HasCloseRoom, AreKeptIn}
+use Rattle.hyd_close.specs.declared.close.Close.{Close}
 use Rattle.hyd_vectors.specs.Room.{Room}
 use Rattle.hyd_sim.specs.declared.settings.Settings.{Settings}
+use Rattle.hyd_sim.specs.declared.standing.Standing.{Standing as Here}
 
 -- the parts of a run
 pub record SimView : Type 0 where
@@ -24,34 +32,30 @@ pub record SimView : Type 0 where
   pub room : Room
   pub row : Record
   pub facts : Facts
-  pub number : ℕ
-  pub commanded : List LinkState
+  pub here : Here
   pub links : List LinkState
-  pub finished : Bool
+  pub close : Close
   pub stopped : Option StopCause
 
--- a network of one period, without tanks, controls and rules
-pub record IsSingle (network : Project) : Type 0 where
-  pub no_tanks : network.tanks.list ≡ []
-  pub no_controls : network.controls.list ≡ []
-  pub no_rules : network.rules.list ≡ []
-  pub one_instant : network.times.duration ≡ 0
-
--- the standing before or after the one period of a network without tanks
-abbrev pub standing_at : ℕ → List LinkState → Bool → Standing
-standing_at number commanded finished = record {
+-- the standing with these stocks and states of tanks
+abbrev pub standing_at : ℕ → ℕ → Next → List LinkState → Bool → Standing
+standing_at number time stocks commanded finished = record {
   number = number;
-  time = 0;
-  levels = [];
-  volumes = [];
-  tanks = [];
+  time = time;
+  levels = map levels_of stocks.levels.list;
+  volumes = map volumes_of stocks.volumes.list;
+  tanks = stocks.tanks.list;
   commanded = commanded;
   finished = finished;
 }
 
+-- the standing that one of the program stands for
+abbrev pub standing_for : Here → Standing
+standing_for here = standing_at here.number here.time here.stocks here.commanded.items here.finished
+
 -- the standing of a run
 abbrev pub standing_of : SimView → Standing
-standing_of sim = standing_at sim.number sim.commanded sim.finished
+standing_of sim = standing_for sim.here
 
 -- the certificate of a network has one head for each junction in a vector
 abbrev pub header_for : Project → Header
@@ -61,17 +65,26 @@ header_for network = record {
   tanks = length network.tanks.list;
 }
 
+-- a standing of a run: it keeps what every standing of a run keeps, its stocks lie within the bounds of their tanks,
+-- there is room for the next one's, and as each period before the end lasts a second at least, no more were done than
+-- seconds are over, but for the last
+pub record IsStanding (network : Project) (here : Here) : Type 0 where
+  pub kept : IsKept network (standing_for here)
+  pub tidy : IsTidy network (standing_for here)
+  pub held : AreKeptIn network here.stocks
+  pub room : HasNextRoom network here.stocks
+  pub few : here.number ≤ here.time + 1
+  pub unfinished : here.finished ≡ false → here.number ≤ here.time
+
 -- what a run is between its periods
 pub record IsSim (sim : SimView) : Type 0 where
   pub sound : Sound sim.project
-  pub single : IsSingle sim.project
   pub net : IsNetOf sim.project sim.net
   pub header : header_of sim.row ≡ header_for sim.project
   pub facts : HasRoom sim.project sim.facts
   pub room : sim.room ≡ record { junctions = length sim.project.junctions.list; rounds = sim.settings.rounds }
-  pub commanded : sim.commanded ≡ map (λ link. link.start) sim.project.links.list
+  pub standing : IsStanding sim.project sim.here
+  pub close : HasCloseRoom sim.project sim.close
   pub links : length sim.links ≡ length sim.project.links.list
-  pub few : sim.number ≤ 1
-  pub unfinished : sim.finished ≡ false → sim.number ≡ 0
-  pub stopped : IfSome sim.stopped (λ cause. (sim.finished ≡ false)
+  pub stopped : IfSome sim.stopped (λ cause. (sim.here.finished ≡ false)
       × Stops sim.project (standing_of sim) sim.settings.rounds cause)

@@ -1,15 +1,16 @@
-//! A run, one period after another: the record of each is valid, and its facts are its own. As far as it goes today, of
-//! networks of one period without tanks, controls and rules.
+//! A run, one period after another: the record of each is valid, and its facts are its own.
 #![tactic(auto)]
 
+mod attempt;
+mod causes;
 mod narrow;
 mod open;
 mod period;
 mod settings;
 mod sim;
+mod standing;
 mod start;
 mod steps;
-mod vectors;
 
 pub use settings::Settings;
 pub use sim::Sim;

@@ -1,74 +1,309 @@
 //! One period.
 #![tactic(auto)]
 
-ghost use Rattle.std.specs.Prelude.{◌≡◌, length, map, false, IfErr, IsOk, OnOk};
+ghost use Rattle.std.specs.Prelude.{◌≡◌, ◌≢◌, ℕ, length, true, false, Ok, IfOk, IfErr, IsOk, OnOk, OnErr};
 ghost use Rattle.hyd_net.specs.Sound.{Sound};
+ghost use Rattle.hyd_spec.specs.Network.{tank_count};
+ghost use Rattle.hyd_spec_certificates.specs.Narrow.{IsNarrow};
+ghost use Rattle.hyd_spec_certificates.specs.Record.{Record as Row};
+ghost use Rattle.hyd_spec_certificates.specs.Valid.{DemandsAreInRange};
 ghost use Rattle.hyd_spec_reports.specs.Stops.{Stops};
 ghost use Rattle.hyd_cert.specs.RecordView.{header_of, row_of};
 ghost use Rattle.hyd_facts.specs.Room.{HasRoom};
+ghost use Rattle.hyd_graph.specs.GridOf.{grid_of};
 ghost use Rattle.hyd_graph.specs.Periods.{IsNetOf};
-ghost use Rattle.hyd_sim.specs.View.{IsSingle, header_for, standing_at};
-ghost use Rattle.hyd_sim.specs.Sharp.{AreClose};
-ghost use Rattle.hyd_sim.specs.Steps.{IsDone, IsToldAt};
-ghost use Rattle.hyd_spec_certificates.specs.Record.{Record as Row};
-ghost use Rattle.hyd_spec_certificates.specs.Valid.{DemandsAreInRange};
+ghost use Rattle.hyd_close.specs.Closing.{HasRoom as HasCloseRoom};
 ghost use Rattle.hyd_vectors.specs.Vectors.{HaveSame};
+ghost use Rattle.hyd_sim.specs.Attempts.{IsMade, IsStarted, fault_stop_of, next_standing};
+ghost use Rattle.hyd_sim.specs.Steps.{AreTight, IsAdvanced, IsDone, IsProposal};
+ghost use Rattle.hyd_sim.specs.View.{IsStanding, header_for, standing_for};
 
+use crate::attempt::{Fault, try_period};
+use crate::causes::{demand_stop, lack_stop, open_stop};
+use crate::narrow::are_narrow;
 use crate::settings::Settings;
-use crate::start::{demand_stop, put_facts, start_links};
-use crate::vectors::{find_vectors, lack_stop};
+use crate::standing::Standing;
+use crate::start::begin;
 use hyd_cert::Record;
+use hyd_close::Close;
 use hyd_facts::Facts;
 use hyd_graph::Net;
 use hyd_net::{LinkState, Project};
 use hyd_newton::Finder;
+use hyd_spec_certificates::{Problem, Side};
 use hyd_spec_reports::StopCause;
 use hyd_vectors::Search;
 
-/// Does the period of a number, from the states that links were commanded to be in: sets the net and the links, finds
-/// the vectors of the record, and puts the facts. Fails with the cause that stops the run there.
-pub(crate) fn do_period<F: Finder>(
+// Whether the record of a period that is over is narrow.
+fn is_narrow(
+    project: &Project,
+    standing: &Standing,
+    row: &Record,
+    close: &Close,
+    width: i64,
+) -> bool
+    requires heads { length (row_of row.now).main.lower ≡ length (row_of row.now).main.upper }
+    requires levels { standing.now.time ≢ project.now.times.duration
+        → length close.now.next.levels.list ≡ length standing.now.stocks.levels.list }
+    ensures narrow { result ≡ true → IsNarrow width (standing_for standing.now) (row_of row.now)
+        (next_standing project.now standing.now row.now.length close.now) }
+    ensures wide { result ≡ false → IsNarrow width (standing_for standing.now) (row_of row.now)
+        (next_standing project.now standing.now row.now.length close.now) → ⊥ }
+{
+    let upper = row.vector(Problem::Main, Side::Upper);
+    let lower = row.vector(Problem::Main, Side::Lower);
+    let before = standing.stocks.levels.as_slice();
+    if standing.time == project.times.duration {
+        return are_narrow(upper, lower, before, before, width);
+    }
+    are_narrow(upper, lower, before, close.next.levels.as_slice(), width)
+}
+
+// Puts the net into the period that begins at a standing, and facts and links to its start. Fails with the stop where a
+// demand is out of range.
+fn start_period(
+    project: &Project,
+    standing: &Standing,
+    net: &mut Net,
+    row: &mut Record,
+    facts: &mut Facts,
+    links: &mut [LinkState],
+) -> Result<(), StopCause>
+    requires sound { Sound project.now }
+    requires standing { IsStanding project.now standing.now }
+    requires of { IsNetOf project.now net.old }
+    requires facts { HasRoom project.now facts.old }
+    requires links { length links.old ≡ length project.now.links.list }
+    ensures started { OnOk result (IsStarted project.now standing.now net.new row.new facts.new) }
+    ensures in_range { (DemandsAreInRange project.now standing.now.time) → IsOk result }
+    ensures stops { (rounds : ℕ) → IfErr result (Stops project.now (standing_for standing.now) rounds) }
+    ensures of { IsNetOf project.now net.new }
+    ensures header { header_of row.new ≡ header_of row.old }
+    ensures facts { HasRoom project.now facts.new }
+    ensures links { length links.new ≡ length links.old }
+{
+    begin(project, standing, links, facts);
+    row.number = standing.number;
+    row.time = standing.time;
+    row.length = 0;
+    match net.set_period(
+        project,
+        standing.time,
+        links,
+        standing.stocks.levels.as_slice(),
+        standing.stocks.tanks.as_slice(),
+    ) {
+        Ok(()) => Ok(()),
+        Err(fault) => Err(demand_stop(standing.number, fault)),
+    }
+}
+
+// Why a period stops whose vectors are as sharp as can be.
+fn fault_stop(standing: &Standing, rounds: u32, fault: Fault) -> StopCause
+    ensures { result ≡ fault_stop_of standing.now.number rounds fault }
+{
+    match fault {
+        Fault::Lack(lack) => lack_stop(standing.number, rounds, lack),
+        Fault::Open(found) => open_stop(standing.number, found),
+    }
+}
+
+// Does a period that was started, with tight vectors. Fails with the cause that stops the run there.
+fn tighten<F: Finder>(
+    project: &Project,
+    rounds: u32,
+    standing: &Standing,
+    net: &Net,
+    finder: &mut F,
+    search: &mut Search,
+    row: &mut Record,
+    facts: &mut Facts,
+    close: &mut Close,
+) -> Result<(), StopCause>
+    requires sound { Sound project.now }
+    requires standing { IsStanding project.now standing.now }
+    requires unfinished { standing.now.finished ≡ false }
+    requires of { IsNetOf project.now net.now }
+    requires search { search.old ≡ record { junctions = length project.now.junctions.list; rounds = rounds } }
+    requires header { header_of row.old ≡ header_for project.now }
+    requires started { IsStarted project.now standing.now net.now row.old facts.old }
+    requires close { HasCloseRoom project.now close.old }
+    ensures made { OnOk result (IsMade project.now standing.now net.now row.new facts.new close.new) }
+    ensures tight { OnOk result (AreTight project.now (grid_of net.now) (row_of row.new)) }
+    ensures stops { IfErr result (Stops project.now (standing_for standing.now) rounds) }
+    ensures header { header_of row.new ≡ header_of row.old }
+    ensures facts { HasRoom project.now facts.new }
+    ensures close { HasCloseRoom project.now close.new }
+    ensures search { search.new ≡ search.old }
+    ensures told { F.told finder.new ≡ F.told finder.old }
+{
+    let _junctions = net.junctions();
+    match try_period(
+        project, standing, net, finder, true, search, row, facts, close,
+    ) {
+        Ok(()) => Ok(()),
+        Err(fault) => Err(fault_stop(standing, rounds, fault)),
+    }
+}
+
+// Does a period that was started, with vectors that needn't be tight, and tells whether its record does: whether it is
+// narrow, and its vectors leave no matter open. Fails with the cause that stops the run where a vector is lacking.
+fn does<F: Finder>(
     project: &Project,
     settings: Settings,
-    number: u32,
-    commanded: &[LinkState],
+    standing: &Standing,
+    net: &Net,
+    finder: &mut F,
+    search: &mut Search,
+    row: &mut Record,
+    facts: &mut Facts,
+    close: &mut Close,
+) -> Result<bool, StopCause>
+    requires sound { Sound project.now }
+    requires standing { IsStanding project.now standing.now }
+    requires unfinished { standing.now.finished ≡ false }
+    requires of { IsNetOf project.now net.now }
+    requires search { search.old ≡ record { junctions = length project.now.junctions.list; rounds = settings.rounds } }
+    requires header { header_of row.old ≡ header_for project.now }
+    requires started { IsStarted project.now standing.now net.now row.old facts.old }
+    requires close { HasCloseRoom project.now close.old }
+    ensures made { IfOk result (λ fits. fits ≡ true
+        → IsMade project.now standing.now net.now row.new facts.new close.new) }
+    ensures narrow { IfOk result (λ fits. fits ≡ true → IsNarrow settings.width (standing_for standing.now)
+        (row_of row.new) (next_standing project.now standing.now row.new.length close.new)) }
+    ensures stops { IfErr result (Stops project.now (standing_for standing.now) settings.rounds) }
+    ensures proposal { (w : Row) → IsProposal (F.told finder.old) project.now settings.width (standing_for standing.now) w
+        → (result ≡ Ok true) × HaveSame (tank_count project.now) (row_of row.new) w }
+    ensures header { header_of row.new ≡ header_of row.old }
+    ensures number { row.new.number ≡ row.old.number }
+    ensures time { row.new.time ≡ row.old.time }
+    ensures facts { HasRoom project.now facts.new }
+    ensures close { HasCloseRoom project.now close.new }
+    ensures search { search.new ≡ search.old }
+    ensures told { F.told finder.new ≡ F.told finder.old }
+{
+    let _junctions = net.junctions();
+    match try_period(
+        project, standing, net, finder, false, search, row, facts, close,
+    ) {
+        Ok(()) => Ok(is_narrow(project, standing, row, close, settings.width)),
+        Err(Fault::Lack(lack)) => Err(lack_stop(standing.number, settings.rounds, lack)),
+        Err(Fault::Open(_)) => Ok(false),
+    }
+}
+
+// Does the period that begins at a standing: sets the net and the links, finds vectors and ends the period by them.
+// Where these leave a matter open, or the record isn't narrow, it does so again with the tight vectors. Fails with the
+// cause that stops the run there.
+fn do_period<F: Finder>(
+    project: &Project,
+    settings: Settings,
+    standing: &Standing,
     net: &mut Net,
     search: &mut Search,
     row: &mut Record,
     facts: &mut Facts,
     links: &mut [LinkState],
+    close: &mut Close,
     finder: &mut F,
 ) -> Result<(), StopCause>
     requires sound { Sound project.now }
-    requires single { IsSingle project.now }
+    requires standing { IsStanding project.now standing.now }
+    requires unfinished { standing.now.finished ≡ false }
     requires of { IsNetOf project.now net.old }
     requires search { search.old ≡ record { junctions = length project.now.junctions.list; rounds = settings.rounds } }
     requires header { header_of row.old ≡ header_for project.now }
     requires facts { HasRoom project.now facts.old }
-    requires commanded { commanded.now ≡ map (λ link. link.start) project.now.links.list }
     requires links { length links.old ≡ length project.now.links.list }
-    ensures done { OnOk result (IsDone project.now settings number commanded.now net.new row.new facts.new) }
-    ensures stops { IfErr result (Stops project.now (standing_at number commanded.now false) settings.rounds) }
+    requires close { HasCloseRoom project.now close.old }
+    ensures done { OnOk result (IsDone project.now settings standing.now net.new row.new facts.new close.new) }
+    ensures stops { IfErr result (Stops project.now (standing_for standing.now) settings.rounds) }
     ensures of { IsNetOf project.now net.new }
     ensures search { search.new ≡ search.old }
     ensures header { header_of row.new ≡ header_of row.old }
     ensures facts { HasRoom project.now facts.new }
     ensures links { length links.new ≡ length links.old }
-    ensures proposal { (w : Row) → settings.tight ≡ false → DemandsAreInRange project.now 0
-        → IsToldAt (F.told finder.old) project.now (standing_at number commanded.now false) w
-        → AreClose settings.width w → IsOk result × HaveSame (length project.now.tanks.list) (row_of row.new) w }
+    ensures close { HasCloseRoom project.now close.new }
+    ensures proposal { (w : Row) → settings.tight ≡ false
+        → IsProposal (F.told finder.old) project.now settings.width (standing_for standing.now) w
+        → IsOk result × HaveSame (tank_count project.now) (row_of row.new) w }
     ensures told { F.told finder.new ≡ F.told finder.old }
 {
-    start_links(project, commanded, links, facts);
-    if let Err(fault) = net.set_period(project, 0, links, &[], &[]) {
-        return Err(demand_stop(number, fault));
+    start_period(project, standing, net, row, facts, links)?;
+    if settings.tight {
+        return tighten(
+            project,
+            settings.rounds,
+            standing,
+            net,
+            finder,
+            search,
+            row,
+            facts,
+            close,
+        );
     }
-    row.number = number;
-    row.time = 0;
-    row.length = 0;
-    if let Err(lack) = find_vectors(net, finder, settings, search, row) {
-        return Err(lack_stop(number, settings.rounds, lack));
+    if does(
+        project, settings, standing, net, finder, search, row, facts, close,
+    )? {
+        return Ok(());
     }
-    put_facts(facts, links);
+    begin(project, standing, links, facts);
+    tighten(
+        project,
+        settings.rounds,
+        standing,
+        net,
+        finder,
+        search,
+        row,
+        facts,
+        close,
+    )
+}
+
+/// Does the period that is due at a standing, and moves on behind it. Fails with the cause that stops the run there; the
+/// standing then stays.
+pub(crate) fn advance<F: Finder>(
+    project: &Project,
+    settings: Settings,
+    standing: &mut Standing,
+    net: &mut Net,
+    search: &mut Search,
+    row: &mut Record,
+    facts: &mut Facts,
+    links: &mut [LinkState],
+    close: &mut Close,
+    finder: &mut F,
+) -> Result<(), StopCause>
+    requires sound { Sound project.now }
+    requires standing { IsStanding project.now standing.old }
+    requires unfinished { standing.old.finished ≡ false }
+    requires of { IsNetOf project.now net.old }
+    requires search { search.old ≡ record { junctions = length project.now.junctions.list; rounds = settings.rounds } }
+    requires header { header_of row.old ≡ header_for project.now }
+    requires facts { HasRoom project.now facts.old }
+    requires links { length links.old ≡ length project.now.links.list }
+    requires close { HasCloseRoom project.now close.old }
+    ensures advanced { OnOk result (IsAdvanced project.now settings (standing_for standing.old) net.new row.new facts.new
+        (standing_for standing.new)) }
+    ensures stops { IfErr result (Stops project.now (standing_for standing.old) settings.rounds) }
+    ensures stays { OnErr result (standing.new ≡ standing.old) }
+    ensures standing { IsStanding project.now standing.new }
+    ensures of { IsNetOf project.now net.new }
+    ensures search { search.new ≡ search.old }
+    ensures header { header_of row.new ≡ header_of row.old }
+    ensures facts { HasRoom project.now facts.new }
+    ensures links { length links.new ≡ length links.old }
+    ensures close { HasCloseRoom project.now close.new }
+    ensures proposal { (w : Row) → settings.tight ≡ false
+        → IsProposal (F.told finder.old) project.now settings.width (standing_for standing.old) w
+        → IsOk result × HaveSame (tank_count project.now) (row_of row.new) w }
+    ensures told { F.told finder.new ≡ F.told finder.old }
+{
+    do_period(
+        project, settings, standing, net, search, row, facts, links, close, finder,
+    )?;
+    standing.move_on(project, net, row, facts, close);
     Ok(())
 }

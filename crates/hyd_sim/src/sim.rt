@@ -1,7 +1,9 @@
 //! The state of a run.
 
 use crate::settings::Settings;
+use crate::standing::Standing;
 use hyd_cert::Record;
+use hyd_close::Close;
 use hyd_facts::Facts;
 use hyd_graph::Net;
 use hyd_net::{LinkState, Project};
@@ -18,14 +20,11 @@ pub struct Sim {
     pub(crate) search: Search,
     pub(crate) row: Record,
     pub(crate) facts: Facts,
-    /// The number of the next period, counted from 0.
-    pub(crate) number: u32,
-    /// The states that links were last commanded to be in.
-    pub(crate) commanded: Vec<LinkState>,
+    pub(crate) standing: Standing,
     /// The states of links in the period that is being done.
     pub(crate) links: Vec<LinkState>,
-    /// Whether the period at the end of the run is over.
-    pub(crate) finished: bool,
+    /// What the end of the last period left, and room for the ends of others.
+    pub(crate) close: Close,
     /// Why the run stopped.
     pub(crate) stopped: Option<StopCause>,
 }
@@ -42,10 +41,9 @@ impl Model for Sim {
       room = s.search;
       row = s.row;
       facts = s.facts;
-      number = s.number;
-      commanded = s.commanded.items;
+      here = s.standing;
       links = s.links.items;
-      finished = s.finished;
+      close = s.close;
       stopped = s.stopped;
     } };
 
@@ -56,10 +54,9 @@ impl Model for Sim {
       room = s.search;
       row = s.row;
       facts = s.facts;
-      number = s.number;
-      commanded = s.commanded.items;
+      here = s.standing;
       links = s.links.items;
-      finished = s.finished;
+      close = s.close;
       stopped = s.stopped;
     }) };
 }
@@ -80,15 +77,14 @@ impl Sim {
     pub fn number(&self) -> u32
         ensures { result ≡ (standing_of self.now).number }
     {
-        self.number
+        self.standing.number
     }
 
     /// When the next period begins, in seconds.
     pub fn time(&self) -> u32
         ensures { result ≡ (standing_of self.now).time }
     {
-        // Today a run has one period, at its start.
-        0
+        self.standing.time
     }
 
     /// The network of the last period.

@@ -2,16 +2,15 @@
 #![tactic(auto)]
 
 ghost use Rattle.std.specs.Prelude.{◌≡◌, Some, None, true, false, length, IfErr, IsOk, OnOk, OnErr};
-ghost use Rattle.hyd_spec_reports.specs.Stops.{Stops};
-ghost use Rattle.hyd_sim.specs.View.{standing_of};
-ghost use Rattle.hyd_sim.specs.Sharp.{AreClose};
-ghost use Rattle.hyd_sim.specs.Steps.{StepGives, IsPeriod, IsToldAt};
-ghost use Rattle.hyd_cert.specs.RecordView.{row_of};
+ghost use Rattle.hyd_spec.specs.Network.{tank_count};
 ghost use Rattle.hyd_spec_certificates.specs.Record.{Record as Row};
-ghost use Rattle.hyd_spec_certificates.specs.Valid.{DemandsAreInRange};
+ghost use Rattle.hyd_spec_reports.specs.Stops.{Stops};
+ghost use Rattle.hyd_cert.specs.RecordView.{row_of};
 ghost use Rattle.hyd_vectors.specs.Vectors.{HaveSame};
+ghost use Rattle.hyd_sim.specs.Steps.{StepGives, IsPeriod, IsProposal};
+ghost use Rattle.hyd_sim.specs.View.{standing_of};
 
-use crate::period::do_period;
+use crate::period::advance;
 use crate::sim::Sim;
 use hyd_newton::Finder;
 use hyd_spec_reports::StopCause;
@@ -30,59 +29,54 @@ pub enum Step {
 impl Sim {
     // Does the period that is due.
     fn period<F: Finder>(&mut self, finder: &mut F) -> Result<(), StopCause>
-        requires unfinished { self.old.finished ≡ false }
+        requires unfinished { (standing_of self.old).finished ≡ false }
         requires running { self.old.stopped ≡ None }
         ensures period { OnOk result (IsPeriod self.old self.new) }
         ensures stops { IfErr result (Stops self.old.project (standing_of self.old) self.old.settings.rounds) }
         ensures standing { OnErr result (standing_of self.new ≡ standing_of self.old) }
         ensures running { self.new.stopped ≡ None }
-        ensures unfinished { OnErr result (self.new.finished ≡ false) }
         ensures project { self.new.project ≡ self.old.project }
         ensures settings { self.new.settings ≡ self.old.settings }
-        ensures proposal { (w : Row) → self.old.settings.tight ≡ false → DemandsAreInRange self.old.project 0
-            → IsToldAt (F.told finder.old) self.old.project (standing_of self.old) w
-            → AreClose self.old.settings.width w
-            → IsOk result × HaveSame (length self.old.project.tanks.list) (row_of self.new.row) w }
+        ensures proposal { (w : Row) → self.old.settings.tight ≡ false
+            → IsProposal (F.told finder.old) self.old.project self.old.settings.width (standing_of self.old) w
+            → IsOk result × HaveSame (tank_count self.old.project) (row_of self.new.row) w }
         ensures told { F.told finder.new ≡ F.told finder.old }
     {
-        do_period(
+        advance(
             &self.project,
             self.settings,
-            self.number,
-            &self.commanded,
+            &mut self.standing,
             &mut self.net,
             &mut self.search,
             &mut self.row,
             &mut self.facts,
             &mut self.links,
+            &mut self.close,
             finder,
-        )?;
-        self.number += 1;
-        self.finished = true;
-        Ok(())
+        )
     }
 
-    /// Does the period that is due, with vectors that the finder proposes or that rounds of raises find. It takes no
-    /// memory. Stops with the cause that holds at the standing, which then stays; after that it answers the same cause
-    /// again. Finished comes exactly where the period at the end of the run is over.
+    /// Does the period that is due, with vectors that the finder proposes or that rounds of raises find; where these
+    /// leave a matter open or their record isn't narrow, and where tight vectors are asked for, with the tight ones. It
+    /// takes no memory. Stops with the cause that holds at the standing, which then stays; after that it answers the same
+    /// cause again. Finished comes exactly where the period at the end of the run is over.
     pub fn step<F: Finder>(&mut self, finder: &mut F) -> Step
         ensures gives { StepGives self.old self.new result }
         ensures again { (cause : StopCause) → self.old.stopped ≡ Some cause
             → (result ≡ Step.Stop cause) × (self.new ≡ self.old) }
-        ensures finished { self.old.stopped ≡ None → self.old.finished ≡ true → result ≡ Step.Finished }
+        ensures finished { self.old.stopped ≡ None → (standing_of self.old).finished ≡ true → result ≡ Step.Finished }
         ensures project { self.new.project ≡ self.old.project }
         ensures settings { self.new.settings ≡ self.old.settings }
-        ensures proposal { (w : Row) → self.old.stopped ≡ None → self.old.finished ≡ false
-            → self.old.settings.tight ≡ false → DemandsAreInRange self.old.project 0
-            → IsToldAt (F.told finder.old) self.old.project (standing_of self.old) w
-            → AreClose self.old.settings.width w
-            → (result ≡ Step.Period) × HaveSame (length self.old.project.tanks.list) (row_of self.new.row) w }
+        ensures proposal { (w : Row) → self.old.stopped ≡ None → (standing_of self.old).finished ≡ false
+            → self.old.settings.tight ≡ false
+            → IsProposal (F.told finder.old) self.old.project self.old.settings.width (standing_of self.old) w
+            → (result ≡ Step.Period) × HaveSame (tank_count self.old.project) (row_of self.new.row) w }
         ensures told { F.told finder.new ≡ F.told finder.old }
     {
         if let Some(cause) = self.stopped {
             return Step::Stop(cause);
         }
-        if self.finished {
+        if self.standing.finished {
             return Step::Finished;
         }
         match self.period(finder) {

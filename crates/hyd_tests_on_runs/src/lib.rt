@@ -4,10 +4,16 @@
 #[cfg(test)]
 mod faults;
 #[cfg(test)]
+mod finders;
+#[cfg(test)]
 mod given;
 #[cfg(test)]
 mod orders;
 #[cfg(test)]
+mod periods;
+#[cfg(test)]
 mod rows;
+#[cfg(test)]
+mod runs;
 #[cfg(test)]
 mod texts;

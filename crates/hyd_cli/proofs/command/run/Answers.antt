@@ -4,7 +4,7 @@ use Rattle.hyd_io.specs.Told.{Files, file_at}
 use Rattle.hyd_spec_input.specs.Faults.{IsFault}
 use Rattle.hyd_spec_networks.proofs.OneFault.{one_fault, no_fault_beside}
 use Rattle.hyd_cli.specs.Answers.{seen, AnswersRefused}
-use Rattle.hyd_cli.proofs.AnswerLemmas.{leaves_since, holds_since, run_since, refused_since, refused_leaves_since, refused_holds_since, same_refusal, opens_once, network_never_usage, refusal_never_usage}
+use Rattle.hyd_cli.proofs.AnswerLemmas.{leaves_since, holds_since, run_since, refused_since, refused_leaves_since, refused_holds_since, same_refusal, opens_once, run_never_usage, refusal_never_usage}
 use Rattle.hyd_cli.proofs.command.run.Goals as goal
 
 -- ---- a network was read
@@ -19,7 +19,7 @@ returns-in-Ok-clause-leaves g c =
 
 pub returns-in-Ok-clause-never_usage : goal.returns-in-Ok-clause-never_usage
 returns-in-Ok-clause-never_usage g c =
-    network_never_usage c.in-Ok.project c.args.settings c.args.cert.now c.run_network.result _ _ c.run_network.ensures.answers
+    run_never_usage c.in-Ok.project c.args.settings c.args.cert.now c.run_network.result _ _ c.run_network.ensures.answers
 
 pub returns-in-Ok-clause-refused : goal.returns-in-Ok-clause-refused
 returns-in-Ok-clause-refused g c text line cause told fault =

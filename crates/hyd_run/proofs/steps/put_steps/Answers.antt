@@ -34,4 +34,8 @@ loop-end-preserved g c =
     }
 
 pub loop-end-smaller : goal.loop-end-smaller
-loop-end-smaller g c = let did = rw c.in-Ok-None.field-0-is at c.in-Ok-None.ensures.puts in did.fewer
+loop-end-smaller g c =
+    let i = c.loop-end.invariant in
+    let p = c.put_step.ensures.project ∙ i.project in
+    let did = rw c.in-Ok-None.field-0-is at c.in-Ok-None.ensures.puts in
+    rw p at did.fewer

@@ -23,4 +23,4 @@ invariant-loop-end g l =
     }
 
 abbrev pub decreases-loop-end : goal.decreases-loop-end
-decreases-loop-end g l = periods_left l.sim
+decreases-loop-end g l = periods_left l.fn.sim.project (standing_of l.sim)

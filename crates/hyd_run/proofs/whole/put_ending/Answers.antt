@@ -4,6 +4,7 @@ use Rattle.hyd_net.specs.Sound.{Sound}
 use Rattle.hyd_sim.specs.View.{standing_of}
 use Rattle.hyd_run.specs.Runs.{outcome_of}
 use Rattle.hyd_run.proofs.EndLemmas.{ended, ended-cut}
+use Rattle.hyd_run.proofs.PeriodLemmas.{small-number}
 use Rattle.hyd_run.proofs.whole.put_ending.Goals as goal
 
 pub put_last-requires : goal.put_last-requires
@@ -16,7 +17,7 @@ pub returns-in-Ok : goal.returns-in-Ok
 returns-in-Ok g c = λ ends start so_far.
     ended _ c.project.result.now c.args.sim.now.settings (outcome_of c.args.end) (standing_of c.args.sim.now) start
     _ _ c.number.result
-    c.project.ensures.project c.number.ensures c.project.ensures.is_sim.few ends
+    c.project.ensures.project c.number.ensures (small-number _ c.project.ensures.is_sim) ends
     (c.in-Ok.ensures (standing_of c.args.sim.now) (sym c.time.ensures)) so_far
 
 pub returns-in-Err : goal.returns-in-Err

@@ -1,0 +1,167 @@
+-- How a period ends by the vectors that were found for it.
+use Rattle.std.proofs.Common.{◌≡◌, ◌≢◌, ℕ, suc, ◌+◌, ◌<◌, ◌≤◌, ℤ, Bool, true, false, List, [], ◌∷◌, ◌++◌, length, map, refl, sym, ap, subst, ◌∙◌, arith, ◌⊎◌, inl, inr}
+use Rattle.std.specs.Prelude.{Option, All}
+use Rattle.std.proofs.lemmas.Bool.{cases_lt}
+use Rattle.hyd_spec.specs.Types.{Project, Tank, LinkState}
+use Rattle.hyd_spec.specs.Lists.{map_from}
+use Rattle.hyd_spec.specs.Network.{tank_count}
+use Rattle.hyd_spec.specs.declared.Change.{Change}
+use Rattle.hyd_spec_certificates.specs.declared.Problem.{Problem}
+use Rattle.hyd_spec_certificates.specs.declared.Problem.TheVariants.{Main, Pinned}
+use Rattle.hyd_spec_certificates.specs.declared.Side.{Side}
+use Rattle.hyd_spec_certificates.specs.Interval.{Interval}
+use Rattle.hyd_spec_certificates.specs.Grid.{Grid}
+use Rattle.hyd_spec_certificates.specs.Record.{vector_of}
+use Rattle.hyd_spec_certificates.specs.Decided.{inflow_of_tank}
+use Rattle.hyd_spec_certificates.specs.Valid.{AreCertificates, AreStates, ControlsAreDecided, IsProblem, LeadsOn, continues, finishes}
+use Rattle.hyd_spec_reports.specs.declared.Event.{Event}
+use Rattle.hyd_spec_reports.specs.Report.{EndBrings, at_end, changes_at}
+use Rattle.hyd_spec_certificates.specs.Certificate.{IsCertificate}
+use Rattle.hyd_net.specs.ListView.{ListView}
+use Rattle.hyd_cert.specs.RecordView.{row_of, IsProblemOf}
+use Rattle.hyd_cert.specs.declared.record.Record.{Record as Row}
+use Rattle.hyd_tank.specs.Spans.{IsInflow}
+use Rattle.hyd_facts.specs.OfPeriod.{levels_of, volumes_of, flows_of}
+use Rattle.hyd_facts.specs.declared.facts.Facts.{Facts}
+use Rattle.hyd_graph.specs.GridOf.{grid_of}
+use Rattle.hyd_graph.specs.NetView.{NetView}
+use Rattle.hyd_watch.specs.Started.{HaveTanks}
+use Rattle.hyd_close.specs.Begun.{AreBegun, AreReady}
+use Rattle.hyd_close.specs.Closing.{AreKeptIn, IsClosed}
+use Rattle.hyd_close.specs.declared.close.Close.{Close}
+use Rattle.hyd_close.proofs.Bounding.{have-tanks}
+use Rattle.hyd_vectors.specs.Vectors.{OfEach}
+use Rattle.hyd_sim.specs.Attempts.{IsMade, IsOver, IsStarted}
+use Rattle.hyd_sim.specs.View.{IsStanding, standing_for}
+use Rattle.hyd_sim.specs.declared.standing.Standing.{Standing as Here}
+use Rattle.hyd_sim.proofs.Running.{at-last, at-later}
+
+no-more : (xs : List Change) → xs ++ [] ≡ xs
+no-more [] = refl
+no-more (x ∷ xs) = ap (λ (ys : List Change). x ∷ ys) (no-more xs)
+
+-- ---- the end of the run
+
+module _ (network : Project) (here : Here) (grid : Grid) (row : Row) (before now : Facts) (close : Close)
+    (last : here.time ≡ network.times.duration) (begun : AreBegun network (standing_for here) before)
+    (ready : AreReady network before) (no_length : row.length ≡ 0)
+    (keeps : now ≡ record before { length = 0; inflows = now.inflows; events = now.events })
+    (inflows : map flows_of now.inflows.list
+    ≡ map_from (λ k (tank : Tank). inflow_of_tank network grid (row_of row) k) 0 network.tanks.list)
+    (small : All IsInflow now.inflows.list) (no_events : now.events.list ≡ []) where
+  pub last-over : IsOver network here grid row now close
+  last-over = record {
+    leads_on = finishes (record {
+      is_last = last;
+      no_length = no_length;
+      next_is = at-last network here row.length close last;
+    });
+    facts_are = record {
+      time = ap (λ (f : Facts). f.time) keeps ∙ begun.time;
+      length = ap (λ (f : Facts). f.length) keeps ∙ sym no_length;
+      levels = ap (λ (f : Facts). map levels_of f.levels.list) keeps ∙ begun.levels;
+      volumes = ap (λ (f : Facts). map volumes_of f.volumes.list) keeps ∙ begun.volumes;
+      inflows = inflows;
+      tanks = ap (λ (f : Facts). f.tanks.list) keeps ∙ begun.tanks;
+      links = ap (λ (f : Facts). f.links.list) keeps ∙ begun.links;
+      by_rules = [];
+      changes = ap (λ (f : Facts). f.changes.list) keeps ∙ begun.changes
+          ∙ sym (no-more (changes_at network (standing_for here)));
+      brings = subst (λ (es : List Event). EndBrings network grid (standing_for here) (row_of row) es [])
+          (sym no_events) (at_end last);
+    };
+    have = subst (HaveTanks network) (sym keeps) have-now;
+    held = λ other. absurd (other last);
+    later = λ other. absurd (other last);
+  }
+    where
+      have-inflows : HaveTanks network (record before { inflows = now.inflows })
+      have-inflows = have-tanks network grid (row_of row) before now.inflows ready inflows small
+
+      have-now : HaveTanks network (record before { length = 0; inflows = now.inflows; events = now.events })
+      have-now = record {
+        levels = have-inflows.levels;
+        volumes = have-inflows.volumes;
+        inflows = have-inflows.inflows;
+        tanks = have-inflows.tanks;
+        held = have-inflows.held;
+        small = have-inflows.small;
+      }
+
+-- ---- any other end
+
+pub closed-over : (network : Project) (here : Here) (grid : Grid) (row : Row) (facts : Facts) (close : Close)
+    → here.time ≢ network.times.duration → IsClosed network grid (standing_for here) (row_of row) facts close
+    → AreKeptIn network close.next → HaveTanks network facts → 0 < row.length
+    → IsOver network here grid row facts close
+closed-over network here grid row facts close other closed held have some = record {
+  leads_on = subst (LeadsOn network grid (standing_for here) (row_of row))
+      (sym (at-later network here row.length close other)) (continues (record {
+        not_last = other;
+        leaves_links = closed.leaves;
+        levels = closed.levels;
+        volumes = closed.volumes;
+        tanks = subst (λ (ls : List Interval). AreStates network ls close.next.tanks.list) (sym closed.levels)
+            closed.tanks;
+        controls = subst (ControlsAreDecided network) (sym closed.levels) closed.controls;
+        number = refl;
+        time = refl;
+        unfinished = refl;
+      }));
+  facts_are = closed.facts_are;
+  have = have;
+  held = λ o. held;
+  later = λ o. some;
+}
+
+-- a period that doesn't begin at the end of the run begins before it
+pub begins-before : (network : Project) (here : Here) → IsStanding network here → here.time ≢ network.times.duration
+    → here.time < network.times.duration
+begins-before network here is other = elim (cases_lt here.time network.times.duration) [
+  | inl less ↦ less
+  | inr more ↦ (let within = is.tidy.in_time in absurd (other (omega (arith, within, more))))
+]
+
+-- ---- what was made
+
+module _ (row now : Row) (same : now ≡ record row { length = now.length }) where
+  -- a record with another length has the same certificates
+  pub certificates-again : (network : Project) (grid : Grid) → AreCertificates network grid (row_of row)
+      → AreCertificates network grid (row_of now)
+  certificates-again network grid are = subst (λ (r : Row). AreCertificates network grid (row_of r)) (sym same)
+      (record { pinned_each = are.pinned_each; each = λ problem side is. by problem side is })
+    where
+      by : (problem : Problem) (side : Side) → IsProblem network problem
+          → IsCertificate grid problem side (vector_of (row_of (record row { length = now.length })) problem side)
+      by Main side is = are.each Main side is
+      by (Pinned tank) side is = are.each (Pinned tank) side is
+
+  pub each-again : (P : Problem → Side → List ℤ → Type 0) (tanks : ℕ) → OfEach P tanks (row_of row)
+      → OfEach P tanks (row_of now)
+  each-again P tanks all = subst (λ (r : Row). OfEach P tanks (row_of r)) (sym same) (λ problem side is. by problem side is)
+    where
+      by : (problem : Problem) (side : Side) → IsProblemOf tanks problem
+          → P problem side (vector_of (row_of (record row { length = now.length })) problem side)
+      by Main side is = all Main side is
+      by (Pinned tank) side is = all (Pinned tank) side is
+
+-- a period that was started and is over by certificates
+pub made-of : (network : Project) (here : Here) (net : NetView) (started row : Row) (begun facts : Facts) (close : Close)
+    → IsStarted network here net started begun → here.finished ≡ false → row.number ≡ started.number
+    → row.time ≡ started.time → facts.links ≡ begun.links → AreCertificates network (grid_of net) (row_of row)
+    → IsOver network here (grid_of net) row facts close → IsMade network here net row facts close
+made-of network here net started row begun facts close is unfinished number time links certificates over = record {
+  valid = record {
+    unfinished = unfinished;
+    number = number ∙ is.number;
+    time = time ∙ is.time;
+    demands = is.in_range;
+    is_grid = is.is_grid;
+    certificates = certificates;
+    leads_on = over.leads_on;
+  };
+  over = over;
+  order = is.order;
+  states = is.states;
+  links = is.links ∙ sym (ap (λ (l : ListView LinkState). l.list) links);
+}

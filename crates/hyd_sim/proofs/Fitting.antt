@@ -1,0 +1,208 @@
+-- Whether the vectors of a period do.
+use Rattle.std.proofs.Common.{◌≡◌, ◌≢◌, ℕ, suc, ◌+◌, ◌<◌, ℤ, pos, ◌+ℤ◌, ◌-ℤ◌, ◌*ℤ◌, ◌≤ℤ◌, Bool, true, false, List, length, map, refl, sym, ap, subst, ◌∙◌, arith, ◌⊎◌, inl, inr}
+use Rattle.std.specs.Prelude.{Option, Result, Ok, Err, OnOk, MatchBool}
+use Rattle.std.proofs.lemmas.List.{length-map}
+use Rattle.hyd_spec.specs.Types.{Project, Tank, LinkState}
+use Rattle.hyd_spec.specs.Network.{junction_count, tank_count}
+use Rattle.hyd_spec_certificates.specs.declared.Problem.{Problem}
+use Rattle.hyd_spec_certificates.specs.declared.Problem.TheVariants.{Main}
+use Rattle.hyd_spec_certificates.specs.declared.Side.{Side}
+use Rattle.hyd_spec_certificates.specs.declared.Side.TheVariants.{Upper, Lower}
+use Rattle.hyd_spec_certificates.specs.Interval.{Interval}
+use Rattle.hyd_spec_certificates.specs.Grid.{Grid}
+use Rattle.hyd_spec_certificates.specs.Narrow.{IsNarrow}
+use Rattle.hyd_spec_certificates.specs.Record.{Record, Standing}
+use Rattle.hyd_spec_certificates.specs.Decided.{links_at}
+use Rattle.hyd_spec_certificates.specs.Valid.{AreCertificates, IsGridAt, IsValid, LeadsOn, continues, finishes, stocks_next}
+use Rattle.hyd_spec_reports.specs.Stops.{Stops}
+use Rattle.hyd_spec_reports.specs.declared.StopCause.{StopCause}
+use Rattle.hyd_spec_laws.proofs.OneRun.{one_grid}
+use Rattle.hyd_cert.specs.RecordView.{row_of}
+use Rattle.hyd_cert.specs.declared.record.Record.{Record as Row}
+use Rattle.hyd_facts.specs.OfPeriod.{levels_of}
+use Rattle.hyd_facts.specs.declared.facts.Facts.{Facts}
+use Rattle.hyd_graph.specs.GridOf.{grid_of, states_of}
+use Rattle.hyd_graph.specs.NetView.{NetView}
+use Rattle.hyd_inflows.proofs.Numbered.{as_long}
+use Rattle.hyd_close.specs.Begun.{AreBegun, AreReady}
+use Rattle.hyd_close.specs.Opens.{SharesVectors, IsOpenAt}
+use Rattle.hyd_close.specs.declared.close.Close.{Close}
+use Rattle.hyd_vectors.specs.Vectors.{AreTold, HaveSame, IsSought, OfEach}
+use Rattle.hyd_sim.specs.Attempts.{IsFault, IsMade, IsStarted, fault_stop_of, later_standing, next_standing}
+use Rattle.hyd_sim.specs.Sharp.{AreNarrow}
+use Rattle.hyd_sim.specs.Steps.{AreTight, IsAdvanced, IsDone, IsProposal}
+use Rattle.hyd_sim.specs.View.{IsStanding, standing_for}
+use Rattle.hyd_sim.specs.declared.settings.Settings.{Settings}
+use Rattle.hyd_sim.specs.declared.attempt.Fault.{Fault}
+use Rattle.hyd_sim.specs.declared.attempt.Fault.TheVariants.{Lack, Open}
+use Rattle.hyd_sim.specs.declared.standing.Standing.{Standing as Here}
+use Rattle.hyd_sim.proofs.Lacking.{lacks-one, none-lacking, same-as-told}
+use Rattle.hyd_sim.proofs.Proposed.{shares, none-open-at, same-row, same-next}
+use Rattle.hyd_sim.proofs.Running.{at-later, lack-stops, open-stops, tight-row}
+
+-- ---- narrow records
+
+module _ (W : ℤ) (standing next : Standing) (row : Record) (upper lower : List ℤ) (before after : List Interval)
+    (up : upper ≡ row.main.upper) (low : lower ≡ row.main.lower) (start : before ≡ standing.levels)
+    (end : after ≡ next.levels) where
+  pub narrow-there : AreNarrow W upper lower before after → IsNarrow W standing row next
+  narrow-there are =
+      let moved : AreNarrow W row.main.upper row.main.lower standing.levels next.levels =
+      subst (λ (xs : List ℤ). AreNarrow W xs row.main.lower standing.levels next.levels) up
+      (subst (λ (xs : List ℤ). AreNarrow W upper xs standing.levels next.levels) low
+      (subst (λ (xs : List Interval). AreNarrow W upper lower xs next.levels) start
+      (subst (λ (xs : List Interval). AreNarrow W upper lower before xs) end are))) in
+      record { heads = moved.heads; levels = moved.levels }
+
+  pub narrow-here : IsNarrow W standing row next → AreNarrow W upper lower before after
+  narrow-here is =
+      let there : AreNarrow W row.main.upper row.main.lower standing.levels next.levels =
+      record { heads = is.heads; levels = is.levels } in
+      subst (λ (xs : List ℤ). AreNarrow W xs lower before after) (sym up)
+      (subst (λ (xs : List ℤ). AreNarrow W row.main.upper xs before after) (sym low)
+      (subst (λ (xs : List Interval). AreNarrow W row.main.upper row.main.lower xs after) (sym start)
+      (subst (λ (xs : List Interval). AreNarrow W row.main.upper row.main.lower standing.levels xs) (sym end) there)))
+
+-- as many levels follow a period that was made as there were before it
+pub next-long : (network : Project) (here : Here) (net : NetView) (row : Row) (facts : Facts) (close : Close)
+    → IsStanding network here → IsMade network here net row facts close → here.time ≢ network.times.duration
+    → length close.next.levels.list ≡ length here.stocks.levels.list
+next-long network here net row facts close is made other =
+    by (subst (LeadsOn network (grid_of net) (standing_for here) (row_of row))
+    (at-later network here row.length close other) made.over.leads_on)
+  where
+    before : length here.stocks.levels.list ≡ tank_count network
+    before = sym (length-map here.stocks.levels.list levels_of) ∙ is.tidy.levels_each
+
+    by : LeadsOn network (grid_of net) (standing_for here) (row_of row) (later_standing here row.length close)
+        → length close.next.levels.list ≡ length here.stocks.levels.list
+    by (continues c) = sym (length-map close.next.levels.list levels_of) ∙ ap length c.levels
+        ∙ as_long (λ k (tank : Tank).
+        (stocks_next network (grid_of net) (standing_for here) (row_of row) row.length k tank).level) 0
+        network.tanks.list
+        ∙ sym before
+    by (finishes f) = absurd (other f.is_last)
+
+-- both MAIN vectors have as many heads
+pub heads-each : (network : Project) (grid : Grid) (row : Record) → AreCertificates network grid row
+    → length row.main.lower ≡ length row.main.upper
+heads-each network grid row are = (are.each Main Lower tt).one_each ∙ sym (are.each Main Upper tt).one_each
+
+-- ---- why a period stops
+
+pub shares-itself : (row : Record) → SharesVectors row row
+shares-itself row = record { main = refl; pinned = refl }
+
+pub fault-stops : (network : Project) (here : Here) (net : NetView) (started row : Row) (facts : Facts) (rounds : ℕ)
+    (told : Option (List ℤ)) → IsStarted network here net started facts
+    → length (grid_of net).junctions ≡ junction_count network → length (row_of row).pinned ≡ tank_count network
+    → (fault : Fault) → IsFault true told network (grid_of net) (standing_for here) rounds (row_of row) fault
+    → Stops network (standing_for here) rounds (fault_stop_of here.number rounds fault)
+fault-stops network here net started row facts rounds told is count pinned (Lack lack) fault =
+    lack-stops network (standing_for here) (grid_of net) (tank_count network) rounds lack refl count is.in_range
+    is.is_grid (lacks-one true told (grid_of net) (tank_count network) rounds (row_of row) lack fault)
+fault-stops network here net started row facts rounds told is count pinned (Open found) fault =
+    open-stops network (standing_for here) rounds (grid_of net) (row_of row)
+    (tight-row network (standing_for here) (grid_of net) (row_of row) is.in_range is.is_grid pinned fault.0) found
+    (fault.1 (row_of row) (shares-itself (row_of row)))
+
+-- ---- records that the finder tells
+
+module _ (network : Project) (standing : Standing) (grid : Grid) (is : IsGridAt network standing grid) (W : ℤ)
+    (told : Option (List ℤ)) (w : Record) (p : IsProposal told network W standing w) where
+  pub told-here : AreTold told grid (tank_count network) w
+  told-here = p.told_at grid is
+
+  pub valid-here : IsValid network standing grid w p.next
+  valid-here = subst (λ (g : Grid). IsValid network standing g w p.next)
+      (one_grid network standing p.grid grid p.valid.is_grid is) p.valid
+
+  module _ (row : Record) (pinned : length row.pinned ≡ tank_count network)
+      (found : OfEach (IsSought false told grid (tank_count network)) (tank_count network) row) where
+    pub same-here : HaveSame (tank_count network) row w
+    same-here = same-as-told false told grid (tank_count network) row w refl found told-here
+
+    pub shares-here : SharesVectors w row
+    shares-here = shares (tank_count network) row w pinned valid-here.certificates.pinned_each same-here
+
+    -- they leave no matter open
+    pub nothing-open : (found : _) → ((other : Record) → SharesVectors other row → IsOpenAt network grid standing other found)
+        → ⊥
+    nothing-open found all = none-open-at network standing grid w p.next valid-here found (all w shares-here)
+
+    -- and their record is narrow
+    pub narrow-too : (next : Standing) → IsValid network standing grid row next → IsNarrow W standing row next
+    narrow-too next valid =
+        let number = valid-here.number ∙ sym valid.number in
+        let time = valid-here.time ∙ sym valid.time in
+        let same = same-row network standing grid w p.next valid-here row next shares-here number time valid.leads_on in
+        let after = same-next network standing grid w p.next valid-here row next shares-here number time
+        valid.leads_on in
+        subst (λ (r : Record). IsNarrow W standing r next) same
+        (subst (λ (n : Standing). IsNarrow W standing w n) after p.narrow)
+
+-- ---- a period that starts again
+
+pub started-again : (network : Project) (here : Here) (net : NetView) (first now : Row) (before after : Facts)
+    → IsStarted network here net first before → now.number ≡ first.number → now.time ≡ first.time
+    → AreBegun network (standing_for here) after → AreReady network after → IsStarted network here net now after
+started-again network here net first now before after is number time begun ready = record {
+  in_range = is.in_range;
+  is_grid = is.is_grid;
+  states = is.states;
+  links = is.links ∙ is.begun.links ∙ sym begun.links;
+  begun = begun;
+  ready = ready;
+  number = number ∙ is.number;
+  time = time ∙ is.time;
+  order = is.order;
+}
+
+-- ---- sharpness
+
+-- what holds of an answer that is there, from two things that do
+pub on-ok-both : {A E : Type 0} (P Q R : Type 0) (result : Result A E) → (P → Q → R) → OnOk result P → OnOk result Q
+    → OnOk result R
+on-ok-both P Q R (Ok value) f p q = f p q
+on-ok-both P Q R (Err fault) f p q = p
+
+-- tight vectors are sharp in any case
+pub done-tight : (network : Project) (settings : Settings) (here : Here) (net : NetView) (row : Row) (facts : Facts)
+    (close : Close) → IsMade network here net row facts close → AreTight network (grid_of net) (row_of row)
+    → IsDone network settings here net row facts close
+done-tight network settings here net row facts close made tight = record { made = made; sharp = by settings.tight }
+  where
+    by : (asked : Bool) → MatchBool asked (AreTight network (grid_of net) (row_of row))
+        (AreTight network (grid_of net) (row_of row) ⊎ IsNarrow settings.width (standing_for here) (row_of row)
+        (next_standing network here row.length close))
+    by true = tight
+    by false = inl tight
+
+-- narrow records are where no tight vectors are asked for
+pub done-narrow : (network : Project) (settings : Settings) (here : Here) (net : NetView) (row : Row) (facts : Facts)
+    (close : Close) → settings.tight ≡ false → IsMade network here net row facts close
+    → IsNarrow settings.width (standing_for here) (row_of row) (next_standing network here row.length close)
+    → IsDone network settings here net row facts close
+done-narrow network settings here net row facts close asks made narrow = record { made = made; sharp = by settings.tight asks }
+  where
+    by : (asked : Bool) → asked ≡ false → MatchBool asked (AreTight network (grid_of net) (row_of row))
+        (AreTight network (grid_of net) (row_of row) ⊎ IsNarrow settings.width (standing_for here) (row_of row)
+        (next_standing network here row.length close))
+    by true e = absurd (cc)
+    by false e = inr narrow
+
+-- a period that was done, and the standing behind it
+pub advanced-of : (network : Project) (settings : Settings) (here : Here) (net : NetView) (row : Row) (facts : Facts)
+    (close : Close) (now : Here) → standing_for now ≡ next_standing network here row.length close
+    → IsDone network settings here net row facts close
+    → IsAdvanced network settings (standing_for here) net row facts (standing_for now)
+advanced-of network settings here net row facts close now same done =
+    subst (IsAdvanced network settings (standing_for here) net row facts) (sym same) (record {
+      valid = done.made.valid;
+      facts_are = done.made.over.facts_are;
+      have = done.made.over.have;
+      order = done.made.order;
+      states = done.made.states;
+      links = done.made.links;
+      sharp = done.sharp;
+    })

@@ -1,0 +1,117 @@
+-- The standing behind a period.
+use Rattle.std.proofs.Common.{◌≡◌, ◌≢◌, ℕ, suc, ◌+◌, ◌^◌, ◌<◌, ◌≤◌, Bool, true, false, length, refl, sym, ap, subst, ◌∙◌, arith}
+use Rattle.std.proofs.lemmas.Bool.{true≢false}
+use Rattle.hyd_net.specs.Sound.{Sound}
+use Rattle.hyd_spec.specs.Types.{Project}
+use Rattle.hyd_spec_certificates.specs.Grid.{Grid}
+use Rattle.hyd_spec_certificates.specs.Record.{Record, Standing}
+use Rattle.hyd_spec_certificates.specs.Valid.{IsValid, LeadsOn, Continues, continues, finishes}
+use Rattle.hyd_spec_histories.specs.Agreement.{IsKept}
+use Rattle.hyd_spec_histories.proofs.Stepping.{kept_next}
+use Rattle.hyd_spec_nesting.specs.Nesting.{IsTidy}
+use Rattle.hyd_spec_nesting.proofs.Holding.{tidy_next}
+use Rattle.hyd_cert.specs.RecordView.{row_of}
+use Rattle.hyd_cert.specs.declared.record.Record.{Record as Row}
+use Rattle.hyd_facts.specs.declared.facts.Facts.{Facts}
+use Rattle.hyd_graph.specs.GridOf.{grid_of}
+use Rattle.hyd_graph.specs.NetView.{NetView}
+use Rattle.hyd_next.specs.Room.{HasRoom as HasNextRoom}
+use Rattle.hyd_close.specs.Closing.{HasRoom, AreKeptIn}
+use Rattle.hyd_close.specs.declared.close.Close.{Close}
+use Rattle.hyd_sim.specs.Attempts.{IsMade, next_standing, last_standing, later_standing}
+use Rattle.hyd_sim.specs.View.{IsStanding, standing_at, standing_for}
+use Rattle.hyd_sim.specs.declared.standing.Standing.{Standing as Here}
+use Rattle.hyd_sim.proofs.Running.{at-last, at-later}
+use Rattle.hyd_sim.proofs.Starting.{zip-length}
+
+-- no more periods were done than seconds are over, so their number is small
+pub small-number : (network : Project) (here : Here) → Sound network → IsStanding network here → here.finished ≡ false
+    → here.number ≤ 10 ^ 8
+small-number network here sound is unfinished =
+    let few = is.unfinished unfinished in
+    let within = is.tidy.in_time in
+    let short = sound.times.duration in
+    omega (arith, few, within, short)
+
+-- ---- behind the period at the end of the run
+
+pub finished-standing : (network : Project) (here : Here) → IsStanding network here → here.finished ≡ false
+    → IsStanding network (record here { number = here.number + 1; finished = true })
+finished-standing network here is unfinished = record {
+  kept = record { controls = is.kept.controls; levels = is.kept.levels; states = is.kept.states };
+  tidy = record {
+    levels_each = is.tidy.levels_each;
+    volumes_each = is.tidy.volumes_each;
+    tanks_each = is.tidy.tanks_each;
+    ordered = is.tidy.ordered;
+    in_time = is.tidy.in_time;
+  };
+  held = is.held;
+  room = is.room;
+  few = let few = is.unfinished unfinished in omega (arith, few);
+  unfinished = λ e. absurd (true≢false e);
+}
+
+-- ---- behind any other
+
+module _ (network : Project) (sound : Sound network) (here : Here) (is : IsStanding network here)
+    (unfinished : here.finished ≡ false) (net : NetView) (row : Row) (facts : Facts) (close : Close)
+    (made : IsMade network here net row facts close) (other : here.time ≢ network.times.duration) where
+  abbrev later : Standing
+  later = later_standing here row.length close
+
+  valid-later : IsValid network (standing_for here) (grid_of net) (row_of row) later
+  valid-later = subst (IsValid network (standing_for here) (grid_of net) (row_of row))
+      (at-later network here row.length close other) made.valid
+
+  goes-on : LeadsOn network (grid_of net) (standing_for here) (row_of row) later
+      → Continues network (grid_of net) (standing_for here) (row_of row) later
+  goes-on (continues c) = c
+  goes-on (finishes f) = absurd (other f.is_last)
+
+  abbrev onward : Continues network (grid_of net) (standing_for here) (row_of row) later
+  onward = goes-on valid-later.leads_on
+
+  kept-later : IsKept network later
+  kept-later = kept_next network sound (grid_of net) (standing_for here) (row_of row) later is.kept onward
+
+  tidy-later : IsTidy network later
+  tidy-later = tidy_next network sound (standing_for here) (grid_of net) (row_of row) later is.kept is.tidy valid-later
+      onward
+
+  -- it ends within the run
+  pub in-time : here.time + row.length ≤ network.times.duration
+  in-time = tidy-later.in_time
+
+  module _ (now : Here) (room : HasRoom network close) (number : now.number ≡ here.number + 1)
+      (time : now.time ≡ here.time + row.length) (stocks : now.stocks ≡ close.next)
+      (commanded : now.commanded ≡ close.commanded) (finished : now.finished ≡ here.finished) where
+    pub same-later : standing_for now ≡ later
+    same-later =
+        let n : now.number ≡ suc here.number = omega (arith, number) in
+        let f : now.finished ≡ false = finished ∙ unfinished in
+        λ i. standing_at (n i) (time i) (stocks i) ((commanded i).items) (f i)
+
+    pub standing-later : IsStanding network now
+    standing-later = record {
+      kept = subst (IsKept network) (sym same-later) kept-later;
+      tidy = subst (IsTidy network) (sym same-later) tidy-later;
+      held = subst (AreKeptIn network) (sym stocks) (made.over.held other);
+      room = subst (HasNextRoom network) (sym stocks) room.next;
+      few = (let few = is.unfinished unfinished in omega (arith, few, number, time));
+      unfinished = λ e. (let few = is.unfinished unfinished in let some = made.over.later other in
+          omega (arith, few, number, time, some));
+    }
+
+-- ---- what is left of the room
+
+pub room-later : (network : Project) (here : Here) (before now : Close) → IsStanding network here
+    → HasRoom network before → now ≡ record before { next = here.stocks; commanded = here.commanded }
+    → HasRoom network now
+room-later network here before now is room same = subst (HasRoom network) (sym same) (record {
+  readings = room.readings;
+  carried = room.carried;
+  values = room.values;
+  commanded = zip-length network network.links.list here.commanded.items is.kept.states;
+  next = is.room;
+})

@@ -1,0 +1,105 @@
+-- A record that a finder tells is what a period gets, where it is valid and narrow.
+use Rattle.std.proofs.Common.{◌≡◌, ◌≢◌, ℕ, zero, suc, ◌+◌, ◌<◌, ℤ, pos, Bool, true, false, List, [], ◌∷◌, length, map, refl, sym, ap, subst, ◌∙◌, arith}
+use Rattle.std.specs.Prelude.{slice_index_or}
+use Rattle.hyd_spec.specs.Types.{Project, LinkState}
+use Rattle.hyd_spec.specs.Network.{tank_count}
+use Rattle.hyd_spec_certificates.specs.declared.Problem.{Problem}
+use Rattle.hyd_spec_certificates.specs.declared.Problem.TheVariants.{Main, Pinned}
+use Rattle.hyd_spec_certificates.specs.declared.Side.{Side}
+use Rattle.hyd_spec_certificates.specs.declared.Side.TheVariants.{Upper, Lower}
+use Rattle.hyd_spec_certificates.specs.Interval.{Interval}
+use Rattle.hyd_spec_certificates.specs.Grid.{Grid}
+use Rattle.hyd_spec_certificates.specs.Narrow.{IsNarrow}
+use Rattle.hyd_spec_certificates.specs.Record.{Record, Standing, Vectors, vector_of, no_vectors}
+use Rattle.hyd_spec_certificates.specs.Valid.{IsGridAt, IsValid, LeadsOn, Continues, continues, finishes, levels_next}
+use Rattle.hyd_spec_laws.proofs.OneLength.{one_length}
+use Rattle.hyd_spec_laws.proofs.OneStanding.{one_standing}
+use Rattle.hyd_cert.specs.RecordView.{IsProblemOf}
+use Rattle.hyd_close.specs.Opens.{SharesVectors, IsOpenAt, EndsWith, IsFirstControl}
+use Rattle.hyd_close.specs.declared.open.Open.{Open}
+use Rattle.hyd_close.specs.declared.open.Open.TheVariants.{Rule, Event, Tank, Control}
+use Rattle.hyd_next.specs.Next.{IsFirstOpen}
+use Rattle.hyd_trial.specs.Trial.{open_rule}
+use Rattle.hyd_vectors.specs.Vectors.{HaveSame}
+use Rattle.hyd_sim.proofs.Proposing.{not-last, not-last-left, not-open-by-rule, not-open-by-event, same-seconds, no-open-tank, no-open-control}
+
+-- ---- the same vectors
+
+same-pinned : (xs ys : List Vectors) → length xs ≡ length ys
+    → ((k : ℕ) → k < length xs → slice_index_or xs k no_vectors ≡ slice_index_or ys k no_vectors) → xs ≡ ys
+same-pinned [] [] e each = refl
+same-pinned [] (y ∷ ys) e each = absurd (omega (arith, e))
+same-pinned (x ∷ xs) [] e each = absurd (omega (arith, e))
+same-pinned (x ∷ xs) (y ∷ ys) e each =
+    let first : x ≡ y = each 0 (omega arith) in
+    let rest = same-pinned xs ys (omega (arith, e)) (λ k less. each (suc k) (omega (arith, less))) in
+    cc
+
+both-sides : (x y : Vectors) → x.upper ≡ y.upper → x.lower ≡ y.lower → x ≡ y
+both-sides x y upper lower = λ i. record { upper = upper i; lower = lower i }
+
+-- records with the same vectors share them
+pub shares : (tanks : ℕ) (row w : Record) → length row.pinned ≡ tanks → length w.pinned ≡ tanks
+    → HaveSame tanks row w → SharesVectors w row
+shares tanks row w own other same = record {
+  main = both-sides w.main row.main (sym (same Main Upper tt)) (sym (same Main Lower tt));
+  pinned = same-pinned w.pinned row.pinned (other ∙ sym own)
+      (λ k less. both-sides (slice_index_or w.pinned k no_vectors) (slice_index_or row.pinned k no_vectors)
+      (sym (same (Pinned k) Upper (omega (arith, less, other)))) (sym (same (Pinned k) Lower (omega (arith, less, other)))));
+}
+
+-- and are the same where their numbers, times and lengths are
+pub same-record : (row w : Record) → SharesVectors w row → w.number ≡ row.number → w.time ≡ row.time
+    → w.length ≡ row.length → w ≡ row
+same-record row w share number time long =
+    λ i. record { number = number i; time = time i; length = long i; main = share.main i; pinned = share.pinned i }
+
+-- ---- what a valid record leaves no doubt about
+
+module _ (network : Project) (standing : Standing) (grid : Grid) (w : Record) (next : Standing)
+    (valid : IsValid network standing grid w next) where
+  -- a valid record leaves no matter open
+  pub none-open-at : (found : Open) → IsOpenAt network grid standing w found → ⊥
+  none-open-at found is = by valid.leads_on found is
+    where
+      at-end : (P : List Interval → Type 0) → Continues network grid standing w next
+          → EndsWith network grid standing w P → P next.levels
+      at-end P c ends =
+          let same = same-seconds network grid standing w w.length ends.seconds next.commanded ends.links
+          c.leaves_links ends.leaves in
+          subst P (sym c.levels)
+          (subst (λ (s : ℕ). P (levels_next network grid standing w s)) (sym same) ends.at_levels)
+
+      by : LeadsOn network grid standing w next → (matter : Open) → IsOpenAt network grid standing w matter → ⊥
+      by (continues c) (Rule found) o =
+          not-open-by-rule network grid standing w w.length next.commanded (open_rule found) c.leaves_links o
+      by (continues c) (Event earliest latest) o =
+          not-open-by-event network grid standing w w.length earliest latest next.commanded c.leaves_links o
+      by (continues c) (Tank found) o =
+          no-open-tank network next.levels next.tanks c.tanks found.tank
+          (at-end (λ levels. IsFirstOpen network levels found) c o).first
+      by (continues c) (Control found) o =
+          let first = at-end (λ levels. IsFirstControl network levels found) c o in
+          no-open-control network next.levels c.controls found.control first.tank first.above first.ticks
+          first.control first.first first.is_control first.is_level
+      by (finishes f) (Rule found) o = not-last network grid standing w _ o f.is_last
+      by (finishes f) (Event earliest latest) o = not-last network grid standing w _ o f.is_last
+      by (finishes f) (Tank found) o =
+          not-last-left network grid standing w o.seconds o.links o.leaves f.is_last
+      by (finishes f) (Control found) o =
+          not-last-left network grid standing w o.seconds o.links o.leaves f.is_last
+
+  -- and another record with its vectors, number and time that leads on is the same, and leads on to the same standing
+  module _ (row : Record) (other : Standing) (share : SharesVectors w row) (number : w.number ≡ row.number)
+      (time : w.time ≡ row.time) (leads : LeadsOn network grid standing row other) where
+    again-is : (record w { length = row.length }) ≡ row
+    again-is = same-record row (record w { length = row.length }) (record { main = share.main; pinned = share.pinned }) number time refl
+
+    pub same-row : w ≡ row
+    same-row = same-record row w share number time
+        (one_length network grid standing w row.length next other valid.leads_on
+        (subst (λ (r : Record). LeadsOn network grid standing r other) (sym again-is) leads))
+
+    pub same-next : next ≡ other
+    same-next = one_standing network grid standing w next other valid.leads_on
+        (subst (λ (r : Record). LeadsOn network grid standing r other) (sym same-row) leads)

@@ -1,0 +1,97 @@
+use Rattle.std.proofs.Common.{◌≡◌, ℕ, ℤ, Bool, List, refl, sym, ap, subst, ◌∙◌}
+use Rattle.std.specs.Prelude.{length}
+use Rattle.hyd_spec.specs.Network.{tank_count}
+use Rattle.hyd_spec_certificates.specs.declared.Problem.{Problem}
+use Rattle.hyd_spec_certificates.specs.declared.Side.{Side}
+use Rattle.hyd_spec_certificates.specs.Certificate.{IsCertificate}
+use Rattle.hyd_spec_certificates.specs.Record.{vector_of}
+use Rattle.hyd_spec_certificates.specs.Valid.{AreCertificates}
+use Rattle.hyd_cert.specs.Lines.{Header}
+use Rattle.hyd_cert.specs.Vectors.{behind_two}
+use Rattle.hyd_cert.specs.RecordView.{row_of}
+use Rattle.hyd_cert.specs.declared.record.Record.{Record as Row}
+use Rattle.hyd_graph.specs.GridOf.{grid_of}
+use Rattle.hyd_close.specs.Opens.{SharesVectors}
+use Rattle.hyd_vectors.specs.Vectors.{OfEach, IsSought, LacksFirst}
+use Rattle.hyd_sim.specs.View.{standing_for}
+use Rattle.hyd_sim.proofs.Attempting.{certificates-again, each-again, made-of}
+use Rattle.hyd_sim.proofs.Lacking.{sought-all}
+use Rattle.hyd_sim.proofs.Running.{net-junctions, problems-each, certificates-of}
+use Rattle.hyd_sim.proofs.attempt.try_period.Goals as goal
+
+pub find-requires-clause-room : goal.find-requires-clause-room
+find-requires-clause-room g c =
+    c.requires.search ∙ net-junctions c.args.project.now c.args.net.now c.requires.of
+
+pub find-requires-clause-fits : goal.find-requires-clause-fits
+find-requires-clause-fits g c = record {
+  junctions = ap (λ (h : Header). h.junctions) c.requires.header
+      ∙ net-junctions c.args.project.now c.args.net.now c.requires.of;
+  tanks = ap (λ (h : Header). h.tanks) c.requires.header ∙ sym c.requires.of.each_tank;
+}
+
+pub end_period-requires-clause-certificates : goal.end_period-requires-clause-certificates
+end_period-requires-clause-certificates g c =
+    let network = c.args.project.now in
+    let net = c.args.net.now in
+    let row = c.find.new.row in
+    let pinned : length (row_of row).pinned ≡ length net.tanks =
+    problems-each row.junctions row.tanks (behind_two row.junctions row.vectors.list)
+    ∙ (ap (λ (h : Header). h.tanks) (c.find.ensures.stays.header ∙ c.requires.header) ∙ sym c.requires.of.each_tank) in
+    certificates-of network (grid_of net) (length net.tanks) (row_of row) c.requires.of.each_tank pinned
+    (sought-all c.args.tight (g.F.Finder.told c.args.finder.now) (grid_of net) (length net.tanks) (row_of row)
+    c.in_default.ensures.found)
+
+pub end_period-requires-clause-header : goal.end_period-requires-clause-header
+end_period-requires-clause-header g c = c.find.ensures.stays.header ∙ c.requires.header
+
+pub returns-in-Ok-clause-made : goal.returns-in-Ok-clause-made
+returns-in-Ok-clause-made g c =
+    let network = c.args.project.now in
+    let net = c.args.net.now in
+    let row = c.find.new.row in
+    let stays = c.find.ensures.stays in
+    let pinned : length (row_of row).pinned ≡ length net.tanks =
+    problems-each row.junctions row.tanks (behind_two row.junctions row.vectors.list)
+    ∙ (ap (λ (h : Header). h.tanks) (stays.header ∙ c.requires.header) ∙ sym c.requires.of.each_tank) in
+    let certificates = certificates-of network (grid_of net) (length net.tanks) (row_of row) c.requires.of.each_tank
+    pinned (sought-all c.args.tight (g.F.Finder.told c.args.finder.now) (grid_of net) (length net.tanks) (row_of row)
+    c.in_default.ensures.found) in
+    made-of network c.args.standing.now net c.args.row.now c.end_period.new.row c.args.facts.now c.end_period.new.facts
+    c.end_period.new.close c.requires.started c.requires.unfinished
+    (ap (λ (r : Row). r.number) c.end_period.ensures.row ∙ stays.number)
+    (ap (λ (r : Row). r.time) c.end_period.ensures.row ∙ stays.time) c.end_period.ensures.links
+    (certificates-again row c.end_period.new.row c.end_period.ensures.row network (grid_of net) certificates)
+    c.in-Ok.ensures.over
+
+pub returns-in-Ok-clause-sought : goal.returns-in-Ok-clause-sought
+returns-in-Ok-clause-sought g c =
+    let net = c.args.net.now in
+    let told = g.F.Finder.told c.args.finder.now in
+    let found : OfEach (IsSought c.args.tight told (grid_of net) (tank_count c.args.project.now))
+    (tank_count c.args.project.now) (row_of c.find.new.row) =
+    subst (λ (n : ℕ). OfEach (IsSought c.args.tight told (grid_of net) n) n (row_of c.find.new.row))
+    c.requires.of.each_tank c.in_default.ensures.found in
+    each-again c.find.new.row c.end_period.new.row c.end_period.ensures.row
+    (IsSought c.args.tight told (grid_of net) (tank_count c.args.project.now)) (tank_count c.args.project.now) found
+
+pub returns-in-Err-clause-fault : goal.returns-in-Err-clause-fault
+returns-in-Err-clause-fault g c =
+    let net = c.args.net.now in
+    subst (λ (n : ℕ). LacksFirst c.args.tight (g.F.Finder.told c.args.finder.now) (grid_of net) n
+    c.args.search.now.rounds (row_of c.find.new.row) c.in-Err.lack) c.requires.of.each_tank c.in-Err.ensures.lack
+
+pub returns-in-Err-end_period-clause-fault : goal.returns-in-Err-end_period-clause-fault
+returns-in-Err-end_period-clause-fault g c =
+    let net = c.args.net.now in
+    let tanks = tank_count c.args.project.now in
+    let told = g.F.Finder.told c.args.finder.now in
+    let found : OfEach (IsSought c.args.tight told (grid_of net) tanks) tanks (row_of c.find.new.row) =
+    subst (λ (n : ℕ). OfEach (IsSought c.args.tight told (grid_of net) n) n (row_of c.find.new.row))
+    c.requires.of.each_tank c.in_default.ensures.found in (
+      each-again c.find.new.row c.end_period.new.row c.end_period.ensures.row
+          (IsSought c.args.tight told (grid_of net) tanks) tanks found,
+      λ other share.
+          let own = subst (λ (r : Row). SharesVectors other (row_of r)) c.end_period.ensures.row share in
+          c.in-Err-end_period.ensures.open other (record { main = own.main; pinned = own.pinned }),
+    )

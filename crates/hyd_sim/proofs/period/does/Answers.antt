@@ -1,0 +1,97 @@
+use Rattle.std.proofs.Common.{◌≡◌, ℕ, Bool, true, false, refl, sym, ap, subst, ◌∙◌, ◌⊎◌, inl, inr}
+use Rattle.std.specs.Prelude.{length, Ok, Result}
+use Rattle.hyd_spec.specs.Network.{junction_count, tank_count}
+use Rattle.std.proofs.Common.{ℤ, arith, to_z, of_z, w64}
+use Rattle.std.proofs.lemmas.Int.{ints}
+use Rattle.hyd_spec_certificates.specs.Narrow.{IsNarrow}
+use Rattle.hyd_spec_reports.specs.Stops.{Stops}
+use Rattle.hyd_spec_reports.specs.declared.StopCause.{StopCause}
+use Rattle.hyd_cert.specs.Lines.{Header}
+use Rattle.hyd_cert.specs.Vectors.{behind_two}
+use Rattle.hyd_cert.specs.RecordView.{row_of}
+use Rattle.hyd_graph.specs.GridOf.{grid_of}
+use Rattle.hyd_vectors.specs.Room.{Room}
+use Rattle.hyd_vectors.specs.Vectors.{LacksFirst}
+use Rattle.hyd_sim.specs.Attempts.{IsFault, next_standing}
+use Rattle.hyd_sim.specs.View.{standing_for}
+use Rattle.hyd_sim.proofs.Fitting.{heads-each, next-long, told-here, same-here, nothing-open, narrow-too}
+use Rattle.hyd_sim.proofs.Lacking.{lacks-one, none-lacking}
+use Rattle.hyd_sim.proofs.Running.{net-junctions, problems-each, lack-stops}
+use Rattle.hyd_sim.proofs.period.does.Goals as goal
+
+kept-true : (fits : Bool) → (fits ≡ false → ⊥) → fits ≡ true
+kept-true true never = refl
+kept-true false never = absurd (never refl)
+
+pub is_narrow-requires-clause-heads : goal.is_narrow-requires-clause-heads
+is_narrow-requires-clause-heads g c =
+    heads-each c.args.project.now (grid_of c.args.net.now) (row_of c.try_period.new.row)
+    c.in-Ok.ensures.made.valid.certificates
+
+pub is_narrow-requires-clause-levels : goal.is_narrow-requires-clause-levels
+is_narrow-requires-clause-levels g c = λ other.
+    next-long c.args.project.now c.args.standing.now c.args.net.now c.try_period.new.row c.try_period.new.facts
+    c.try_period.new.close c.requires.standing c.in-Ok.ensures.made other
+
+pub returns-in-Ok-clause-proposal : goal.returns-in-Ok-clause-proposal
+returns-in-Ok-clause-proposal g c = λ w p.
+    let network = c.args.project.now in
+    let standing = standing_for c.args.standing.now in
+    let grid = grid_of c.args.net.now in
+    let row = c.try_period.new.row in
+    let pinned : length (row_of row).pinned ≡ tank_count network =
+    problems-each row.junctions row.tanks (behind_two row.junctions row.vectors.list)
+    ∙ ap (λ (h : Header). h.tanks) (c.try_period.ensures.header ∙ c.requires.header) in
+    let width : to_z w64 (of_z w64 c.args.settings.width) ≡ c.args.settings.width = omega (arith, ints) in
+    let narrow = narrow-too network standing grid c.requires.started.is_grid c.args.settings.width
+    (g.F.Finder.told c.args.finder.now) w p (row_of row) pinned c.in-Ok.ensures.sought _ c.in-Ok.ensures.made.valid in (
+      ap Ok (kept-true c.is_narrow.result (λ e. c.is_narrow.ensures.wide e
+          (subst (λ (W : ℤ). IsNarrow W standing (row_of row)
+          (next_standing network c.args.standing.now row.length c.try_period.new.close)) (sym width) narrow))),
+      same-here network standing grid c.requires.started.is_grid c.args.settings.width
+          (g.F.Finder.told c.args.finder.now) w p (row_of row) pinned c.in-Ok.ensures.sought,
+    )
+
+pub returns-in-Err-Lack-clause-stops : goal.returns-in-Err-Lack-clause-stops
+returns-in-Err-Lack-clause-stops g c =
+    let network = c.args.project.now in
+    let standing = standing_for c.args.standing.now in
+    let grid = grid_of c.args.net.now in
+    let told = g.F.Finder.told c.args.finder.now in
+    let row = row_of c.try_period.new.row in
+    let count : length grid.junctions ≡ junction_count network =
+    c.junctions-junctions.ensures.each ∙ sym (net-junctions network c.args.net.now c.requires.of) in
+    let first : LacksFirst false told grid (tank_count network) c.args.settings.rounds row c.in-Err-Lack.lack =
+    subst (λ (n : ℕ). LacksFirst false told grid (tank_count network) n row c.in-Err-Lack.lack)
+    (ap (λ (room : Room). room.rounds) c.requires.search) (subst (IsFault false told network grid standing
+    c.args.search.now.rounds row) c.in-Err-Lack.field-0-is c.in-Err-Lack.ensures.fault) in
+    subst (λ (cause : StopCause). Stops network standing c.args.settings.rounds cause) (sym c.lack_stop.ensures)
+    (lack-stops network standing grid (tank_count network) c.args.settings.rounds c.in-Err-Lack.lack refl count
+    c.requires.started.in_range c.requires.started.is_grid
+    (lacks-one false told grid (tank_count network) c.args.settings.rounds row c.in-Err-Lack.lack first))
+
+pub returns-in-Err-Lack-clause-proposal : goal.returns-in-Err-Lack-clause-proposal
+returns-in-Err-Lack-clause-proposal g c = λ w p.
+    let network = c.args.project.now in
+    let standing = standing_for c.args.standing.now in
+    let grid = grid_of c.args.net.now in
+    let told = g.F.Finder.told c.args.finder.now in
+    absurd (none-lacking false told grid (tank_count network) c.args.search.now.rounds (row_of c.try_period.new.row) w
+    c.in-Err-Lack.lack refl (subst (IsFault false told network grid standing c.args.search.now.rounds
+    (row_of c.try_period.new.row)) c.in-Err-Lack.field-0-is c.in-Err-Lack.ensures.fault)
+    (told-here network standing grid c.requires.started.is_grid c.args.settings.width told w p))
+
+pub returns-in-Err-Open-clause-proposal : goal.returns-in-Err-Open-clause-proposal
+returns-in-Err-Open-clause-proposal g c = λ w p.
+    let network = c.args.project.now in
+    let standing = standing_for c.args.standing.now in
+    let grid = grid_of c.args.net.now in
+    let told = g.F.Finder.told c.args.finder.now in
+    let row = c.try_period.new.row in
+    let pinned : length (row_of row).pinned ≡ tank_count network =
+    problems-each row.junctions row.tanks (behind_two row.junctions row.vectors.list)
+    ∙ ap (λ (h : Header). h.tanks) (c.try_period.ensures.header ∙ c.requires.header) in
+    let fault = subst (IsFault false told network grid standing c.args.search.now.rounds (row_of row))
+    c.in-Err-Open.field-0-is c.in-Err-Open.ensures.fault in
+    absurd (nothing-open network standing grid c.requires.started.is_grid c.args.settings.width told w p (row_of row)
+    pinned fault.0 _ fault.1)

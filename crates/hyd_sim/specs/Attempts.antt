@@ -1,0 +1,88 @@
+-- An attempt at a period: its vectors, and the end of the period by them.
+-- Source: this program's.
+use Rattle.std.specs.Prelude.{◌≡◌, ◌≢◌, ℕ, suc, ◌+◌, ◌<◌, ℤ, Bool, true, false, List, Option, ◌==◌, if◌then◌else◌}
+use Rattle.hyd_spec.specs.Types.{Project}
+use Rattle.hyd_spec.specs.Network.{tank_count}
+use Rattle.hyd_spec_certificates.specs.Grid.{Grid}
+use Rattle.hyd_spec_certificates.specs.Record.{Record, Standing}
+use Rattle.hyd_spec_certificates.specs.Valid.{LeadsOn, DemandsAreInRange, IsGridAt, IsValid}
+use Rattle.hyd_cert.specs.RecordView.{row_of}
+use Rattle.hyd_cert.specs.declared.record.Record.{Record as Row}
+use Rattle.hyd_facts.specs.OfPeriod.{AreFacts}
+use Rattle.hyd_facts.specs.declared.facts.Facts.{Facts}
+use Rattle.hyd_graph.specs.GridOf.{grid_of, states_of}
+use Rattle.hyd_graph.specs.NetView.{NetView}
+use Rattle.hyd_graph.specs.Settings.{AreStates}
+use Rattle.hyd_bounds.specs.Bounds.{TanksInOrder}
+use Rattle.hyd_spec_reports.specs.declared.StopCause.{StopCause}
+use Rattle.hyd_close.specs.Begun.{AreBegun, AreReady}
+use Rattle.hyd_close.specs.Closing.{AreKeptIn}
+use Rattle.hyd_close.specs.Opens.{IsOpenAt, SharesVectors}
+use Rattle.hyd_close.specs.declared.close.Close.{Close}
+use Rattle.hyd_watch.specs.Started.{HaveTanks}
+use Rattle.hyd_vectors.specs.Vectors.{OfEach, IsSought, LacksFirst}
+use Rattle.hyd_sim.specs.Sharp.{stop_of, open_stop_of}
+use Rattle.hyd_sim.specs.View.{standing_at, standing_for}
+use Rattle.hyd_sim.specs.declared.attempt.Fault.{Fault}
+use Rattle.hyd_sim.specs.declared.attempt.Fault.TheVariants.{Lack, Open}
+use Rattle.hyd_sim.specs.declared.standing.Standing.{Standing as Here}
+
+-- where the run ends, the standing after its last period: the stocks, the states and the commands stay
+abbrev pub last_standing : Here → Standing
+last_standing here = record (standing_for here) { number = suc here.number; finished = true }
+
+-- the standing after another period
+abbrev pub later_standing : Here → ℕ → Close → Standing
+later_standing here seconds close =
+    standing_at (suc here.number) (here.time + seconds) close.next close.commanded.items false
+
+-- the standing after a period of so many seconds
+abbrev pub next_standing : Project → Here → ℕ → Close → Standing
+next_standing network here seconds close =
+    if here.time == network.times.duration then last_standing here else later_standing here seconds close
+
+-- a period that begins at a standing was started: the net and the facts are those of its start, and its record has its
+-- number and its time
+pub record IsStarted (network : Project) (here : Here) (net : NetView) (row : Row) (facts : Facts) : Type 0 where
+  pub in_range : DemandsAreInRange network here.time
+  pub is_grid : IsGridAt network (standing_for here) (grid_of net)
+  pub states : AreStates network (states_of net)
+  pub links : states_of net ≡ facts.links.list
+  pub begun : AreBegun network (standing_for here) facts
+  pub ready : AreReady network facts
+  pub number : row.number ≡ here.number
+  pub time : row.time ≡ here.time
+  pub order : TanksInOrder (grid_of net)
+
+-- a period is over, and this is what it leaves: its record leads on, the facts are its own, and where the run goes on,
+-- it lasted a second at least and the next stocks lie within the bounds of their tanks
+pub record IsOver (network : Project) (here : Here) (grid : Grid) (row : Row) (facts : Facts) (close : Close)
+    : Type 0 where
+  pub leads_on : LeadsOn network grid (standing_for here) (row_of row) (next_standing network here row.length close)
+  pub facts_are : AreFacts network grid (standing_for here) (row_of row) facts
+  pub have : HaveTanks network facts
+  pub held : here.time ≢ network.times.duration → AreKeptIn network close.next
+  pub later : here.time ≢ network.times.duration → 0 < row.length
+
+-- its record is valid besides, and the net is that of the period, with links in the states of the facts
+pub record IsMade (network : Project) (here : Here) (net : NetView) (row : Row) (facts : Facts) (close : Close)
+    : Type 0 where
+  pub valid : IsValid network (standing_for here) (grid_of net) (row_of row)
+      (next_standing network here row.length close)
+  pub over : IsOver network here (grid_of net) row facts close
+  pub order : TanksInOrder (grid_of net)
+  pub states : AreStates network (states_of net)
+  pub links : states_of net ≡ facts.links.list
+
+-- why an attempt at a period failed: a vector is lacking, or they leave a matter open, as any record with them does
+abbrev pub IsFault : Bool → Option (List ℤ) → Project → Grid → Standing → ℕ → Record → Fault → Type 0
+IsFault tight told network grid standing rounds row (Lack lack) =
+    LacksFirst tight told grid (tank_count network) rounds row lack
+IsFault tight told network grid standing rounds row (Open found) =
+    OfEach (IsSought tight told grid (tank_count network)) (tank_count network) row
+    × ((other : Record) → SharesVectors other row → IsOpenAt network grid standing other found)
+
+-- the stop of a period whose vectors are as sharp as can be
+abbrev pub fault_stop_of : ℕ → ℕ → Fault → StopCause
+fault_stop_of number rounds (Lack lack) = stop_of number rounds lack
+fault_stop_of number rounds (Open found) = open_stop_of number found

@@ -1,0 +1,138 @@
+//! An attempt at a period.
+#![tactic(auto)]
+
+ghost use Rattle.std.specs.Prelude.{◌≡◌, false, length, IfErr, OnOk};
+ghost use Rattle.hyd_net.specs.Sound.{Sound};
+ghost use Rattle.hyd_spec.specs.Network.{tank_count};
+ghost use Rattle.hyd_spec_certificates.specs.Valid.{AreCertificates};
+ghost use Rattle.hyd_cert.specs.RecordView.{header_of, row_of};
+ghost use Rattle.hyd_facts.specs.Room.{HasRoom};
+ghost use Rattle.hyd_graph.specs.GridOf.{grid_of};
+ghost use Rattle.hyd_graph.specs.Periods.{IsNetOf};
+ghost use Rattle.hyd_bounds.specs.Bounds.{TanksInOrder};
+ghost use Rattle.hyd_close.specs.Begun.{AreBegun, AreReady};
+ghost use Rattle.hyd_close.specs.Closing.{HasRoom as HasCloseRoom};
+ghost use Rattle.hyd_close.specs.declared.close.Close as closes;
+ghost use Rattle.hyd_close.specs.Opens.{IsOpenAt, SharesVectors};
+ghost use Rattle.hyd_vectors.specs.Vectors.{IsSought, OfEach};
+ghost use Rattle.hyd_spec_certificates.specs.Record.{Record as Row};
+ghost use Rattle.hyd_sim.specs.View.{IsStanding, header_for, standing_for};
+ghost use Rattle.hyd_sim.specs.Attempts.{IsFault, IsMade, IsOver, IsStarted};
+
+use crate::standing::Standing;
+use hyd_cert::Record;
+use hyd_close::{Close, Open};
+use hyd_facts::Facts;
+use hyd_graph::Net;
+use hyd_inflows::put_inflows;
+use hyd_net::Project;
+use hyd_newton::Finder;
+use hyd_vectors::{Lack, Search};
+
+/// Why an attempt failed.
+#[derive(Debug, Clone, Copy, PartialEq, Eq, Drop)]
+pub(crate) enum Fault {
+    /// A vector is lacking.
+    Lack(Lack),
+    /// The vectors leave a matter open.
+    Open(Open),
+}
+
+// Ends the period at the end of the run, which lasts no time and brings nothing.
+fn end_run(project: &Project, standing: &Standing, net: &Net, row: &mut Record, facts: &mut Facts)
+    requires sound { Sound project.now }
+    requires standing { IsStanding project.now standing.now }
+    requires last { standing.now.time ≡ project.now.times.duration }
+    requires of { IsNetOf project.now net.now }
+    requires order { TanksInOrder (grid_of net.now) }
+    requires certificates { AreCertificates project.now (grid_of net.now) (row_of row.old) }
+    requires tanks { row.old.tanks ≡ tank_count project.now }
+    requires begun { AreBegun project.now (standing_for standing.now) facts.old }
+    requires ready { AreReady project.now facts.old }
+    ensures over { (close : closes.Close) → IsOver project.now standing.now (grid_of net.now) row.new facts.new close }
+    ensures row { row.new ≡ record row.old { length = row.new.length } }
+    ensures facts { HasRoom project.now facts.new }
+    ensures links { facts.new.links ≡ facts.old.links }
+{
+    let _standing = standing;
+    put_inflows(project, net, row, &mut facts.inflows);
+    facts.events.clear();
+    facts.length = 0;
+    row.length = 0;
+}
+
+// Ends a period by the vectors of its record, which are certificates. Fails with the first matter that they leave open.
+fn end_period(
+    project: &Project,
+    standing: &Standing,
+    net: &Net,
+    row: &mut Record,
+    facts: &mut Facts,
+    close: &mut Close,
+) -> Result<(), Open>
+    requires sound { Sound project.now }
+    requires standing { IsStanding project.now standing.now }
+    requires of { IsNetOf project.now net.now }
+    requires order { TanksInOrder (grid_of net.now) }
+    requires certificates { AreCertificates project.now (grid_of net.now) (row_of row.old) }
+    requires header { header_of row.old ≡ header_for project.now }
+    requires begun { AreBegun project.now (standing_for standing.now) facts.old }
+    requires ready { AreReady project.now facts.old }
+    requires close { HasCloseRoom project.now close.old }
+    ensures over { OnOk result (IsOver project.now standing.now (grid_of net.now) row.new facts.new close.new) }
+    ensures open { IfErr result (λ found. (other : Row) → SharesVectors other (row_of row.old)
+        → IsOpenAt project.now (grid_of net.now) (standing_for standing.now) other found) }
+    ensures row { row.new ≡ record row.old { length = row.new.length } }
+    ensures facts { HasRoom project.now facts.new }
+    ensures links { facts.new.links ≡ facts.old.links }
+    ensures close { HasCloseRoom project.now close.new }
+{
+    if standing.time == project.times.duration {
+        end_run(project, standing, net, row, facts);
+        return Ok(());
+    }
+    close.finish(project, net, row, facts)
+}
+
+/// Does a period that was started: finds the vectors of its record, the tight ones or others, and ends it by them. Fails
+/// with the first problem and side that lacks a vector, or with the first matter that the vectors leave open.
+pub(crate) fn try_period<F: Finder>(
+    project: &Project,
+    standing: &Standing,
+    net: &Net,
+    finder: &mut F,
+    tight: bool,
+    search: &mut Search,
+    row: &mut Record,
+    facts: &mut Facts,
+    close: &mut Close,
+) -> Result<(), Fault>
+    requires sound { Sound project.now }
+    requires standing { IsStanding project.now standing.now }
+    requires unfinished { standing.now.finished ≡ false }
+    requires of { IsNetOf project.now net.now }
+    requires search { search.old.junctions ≡ length project.now.junctions.list }
+    requires header { header_of row.old ≡ header_for project.now }
+    requires started { IsStarted project.now standing.now net.now row.old facts.old }
+    requires close { HasCloseRoom project.now close.old }
+    ensures made { OnOk result (IsMade project.now standing.now net.now row.new facts.new close.new) }
+    ensures sought { OnOk result (OfEach (IsSought tight (F.told finder.old) (grid_of net.now)
+        (tank_count project.now)) (tank_count project.now) (row_of row.new)) }
+    ensures fault { IfErr result (IsFault tight (F.told finder.old) project.now (grid_of net.now)
+        (standing_for standing.now) search.old.rounds (row_of row.new)) }
+    ensures header { header_of row.new ≡ header_of row.old }
+    ensures number { row.new.number ≡ row.old.number }
+    ensures time { row.new.time ≡ row.old.time }
+    ensures facts { HasRoom project.now facts.new }
+    ensures close { HasCloseRoom project.now close.new }
+    ensures search { search.new ≡ search.old }
+    ensures told { F.told finder.new ≡ F.told finder.old }
+{
+    if let Err(lack) = search.find(net, finder, tight, row) {
+        return Err(Fault::Lack(lack));
+    }
+    match end_period(project, standing, net, row, facts, close) {
+        Ok(()) => Ok(()),
+        Err(found) => Err(Fault::Open(found)),
+    }
+}
