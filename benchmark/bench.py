@@ -48,20 +48,22 @@ exec %s/toolchain/bin/clang "${words[@]}"
 
 # ---------------------------------------------------------------- the program
 
-def build(program):
-    """Builds the program, and keeps it under this name."""
+def build(program, text=MAIN, uses=USES, modules=()):
+    """Builds the program of this text, with these files as its modules, over these crates, and keeps it under this name."""
     program = Path(program).resolve()
-    crates = crates_below(USES)
+    crates = crates_below(uses)
     with tempfile.TemporaryDirectory() as folder:
         top = Path(folder) / 'copy'
         for name in crates:
             shutil.copytree(ROOT / 'crates' / name, top / 'crates' / name,
                             ignore=shutil.ignore_patterns('out', 'proofs', 'must-fail'))
-        crates['benchmark'] = USES
+        crates['benchmark'] = uses
         main = top / 'crates' / 'benchmark' / 'src'
         main.mkdir(parents=True)
-        shutil.copy(MAIN, main / 'main.rt')
-        (top / 'crates.txt').write_text(''.join('%s: %s\n' % (name, ' '.join(uses)) for name, uses in crates.items()))
+        shutil.copy(text, main / 'main.rt')
+        for module in modules:
+            shutil.copy(module, main)
+        (top / 'crates.txt').write_text(''.join('%s: %s\n' % (name, ' '.join(below)) for name, below in crates.items()))
         subprocess.run(['git', 'init', '-q', str(top)], check=True)
         rt = links_to_kit(Path(folder) / 'kit', program, CLANG)
         done = subprocess.run([str(rt), 'try', '--steps', '1'], cwd=main.parent, input=b'', capture_output=True)

@@ -2,20 +2,28 @@
 import random
 
 
-def generated(seed, count):
-    """The grid of the generator, 50 wide, with demands by a linear congruence, without its tank."""
-    lines = ['[OPTIONS]', 'UNITS CMD', 'HEADLOSS C-M', '[JUNCTIONS]']
+def generated(seed, count, options=(), tank=False):
+    """The grid of the generator, 50 wide, with demands by a linear congruence; without its tank and its pattern, or with both."""
+    lines = ['[OPTIONS]', 'UNITS CMD', 'HEADLOSS C-M', *options]
+    if tank:
+        lines += ['[TIMES]', 'DURATION 24', '[PATTERNS]', '1 1 0.5 1 1.5']
+    lines.append('[JUNCTIONS]')
     x = seed
     for i in range(1, count + 1):
         x = (1103515245 * x + 12345) % 2 ** 31
         lines.append('J%d 0 %d' % (i, x // 65536 % 10))
-    lines += ['[RESERVOIRS]', 'R 60', '[PIPES]']
+    lines += ['[RESERVOIRS]', 'R 60']
+    if tank:
+        lines += ['[TANKS]', 'T 50 5 0 10 200 0']
+    lines.append('[PIPES]')
     for i in range(1, count + 1):
         if i % 50 and i + 1 <= count:
             lines.append('H%d J%d J%d 100 300 0.01 0' % (i, i, i + 1))
     for i in range(1, count - 49):
         lines.append('V%d J%d J%d 100 300 0.01 0' % (i, i, i + 50))
     lines.append('PR R J1 100 300 0.01 0')
+    if tank:
+        lines.append('PT J%d T 100 300 0.01 0' % count)
     return '\n'.join(lines) + '\n'
 
 
