@@ -16,6 +16,7 @@ closed_one : (us : Bool) (bends : List (ListView HeadPoint)) (kind : LinkKind) (
     → AreLawsOf us bends kind closed_setting own law
 closed_one us bends kind own law is also = record {
   own_is = subst (λ (of : Law). Represents own of) (sym (closed_is us bends kind)) is.represents;
+  law_shut = λ forward reverse. also.represents.is_exact;
   law_is = (subst (λ (of : Law). Represents law of) (sym (closed_is us bends kind)) also.represents).stands;
   own_room = is.room;
   law_room = also.room;

@@ -1,5 +1,5 @@
 -- The demands of a period: the first that is out of range, and the laws of those that are in range.
-use Rattle.std.proofs.Common.{◌≡◌, ℕ, ◌+◌, ◌*◌, ◌^◌, ◌<◌, ◌≤◌, ℤ, pos, ◌≤ℤ◌, Bool, true, false, List, [], None, length, slice_index_or, slice_set, unsigned_abs, refl, sym, ap, subst, ◌∙◌, inl, inr, arith}
+use Rattle.std.proofs.Common.{◌≡◌, ◌⊎◌, ℕ, ◌+◌, ◌*◌, ◌^◌, ◌<◌, ◌≤◌, ℤ, pos, ◌≤ℤ◌, Bool, true, false, List, [], None, length, slice_index_or, slice_set, unsigned_abs, refl, sym, ap, subst, ◌∙◌, inl, inr, arith}
 use Rattle.std.specs.Prelude.{int_le, Option}
 use Rattle.std.specs.Option.{option_map_or}
 use Rattle.std.proofs.lemmas.Int.{ints}
@@ -23,7 +23,7 @@ use Rattle.hyd_law.specs.declared.outflows.OutLaw.{OutLaw}
 use Rattle.hyd_law.specs.declared.outflows.OutLaw.TheVariants.{Fixed as FixedOut, Pda as PdaOut}
 use Rattle.hyd_units.proofs.Wholes.{IsFloor-floor, IsCeiling-ceiling}
 use Rattle.hyd_graph.specs.Demands.{demand_held, IsOutLawOf, IsHeld, AreHeld, AreDemandsAt}
-use Rattle.hyd_graph.proofs.SettingOne.{same_or}
+use Rattle.hyd_graph.proofs.SettingOne.{same_or, any_default}
 use Rattle.std.proofs.lemmas.List.{get_or-set_same, get_or-set_other, length-set}
 
 -- ---- a law that is driven by pressure
@@ -108,6 +108,21 @@ in_range_more project time i v within e small earlier k junction less =
           (subst (λ (z : ℤ). unsigned_abs z ≤ 10 ^ 15) (e ∙ demand_read project time i junction within) small)
       | inr other ↦ earlier k junction (omega (arith, other))
     ]
+
+-- one more law that is that of the demand it holds, where the demand is so at a time
+pub kept_more : (project : Project) (time kept i n : ℕ) (demands : List OutLaw) (law : OutLaw) (held demand : ℤ) → AreHeld project demands → AreDemandsAt project time demands kept
+    → i < length project.junctions.list → i < length demands → law ≡ slice_index_or demands i law → held ≡ demand_held law → demand ≡ junction_demand project time i
+    → (n ≡ kept) ⊎ ((kept ≡ i) × ((held ≡ demand) × (n ≡ kept + 1))) → AreDemandsAt project time demands n
+kept_more project time kept i n demands law held demand all before within inside at holds is either = elim either [
+  | inl same ↦ subst (λ (m : ℕ). AreDemandsAt project time demands m) (sym same) before
+  | inr more ↦ λ k junction d less. elim (same_or k i) as (λ _. IsOutLawOf project (demand_of project time (slice_index_or project.junctions.list k junction)) (slice_index_or demands k d)) [
+    | inl here ↦ (let e : demand_held (slice_index_or demands i d) ≡ demand_of project time (slice_index_or project.junctions.list i junction) =
+        ap demand_held (any_default demands i d law inside ∙ sym at) ∙ sym holds ∙ more.1.0 ∙ is ∙ demand_read project time i junction within in
+        subst (λ (j : ℕ). IsOutLawOf project (demand_of project time (slice_index_or project.junctions.list j junction)) (slice_index_or demands j d)) (sym here)
+        (subst (λ (z : ℤ). IsOutLawOf project z (slice_index_or demands i d)) e (all i d inside)))
+    | inr other ↦ (let first = more.0 in let next = more.1.1 in before k junction d (omega (arith, other, first, next, less)))
+  ]
+]
 
 -- a demand that is in range isn't refused
 pub not_refused : (project : Project) (time i : ℕ) (v : ℤ) → i < length project.junctions.list → DemandsAreInRange project time → v ≡ junction_demand project time i

@@ -1,7 +1,7 @@
 -- A net that was set to a period is the grid of that period.
 use Rattle.std.proofs.Common.{◌≡◌, ℕ, suc, ◌<◌, List, [], ◌∷◌, length, map, slice_index_or, refl, ap, ◌∙◌, arith}
 use Rattle.std.specs.List.{AllZip}
-use Rattle.hyd_spec.specs.Types.{Project, Junction, Link, LinkState}
+use Rattle.hyd_spec.specs.Types.{Project, Junction, Link, LinkState, Closed}
 use Rattle.hyd_spec.specs.declared.TankState.{TankState}
 use Rattle.hyd_spec.specs.Law.{Law}
 use Rattle.hyd_spec.specs.LinkLaw.{own_law, law_of}
@@ -14,10 +14,10 @@ use Rattle.hyd_spec_certificates.specs.declared.LevelSpan.{LevelSpan}
 use Rattle.hyd_graph.specs.declared.parts.Setting.{Setting}
 use Rattle.hyd_graph.specs.NetView.{NetView}
 use Rattle.hyd_graph.specs.ExactLaw.{exact_law}
-use Rattle.hyd_graph.specs.Settings.{restricted, AreLaws, AreLawsOf, AreSet, setting_of}
+use Rattle.hyd_graph.specs.Settings.{restricted, AreLaws, AreLawsOf, AreSet, setting_of, closed_setting}
 use Rattle.hyd_graph.specs.Demands.{IsNetJunction, IsOutLawOf, AreDemandsAt}
 use Rattle.hyd_graph.specs.GridOf.{grid_of, junctions_of, link_of, links_of, interval_of, state_of, states_of, own_laws}
-use Rattle.hyd_graph.specs.Periods.{ends_of, IsNetOf, own_laws_of}
+use Rattle.hyd_graph.specs.Periods.{ends_of, IsNetOf, AreShut, own_laws_of}
 
 junctions_are : (project : Project) (time : ℕ) (junctions : List Junction) (here : List NetJunction) (demands : List OutLaw) → AllZip IsNetJunction junctions here
     → length demands ≡ length junctions
@@ -68,7 +68,7 @@ states_are project tanks (l ∷ links) (q ∷ states) (s ∷ settings) set eq es
     let rest = states_are project tanks links states settings (λ k link state setting h. set (suc k) link state setting (omega arith)) (omega arith) (omega arith) in
     rw (first, rest) refl
 
-own_are : (project : Project) (links : List Link) (settings : List Setting) (own laws : List LinkLaw) → AreLaws project links settings own laws
+pub own_are : (project : Project) (links : List Link) (settings : List Setting) (own laws : List LinkLaw) → AreLaws project links settings own laws
     → length settings ≡ length links → length own ≡ length links → length laws ≡ length links → map exact_law own ≡ own_laws_of project links (map state_of settings)
 own_are project [] settings [] laws are es eo ew = refl
 own_are project [] settings (o ∷ own) laws are es eo ew = absurd (omega arith)
@@ -110,3 +110,9 @@ pub own_set : (project : Project) (time : ℕ) (levels : List LevelSpan) (tanks 
 own_set project time levels tanks states net put =
     own_are project project.links.list net.settings net.own net.laws put.of.laws put.of.each_setting put.of.each_own put.of.each_law
     ∙ ap (own_laws_of project project.links.list) (states_set project time levels tanks states net put)
+
+pub shut_set : (project : Project) (time : ℕ) (levels : List LevelSpan) (tanks : List TankState) (states : List LinkState) (net : NetView) → IsPut project time levels tanks states net
+    → AreShut project tanks net.laws
+shut_set project time levels tanks states net put k link law within forward reverse =
+    let set = put.settings k link Closed closed_setting within in
+    (put.of.laws k link closed_setting law law within).law_shut (ap (λ (s : Setting). s.no_forward) set ∙ forward) (ap (λ (s : Setting). s.no_reverse) set ∙ reverse)

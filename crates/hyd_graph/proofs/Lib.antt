@@ -1,4 +1,5 @@
 pub mod Alike
+pub mod Answering
 pub mod Counts
 pub mod Fixing
 pub mod Gridding
@@ -8,6 +9,7 @@ pub mod Knots
 pub mod Ranging
 pub mod Refilling
 pub mod Rooms
+pub mod SameCapacity
 pub mod SettingOne
 pub mod Reading
 pub mod Sounding

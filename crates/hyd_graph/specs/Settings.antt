@@ -1,6 +1,6 @@
 -- The laws of links in their states, between tanks that may be full or empty.
-use Rattle.std.specs.Prelude.{◌≡◌, ◌<◌, ◌≤◌, ◌+◌, ◌*◌, ◌^◌, ℕ, ℤ, Bool, List, unsigned_abs, length, slice_index_or, if◌then◌else◌, ⊤, Option, None, slice_get}
-use Rattle.std.specs.Prelude.{All, false}
+use Rattle.std.specs.Prelude.{◌≡◌, ◌↔◌, ◌<◌, ◌≤◌, ◌+◌, ◌*◌, ◌^◌, ℕ, ℤ, Bool, List, unsigned_abs, length, slice_index_or, if◌then◌else◌, ⊤, Option, None, slice_get}
+use Rattle.std.specs.Prelude.{All, true, false}
 use Rattle.hyd_net.specs.ListView.{ListView}
 use Rattle.hyd_net.specs.Made.{IsKindMade, IsStateMade, IsValveMade}
 use Rattle.hyd_num.specs.Chain.{IsMade}
@@ -11,18 +11,20 @@ use Rattle.hyd_spec.specs.Types.{Project, Link, LinkKind, PipeLink, CheckPipe, P
 use Rattle.hyd_spec.specs.declared.TankState.{TankState}
 use Rattle.hyd_spec.specs.Network.{is_tank, tank_number}
 use Rattle.hyd_spec.specs.Quantity.{is_us, shutoff_head, points_of}
-use Rattle.hyd_spec.specs.Law.{Law, Shut, ForwardOnly, ReverseOnly}
+use Rattle.hyd_spec.specs.Law.{Law, Shut, ForwardOnly, ReverseOnly, flow_at_least, flow_at_most}
 use Rattle.hyd_spec.specs.LinkLaw.{own_law, forbids_forward, forbids_reverse}
 use Rattle.hyd_spec_certificates.specs.Enclosing.{low, high}
-use Rattle.hyd_law.specs.LinkLaws.{link_low, link_high, IsSoundLink, LinkAccepts}
+use Rattle.hyd_law.specs.LinkLaws.{link_at_least, link_at_most, link_low, link_high, IsSoundLink, LinkAccepts}
 use Rattle.hyd_law.specs.declared.link_law.LinkLaw.{LinkLaw}
 use Rattle.hyd_law.specs.declared.link_law.LinkLaw.TheVariants.{Bent}
 use Rattle.hyd_graph.specs.ExactLaw.{exact_law}
 use Rattle.hyd_graph.specs.declared.parts.Setting.{Setting}
 
--- a law of the program stands for an exact law: it has its enclosing functions, its numbers are sound, and it accepts each
--- difference of two heads of at most 10^18 head ticks
+-- a law of the program stands for an exact law: it says the same of the exact flow, it has its enclosing functions, its numbers
+-- are sound, and it accepts each difference of two heads of at most 10^18 head ticks
 pub record Stands (law : LinkLaw) (exact : Law) : Type 0 where
+  pub at_least_is : (S : ℕ) (x a : ℤ) → link_at_least law S x a ↔ flow_at_least exact S x a
+  pub at_most_is : (S : ℕ) (x a : ℤ) → link_at_most law S x a ↔ flow_at_most exact S x a
   pub low_is : (d : ℤ) → link_low law d ≡ low exact d
   pub high_is : (d : ℤ) → link_high law d ≡ high exact d
   pub sound : IsSoundLink law
@@ -60,10 +62,15 @@ HasRoomFor bends (CurvePump bend pattern) law = HasRoom (length (points_of bends
 HasRoomFor bends (Gpv bend) law = HasRoom (2 * length (points_of bends bend)) law
 HasRoomFor bends _ law = ⊤
 
+-- where both ways are forbidden, a law is that of a closed link
+abbrev pub IsShutBetween : Setting → LinkLaw → Type 0
+IsShutBetween setting law = setting.no_forward ≡ true → setting.no_reverse ≡ true → exact_law law ≡ Shut
+
 -- the two laws of a link are those of its setting: its own, and the one between its tanks
 pub record AreLawsOf (us : Bool) (bends : List (ListView HeadPoint)) (kind : LinkKind) (setting : Setting) (own law : LinkLaw) : Type 0 where
   pub own_is : Represents own (own_law us bends kind setting.state)
   pub law_is : Stands law (restricted setting.no_forward setting.no_reverse (own_law us bends kind setting.state))
+  pub law_shut : IsShutBetween setting law
   pub own_room : HasRoomFor bends kind own
   pub law_room : HasRoomFor bends kind law
 

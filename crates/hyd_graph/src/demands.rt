@@ -1,11 +1,12 @@
 //! Demands of a period.
 #![tactic(auto)]
 
-ghost use Rattle.std.specs.Prelude.{◌≡◌, ◌≤◌, ◌^◌, pos, ◌≤ℤ◌, unsigned_abs, length, true, IfSome, IfNone};
+ghost use Rattle.std.specs.Prelude.{◌≡◌, ◌⊎◌, ◌<◌, ◌≤◌, ◌+◌, ◌^◌, pos, ◌≤ℤ◌, unsigned_abs, length, true, IfOk, IfErr};
 ghost use Rattle.hyd_net.specs.Sizes.{HasOptions};
 ghost use Rattle.hyd_net.specs.Sound.{Sound};
 ghost use Rattle.hyd_spec_certificates.specs.Valid.{DemandsAreInRange};
 ghost use Rattle.hyd_spec_reports.specs.Stops.{IsFirstDemand};
+ghost use Rattle.hyd_demand.specs.Asked.{junction_demand, IsInRange, IsOutOfRange};
 ghost use Rattle.hyd_graph.specs.Demands.{demand_held, IsOutLawOf, IsHeld, AreHeld, AreDemandsAt};
 
 use crate::fault::PeriodDemand;
@@ -14,23 +15,6 @@ use hyd_law::{Fixed, OutLaw, Pda};
 use hyd_net::Project;
 use hyd_resist::pda_capacity;
 use hyd_units::pressure_ticks;
-
-/// The first junction whose demand at a time is out of range.
-pub(crate) fn first_out(project: &Project, time: u32) -> Option<PeriodDemand>
-    requires { Sound project.now }
-    ensures some { IfSome result (λ fault. IsFirstDemand project.now time fault.junction fault.value) }
-    ensures none { IfNone result (DemandsAreInRange project.now time) }
-{
-    for i in 0..project.junctions.len() {
-        if let Err(range) = demand_at(project, i as u32, time) {
-            return Some(PeriodDemand {
-                junction: i as u32,
-                value: range.value,
-            });
-        }
-    }
-    None
-}
 
 // The law of a demand above 0 that depends on the pressure.
 fn driven_law(project: &Project, demand: i64) -> OutLaw
@@ -90,18 +74,73 @@ fn set_demand(project: &Project, demand: i64, law: &mut OutLaw)
     }
 }
 
-/// Makes the law of each junction's demand that of its demand at a time. A capacity is made anew only where the demand is
-/// another.
-pub(crate) fn set_demands(project: &Project, time: u32, demands: &mut [OutLaw])
+// The demand of a junction at a time, where it is in range.
+fn demand_in_range(project: &Project, junction: usize, time: u32) -> Result<i64, PeriodDemand>
+    requires sound { Sound project.now }
+    requires junction { junction < length project.now.junctions.list }
+    ensures ok { IfOk result (λ q. q ≡ junction_demand project.now time junction) }
+    ensures within { IfOk result (λ q. IsInRange q) }
+    ensures place { IfErr result (λ fault. fault.junction ≡ junction) }
+    ensures err { IfErr result (λ fault. fault.value ≡ junction_demand project.now time junction) }
+    ensures beyond { IfErr result (λ fault. IsOutOfRange fault.value) }
+{
+    match demand_at(project, junction as u32, time) {
+        Ok(demand) => Ok(demand),
+        Err(range) => Err(PeriodDemand {
+            junction: junction as u32,
+            value: range.value,
+        }),
+    }
+}
+
+// One more junction that keeps its demand, where all before it do.
+fn kept_with(kept: usize, junction: usize, held: i64, demand: i64) -> usize
+    requires { kept + 1 < 2 ^ 64 }
+    ensures { (result ≡ kept) ⊎ ((kept ≡ junction) × ((held ≡ demand) × (result ≡ kept + 1))) }
+{
+    if kept == junction && held == demand {
+        return kept + 1;
+    }
+    kept
+}
+
+/// How many junctions keep the demands that their laws hold, before the first whose demand at a time is another one.
+/// Fails with the first junction whose demand is out of range.
+pub(crate) fn kept_demands(
+    project: &Project,
+    time: u32,
+    demands: &[OutLaw],
+) -> Result<usize, PeriodDemand>
+    requires sound { Sound project.now }
+    requires each { length demands.now ≡ length project.now.junctions.list }
+    requires held { AreHeld project.now demands.now }
+    ensures kept { IfOk result (λ n. AreDemandsAt project.now time demands.now n) }
+    ensures few { IfOk result (λ n. n ≤ length demands.now) }
+    ensures in_range { IfOk result (λ n. DemandsAreInRange project.now time) }
+    ensures refused { IfErr result (λ fault. IsFirstDemand project.now time fault.junction fault.value) }
+{
+    let mut kept = 0;
+    for i in 0..demands.len() {
+        let demand = demand_in_range(project, i, time)?;
+        kept = kept_with(kept, i, demand_held(&demands[i]), demand);
+    }
+    Ok(kept)
+}
+
+/// Makes the law of each junction's demand that of its demand at a time, from the first on whose demand changes. A
+/// capacity is made anew only where the demand is another.
+pub(crate) fn set_demands(project: &Project, time: u32, kept: usize, demands: &mut [OutLaw])
     requires sound { Sound project.now }
     requires in_range { DemandsAreInRange project.now time }
     requires each { length demands.old ≡ length project.now.junctions.list }
     requires held { AreHeld project.now demands.old }
+    requires kept { AreDemandsAt project.now time demands.old kept }
+    requires few { kept ≤ length demands.old }
     ensures count { length demands.new ≡ length demands.old }
     ensures held { AreHeld project.now demands.new }
     ensures set { AreDemandsAt project.now time demands.new (length project.now.junctions.list) }
 {
-    for i in 0..demands.len() {
+    for i in kept..demands.len() {
         let Ok(demand) = demand_at(project, i as u32, time) else {
             unreachable!()
         };

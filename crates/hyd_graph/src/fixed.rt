@@ -14,7 +14,24 @@ use hyd_demand::head_at;
 use hyd_net::{Project, Tank};
 use hyd_spec_certificates::LevelSpan;
 
-/// Writes the head of each reservoir at a time.
+// Writes a head where another is held.
+fn set_head(head: &mut i64, wanted: i64)
+    ensures { head.new ≡ wanted }
+{
+    if *head != wanted {
+        *head = wanted;
+    }
+}
+
+// Writes a tank's heads where others are held.
+fn set_heads(heads: &mut LevelSpan, wanted: LevelSpan)
+    ensures { heads.new ≡ wanted }
+{
+    set_head(&mut heads.lo, wanted.lo);
+    set_head(&mut heads.hi, wanted.hi);
+}
+
+/// Makes the head of each reservoir that at a time.
 pub(crate) fn set_reservoirs(project: &Project, time: u32, heads: &mut [i64])
     requires sound { Sound project.now }
     requires each { length heads.old ≡ length project.now.reservoirs.list }
@@ -23,7 +40,7 @@ pub(crate) fn set_reservoirs(project: &Project, time: u32, heads: &mut [i64])
     ensures range { All IsHead heads.new }
 {
     for i in 0..heads.len() {
-        heads[i] = head_at(project, i as u32, time);
+        set_head(&mut heads[i], head_at(project, i as u32, time));
     }
 }
 
@@ -41,7 +58,7 @@ fn heads_of(tank: &Tank, levels: &LevelSpan) -> LevelSpan
     }
 }
 
-/// Writes the heads of each tank at its levels.
+/// Makes the heads of each tank those at its levels.
 pub(crate) fn set_tanks(project: &Project, levels: &[LevelSpan], heads: &mut [LevelSpan])
     requires sound { Sound project.now }
     requires levels { AreLevels project.now levels.now }
@@ -52,6 +69,6 @@ pub(crate) fn set_tanks(project: &Project, levels: &[LevelSpan], heads: &mut [Le
 {
     let tanks = project.tanks.as_slice();
     for i in 0..tanks.len() {
-        heads[i] = heads_of(&tanks[i], &levels[i]);
+        set_heads(&mut heads[i], heads_of(&tanks[i], &levels[i]));
     }
 }

@@ -15,13 +15,14 @@ ghost use Rattle.hyd_spec.specs.Law as exact;
 ghost use Rattle.hyd_spec.specs.LinkLaw as spec;
 ghost use Rattle.hyd_spec.specs.Quantity.{is_us};
 ghost use Rattle.hyd_graph.specs.ExactLaw.{one_way_law};
-ghost use Rattle.hyd_graph.specs.Settings.{Stands, Represents, HasRoom, HasRoomFor, IsPlain, IsLawMade, HasShutoff, CanStand, AreLawsOf, restricted};
+ghost use Rattle.hyd_graph.specs.Settings.{Stands, Represents, HasRoom, HasRoomFor, IsPlain, IsLawMade, HasShutoff, CanStand, AreLawsOf, IsShutBetween, restricted};
 
-use crate::curves::{curve_pump_law, curve_valve_law, knots_of, points_of};
+use crate::curves::{closed_curve, curve_pump_law, curve_valve_law, knots_of, points_of};
 use crate::parts::Setting;
 use crate::pumps::pump_law;
 use hyd_law::{Bent, Capped, Held, Linear, LinkLaw, OneWay, Quad, Shut};
 use hyd_net::{LinkKind, LinkState, OpenValve, Project};
+use hyd_num::{Capacity, Decimal, Origin, Scaled};
 use std::mem;
 
 fn valve_law(valve: &OpenValve) -> LinkLaw
@@ -247,15 +248,87 @@ fn without_reverse(law: LinkLaw, forbidden: bool) -> LinkLaw
     law
 }
 
-// The law of a link between tanks that forbid ways.
-fn restricted(law: LinkLaw, setting: &Setting) -> LinkLaw
-    ensures stands { (of : Law) → Stands law of → Stands result (restricted setting.now.no_forward setting.now.no_reverse of) }
+// The law of a link that passes nothing either way, in the room of the law that was held.
+fn shut_law(law: LinkLaw) -> LinkLaw
+    requires { IsSoundLink law }
+    ensures represents { Represents result exact.Shut }
     ensures room { (n : ℕ) → HasRoom n law → HasRoom n result }
 {
+    match law {
+        LinkLaw::Shut(_) => LinkLaw::Shut(Shut),
+        LinkLaw::Quad(_) => LinkLaw::Shut(Shut),
+        LinkLaw::Linear(_) => LinkLaw::Shut(Shut),
+        LinkLaw::Limit(_) => LinkLaw::Shut(Shut),
+        LinkLaw::LinearLimit(_) => LinkLaw::Shut(Shut),
+        LinkLaw::QuadOneWay(_) => LinkLaw::Shut(Shut),
+        LinkLaw::LinearOneWay(_) => LinkLaw::Shut(Shut),
+        LinkLaw::Pump(_) => LinkLaw::Shut(Shut),
+        LinkLaw::LimitOneWay(_) => LinkLaw::Shut(Shut),
+        LinkLaw::LinearLimitOneWay(_) => LinkLaw::Shut(Shut),
+        LinkLaw::Bent(held) => closed_curve(held.inner.knots),
+    }
+}
+
+// The law of a link between tanks that forbid ways. Where both ways are forbidden, the link is shut.
+fn restricted(law: LinkLaw, setting: &Setting) -> LinkLaw
+    requires { IsSoundLink law }
+    ensures stands { (of : Law) → Stands law of → Stands result (restricted setting.now.no_forward setting.now.no_reverse of) }
+    ensures shut { IsShutBetween setting.now result }
+    ensures room { (n : ℕ) → HasRoom n law → HasRoom n result }
+{
+    if setting.no_forward && setting.no_reverse {
+        return shut_law(law);
+    }
     without_reverse(without_forward(law, setting.no_forward), setting.no_reverse)
 }
 
-// Whether two states are known to be the same. Two throttles are not compared.
+fn is_same_number(a: Decimal, b: Decimal) -> bool
+    ensures { result ≡ true → a ≡ b }
+{
+    a == b
+}
+
+fn is_same_bound(a: Scaled, b: Scaled) -> bool
+    ensures { result ≡ true → a ≡ b }
+{
+    a == b
+}
+
+// Whether two capacities are known to be made of the same numbers. Only those of valves are compared: links are
+// throttled by no others.
+fn is_same_origin(a: &Origin, b: &Origin) -> bool
+    ensures { result ≡ true → a.now ≡ b.now }
+{
+    match (a, b) {
+        (
+            Origin::Valve { diameter, k, us },
+            Origin::Valve {
+                diameter: across,
+                k: loss,
+                us: feet,
+            },
+        ) => { is_same_number(*diameter, *across) && is_same_number(*k, *loss) && *us == *feet }
+        _ => false,
+    }
+}
+
+fn is_same_capacity(a: &Capacity, b: &Capacity) -> bool
+    ensures { result ≡ true → a.now ≡ b.now }
+{
+    is_same_bound(a.lo, b.lo) && is_same_bound(a.hi, b.hi) && is_same_origin(&a.origin, &b.origin)
+}
+
+fn is_same_valve(a: &OpenValve, b: &OpenValve) -> bool
+    ensures { result ≡ true → a.now ≡ b.now }
+{
+    match (a, b) {
+        (OpenValve::Quadratic(x), OpenValve::Quadratic(y)) => is_same_capacity(x, y),
+        (OpenValve::Linear, OpenValve::Linear) => true,
+        _ => false,
+    }
+}
+
+// Whether two states are known to be the same.
 fn is_same_state(a: &LinkState, b: &LinkState) -> bool
     ensures { result ≡ true → a.now ≡ b.now }
 {
@@ -263,6 +336,13 @@ fn is_same_state(a: &LinkState, b: &LinkState) -> bool
         (LinkState::Open, LinkState::Open) => true,
         (LinkState::Closed, LinkState::Closed) => true,
         (LinkState::Speed(x), LinkState::Speed(y)) => *x == *y,
+        (
+            LinkState::Throttle { nano, law },
+            LinkState::Throttle {
+                nano: other,
+                law: valve,
+            },
+        ) => { *nano == *other && is_same_valve(law, valve) }
         (
             LinkState::Limit { nano, ticks },
             LinkState::Limit {

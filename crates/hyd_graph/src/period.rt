@@ -8,10 +8,10 @@ ghost use Rattle.hyd_spec_certificates.specs.Valid.{DemandsAreInRange};
 ghost use Rattle.hyd_spec_reports.specs.Stops.{IsFirstDemand};
 ghost use Rattle.hyd_graph.specs.Settings.{AreStates};
 ghost use Rattle.hyd_graph.specs.GridOf.{grid_of, interval_of, states_of, own_laws};
-ghost use Rattle.hyd_graph.specs.Periods.{IsNetOf, IsFresh, AreLevels, own_laws_of};
+ghost use Rattle.hyd_graph.specs.Periods.{IsNetOf, IsFresh, AreLevels, AreShut, own_laws_of};
 
 use crate::closed::closed_laws;
-use crate::demands::{first_out, set_demands};
+use crate::demands::{kept_demands, set_demands};
 use crate::fault::PeriodDemand;
 use crate::fixed::{set_reservoirs, set_tanks};
 use crate::net::Net;
@@ -62,9 +62,11 @@ impl Net {
     }
 
     /// Puts the net into the period that begins at a time, in seconds, with the links in these states, the tanks at these
-    /// levels, in head ticks above their bottoms, and in these states. A law of a link is made anew only where its setting
-    /// changed, a capacity only where the demand did, and no memory is taken. Fails with the first junction whose demand is
-    /// out of range, and then all is as before.
+    /// levels, in head ticks above their bottoms, and in these states. What differs from what the net holds is written,
+    /// and nothing else: a law of a link is made anew only where its setting changed, a capacity only where the demand
+    /// did. No memory is taken. Each list is passed over once; from the first junction whose demand changes on, junctions
+    /// are passed over again, since none is written before all are known to be in range. Fails with the first junction
+    /// whose demand is out of range, and then all is as before.
     pub fn set_period(
         &mut self,
         project: &Project,
@@ -82,14 +84,13 @@ impl Net {
         ensures grid { OnOk result (IsGrid project.now time (map interval_of levels.now) tanks.now links.now (grid_of self.new)) }
         ensures states { OnOk result (states_of self.new ≡ links.now) }
         ensures own { OnOk result (own_laws self.new ≡ own_laws_of project.now project.now.links.list links.now) }
+        ensures shut { OnOk result (AreShut project.now tanks.now self.new.laws) }
         ensures in_range { OnOk result (DemandsAreInRange project.now time) }
         ensures refused { IfErr result (λ fault. IsFirstDemand project.now time fault.junction fault.value) }
         ensures unchanged { OnErr result (self.new ≡ self.old) }
     {
-        if let Some(fault) = first_out(project, time) {
-            return Err(fault);
-        }
-        set_demands(project, time, &mut self.demands);
+        let kept = kept_demands(project, time, &self.demands)?;
+        set_demands(project, time, kept, &mut self.demands);
         set_reservoirs(project, time, &mut self.reservoirs);
         set_tanks(project, levels, &mut self.tanks);
         set_links(

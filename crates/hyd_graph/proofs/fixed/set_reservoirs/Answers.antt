@@ -1,4 +1,4 @@
-use Rattle.std.proofs.Common.{◌≡◌, ℕ, ℤ, to_z, of_z, w64, rules, subst, sym, arith}
+use Rattle.std.proofs.Common.{◌≡◌, ℕ, ℤ, rules, subst, sym, arith}
 use Rattle.std.proofs.lemmas.Int.{ints}
 use Rattle.hyd_net.specs.Ranges.{IsHead}
 use Rattle.hyd_spec.specs.Quantity.{reservoir_head}
@@ -9,10 +9,10 @@ use Rattle.hyd_graph.proofs.fixed.set_reservoirs.Goals as goal
 pub loop-i-preserved : goal.loop-i-preserved
 loop-i-preserved c =
     let head = c.head_at.ensures.head in
-    let same : to_z w64 (of_z w64 c.head_at.result) ≡ c.head_at.result = omega (arith, ints, head.at_least, head.at_most) in
+    let same : c.set_head.new.head ≡ c.head_at.result = omega (arith, ints, c.set_head.ensures, head.at_least, head.at_most) in
     record {
       count = search rules;
-      set = more_set (λ (k : ℕ) (h : ℤ). (h ≡ head_of_reservoir c.args.project.now c.args.time k) × IsHead h) c.loop-i.heads c.loop-i.i (to_z w64 (of_z w64 c.head_at.result))
+      set = more_set (λ (k : ℕ) (h : ℤ). (h ≡ head_of_reservoir c.args.project.now c.args.time k) × IsHead h) c.loop-i.heads c.loop-i.i c.set_head.new.head
           (omega arith) c.loop-i.invariant.set
           (subst (λ (h : ℤ). (h ≡ head_of_reservoir c.args.project.now c.args.time c.loop-i.i) × IsHead h) (sym same) (c.head_at.ensures.value, head));
     }

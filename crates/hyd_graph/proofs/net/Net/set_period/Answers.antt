@@ -5,7 +5,7 @@ use Rattle.hyd_graph.specs.Demands.{IsNetJunction}
 use Rattle.hyd_graph.specs.Settings.{AreLaws}
 use Rattle.hyd_graph.specs.Nets.{IsSoundNet}
 use Rattle.hyd_graph.specs.Ties.{AreRowsOf}
-use Rattle.hyd_graph.proofs.Gridding.{IsPut, grid_is, states_set, own_set}
+use Rattle.hyd_graph.proofs.Gridding.{IsPut, grid_is, states_set, own_set, shut_set}
 use Rattle.hyd_graph.proofs.Refilling.{refilled}
 use Rattle.hyd_graph.proofs.Sounding.{sound_net}
 use Rattle.hyd_graph.proofs.net.Net.set_period.Goals as goal
@@ -92,6 +92,9 @@ returns-clause-grid c =
 
 pub returns-clause-states : goal.returns-clause-states
 returns-clause-states c = rw (settings_are c) (states_set _ _ _ _ _ (new c) (put c))
+
+pub returns-clause-shut : goal.returns-clause-shut
+returns-clause-shut c = rw (laws_are c) (shut_set _ _ _ _ _ (new c) (put c))
 
 pub returns-clause-own : goal.returns-clause-own
 returns-clause-own c = rw (own_are c) (own_set _ _ _ _ _ (new c) (put c))

@@ -1,7 +1,0 @@
-use Rattle.std.proofs.Common.{ℕ, ◌<◌, ◌≤◌, ◌^◌, slice_index_or, unsigned_abs}
-use Rattle.hyd_spec.specs.Types.{Junction}
-use Rattle.hyd_spec.specs.Quantity.{demand_of}
-use Rattle.hyd_graph.proofs.demands.first_out.Given as goal
-
-abbrev pub invariant-loop-i : goal.invariant-loop-i
-invariant-loop-i l = (k : ℕ) (junction : Junction) → k < l.i → unsigned_abs (demand_of l.project l.time (slice_index_or l.project.junctions.list k junction)) ≤ 10 ^ 15
