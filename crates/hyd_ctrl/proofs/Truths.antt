@@ -25,7 +25,7 @@ rule-at network sound k each lt at = subst (IsRule network) (get_or_from_slice_g
 
 -- by the truth of each clause
 tells-between : (network : Project) (S time : ℕ) (below x above : Readings) (rule : Rule) → IsRule network rule → 0 < S
-    → AreBetween S below x above
+    → AreBetween network S below x above
     → Tells (rule_between network time below above rule) (rule_holds network S time x rule)
 tells-between network S time below x above rule is some between =
     rule_tells (clause_between network time below above) (clause_holds network S time x) (groups_of rule)
@@ -38,7 +38,7 @@ tells-between network S time below x above rule is some between =
 
 refines-between : (network : Project) (time : ℕ) (below lower upper above : Readings) (rule : Rule)
     → IsRule network rule
-    → AreBetween 1 below lower above → AreBetween 1 below upper above
+    → AreBetween network 1 below lower above → AreBetween network 1 below upper above
     → Refines (rule_between network time below above rule) (rule_between network time lower upper rule)
 refines-between network time below lower upper above rule is low high =
     groups-refine (clause_between network time below above) (clause_between network time lower upper) (groups_of rule)
@@ -69,7 +69,7 @@ by-known network time below above rule (Open clause lo hi) known is refines = tt
 pub truth_holds : (network : Project) → Sound network
     → (k time : ℕ) (below above : Readings) (each : Rule) (truth : Truth) → k < length network.rules.list
     → slice_get network.rules.list k ≡ Some each → IsTruthBetween network time below above each truth
-    → (S : ℕ) (x : Readings) → 0 < S → AreBetween S below x above
+    → (S : ℕ) (x : Readings) → 0 < S → AreBetween network S below x above
     → IsTruthOf truth (rule_holds network S time x each)
 truth_holds network sound k time below above each truth lt at is S x some between =
     by-truth network time below above each truth _ is (tells-between network S time below x above each (rule-at network
@@ -79,7 +79,7 @@ pub truth_stays : (network : Project) → Sound network
     → (k time : ℕ) (below above : Readings) (each : Rule) (truth : Truth) → k < length network.rules.list
     → slice_get network.rules.list k ≡ Some each → IsTruthBetween network time below above each truth
     → (lower upper : Readings)
-    → AreBetween 1 below lower above → AreBetween 1 below upper above
+    → AreBetween network 1 below lower above → AreBetween network 1 below upper above
     → IsKnownAs truth (rule_between network time lower upper each)
 truth_stays network sound k time below above each truth lt at is lower upper low high =
     by-known network time below above each truth _ is (refines-between network time below lower upper above each

@@ -1,16 +1,18 @@
 -- What rules don't look at: the places of tanks among the heads.
-use Rattle.std.proofs.Common.{◌≡◌, inl, inr, ℕ, zero, suc, ◌+◌, ◌<◌, ℤ, pos, ◌-ℤ◌, Bool, false, not, List, [], ◌∷◌, ◌++◌, length, map, Some, None, nat_le, nat_lt, if◌then◌else◌, slice_index_or, position, refl, ap, sym, ◌∙◌, arith}
+use Rattle.std.proofs.Common.{◌≡◌, inl, inr, ℕ, zero, suc, ◌+◌, ◌*◌, ◌<◌, ◌≤◌, ℤ, pos, ◌-ℤ◌, ◌*ℤ◌, ◌≤ℤ◌, Bool, false, not, List, [], ◌∷◌, ◌++◌, length, map, Some, None, nat_le, nat_lt, if◌then◌else◌, slice_index_or, position, refl, ap, sym, subst, ◌∙◌, arith}
 use Rattle.std.specs.List.{position_or_len}
 use Rattle.std.proofs.lemmas.Bool.{cases_Bool}
 use Rattle.hyd_num.specs.Rational.{Rational, whole, total_of, floor, ceiling}
 use Rattle.hyd_spec.specs.Types.{Project, Rule, RuleClause, Clause, What, Head, Pressure, Level, Flow, Setting, Status, Time, Clock, Relation, Value, LinkState}
 use Rattle.hyd_spec.specs.Scale.{at_scale}
 use Rattle.hyd_spec.specs.Network.{nodes_before_tanks, is_tank, tank_number}
+use Rattle.hyd_spec.specs.Assignment.{head_at}
 use Rattle.hyd_spec.specs.Rules.{Readings, level_of, bottom_of, elevation_of, in_ticks, measured, amount, compares, status_holds, state_word, state_of_link, setting_of, holds_on, clause_holds, parts_of, groups_in}
 use Rattle.hyd_spec_certificates.specs.declared.Truth.{Truth}
 use Rattle.hyd_spec_certificates.specs.declared.Truth.TheVariants.{True, False, Open}
 use Rattle.hyd_spec_certificates.specs.Verdict.{Verdict, is_unknown, at_both_ends, either, both, some_holds, all_hold}
 use Rattle.hyd_spec_certificates.specs.Decided.{clause_between, rule_between, IsOpenClause, IsTruthBetween}
+use Rattle.hyd_spec_histories.specs.Agreement.{IsValueBetween, AreBetween}
 use Rattle.hyd_ctrl.specs.Alike.{AreAlike}
 
 -- ---- what clauses measure
@@ -168,3 +170,29 @@ pub heads_behind : (heads more : List ℤ) (node : ℕ) → node < length heads
 heads_behind [] more node h = absurd (omega arith)
 heads_behind (z ∷ heads) more zero h = refl
 heads_behind (z ∷ heads) more (suc node) h = heads_behind heads more node (omega arith)
+
+-- What lies between two readings lies between two that are like them.
+pub still_between : (network : Project) (S : ℕ) (below x above other_below other_above : Readings)
+    → AreAlike network below other_below → AreAlike network above other_above
+    → AreBetween network S below x above → AreBetween network S other_below x other_above
+still_between network S below x above other_below other_above low high b = record {
+  heads = λ m before.
+      let lies = b.heads m before in
+      let l = lies.low in
+      let h = lies.high in
+      record {
+        low = subst (λ (z : ℤ). (pos S *ℤ z) ≤ℤ head_at x.heads m) (low.heads m before) l;
+        high = subst (λ (z : ℤ). head_at x.heads m ≤ℤ (pos S *ℤ z)) (high.heads m before) h;
+      };
+  levels = λ k.
+      subst (λ (ls : List Rational). IsValueBetween S (slice_index_or ls k (whole (pos 0))) (level_of x k) (level_of
+      other_above k)) low.levels
+      (subst (λ (ls : List Rational). IsValueBetween S (level_of below k) (level_of x k) (slice_index_or ls k (whole
+      (pos 0)))) high.levels (b.levels k));
+  flows_below = λ l. subst (λ (fs : List ℕ). S * slice_index_or fs l 0 ≤ slice_index_or x.flows l 0) low.flows
+      (b.flows_below l);
+  flows_above = λ l. subst (λ (fs : List ℕ). slice_index_or x.flows l 0 ≤ S * slice_index_or fs l 0) high.flows
+      (b.flows_above l);
+  links_below = sym low.links ∙ b.links_below;
+  links_above = sym high.links ∙ b.links_above;
+}

@@ -153,17 +153,17 @@ pub fn decide(
 
     // What is decided is so of the rule at whatever lies between, at every scale.
     ensures holds { (each : types.Rule) → slice_get project.now.rules.list rule ≡ Some each
-        → (S : ℕ) (x : Readings) → 0 < S → AreBetween S
+        → (S : ℕ) (x : Readings) → 0 < S → AreBetween project.now S
         (lower_readings low.now (map flow_interval flows.now) (map level_interval levels.now) links.now) x
         (upper_readings high.now (map flow_interval flows.now) (map level_interval levels.now) links.now)
         → IsTruthOf result (rule_holds project.now S time x each) }
 
     // And it is decided so by each two readings between.
     ensures nests { (each : types.Rule) → slice_get project.now.rules.list rule ≡ Some each
-        → (lower upper : Readings) → AreBetween 1
+        → (lower upper : Readings) → AreBetween project.now 1
         (lower_readings low.now (map flow_interval flows.now) (map level_interval levels.now) links.now) lower
         (upper_readings high.now (map flow_interval flows.now) (map level_interval levels.now) links.now)
-        → AreBetween 1
+        → AreBetween project.now 1
         (lower_readings low.now (map flow_interval flows.now) (map level_interval levels.now) links.now) upper
         (upper_readings high.now (map flow_interval flows.now) (map level_interval levels.now) links.now)
         → IsKnownAs result (rule_between project.now time lower upper each) }

@@ -1,6 +1,6 @@
 -- A clause that both ends of what rules look at decide is decided so between them.
 use Rattle.std.proofs.Common.{◌≡◌, ℕ, ◌*◌, ◌<◌, ℤ, pos, ◌+ℤ◌, ◌-ℤ◌, ◌*ℤ◌, ◌≤ℤ◌, refl, ap, arith, Bool, true, false, mul-pos}
-use Rattle.std.specs.Prelude.{if◌then◌else◌, slice_index_or, List}
+use Rattle.std.specs.Prelude.{if◌then◌else◌, nat_le, slice_index_or, List}
 use Rattle.std.proofs.Math.IntN.{*ℤ_comm}
 use Rattle.std.proofs.lemmas.Int.{ints}
 use Rattle.hyd_num.proofs.Integers.{times_plus, times_minus, times_times}
@@ -8,7 +8,7 @@ use Rattle.hyd_num.specs.Rational.{Rational, whole, total_of}
 use Rattle.hyd_net.specs.Commands.{Compares}
 use Rattle.hyd_spec.specs.Types.{Project, LinkState, Clause, What, Head, Pressure, Level, Flow, Setting, Status, Time, Clock, Relation, Less, NotMore, More, NotLess, Equal, Unequal, Value}
 use Rattle.hyd_spec.specs.Scale.{at_scale}
-use Rattle.hyd_spec.specs.Network.{is_tank, tank_number}
+use Rattle.hyd_spec.specs.Network.{nodes_before_tanks, is_tank, tank_number}
 use Rattle.hyd_spec.specs.Assignment.{head_at}
 use Rattle.hyd_spec.specs.Rules.{Readings, in_ticks, level_of, head_of, pressure_of, elevation_of, bottom_of, amount, compares, holds_on, clause_holds, setting_of, state_of_link, status_holds, state_word}
 use Rattle.hyd_spec_certificates.specs.Verdict.{at_both_ends}
@@ -104,40 +104,45 @@ whole-between S lo x hi l h = record {
   high = let e : 1 * S ≡ S = omega arith in rw e (omega (arith, ints, h, one_times x));
 }
 
-either-between : (S : ℕ) (b : Bool) (l m x y h g : Rational) → IsValueBetween S l x h → IsValueBetween S m y g
+either-between : (S : ℕ) (b : Bool) (l m x y h g : Rational) → IsValueBetween S l x h
+    → (b ≡ false → IsValueBetween S m y g)
     → IsValueBetween S (if b then l else m) (if b then x else y) (if b then h else g)
 either-between S true l m x y h g p q = p
-either-between S false l m x y h g p q = q
+either-between S false l m x y h g p q = q refl
+
+before-tanks : (n node : ℕ) → nat_le n node ≡ false → node < n
+before-tanks n node e = grind arith
 
 -- ---- what is measured
 
-head-between : (network : Project) (S : ℕ) (below x above : Readings) (node : ℕ) → AreBetween S below x above
+head-between : (network : Project) (S : ℕ) (below x above : Readings) (node : ℕ) → AreBetween network S below x above
     → IsValueBetween S (head_of network 1 below node) (head_of network S x node) (head_of network 1 above node)
 head-between network S below x above node b =
     either-between S (is_tank network node) _ _ _ _ _ _
     (raised S (bottom_of network (tank_number network node)) (level_of below (tank_number network node))
     (level_of x (tank_number network node)) (level_of above (tank_number network node))
     (b.levels (tank_number network node)))
-    (whole-between S (head_at below.heads node) (head_at x.heads node) (head_at above.heads node) (b.heads node).low
-    (b.heads node).high)
+    (λ no. let lies = b.heads node (before-tanks (nodes_before_tanks network) node no) in
+    whole-between S (head_at below.heads node) (head_at x.heads node) (head_at above.heads node) lies.low lies.high)
 
-pressure-between : (network : Project) (S : ℕ) (below x above : Readings) (node : ℕ) → AreBetween S below x above
+pressure-between : (network : Project) (S : ℕ) (below x above : Readings) (node : ℕ) → AreBetween network S below x above
     → IsValueBetween S (pressure_of network 1 below node) (pressure_of network S x node)
     (pressure_of network 1 above node)
 pressure-between network S below x above node b =
     either-between S (is_tank network node) _ _ _ _ _ _ (b.levels (tank_number network node))
-    (whole-between S (head_at below.heads node -ℤ at_scale 1 (elevation_of network node))
+    (λ no. let lies = b.heads node (before-tanks (nodes_before_tanks network) node no) in
+    whole-between S (head_at below.heads node -ℤ at_scale 1 (elevation_of network node))
     (head_at x.heads node -ℤ at_scale S (elevation_of network node)) (head_at above.heads node -ℤ at_scale 1
     (elevation_of network node))
-    (let l = (b.heads node).low in
+    (let l = lies.low in
     rw one_times (omega (arith, ints, l, times_minus S (head_at below.heads node) (elevation_of network node))))
-    (let h = (b.heads node).high in
+    (let h = lies.high in
     rw one_times (omega (arith, ints, h, times_minus S (head_at above.heads node) (elevation_of network node)))))
 
-flow-between : (S : ℕ) (below x above : Readings) (link : ℕ) → AreBetween S below x above
+flow-between : (network : Project) (S : ℕ) (below x above : Readings) (link : ℕ) → AreBetween network S below x above
     → IsValueBetween S (whole (pos (slice_index_or below.flows link 0))) (whole (pos (slice_index_or x.flows link 0)))
     (whole (pos (slice_index_or above.flows link 0)))
-flow-between S below x above link b =
+flow-between network S below x above link b =
     let l = b.flows_below link in let h = b.flows_above link in
     whole-between S (pos (slice_index_or below.flows link 0)) (pos (slice_index_or x.flows link 0))
     (pos (slice_index_or above.flows link 0))
@@ -197,7 +202,7 @@ links-tell f below x above l h = rw (l, h) (same-tells (f x.links))
 
 subject-tells : (network : Project) (S time : ℕ) (below x above : Readings) (what : What) (relation : Relation)
     (value : Value)
-    → 0 < S → Compares what relation → AreBetween S below x above
+    → 0 < S → Compares what relation → AreBetween network S below x above
     → Tells (at_both_ends (holds_on network 1 time below what relation value)
     (holds_on network 1 time above what relation value)) (holds_on network S time x what relation value)
 subject-tells network S time below x above (Head node) relation value some way b =
@@ -211,7 +216,7 @@ subject-tells network S time below x above (Level tank) relation value some way 
     (b.levels tank)
 subject-tells network S time below x above (Flow link) relation value some way b =
     value-tells relation S _ _ _ (amount network (Flow link) value) (one-way-flow link relation way) some
-    (flow-between S below x above link b)
+    (flow-between network S below x above link b)
 subject-tells network S time below x above (Setting link) relation value some way b =
     links-tell (λ ls. compares relation (whole (setting_of (state_of_link ls link)))
     (amount network (Setting link) value)) below x above b.links_below b.links_above
@@ -224,7 +229,7 @@ subject-tells network S time below x above Clock relation value some way b =
     same-tells (holds_on network S time x Clock relation value)
 
 pub clause_tells : (network : Project) (S time : ℕ) (below x above : Readings) (clause : Clause)
-    → 0 < S → Compares clause.what clause.relation → AreBetween S below x above
+    → 0 < S → Compares clause.what clause.relation → AreBetween network S below x above
     → Tells (at_both_ends (clause_holds network 1 time below clause) (clause_holds network 1 time above clause))
     (clause_holds network S time x clause)
 clause_tells network S time below x above clause some way b =

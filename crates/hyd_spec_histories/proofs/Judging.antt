@@ -84,7 +84,7 @@ all_known (t ∷ truths) (b ∷ tests) e tells =
 
 -- the truths on readings between which those at scale S lie
 pub truths_tell : (network : Project) (S time : ℕ) (below x above : Readings) (truth : Clause → Verdict) → 0 < S
-    → Sound network → AreBetween S below x above
+    → Sound network → AreBetween network S below x above
     → ((clause : Clause) → Compares clause.what clause.relation
     → Tells (truth clause) (clause_holds network S time x clause))
     → TellEach (map (λ rule. all_hold (map (λ group. some_holds (map truth group)) (groups_of rule)))

@@ -203,12 +203,12 @@ module _ (network : Project) (S : ℕ) (period : Period) (grid : Grid) (standing
       ∙ followed-lengths network period.tanks S _ network.links.list period.links period.assignment.flows
       under.compared.assigned.links_follow
 
-  pub readings_between : (seconds : ℕ) → AreBetween S (readings_below network grid standing row seconds)
+  pub readings_between : (seconds : ℕ) → AreBetween network S (readings_below network grid standing row seconds)
       (readings_after network S period seconds) (readings_above network grid standing row seconds)
   readings_between seconds = record {
-    heads = heads_between network S period.time standing.levels period.levels period.tanks period.links
+    heads = λ m before. heads_between network S period.time standing.levels period.levels period.tanks period.links
         period.assignment grid row.main.lower row.main.upper under.compared
-        (under.certificates.each Main Lower tt) (under.certificates.each Main Upper tt);
+        (under.certificates.each Main Lower tt) (under.certificates.each Main Upper tt) m;
     levels = levels-between S (λ k tank. carried_levels (walls_of network tank) tank (stocks_of_tank standing k)
         (inflow_of_tank network grid row k) seconds)
         (λ k tank. carried_level S (walls_of network tank) tank (stock_at_start period k)

@@ -7,6 +7,7 @@ use Rattle.hyd_net.specs.Made.{IsStateMade}
 use Rattle.hyd_net.specs.States.{CanHave}
 use Rattle.hyd_spec.specs.Types.{Project, Tank, Link, LinkState}
 use Rattle.hyd_spec.specs.Lists.{Each}
+use Rattle.hyd_spec.specs.Network.{nodes_before_tanks}
 use Rattle.hyd_spec.specs.Assignment.{head_at}
 use Rattle.hyd_spec.specs.Tank.{walls_of, level_bounds}
 use Rattle.hyd_spec.specs.Rules.{Readings, level_of}
@@ -29,9 +30,11 @@ pub record IsValueBetween (S : ℕ) (lo x hi : Rational) : Type 0 where
   pub low : (pos (x.den * S) *ℤ lo.num) ≤ℤ (pos lo.den *ℤ x.num)
   pub high : (pos hi.den *ℤ x.num) ≤ℤ (pos (x.den * S) *ℤ hi.num)
 
--- Readings at scale S lie between two readings in ticks, with the same states of links.
-pub record AreBetween (S : ℕ) (below x above : Readings) : Type 0 where
-  pub heads : (m : ℕ) → LiesIn S (record { lo = head_at below.heads m; hi = head_at above.heads m }) (head_at x.heads m)
+-- What rules look at at scale S lies between two readings in ticks, with the same states of links: the heads of junctions
+-- and reservoirs, the carried levels of tanks (from which the heads of tanks follow) and the flows.
+pub record AreBetween (network : Project) (S : ℕ) (below x above : Readings) : Type 0 where
+  pub heads : (m : ℕ) → m < nodes_before_tanks network
+      → LiesIn S (record { lo = head_at below.heads m; hi = head_at above.heads m }) (head_at x.heads m)
   pub levels : (k : ℕ) → IsValueBetween S (level_of below k) (level_of x k) (level_of above k)
   pub flows_below : (l : ℕ) → S * slice_index_or below.flows l 0 ≤ slice_index_or x.flows l 0
   pub flows_above : (l : ℕ) → slice_index_or x.flows l 0 ≤ S * slice_index_or above.flows l 0

@@ -48,10 +48,10 @@ pub fn printed_values()
 pub fn readings()
     ensures lie { (network : Project) (S : ℕ) (period : Period) (grid : Grid) (standing : Standing) (row : Record)
         → IsUnder network S period grid standing row → (seconds : ℕ)
-        → AreBetween S (readings_below network grid standing row seconds) (readings_after network S period seconds)
-        (readings_above network grid standing row seconds) }
+        → AreBetween network S (readings_below network grid standing row seconds)
+        (readings_after network S period seconds) (readings_above network grid standing row seconds) }
     ensures clauses { (network : Project) (S time : ℕ) (below x above : Readings) (clause : Clause) → 0 < S
-        → Compares clause.what clause.relation → AreBetween S below x above
+        → Compares clause.what clause.relation → AreBetween network S below x above
         → Tells (at_both_ends (clause_holds network 1 time below clause) (clause_holds network 1 time above clause))
         (clause_holds network S time x clause) }
 {}

@@ -259,10 +259,10 @@ module _ (network : Project) (sound : Sound network) (standing : Standing) (grid
 
   -- ---- readings
 
-  lower-reading : (seconds : ℕ) → AreBetween 1 (readings_below network grid standing outer seconds)
+  lower-reading : (seconds : ℕ) → AreBetween network 1 (readings_below network grid standing outer seconds)
       (readings_below network grid standing inner seconds) (readings_above network grid standing outer seconds)
   lower-reading seconds = record {
-    heads = λ m. lies-one (record { lo = _; hi = _ }) _ (below_within network standing grid outer inner nested m)
+    heads = λ m before. lies-one (record { lo = _; hi = _ }) _ (below_within network standing grid outer inner nested m)
         (let a = inner_ordered network standing grid outer inner nested m in
         let b = above_within network standing grid outer inner nested m in omega (arith, ints, a, b));
     levels = mapped-levels (out-level seconds) (in-level seconds) (λ x. x.lo) 0 network.tanks.list
@@ -284,10 +284,10 @@ module _ (network : Project) (sound : Sound network) (standing : Standing) (grid
     links_above = refl;
   }
 
-  upper-reading : (seconds : ℕ) → AreBetween 1 (readings_below network grid standing outer seconds)
+  upper-reading : (seconds : ℕ) → AreBetween network 1 (readings_below network grid standing outer seconds)
       (readings_above network grid standing inner seconds) (readings_above network grid standing outer seconds)
   upper-reading seconds = record {
-    heads = λ m. lies-one (record { lo = _; hi = _ }) _
+    heads = λ m before. lies-one (record { lo = _; hi = _ }) _
         (let a = inner_ordered network standing grid outer inner nested m in
         let b = below_within network standing grid outer inner nested m in omega (arith, ints, a, b))
         (above_within network standing grid outer inner nested m);

@@ -1,10 +1,13 @@
 use Rattle.std.proofs.Common.{refl, arith}
-use Rattle.hyd_ctrl.proofs.Unseen.{same_truth, heads_behind}
+use Rattle.hyd_ctrl.proofs.Unseen.{same_truth, heads_behind, still_between}
 use Rattle.hyd_ctrl.proofs.laws.heads_of_tanks.Goals as goal
 
 pub returns-clause-truths : goal.returns-clause-truths
 returns-clause-truths c = λ network time below above other_below other_above rule truth alike alike_above.
     same_truth network time below above other_below other_above rule truth alike alike_above
+
+pub returns-clause-between : goal.returns-clause-between
+returns-clause-between c = still_between
 
 pub returns-clause-below : goal.returns-clause-below
 returns-clause-below c = λ network low tanks flows levels links e. record {
