@@ -57,7 +57,7 @@ module _ (held : Option HeldJunction) (grid : Grid) (steady : IsSteady grid) (pr
   raises-climb _ u w (one_raise {i = i} {order = order} {junction = junction} {x = x} at raise on) = raised at raise
       (raises-climb order (slice_set u i x) w on)
 
-  raises-append : (first rest : List ℕ) (u v w : List ℤ) → AreRaises held grid problem side first u v
+  pub raises-append : (first rest : List ℕ) (u v w : List ℤ) → AreRaises held grid problem side first u v
       → AreRaises held grid problem side rest v w → AreRaises held grid problem side (first ++ rest) u w
   raises-append _ rest u _ w no_raise more = more
   raises-append _ rest u v w (one_raise {i = i} {order = order} {junction = junction} {x = x} at raise on) more =

@@ -149,6 +149,22 @@ SweepGives held grid problem side rounds old new RoundsSpent =
     × (LiesBeyond side v new × (IsStart held grid problem side new
     × (IsCertificateHolding held grid problem side new → ⊥)))))
 
+-- so many rounds in file order, one after another
+abbrev pub in_rounds : ℕ → ℕ → List ℕ
+in_rounds zero count = []
+in_rounds (suc n) count = in_rounds n count ++ numbers count
+
+-- how a sweep of plain rounds goes: some of the rounds, or all of them; where a junction has no value, the raises of
+-- one more that come before its own
+abbrev pub RoundsGo : Option HeldJunction → Grid → Problem → Side → ℕ → List ℤ → List ℤ → Swept → Type 0
+RoundsGo held grid problem side rounds old new Least =
+    (n : ℕ) × ((n ≤ rounds) × AreRaises held grid problem side (in_rounds n (length grid.junctions)) old new)
+RoundsGo held grid problem side rounds old new (NoCertificate j) =
+    (n : ℕ) × ((n < rounds)
+    × AreRaises held grid problem side (in_rounds n (length grid.junctions) ++ numbers j) old new)
+RoundsGo held grid problem side rounds old new RoundsSpent =
+    AreRaises held grid problem side (in_rounds rounds (length grid.junctions)) old new
+
 -- where no link joins two junctions a sweep that may go one round doesn't spend its rounds
 abbrev pub EndsWhereApart : Grid → ℕ → Swept → Type 0
 EndsWhereApart grid rounds result =

@@ -7,7 +7,7 @@ ghost use Rattle.hyd_spec_certificates.specs.Certificate.{IsInBox, Suits};
 ghost use Rattle.hyd_spec_certificates.specs.Climbing.{IsStart};
 ghost use Rattle.hyd_graph.specs.GridOf.{grid_of};
 ghost use Rattle.hyd_graph.specs.Nets.{HasProblem};
-ghost use Rattle.hyd_sweep.specs.Sweeps.{SuitsAt, RoundGives, SweepGives, EndsWhereApart, HoldsInBox};
+ghost use Rattle.hyd_sweep.specs.Sweeps.{SuitsAt, RoundGives, SweepGives, RoundsGo, EndsWhereApart, HoldsInBox};
 
 use crate::answers::{Raised, Swept};
 use crate::raising::{held_head, raise};
@@ -98,6 +98,7 @@ pub fn tighten(
     requires pinned { HasProblem net.now problem }
     requires held_in_box { HoldsInBox held }
     ensures sweep { SweepGives held (grid_of net.now) problem side rounds u.old u.new result }
+    ensures goes { RoundsGo held (grid_of net.now) problem side rounds u.old u.new result }
     ensures apart { EndsWhereApart (grid_of net.now) rounds result }
 {
     let _junctions = net.junctions();

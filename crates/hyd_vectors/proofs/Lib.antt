@@ -2,3 +2,5 @@ pub mod Turning
 pub mod Telling
 pub mod Reaching
 pub mod Spending
+pub mod Nearing
+pub mod Coming

@@ -9,14 +9,15 @@ use Rattle.hyd_spec_certificates.specs.declared.Problem.{Problem}
 use Rattle.hyd_spec_certificates.specs.declared.Side.{Side}
 use Rattle.hyd_spec_certificates.specs.declared.Side.TheVariants.{Upper, Lower}
 use Rattle.hyd_spec_certificates.specs.Grid.{Grid, GridJunction}
-use Rattle.hyd_spec_certificates.specs.Certificate.{IsInBox, IsCertificate}
+use Rattle.hyd_spec_certificates.specs.Certificate.{IsInBox, IsBeyond, IsCertificate}
 use Rattle.hyd_spec_certificates.specs.Climbing.{IsStart, Fails}
 use Rattle.hyd_spec_laws.specs.Laws.{IsSteady}
 use Rattle.hyd_spec_laws.specs.Sides.{along}
 use Rattle.hyd_spec_raises.proofs.Leading.{is-beyond, lead, fails-leading}
-use Rattle.hyd_spec_raises.proofs.Raising.{set-here, set-there, set-in-box}
+use Rattle.hyd_spec_raises.proofs.Raising.{beyond-self, set-here, set-there, set-in-box}
+use Rattle.hyd_spec_raises.proofs.Sweeping.{one-vector}
 use Rattle.hyd_sweep.specs.Leaps.{nearer}
-use Rattle.hyd_vectors.specs.Turns.{Leads, AreInTurn}
+use Rattle.hyd_vectors.specs.Turns.{no_turn, one_turn, ComesInTurn, Leads, AreInTurn}
 
 along-nearer : (side : Side) (h : ℤ) → along side (nearer side h) ≡ along side h -ℤ pos 1
 along-nearer Upper h = refl
@@ -58,6 +59,7 @@ module _ (grid : Grid) (problem : Problem) (side : Side) where
   pub turns-begin : (v y : List ℤ) → length y ≡ length v → All IsInBox y → All IsInBox v
       → ((k : ℕ) → k < length v → head_at y k ≡ nearer side (head_at v k)) → AreInTurn grid problem side v y
   turns-begin v y long in-box to-in-box short = record {
+    comes = record { before = y; one_each = long; in_box = in-box; short = short; turns = no_turn };
     one_each = long;
     in_box = in-box;
     to_in_box = to-in-box;
@@ -73,6 +75,13 @@ module _ (grid : Grid) (problem : Problem) (side : Side) where
       → Fails None grid problem side y i junction → AreInTurn grid problem side v y
       → AreInTurn grid problem side v (slice_set y i (head_at v i))
   turns-more steady v y i junction long inside at fails turns = record {
+    comes = record {
+      before = turns.comes.before;
+      one_each = turns.comes.one_each;
+      in_box = turns.comes.in_box;
+      short = turns.comes.short;
+      turns = one_turn i junction turns.comes.turns at fails;
+    };
     one_each = length-set y i (head_at v i) ∙ turns.one_each;
     in_box = set-in-box y i (head_at v i) (turns.to_in_box i (pos 0) inside) turns.in_box;
     to_in_box = turns.to_in_box;
@@ -150,3 +159,14 @@ module _ (grid : Grid) (problem : Problem) (side : Side) where
               absurd (omega (arith, ints, l))
               ))
               (λ le. (let b = each m within in omega (arith, ints, b, le)))
+
+  -- the heads that it leads to are those that were proposed
+  pub turns-come : (v y : List ℤ) → AreInTurn grid problem side v y
+      → ((k : ℕ) → k < length v → head_at y k ≡ head_at v k) → ComesInTurn grid problem side y y
+  turns-come v y turns same =
+      let l = turns.one_each in
+      let one : v ≡ y = one-vector side v y (sym l)
+      (λ m lt. subst (λ (h : ℤ). IsBeyond side h (head_at y m)) (same m lt) (beyond-self side (head_at y m)))
+      (λ m lt. subst (λ (h : ℤ). IsBeyond side (head_at y m) h) (same m (omega (arith, lt, l)))
+      (beyond-self side (head_at y m))) in
+      subst (λ (u : List ℤ). ComesInTurn grid problem side u y) one turns.comes

@@ -1,9 +1,11 @@
 -- What a search for the vectors of a period finds.
 -- Source: this program's.
-use Rattle.std.specs.Prelude.{◌≡◌, ℕ, ◌<◌, ℤ, Bool, true, false, List, length, Option, Some}
+use Rattle.std.specs.Prelude.{◌≡◌, ℕ, ◌<◌, ◌≤◌, ℤ, ◌≤ℤ◌, Bool, true, false, List, length, Option, Some, None, slice_get, ◌⊎◌}
 use Rattle.hyd_spec_certificates.specs.declared.Problem.{Problem}
 use Rattle.hyd_spec_certificates.specs.declared.Side.{Side}
-use Rattle.hyd_spec_certificates.specs.Grid.{Grid}
+use Rattle.hyd_spec_certificates.specs.declared.Problem.TheVariants.{Main}
+use Rattle.hyd_spec_certificates.specs.Interval.{Interval}
+use Rattle.hyd_spec_certificates.specs.Grid.{Grid, opposite}
 use Rattle.hyd_spec_certificates.specs.Certificate.{IsCertificate, AreRounds, IsTight}
 use Rattle.hyd_spec_certificates.specs.Record.{Record, vector_of}
 use Rattle.hyd_spec_reports.specs.Stops.{beginning, turn}
@@ -12,6 +14,8 @@ use Rattle.hyd_cert.specs.Lines.{Header}
 use Rattle.hyd_cert.specs.declared.record.Record.{Record as Row}
 use Rattle.hyd_graph.specs.NetView.{NetView}
 use Rattle.hyd_newton.specs.Told.{IsOfSize, told_vector}
+use Rattle.hyd_sweep.specs.Strides.{AreLeapingRounds}
+use Rattle.hyd_vectors.specs.Turns.{ComesInTurn}
 use Rattle.hyd_vectors.specs.declared.lack.Lack.{Lack}
 use Rattle.hyd_vectors.specs.declared.lack.Lack.TheVariants.{NoCertificate, RoundsSpent}
 
@@ -41,6 +45,50 @@ IsSought false told grid tanks problem side u = IsFound told grid tanks problem 
 abbrev pub IsOffered : Bool → Option (List ℤ) → Grid → ℕ → Problem → Side → List ℤ → Type 0
 IsOffered true told grid tanks problem side u = ⊥
 IsOffered false told grid tanks problem side u = IsTold told grid tanks problem side u
+
+-- ---- rounds
+
+-- each tank's interval is in order
+abbrev pub InOrder : Grid → Type 0
+InOrder grid = (k : ℕ) (x : Interval) → slice_get grid.tanks k ≡ Some x → x.lo ≤ℤ x.hi
+
+-- the vector of MAIN on the other side is a certificate, where its turn comes before
+abbrev pub HasOther : Grid → Problem → Side → Record → Type 0
+HasOther grid problem side row = turn Main (opposite side) < turn problem side
+    → IsCertificate grid Main (opposite side) (vector_of row Main (opposite side))
+
+-- where rounds begin if no start is proposed: at the end of the box, or at a certificate of MAIN on the other side,
+-- where the turn of that comes before
+abbrev pub IsAtHand : Grid → Problem → Side → List ℤ → Type 0
+IsAtHand grid problem side u = (u ≡ beginning side (length grid.junctions))
+    ⊎ ((turn Main (opposite side) < turn problem side) × IsCertificate grid Main (opposite side) u)
+
+-- where they begin in any case: there, or at heads that turns lead to
+abbrev pub IsBegun : Grid → Problem → Side → List ℤ → Type 0
+IsBegun grid problem side u = IsAtHand grid problem side u ⊎ ComesInTurn grid problem side u u
+
+-- at most so many rounds in file order, with leaps after each, lead from such heads to a vector
+pub record IsReached (Begins : Grid → Problem → Side → List ℤ → Type 0) (grid : Grid) (problem : Problem) (side : Side)
+    (rounds : ℕ) (u : List ℤ) : Type 0 where
+  pub first : List ℤ
+  pub begun : Begins grid problem side first
+  pub made : ℕ
+  pub most : made ≤ rounds
+  pub by_rounds : AreLeapingRounds None grid problem side made first u
+
+-- a finder tells a list with a vector for each problem and side
+pub record Tells (told : Option (List ℤ)) (n tanks : ℕ) : Type 0 where
+  pub heads : List ℤ
+  pub told_is : told ≡ Some heads
+  pub size : IsOfSize n tanks heads
+
+-- how a vector comes: the tight one by at most so many rounds; another one, where the finder tells its vectors, by as
+-- many from what is at hand, or from the finder
+abbrev pub Comes : Bool → Option (List ℤ) → Grid → ℕ → ℕ → Problem → Side → List ℤ → Type 0
+Comes true told grid tanks rounds problem side u = IsReached IsBegun grid problem side rounds u
+Comes false told grid tanks rounds problem side u =
+    Tells told (length grid.junctions) tanks
+    → IsReached IsAtHand grid problem side rounds u ⊎ IsTold told grid tanks problem side u
 
 -- ---- none
 

@@ -1,15 +1,18 @@
 //! One vector: proposed and checked, or found by rounds.
 #![tactic(auto)]
 
-ghost use Rattle.std.specs.Prelude.{◌≡◌, ℤ, List, length, None, false, IfErr, OnOk, OnErr, IsTrue};
+ghost use Rattle.std.specs.Prelude.{◌≡◌, ◌≤◌, ℕ, ℤ, List, length, None, false, IfErr, OnOk, OnErr, IsTrue};
 ghost use Rattle.hyd_spec_certificates.specs.Certificate.{IsTight};
 ghost use Rattle.hyd_spec_certificates.specs.Climbing.{IsStart};
+ghost use Rattle.hyd_cert.specs.RecordView.{header_of, row_of};
 ghost use Rattle.hyd_graph.specs.GridOf.{grid_of};
 ghost use Rattle.hyd_graph.specs.Nets.{HasProblem};
-ghost use Rattle.hyd_vectors.specs.Vectors.{IsFound, IsTold, IsSought, IsOffered, Lacks};
+ghost use Rattle.hyd_sweep.specs.Strides.{AreLeapingRounds};
+ghost use Rattle.hyd_vectors.specs.Vectors.{HasOther, InOrder, Fits, IsFound, IsTold, IsSought, IsOffered, Tells, Comes, Lacks};
 
 use crate::lack::Lack;
-use crate::starting::Starter;
+use crate::starting::{Starter, begin_near};
+use hyd_cert::Record;
 use hyd_check::check;
 use hyd_graph::Net;
 use hyd_newton::Finder;
@@ -30,6 +33,9 @@ fn propose<F: Finder>(
         → IsFound (F.told finder.old) (grid_of net.now) (length net.now.tanks) problem side heads.new }
     ensures refused { result ≡ false → (w : List ℤ)
         → IsTold (F.told finder.old) (grid_of net.now) (length net.now.tanks) problem side w → ⊥ }
+    ensures tells { IsTrue result
+        → Tells (F.told finder.old) (length (grid_of net.now).junctions) (length net.now.tanks)
+        → IsTold (F.told finder.old) (grid_of net.now) (length net.now.tanks) problem side heads.new }
     ensures each { length heads.new ≡ length heads.old }
     ensures told { F.told finder.new ≡ F.told finder.old }
 {
@@ -53,6 +59,8 @@ fn sweep(
     requires room { sweeper.old ≡ length heads.old }
     requires pinned { HasProblem net.now problem }
     ensures tight { OnOk result (IsTight (grid_of net.now) problem side heads.new) }
+    ensures goes { OnOk result ((n : ℕ)
+        × ((n ≤ rounds) × AreLeapingRounds None (grid_of net.now) problem side n heads.old heads.new)) }
     ensures lack { IfErr result (Lacks (grid_of net.now) problem side rounds) }
     ensures each { length heads.new ≡ length heads.old }
     ensures room { sweeper.new ≡ sweeper.old }
@@ -69,8 +77,8 @@ fn sweep(
     }
 }
 
-/// The vector that is sought of a problem and side: where it is to be tight, by rounds from a start of the finder's; else
-/// the finder's where that passes, and by rounds where it doesn't.
+/// The vector that is sought of a problem and side: where it is to be tight, by rounds from a start of the finder's;
+/// else the finder's where that passes, and by rounds where it doesn't. The record holds the vectors before it.
 pub(crate) fn find<F: Finder>(
     net: &Net,
     finder: &mut F,
@@ -78,6 +86,7 @@ pub(crate) fn find<F: Finder>(
     problem: Problem,
     side: Side,
     rounds: u32,
+    row: &Record,
     starter: &mut Starter,
     sweeper: &mut Sweeper,
     heads: &mut [i64],
@@ -86,8 +95,13 @@ pub(crate) fn find<F: Finder>(
     requires starter_room { starter.old ≡ length heads.old }
     requires room { sweeper.old ≡ length heads.old }
     requires pinned { HasProblem net.now problem }
+    requires order { InOrder (grid_of net.now) }
+    requires fits { Fits net.now (header_of row.now) }
+    requires other { HasOther (grid_of net.now) problem side (row_of row.now) }
     ensures sought { OnOk result
         (IsSought tight (F.told finder.old) (grid_of net.now) (length net.now.tanks) problem side heads.new) }
+    ensures comes { OnOk result
+        (Comes tight (F.told finder.old) (grid_of net.now) (length net.now.tanks) rounds problem side heads.new) }
     ensures lack { IfErr result (Lacks (grid_of net.now) problem side rounds) }
     ensures unoffered { OnErr result ((w : List ℤ)
         → IsOffered tight (F.told finder.old) (grid_of net.now) (length net.now.tanks) problem side w → ⊥) }
@@ -98,12 +112,12 @@ pub(crate) fn find<F: Finder>(
 {
     let _junctions = net.junctions();
     if tight {
-        starter.start(net, finder, problem, side, rounds, heads);
+        starter.start(net, finder, problem, side, rounds, row, heads);
         return sweep(net, problem, side, rounds, sweeper, heads);
     }
     if propose(net, finder, problem, side, heads) {
         return Ok(());
     }
-    begin(side, heads);
+    begin_near(net, row, problem, side, heads);
     sweep(net, problem, side, rounds, sweeper, heads)
 }

@@ -7,7 +7,7 @@ ghost use Rattle.hyd_spec_reports.specs.Stops.{turn};
 ghost use Rattle.hyd_cert.specs.RecordView.{header_of, row_of};
 ghost use Rattle.hyd_graph.specs.GridOf.{grid_of};
 ghost use Rattle.hyd_graph.specs.Nets.{HasProblem};
-ghost use Rattle.hyd_vectors.specs.Vectors.{IsSought, LacksFirst, EachBefore, OfEach, Stays, Fits};
+ghost use Rattle.hyd_vectors.specs.Vectors.{IsSought, Comes, LacksFirst, EachBefore, OfEach, InOrder, Stays, Fits};
 
 use crate::finding::find;
 use crate::lack::Lack;
@@ -69,11 +69,18 @@ impl Search {
     ) -> Result<(), Lack>
         requires room { self.old.junctions ≡ length net.now.junctions }
         requires fits { Fits net.now (header_of row.old) }
+        requires order { InOrder (grid_of net.now) }
         requires pinned { HasProblem net.now problem }
         requires before { EachBefore (IsSought tight (F.told finder.old) (grid_of net.now) (length net.now.tanks))
             (length net.now.tanks) (turn problem side) (row_of row.old) }
+        requires came { EachBefore
+            (Comes tight (F.told finder.old) (grid_of net.now) (length net.now.tanks) self.old.rounds)
+            (length net.now.tanks) (turn problem side) (row_of row.old) }
         ensures found { OnOk result (EachBefore
             (IsSought tight (F.told finder.old) (grid_of net.now) (length net.now.tanks)) (length net.now.tanks) (turn problem side + 1) (row_of row.new)) }
+        ensures comes { OnOk result (EachBefore
+            (Comes tight (F.told finder.old) (grid_of net.now) (length net.now.tanks) self.old.rounds)
+            (length net.now.tanks) (turn problem side + 1) (row_of row.new)) }
         ensures lack { IfErr result (LacksFirst tight (F.told finder.old) (grid_of net.now)
             (length net.now.tanks) self.old.rounds (row_of row.new)) }
         ensures stays { Stays row.old row.new }
@@ -87,6 +94,7 @@ impl Search {
             problem,
             side,
             self.rounds,
+            row,
             &mut self.starter,
             &mut self.sweeper,
             &mut self.heads,
@@ -106,11 +114,18 @@ impl Search {
     ) -> Result<(), Lack>
         requires room { self.old.junctions ≡ length net.now.junctions }
         requires fits { Fits net.now (header_of row.old) }
+        requires order { InOrder (grid_of net.now) }
         requires pinned { HasProblem net.now problem }
         requires before { EachBefore (IsSought tight (F.told finder.old) (grid_of net.now) (length net.now.tanks))
             (length net.now.tanks) (turn problem Upper) (row_of row.old) }
+        requires came { EachBefore
+            (Comes tight (F.told finder.old) (grid_of net.now) (length net.now.tanks) self.old.rounds)
+            (length net.now.tanks) (turn problem Upper) (row_of row.old) }
         ensures found { OnOk result (EachBefore
             (IsSought tight (F.told finder.old) (grid_of net.now) (length net.now.tanks)) (length net.now.tanks) (turn problem Upper + 2) (row_of row.new)) }
+        ensures comes { OnOk result (EachBefore
+            (Comes tight (F.told finder.old) (grid_of net.now) (length net.now.tanks) self.old.rounds)
+            (length net.now.tanks) (turn problem Upper + 2) (row_of row.new)) }
         ensures lack { IfErr result (LacksFirst tight (F.told finder.old) (grid_of net.now)
             (length net.now.tanks) self.old.rounds (row_of row.new)) }
         ensures stays { Stays row.old row.new }
@@ -122,9 +137,9 @@ impl Search {
     }
 
     /// Finds the vector of each problem and side, in the order MAIN UPPER, MAIN LOWER and both sides of each tank
-    /// pinned. Where they are to be tight, it is the tight one, by rounds of raises; else the finder's where that passes
-    /// the check, and else another certificate. Fails with the first problem and side that lacks one; those before
-    /// it stand in the record then.
+    /// pinned. Where they are to be tight, it is the tight one, by rounds of raises; else the finder's where that
+    /// passes the check, and else another certificate, by rounds. No search makes more rounds than it may. Fails with
+    /// the first problem and side that lacks one; those before it stand in the record then.
     pub fn find<F: Finder>(
         &mut self,
         net: &Net,
@@ -134,7 +149,11 @@ impl Search {
     ) -> Result<(), Lack>
         requires room { self.old.junctions ≡ length net.now.junctions }
         requires fits { Fits net.now (header_of row.old) }
+        requires order { InOrder (grid_of net.now) }
         ensures found { OnOk result (OfEach (IsSought tight (F.told finder.old) (grid_of net.now) (length net.now.tanks))
+            (length net.now.tanks) (row_of row.new)) }
+        ensures comes { OnOk result (OfEach
+            (Comes tight (F.told finder.old) (grid_of net.now) (length net.now.tanks) self.old.rounds)
             (length net.now.tanks) (row_of row.new)) }
         ensures lack { IfErr result (LacksFirst tight (F.told finder.old) (grid_of net.now)
             (length net.now.tanks) self.old.rounds (row_of row.new)) }

@@ -1,16 +1,23 @@
 //! Where the search for a tight vector starts: at heads that the finder proposes, where turns of junctions show that
-//! every certificate lies beyond them (the burning test, Dhar 1990), else at the end of the box.
+//! every certificate lies beyond them (the burning test, Dhar 1990), else at the vector of MAIN on the other side, or
+//! at the end of the box where there is none yet.
 #![tactic(auto)]
 
-ghost use Rattle.std.specs.Prelude.{◌≡◌, ◌<◌, ◌↔◌, ℕ, length, All, None, IfSome, IfOk, IsTrue};
+ghost use Rattle.std.specs.Prelude.{◌≡◌, ◌<◌, ◌↔◌, ℕ, length, All, None, false, IfSome, IfOk, IsTrue};
 ghost use Rattle.hyd_spec.specs.Assignment.{head_at};
+ghost use Rattle.hyd_spec_certificates.specs.declared.Problem.TheVariants.{Main};
+ghost use Rattle.hyd_spec_certificates.specs.Grid.{opposite};
 ghost use Rattle.hyd_spec_certificates.specs.Certificate.{IsInBox};
 ghost use Rattle.hyd_spec_certificates.specs.Climbing.{IsStart};
+ghost use Rattle.hyd_spec_reports.specs.Stops.{turn};
+ghost use Rattle.hyd_cert.specs.RecordView.{header_of, row_of};
 ghost use Rattle.hyd_graph.specs.GridOf.{grid_of};
 ghost use Rattle.hyd_graph.specs.Nets.{HasProblem};
 ghost use Rattle.hyd_sweep.specs.Leaps.{nearer};
-ghost use Rattle.hyd_vectors.specs.Turns.{AreInTurn};
+ghost use Rattle.hyd_vectors.specs.Turns.{ComesInTurn, AreInTurn};
+ghost use Rattle.hyd_vectors.specs.Vectors.{HasOther, InOrder, IsAtHand, IsBegun, Fits};
 
+use hyd_cert::Record;
 use hyd_check::{head_of, is_in_box, passes};
 use hyd_graph::Net;
 use hyd_newton::Finder;
@@ -130,6 +137,7 @@ fn are_reached(
     requires heads_each { length heads.old ≡ length to.now }
     requires pinned { HasProblem net.now problem }
     ensures start { IsTrue result → IsStart None (grid_of net.now) problem side heads.new }
+    ensures comes { IsTrue result → ComesInTurn (grid_of net.now) problem side heads.new heads.new }
     ensures each { length heads.new ≡ length heads.old }
 {
     let _junctions = net.junctions();
@@ -138,6 +146,46 @@ fn are_reached(
     }
     take_turns(net, problem, side, to, order, heads);
     are_same(net, to, heads)
+}
+
+fn opposite(side: Side) -> Side
+    ensures { result ≡ opposite side }
+{
+    match side {
+        Side::Upper => Side::Lower,
+        Side::Lower => Side::Upper,
+    }
+}
+
+// Whether a vector is sought before that of MAIN on the other side.
+fn is_first(problem: Problem, side: Side) -> bool
+    ensures { result ≡ false → turn Main (opposite side) < turn problem side }
+{
+    match problem {
+        Problem::Main => match side {
+            Side::Upper => true,
+            Side::Lower => false,
+        },
+        Problem::Pinned(_) => false,
+    }
+}
+
+/// Puts a start: the vector of MAIN on the other side, or the end of the box where that is sought later.
+pub(crate) fn begin_near(net: &Net, row: &Record, problem: Problem, side: Side, heads: &mut [i64])
+    requires one_each { length heads.old ≡ length net.now.junctions }
+    requires order { InOrder (grid_of net.now) }
+    requires fits { Fits net.now (header_of row.now) }
+    requires other { HasOther (grid_of net.now) problem side (row_of row.now) }
+    ensures start { IsStart None (grid_of net.now) problem side heads.new }
+    ensures begun { IsAtHand (grid_of net.now) problem side heads.new }
+    ensures each { length heads.new ≡ length heads.old }
+{
+    let _junctions = net.junctions();
+    if is_first(problem, side) {
+        begin(side, heads);
+        return;
+    }
+    heads.copy_from_slice(row.vector(Problem::Main, opposite(side)));
 }
 
 /// Room for what a finder proposes as a start, opened once. Contracts see the number of junctions that it is for.
@@ -167,7 +215,7 @@ impl Starter {
         Ok(Starter { to, order })
     }
 
-    /// Puts a start for so many rounds: the finder's where turns show that it is one, else the end of the box. With no
+    /// Puts a start for so many rounds: the finder's where turns show that it is one, else the one at hand. With no
     /// round there is nothing to start, and the finder isn't asked.
     pub(crate) fn start<F: Finder>(
         &mut self,
@@ -176,27 +224,32 @@ impl Starter {
         problem: Problem,
         side: Side,
         rounds: u32,
+        row: &Record,
         heads: &mut [i64],
     )
         requires room { self.old ≡ length heads.old }
         requires one_each { length heads.old ≡ length net.now.junctions }
         requires pinned { HasProblem net.now problem }
+        requires order { InOrder (grid_of net.now) }
+        requires fits { Fits net.now (header_of row.now) }
+        requires other { HasOther (grid_of net.now) problem side (row_of row.now) }
         ensures start { IsStart None (grid_of net.now) problem side heads.new }
+        ensures begun { IsBegun (grid_of net.now) problem side heads.new }
         ensures each { length heads.new ≡ length heads.old }
         ensures keeps { self.new ≡ self.old }
         ensures told { F.told finder.new ≡ F.told finder.old }
     {
         let _junctions = net.junctions();
         if rounds == 0 {
-            begin(side, heads);
+            begin_near(net, row, problem, side, heads);
             return;
         }
         if !finder.start(net, problem, side, &mut self.to, &mut self.order) {
-            begin(side, heads);
+            begin_near(net, row, problem, side, heads);
             return;
         }
         if !are_reached(net, problem, side, &self.to, &self.order, heads) {
-            begin(side, heads);
+            begin_near(net, row, problem, side, heads);
         }
     }
 }

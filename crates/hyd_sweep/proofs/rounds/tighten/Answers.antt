@@ -1,21 +1,36 @@
-use Rattle.std.proofs.Common.{◌≡◌, ◌+◌, ◌∙◌, sym, subst, arith, ℕ, suc}
+use Rattle.std.proofs.Common.{◌≡◌, ◌+◌, ◌∙◌, sym, subst, arith, ℕ, suc, length}
 use Rattle.std.proofs.lemmas.Bool.{false≢true}
 use Rattle.hyd_graph.specs.GridOf.{grid_of}
 use Rattle.hyd_spec_certificates.specs.Climbing.{HasRounds}
 use Rattle.hyd_spec_raises.proofs.Sweeping.{has-begins}
-use Rattle.hyd_sweep.specs.Sweeps.{RoundGives}
+use Rattle.hyd_sweep.specs.Sweeps.{RoundGives, AreRaises, no_raise, numbers, in_rounds}
 use Rattle.std.specs.Prelude.{Option}
 use Rattle.hyd_sweep.proofs.Apart.{spent-ends}
-use Rattle.hyd_sweep.proofs.Walking.{round-more, round-start, sweep-none, sweep-spent}
+use Rattle.hyd_sweep.proofs.Walking.{raises-append, round-more, round-start, sweep-none, sweep-spent}
 use Rattle.hyd_sweep.proofs.rounds.tighten.Goals as goal
 
 pub loop-spent-init : goal.loop-spent-init
-loop-spent-init c = record { start = c.requires.start; rounds = has-begins c.args.held (grid_of c.args.net.now) c.junctions-junctions.ensures.steady c.args.problem c.args.side c.args.u.now c.requires.start.one_each }
+loop-spent-init c = record { start = c.requires.start; way = no_raise; rounds = has-begins c.args.held (grid_of c.args.net.now) c.junctions-junctions.ensures.steady c.args.problem c.args.side c.args.u.now c.requires.start.one_each }
 
 pub returns-in-Some-clause-sweep : goal.returns-in-Some-clause-sweep
 returns-in-Some-clause-sweep c =
     sweep-none c.args.held (grid_of c.args.net.now) c.junctions-junctions.ensures.steady c.args.problem c.args.side c.args.rounds c.args.u.now c.loop-spent.u c.round.new.u c.in-Some.junction c.loop-spent.invariant.start
     (subst (λ (r : Option ℕ). RoundGives c.args.held (grid_of c.args.net.now) c.args.problem c.args.side c.loop-spent.u c.round.new.u r) c.in-Some.is c.round.ensures)
+
+pub returns-in-Some-clause-goes : goal.returns-in-Some-clause-goes
+returns-in-Some-clause-goes c =
+    let held = c.args.held in
+    let grid = grid_of c.args.net.now in
+    let gives = subst (λ (r : Option ℕ). RoundGives held grid c.args.problem c.args.side c.loop-spent.u c.round.new.u r)
+    c.in-Some.is c.round.ensures in (
+      c.loop-spent.spent,
+      (
+        c.loop-spent-test.true,
+        raises-append held grid c.junctions-junctions.ensures.steady c.args.problem c.args.side
+            (in_rounds c.loop-spent.spent (length grid.junctions)) (numbers c.in-Some.junction) c.args.u.now
+            c.loop-spent.u c.round.new.u c.loop-spent.invariant.way gives.1.0,
+      ),
+    )
 
 pub loop-spent-preserved : goal.loop-spent-preserved
 loop-spent-preserved c =
@@ -28,6 +43,11 @@ loop-spent-preserved c =
     record {
       start = round-start held grid c.junctions-junctions.ensures.steady problem side c.loop-spent.u c.round.new.u
           gives start;
+      way = subst (λ (n : ℕ). AreRaises held grid problem side (in_rounds n (length grid.junctions)) c.args.u.now
+          c.round.new.u) (let e : suc c.loop-spent.spent ≡ c.loop-spent.spent + 1 = omega arith in e)
+          (raises-append held grid c.junctions-junctions.ensures.steady problem side
+          (in_rounds c.loop-spent.spent (length grid.junctions)) (numbers (length grid.junctions)) c.args.u.now
+          c.loop-spent.u c.round.new.u c.loop-spent.invariant.way gives);
       rounds = subst (λ (n : ℕ). HasRounds held grid problem side n c.args.u.now c.round.new.u) (let e : suc c.loop-spent.spent ≡ c.loop-spent.spent + 1 = omega arith in e)
           (round-more held grid c.junctions-junctions.ensures.steady problem side c.loop-spent.spent c.args.u.now c.loop-spent.u c.round.new.u start.one_each c.loop-spent.invariant.rounds gives);
     }
