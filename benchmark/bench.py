@@ -3,6 +3,8 @@
 
     benchmark/bench.py build PROGRAM                    builds the program that is timed
     benchmark/bench.py sizes PROGRAM [SIZE ..]          grids of so many junctions (100, 1000, 2000, 10000), where the time goes
+    benchmark/bench.py generated PROGRAM [SIZE ..]      networks of the generator with their tank (100, 2000, 10000): whether each
+                                                        vector of the first period is proposed, those of the pinned tank too
     benchmark/bench.py kinds PROGRAM COUNT SIZE [SEED]  COUNT random networks of each kind of networks.py with SIZE junctions,
                                                         seeds from SEED on (1): how many finish without a round of raises
     benchmark/bench.py rounds PROGRAM COUNT SIZE [SEED] the same networks, with nothing proposed and 300 rounds for each vector
@@ -113,6 +115,13 @@ def tell_sizes(program, sizes):
                                          '' if is_narrow(got) else ' not narrow'))
 
 
+def tell_generated(program, sizes):
+    for size in sizes:
+        got = run(program, networks.generated(7, size, tank=True), 0, 0, 0)
+        print('| %d | %s | %.2g | %.1f |' % (size, 'all proposed' if got['outcome'] == 'done' else got['outcome'],
+                                             got['width'], got['processor'] / 1000))
+
+
 def tell_kinds(program, count, size, seed, rounds, tight, none):
     for kind in networks.KINDS:
         got = [(k, run(program, networks.network(kind, size, k), rounds, tight, none)) for k in range(seed, seed + count)]
@@ -133,6 +142,8 @@ def main():
         build(words[1])
     elif len(words) >= 2 and words[0] == 'sizes':
         tell_sizes(words[1], [int(word) for word in words[2:]] or [100, 1000, 2000, 10000])
+    elif len(words) >= 2 and words[0] == 'generated':
+        tell_generated(words[1], [int(word) for word in words[2:]] or [100, 2000, 10000])
     elif len(words) in (4, 5) and words[0] in ('kinds', 'rounds', 'tight'):
         rounds, tight, none = {'kinds': (0, 0, 0), 'rounds': (300, 0, 1), 'tight': (100_000, 1, 0)}[words[0]]
         tell_kinds(words[1], int(words[2]), int(words[3]), int(words[4]) if len(words) == 5 else 1, rounds, tight, none)

@@ -5,7 +5,7 @@ ghost use Rattle.std.specs.Prelude.{◌≡◌, ◌≤◌, ◌<◌, length};
 ghost use Rattle.hyd_graph.specs.Nets.{HasProblem};
 
 use crate::flows::put_misses;
-use crate::mending::mend;
+use crate::mending::{NoValue, mend};
 use crate::numbers::copy;
 use hyd_graph::Net;
 use hyd_spec_certificates::{Problem, Side};
@@ -166,15 +166,20 @@ impl Course {
     }
 
     /// Whether a few raises from the heads lead to where none of the junctions falls short of a certificate, which is put
-    /// as the proposal then.
-    pub(crate) fn mended(&mut self, net: &Net, side: Side, proposal: &mut [i64]) -> bool
+    /// as the proposal then. Fails where one of these junctions has no value.
+    pub(crate) fn mended(
+        &mut self,
+        net: &Net,
+        side: Side,
+        proposal: &mut [i64],
+    ) -> Result<bool, NoValue>
         ensures { length proposal.new ≡ length proposal.old }
     {
         copy(&self.heads, &mut self.trial);
-        if !mend(net, side, &mut self.trial) {
-            return false;
+        let mended = mend(net, side, &mut self.trial)?;
+        if mended {
+            copy(&self.trial, proposal);
         }
-        copy(&self.trial, proposal);
-        true
+        Ok(mended)
     }
 }

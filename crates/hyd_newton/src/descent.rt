@@ -4,9 +4,10 @@
 ghost use Rattle.std.specs.Prelude.{◌≡◌, length};
 
 use crate::course::HEAD_TICK_PART;
-use crate::mending::{further, mend, over};
+use crate::flows::is_flat;
+use crate::mending::{further, mend, over, put_over};
 use crate::numbers::{copy, number_at};
-use crate::turns::take_turns;
+use crate::turns::Turns;
 use hyd_check::is_in_box;
 use hyd_graph::Net;
 use hyd_spec_certificates::Side;
@@ -26,8 +27,10 @@ pub(crate) struct Descent {
     pub(crate) heads: Vec<i64>,
     /// The heads that were tried last.
     trial: Vec<i64>,
-    /// The junctions whose turn was, in this order.
-    pub(crate) order: Vec<u32>,
+    /// The turns of junctions one tick nearer.
+    turns: Turns,
+    /// Which junctions lie on the rim of the set that has no turn.
+    rim: Vec<bool>,
 }
 
 // Whether a junction passes at given heads.
@@ -36,11 +39,38 @@ fn holds(net: &Net, side: Side, heads: &[i64], junction: u32) -> bool {
     is_in_box(head) && over(net, side, heads, junction, head) >= 0
 }
 
-// Whether all junctions that stand elsewhere than in the certificate pass.
-fn all_hold(net: &Net, side: Side, heads: &[i64], trial: &[i64]) -> bool {
+// Whether it changes by how much a junction passes when its set comes nearer: a link leads out of the set, or what leaves
+// the junction beside its links depends on its head. Within a set that comes nearer as a whole, flows stay as they are.
+fn lies_on_rim(net: &Net, heads: &[i64], trial: &[i64], junction: u32) -> bool {
+    if junction >= net.junctions() || !is_flat(net, junction) {
+        return true;
+    }
+    let _nodes = net.nodes();
+    for tie in net.row(junction) {
+        if number_at(heads, tie.other) == number_at(trial, tie.other) {
+            return true;
+        }
+    }
+    false
+}
+
+// Notes the rim of the set of junctions that stand elsewhere than in the certificate.
+fn put_rim(net: &Net, heads: &[i64], trial: &[i64], rim: &mut [bool])
+    ensures { length rim.new ≡ length rim.old }
+{
     for junction in 0..net.junctions() {
         let moved = number_at(heads, junction) != number_at(trial, junction);
-        if moved && !holds(net, side, trial, junction) {
+        if let Some(entry) = rim.get_mut(junction as usize) {
+            *entry = moved && lies_on_rim(net, heads, trial, junction);
+        }
+    }
+}
+
+// Whether all junctions on the rim pass.
+fn rim_holds(net: &Net, side: Side, trial: &[i64], rim: &[bool]) -> bool {
+    for junction in 0..net.junctions() {
+        let judged = rim.get(junction as usize).copied().unwrap_or(false);
+        if judged && !holds(net, side, trial, junction) {
             return false;
         }
     }
@@ -74,17 +104,6 @@ fn put_step(net: &Net, side: Side, heads: &[i64], step: &[i64], scale: f64, tria
     }
 }
 
-// Puts by how much each junction passes.
-fn put_over(net: &Net, side: Side, heads: &[i64], amounts: &mut [i64])
-    ensures { length amounts.new ≡ length amounts.old }
-{
-    for junction in 0..net.junctions() {
-        if let Some(entry) = amounts.get_mut(junction as usize) {
-            *entry = over(net, side, heads, junction, number_at(heads, junction));
-        }
-    }
-}
-
 impl Descent {
     /// Room for a net's nodes.
     pub(crate) fn open(alloc: Global, net: &Net) -> Result<Descent, OutOfMemory> {
@@ -93,7 +112,8 @@ impl Descent {
         Ok(Descent {
             heads: vec![in alloc; 0i64; nodes]?,
             trial: vec![in alloc; 0i64; nodes]?,
-            order: vec![in alloc; 0u32; junctions]?,
+            turns: Turns::open(alloc, net)?,
+            rim: vec![in alloc; false; junctions]?,
         })
     }
 
@@ -107,14 +127,14 @@ impl Descent {
     // Whether the certificate is the tight vector, in which each junction has its turn. The others stand one tick nearer
     // in the trial then.
     fn is_tight(&mut self, net: &Net, side: Side) -> bool {
-        let count = take_turns(net, side, &self.heads, &mut self.trial, &mut self.order);
+        let count = self.turns.take_all(net, side, &self.heads, &mut self.trial);
         count >= net.junctions()
     }
 
     // Whether the junctions that stand elsewhere than in the certificate pass so many ticks nearer than there.
     fn reaches(&mut self, net: &Net, side: Side, ticks: i64) -> bool {
         put_nearer(net, side, &self.heads, &mut self.trial, ticks);
-        all_hold(net, side, &self.heads, &self.trial)
+        rim_holds(net, side, &self.trial, &self.rim)
     }
 
     // The first of 2, 4, 8 .. ticks so far that they don't pass.
@@ -148,6 +168,7 @@ impl Descent {
 
     /// Puts the junctions that have no turn as far nearer as they pass together.
     fn lower(&mut self, net: &Net, side: Side) {
+        put_rim(net, &self.heads, &self.trial, &mut self.rim);
         let reach = self.reach(net, side);
         let most = self.most_ticks(net, side, reach);
         if self.reaches(net, side, most) {
@@ -162,13 +183,20 @@ impl Descent {
         put_over(net, side, &self.heads, amounts);
     }
 
+    /// Copies the order of the turns.
+    pub(crate) fn copy_order(&self, into: &mut [u32])
+        ensures { length into.new ≡ length into.old }
+    {
+        self.turns.copy_order(into);
+    }
+
     /// Goes along a step, in parts of a tick, to where a few raises lead to a certificate again: as far as it says, or
     /// else a quarter of that, or of this.
     pub(crate) fn go(&mut self, net: &Net, side: Side, step: &[i64]) {
         let mut scale = HEAD_TICK_PART;
         for _ in 0..QUARTERS {
             put_step(net, side, &self.heads, step, scale, &mut self.trial);
-            if mend(net, side, &mut self.trial) {
+            if let Ok(true) = mend(net, side, &mut self.trial) {
                 copy(&self.trial, &mut self.heads);
                 return;
             }

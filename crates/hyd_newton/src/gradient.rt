@@ -8,10 +8,10 @@ use crate::course::Course;
 use crate::descent::Descent;
 use crate::exact::serve;
 use crate::finder::Finder;
+use crate::mending::NoValue;
 use crate::numbers::{copy, fill, multiply, number_at};
 use crate::progress::Progress;
 use crate::tangent::Tangent;
-use crate::turns::copy_order;
 use crate::weights::{greatest_ratio, put_weights};
 use hyd_graph::Net;
 use hyd_spec_certificates::{Problem, Side};
@@ -132,23 +132,22 @@ impl Gradient {
     }
 
     // Whether steps from the middle toward the balance of the loads lead to a certificate, which is then the proposal.
-    fn find_loaded(&mut self, net: &Net, problem: Problem, side: Side) -> bool
+    fn find_loaded(&mut self, net: &Net, problem: Problem, side: Side) -> Result<bool, NoValue>
         requires { HasProblem net.now problem }
     {
         self.begin(net);
         for _ in 0..LOADED_STEPS {
             self.step(net, false);
-            if self.course.mended(net, side, &mut self.proposal)
-                && serve(net, problem, side, &self.proposal)
-            {
-                return true;
+            let mended = self.course.mended(net, side, &mut self.proposal)?;
+            if mended && serve(net, problem, side, &self.proposal) {
+                return Ok(true);
             }
         }
-        false
+        Ok(false)
     }
 
-    // Whether some loads lead to a certificate.
-    fn find_shifted(&mut self, net: &Net, problem: Problem, side: Side) -> bool
+    // Whether some loads lead to a certificate. Where a junction has no value, greater ones don't help it.
+    fn find_shifted(&mut self, net: &Net, problem: Problem, side: Side) -> Result<bool, NoValue>
         requires { HasProblem net.now problem }
     {
         let mut times = match side {
@@ -157,12 +156,12 @@ impl Gradient {
         };
         for _ in 0..LOADS {
             multiply(&self.weights, times, &mut self.course.loads);
-            if self.find_loaded(net, problem, side) {
-                return true;
+            if self.find_loaded(net, problem, side)? {
+                return Ok(true);
             }
             times = times.saturating_mul(2);
         }
-        false
+        Ok(false)
     }
 
     // Whether a certificate was found, which is then the proposal.
@@ -175,7 +174,7 @@ impl Gradient {
         self.course.fix(net, problem, side);
         self.begin_flat();
         self.find_middle(net);
-        self.find_shifted(net, problem, side)
+        self.find_shifted(net, problem, side).unwrap_or(false)
     }
 
     // One step from the certificate toward where the junctions pass by nothing.
@@ -221,7 +220,7 @@ impl Finder for Gradient {
             return false;
         }
         copy(&self.descent.heads, out);
-        copy_order(&self.descent.order, order);
+        self.descent.copy_order(order);
         true
     }
 }

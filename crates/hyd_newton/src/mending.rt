@@ -5,6 +5,7 @@ ghost use Rattle.std.specs.Prelude.{◌≡◌, length};
 
 use crate::flows::{bound_flow, bound_outflow};
 use crate::numbers::number_at;
+use hyd_check::is_in_box;
 use hyd_graph::Net;
 use hyd_spec_certificates::Side;
 
@@ -24,6 +25,10 @@ const PASSES: u32 = 40;
 /// How often the way of a raise is doubled.
 const DOUBLINGS: u32 = 60;
 
+/// A junction falls short however far out it stands: raises at others, which stand farther out then, don't help it.
+#[derive(Debug, Clone, Copy, PartialEq, Eq, Drop)]
+pub(crate) struct NoValue;
+
 // What flows out of a junction on balance at a head: at most for UPPER, at least for LOWER.
 fn net_outflow(net: &Net, side: Side, heads: &[i64], junction: u32, head: i64) -> i64 {
     if junction >= net.junctions() {
@@ -38,17 +43,21 @@ fn net_outflow(net: &Net, side: Side, heads: &[i64], junction: u32, head: i64) -
     sum
 }
 
+/// A number of flow ticks as it counts on a side: more is farther out.
+pub(crate) fn outward(side: Side, ticks: i64) -> i64 {
+    match side {
+        Side::Upper => ticks,
+        Side::Lower => ticks.saturating_neg(),
+    }
+}
+
 /// By how much a junction passes at a head: less than 0 where it falls short.
 pub(crate) fn over(net: &Net, side: Side, heads: &[i64], junction: u32, head: i64) -> i64 {
     if junction >= net.junctions() {
         return 0;
     }
     let outflow = net_outflow(net, side, heads, junction, head);
-    let outward = match side {
-        Side::Upper => outflow,
-        Side::Lower => outflow.saturating_neg(),
-    };
-    outward
+    outward(side, outflow)
         .saturating_sub(net.margin(junction))
         .saturating_sub(1)
 }
@@ -66,17 +75,32 @@ pub(crate) fn further(side: Side, head: i64, ticks: i64) -> i64 {
     }
 }
 
-// The first of 1, 2, 4 .. ticks farther out at which a junction passes.
-fn reach(net: &Net, side: Side, heads: &[i64], junction: u32) -> i64 {
+/// Puts by how much each junction passes at given heads of all nodes.
+pub(crate) fn put_over(net: &Net, side: Side, heads: &[i64], amounts: &mut [i64])
+    ensures { length amounts.new ≡ length amounts.old }
+{
+    for junction in 0..net.junctions() {
+        if let Some(entry) = amounts.get_mut(junction as usize) {
+            *entry = over(net, side, heads, junction, number_at(heads, junction));
+        }
+    }
+}
+
+// The first of 1, 2, 4 .. ticks farther out at which a junction passes, if it does at one of them in the box.
+fn reach(net: &Net, side: Side, heads: &[i64], junction: u32) -> Result<i64, NoValue> {
     let here = number_at(heads, junction);
     let mut ticks = 1i64;
     for _ in 0..DOUBLINGS {
-        if passes(net, side, heads, junction, further(side, here, ticks)) {
-            return ticks;
+        let head = further(side, here, ticks);
+        if !is_in_box(head) {
+            return Err(NoValue);
+        }
+        if passes(net, side, heads, junction, head) {
+            return Ok(ticks);
         }
         ticks = ticks.saturating_mul(2);
     }
-    ticks
+    Err(NoValue)
 }
 
 // The least number of ticks farther out at which a junction passes, by halving its reach.
@@ -109,52 +133,53 @@ fn count_short(net: &Net, side: Side, heads: &[i64]) -> u32 {
 }
 
 // Raises a junction to the nearest head at which it passes.
-fn raise(net: &Net, side: Side, heads: &mut [i64], junction: u32)
+fn raise(net: &Net, side: Side, heads: &mut [i64], junction: u32) -> Result<(), NoValue>
     ensures { length heads.new ≡ length heads.old }
 {
-    let reach = reach(net, side, heads, junction);
+    let reach = reach(net, side, heads, junction)?;
     let ticks = ticks_to_pass(net, side, heads, junction, reach);
     let head = further(side, number_at(heads, junction), ticks);
     if let Some(entry) = heads.get_mut(junction as usize) {
         *entry = head;
     }
+    Ok(())
 }
 
 // Raises each junction that falls short when it is its turn, and counts the raises.
-fn raise_each(net: &Net, side: Side, heads: &mut [i64]) -> u32
+fn raise_each(net: &Net, side: Side, heads: &mut [i64]) -> Result<u32, NoValue>
     ensures { length heads.new ≡ length heads.old }
 {
     let mut count = 0u32;
     for junction in 0..net.junctions() {
         if !passes(net, side, heads, junction, number_at(heads, junction)) {
-            raise(net, side, heads, junction);
+            raise(net, side, heads, junction)?;
             count = count.saturating_add(1);
         }
     }
-    count
+    Ok(count)
 }
 
 /// Raises junctions that fall short, and those that do then, where they are few, and tells whether none does any more.
-/// The heads are those of all nodes.
-pub(crate) fn mend(net: &Net, side: Side, heads: &mut [i64]) -> bool
+/// Fails at the first junction that has no value. The heads are those of all nodes.
+pub(crate) fn mend(net: &Net, side: Side, heads: &mut [i64]) -> Result<bool, NoValue>
     ensures { length heads.new ≡ length heads.old }
 {
     let junctions = net.junctions();
     if count_short(net, side, heads) > (junctions / SHARE).saturating_add(FEW) {
-        return false;
+        return Ok(false);
     }
     let mut left = junctions
         .saturating_mul(RAISES)
         .saturating_add(SPARE_RAISES);
     for _ in 0..PASSES {
-        let raises = raise_each(net, side, heads);
+        let raises = raise_each(net, side, heads)?;
         if raises == 0 {
-            return true;
+            return Ok(true);
         }
         if raises > left {
-            return false;
+            return Ok(false);
         }
         left -= raises;
     }
-    false
+    Ok(false)
 }

@@ -5,10 +5,23 @@
 
 ghost use Rattle.std.specs.Prelude.{◌≡◌, length};
 
-use crate::mending::{further, passes};
-use crate::numbers::{copy, number_at};
-use hyd_graph::Net;
+use crate::flows::bound_flow;
+use crate::mending::{further, outward, put_over};
+use crate::numbers::{add_at, copy, number_at};
+use hyd_graph::{Net, Tie};
 use hyd_spec_certificates::Side;
+use std::alloc::{AllocError as OutOfMemory, Global};
+
+/// Room for the turns of a net's junctions, opened once.
+#[derive(Drop)]
+pub(crate) struct Turns {
+    /// By how much each junction passes where it stands, kept up while others move: each link end is looked at twice.
+    balances: Vec<i64>,
+    /// The junctions whose turn was, in this order.
+    order: Vec<u32>,
+    /// How many these are.
+    count: u32,
+}
 
 // Puts all junctions one tick nearer than in the certificate.
 fn put_nearer(net: &Net, side: Side, heads: &[i64], trial: &mut [i64])
@@ -22,106 +35,121 @@ fn put_nearer(net: &Net, side: Side, heads: &[i64], trial: &mut [i64])
     }
 }
 
-// Whether it is the turn of a junction, which then stands where it does in the certificate.
-fn takes_turn(net: &Net, side: Side, heads: &[i64], trial: &mut [i64], junction: u32) -> bool
-    ensures { length trial.new ≡ length trial.old }
-{
-    let head = number_at(heads, junction);
-    let short = number_at(trial, junction);
-    if junction >= net.junctions() || short == head || passes(net, side, trial, junction, short) {
-        return false;
-    }
-    if let Some(entry) = trial.get_mut(junction as usize) {
-        *entry = head;
-    }
-    true
+// By how much more a node passes that stands at a head, when the junction at the other end of a link end moves by one
+// tick to its head.
+fn more(net: &Net, side: Side, tie: Tie, head: i64, other: i64) -> i64 {
+    let before = bound_flow(net, side, tie, head, further(side, other, -1));
+    let after = bound_flow(net, side, tie, head, other);
+    outward(side, after.saturating_sub(before))
 }
 
-// Takes the turns that come in file order, notes them, and counts them.
-fn take_in_file_order(
-    net: &Net,
-    side: Side,
-    heads: &[i64],
-    trial: &mut [i64],
-    order: &mut [u32],
-) -> u32
-    ensures trial { length trial.new ≡ length trial.old }
-    ensures order { length order.new ≡ length order.old }
-{
-    let mut count = 0u32;
-    for junction in 0..net.junctions() {
-        if takes_turn(net, side, heads, trial, junction) {
-            note(order, count, junction);
-            count = count.saturating_add(1);
+// The same link end from its other node.
+fn turned(tie: Tie, junction: u32) -> Tie {
+    Tie {
+        link: tie.link,
+        other: junction,
+        out: !tie.out,
+    }
+}
+
+impl Turns {
+    /// Room for a net's junctions.
+    pub(crate) fn open(alloc: Global, net: &Net) -> Result<Turns, OutOfMemory> {
+        let junctions = net.junctions() as usize;
+        Ok(Turns {
+            balances: vec![in alloc; 0i64; junctions]?,
+            order: vec![in alloc; 0u32; junctions]?,
+            count: 0,
+        })
+    }
+
+    // Notes a junction as the next.
+    fn note(&mut self, junction: u32) {
+        if let Some(entry) = self.order.get_mut(self.count as usize) {
+            *entry = junction;
+        }
+        self.count = self.count.saturating_add(1);
+    }
+
+    // Puts a junction to its head and notes it, where it falls short and its turn wasn't yet.
+    fn take(&mut self, heads: &[i64], trial: &mut [i64], junction: u32)
+        ensures { length trial.new ≡ length trial.old }
+    {
+        let head = number_at(heads, junction);
+        if number_at(&self.balances, junction) >= 0 || number_at(trial, junction) == head {
+            return;
+        }
+        if let Some(entry) = trial.get_mut(junction as usize) {
+            *entry = head;
+        }
+        self.note(junction);
+    }
+
+    // Takes the turns of those that fall short while all stand nearer.
+    fn take_first(&mut self, net: &Net, heads: &[i64], trial: &mut [i64])
+        ensures { length trial.new ≡ length trial.old }
+    {
+        for junction in 0..net.junctions() {
+            self.take(heads, trial, junction);
         }
     }
-    count
-}
 
-// Notes a junction at a place of a list.
-fn note(order: &mut [u32], place: u32, junction: u32)
-    ensures { length order.new ≡ length order.old }
-{
-    if let Some(entry) = order.get_mut(place as usize) {
-        *entry = junction;
-    }
-}
-
-// Takes the turns that come beside a junction whose turn was, and counts on.
-fn take_beside(
-    net: &Net,
-    side: Side,
-    heads: &[i64],
-    trial: &mut [i64],
-    order: &mut [u32],
-    junction: u32,
-    before: u32,
-) -> u32
-    ensures trial { length trial.new ≡ length trial.old }
-    ensures order { length order.new ≡ length order.old }
-{
-    if junction >= net.junctions() {
-        return before;
-    }
-    let _nodes = net.nodes();
-    let mut count = before;
-    for tie in net.row(junction) {
-        if takes_turn(net, side, heads, trial, tie.other) {
-            note(order, count, tie.other);
-            count = count.saturating_add(1);
+    // Takes the turns that come beside a junction whose turn was.
+    fn take_beside(
+        &mut self,
+        net: &Net,
+        side: Side,
+        heads: &[i64],
+        trial: &mut [i64],
+        junction: u32,
+    )
+        ensures { length trial.new ≡ length trial.old }
+    {
+        if junction >= net.junctions() {
+            return;
+        }
+        let _nodes = net.nodes();
+        let head = number_at(heads, junction);
+        for tie in net.row(junction) {
+            let there = number_at(trial, tie.other);
+            if there != number_at(heads, tie.other) {
+                let more = more(net, side, turned(*tie, junction), there, head);
+                add_at(&mut self.balances, tie.other, more);
+                self.take(heads, trial, tie.other);
+            }
         }
     }
-    count
-}
 
-/// Takes all turns, notes their order, and counts them. The others stand one tick nearer in `trial` then.
-pub(crate) fn take_turns(
-    net: &Net,
-    side: Side,
-    heads: &[i64],
-    trial: &mut [i64],
-    order: &mut [u32],
-) -> u32
-    ensures trial { length trial.new ≡ length trial.old }
-    ensures order { length order.new ≡ length order.old }
-{
-    put_nearer(net, side, heads, trial);
-    let mut count = take_in_file_order(net, side, heads, trial, order);
-    for place in 0..net.junctions() {
-        if place >= count {
-            return count;
+    /// Takes all turns, notes their order, and counts them. The others stand one tick nearer in `trial` then.
+    pub(crate) fn take_all(
+        &mut self,
+        net: &Net,
+        side: Side,
+        heads: &[i64],
+        trial: &mut [i64],
+    ) -> u32
+        ensures { length trial.new ≡ length trial.old }
+    {
+        put_nearer(net, side, heads, trial);
+        put_over(net, side, trial, &mut self.balances);
+        self.count = 0;
+        self.take_first(net, heads, trial);
+        for place in 0..net.junctions() {
+            if place >= self.count {
+                return self.count;
+            }
+            let junction = self.order.get(place as usize).copied().unwrap_or(0);
+            self.take_beside(net, side, heads, trial, junction);
         }
-        let junction = order.get(place as usize).copied().unwrap_or(0);
-        count = take_beside(net, side, heads, trial, order, junction, count);
+        self.count
     }
-    count
-}
 
-/// Copies as many junctions as both orders have.
-pub(crate) fn copy_order(from: &[u32], into: &mut [u32])
-    ensures { length into.new ≡ length into.old }
-{
-    for (entry, junction) in into.iter_mut().zip(from) {
-        *entry = *junction;
+    /// Copies the order of as many junctions as another has room for.
+    pub(crate) fn copy_order(&self, into: &mut [u32])
+        ensures { length into.new ≡ length into.old }
+    {
+        for (entry, junction) in into.iter_mut().zip(&self.order) {
+            *entry = *junction;
+        }
     }
 }

@@ -7,10 +7,12 @@ ghost use Rattle.hyd_bounds.specs.Bounds.{TanksInOrder};
 
 use crate::boxes::are_bounds;
 use crate::given::read;
-use crate::networks::{Network, networks, two_junctions, without_source};
-use crate::tight::{are_found, are_proposed, are_spent};
+use crate::networks::{Network, generated, networks, two_junctions, without_source};
+use crate::tight::{are_found, are_proposed, are_spent, are_starts};
+use hyd_gen::generate;
 use hyd_given::put_at;
 use hyd_graph::Net;
+use hyd_inp::read_project;
 use hyd_net::{OutOfMemory, Project};
 use std::alloc::Global;
 use std::test::Fail;
@@ -26,6 +28,8 @@ enum Asked {
     Spent,
     /// Whether the gradient method proposes certificates.
     Proposed,
+    /// Whether it proposes that searches for the tight vectors start there.
+    Started,
 }
 
 // Whether it is so of a net in its period.
@@ -37,6 +41,7 @@ fn is_so_in(alloc: Global, net: &Net, network: &Network, asked: Asked) -> Result
         Asked::Bounded => Ok(are_bounds(net, network)),
         Asked::Spent => are_spent(alloc, net),
         Asked::Proposed => are_proposed(alloc, net),
+        Asked::Started => are_starts(alloc, net, network.rows),
     }
 }
 
@@ -60,6 +65,13 @@ fn is_so_of(
 fn is_so(alloc: Global, network: &Network, asked: Asked) -> Result<bool, Fail> {
     let project = read(alloc, network.text)?;
     Ok(is_so_of(alloc, &project, network, asked)?)
+}
+
+// Whether the gradient method proposes certificates for the generated network of so many junctions.
+fn is_proposed_generated(alloc: Global, seed: u32, junctions: u32) -> Result<bool, Fail> {
+    let text = generate(alloc, seed, junctions)?;
+    let project = read_project(alloc, &text)?;
+    Ok(is_so_of(alloc, &project, &generated(), Asked::Proposed)?)
 }
 
 // The number of the first network of which it isn't so.
@@ -93,5 +105,18 @@ fn without_a_source_rounds_are_spent(rt: HostRuntime) -> Result<(), Fail> {
 #[test]
 fn proposals_are_certificates(rt: HostRuntime) -> Result<(), Fail> {
     assert!(rt; is_so(rt.alloc(), &two_junctions(), Asked::Proposed)?);
+    assert_eq!(rt; first_other(rt.alloc(), networks(), Asked::Proposed)?, None);
+    Ok(())
+}
+
+#[test]
+fn starts_are_the_tight_vectors(rt: HostRuntime) -> Result<(), Fail> {
+    assert_eq!(rt; first_other(rt.alloc(), networks(), Asked::Started)?, None);
+    Ok(())
+}
+
+#[test]
+fn proposals_for_a_generated_network_are_certificates(rt: HostRuntime) -> Result<(), Fail> {
+    assert!(rt; is_proposed_generated(rt.alloc(), 7, 100)?);
     Ok(())
 }

@@ -634,6 +634,17 @@ pub(crate) fn two_junctions() -> Network {
     }
 }
 
+/// The first period of a generated network, whose text is made when it is asked.
+pub(crate) fn generated() -> Network {
+    Network {
+        text: "",
+        time: 0,
+        levels: &[(50_000_000_000_000, 50_000_000_000_000)],
+        rows: &[],
+        bounds: None,
+    }
+}
+
 /// Two junctions that are joined to each other alone.
 pub(crate) fn without_source() -> Network {
     Network {

@@ -116,23 +116,65 @@ pub(crate) fn are_spent(alloc: Global, net: &Net) -> Result<bool, OutOfMemory> {
 }
 
 // What the gradient method proposes from where sweeps begin.
-fn proposed(alloc: Global, net: &Net, side: Side) -> Result<Vec<i64>, OutOfMemory>
+fn proposed(alloc: Global, net: &Net, problem: Problem, side: Side) -> Result<Vec<i64>, OutOfMemory>
+    requires { HasProblem net.now problem }
     ensures { IfOk result (λ heads. length heads.items ≡ length net.now.junctions) }
 {
     let mut finder = Gradient::open(alloc, net)?;
     let mut heads = vec![in alloc; 0i64; net.junctions() as usize]?;
     begin(side, &mut heads);
-    finder.propose(net, Problem::Main, side, &mut heads);
+    finder.propose(net, problem, side, &mut heads);
     Ok(heads)
 }
 
 // Whether that is a certificate.
-fn is_proposed(alloc: Global, net: &Net, side: Side) -> Result<bool, OutOfMemory> {
-    let heads = proposed(alloc, net, side)?;
-    Ok(check(net, Problem::Main, side, &heads).is_ok())
+fn is_proposed(alloc: Global, net: &Net, problem: Problem, side: Side) -> Result<bool, OutOfMemory>
+    requires { HasProblem net.now problem }
+{
+    let heads = proposed(alloc, net, problem, side)?;
+    Ok(check(net, problem, side, &heads).is_ok())
 }
 
-/// Whether the gradient method proposes certificates of both sides.
+// Whether the gradient method proposes certificates of both sides of a problem.
+fn are_both_proposed(alloc: Global, net: &Net, problem: Problem) -> Result<bool, OutOfMemory> {
+    if !is_problem(net, problem) {
+        return Ok(false);
+    }
+    Ok(
+        is_proposed(alloc, net, problem, Side::Upper)?
+            && is_proposed(alloc, net, problem, Side::Lower)?,
+    )
+}
+
+/// Whether the gradient method proposes certificates of both sides, with all tanks free and with each pinned.
 pub(crate) fn are_proposed(alloc: Global, net: &Net) -> Result<bool, OutOfMemory> {
-    Ok(is_proposed(alloc, net, Side::Upper)? && is_proposed(alloc, net, Side::Lower)?)
+    for tank in 0..net.tanks() {
+        if !are_both_proposed(alloc, net, Problem::Pinned(tank))? {
+            return Ok(false);
+        }
+    }
+    are_both_proposed(alloc, net, Problem::Main)
+}
+
+// Whether the gradient method proposes that the search for a tight vector starts there.
+fn is_start(alloc: Global, net: &Net, row: Row) -> Result<bool, OutOfMemory> {
+    if !is_problem(net, row.0) {
+        return Ok(false);
+    }
+    let junctions = net.junctions() as usize;
+    let mut finder = Gradient::open(alloc, net)?;
+    let mut heads = vec![in alloc; 0i64; junctions]?;
+    let mut order = vec![in alloc; 0u32; junctions]?;
+    let starts = finder.start(net, row.0, row.1, &mut heads, &mut order);
+    Ok(starts && heads.as_slice() == row.2)
+}
+
+/// Whether the gradient method proposes that the search for each vector starts there.
+pub(crate) fn are_starts(alloc: Global, net: &Net, rows: &[Row]) -> Result<bool, OutOfMemory> {
+    for row in rows {
+        if !is_start(alloc, net, *row)? {
+            return Ok(false);
+        }
+    }
+    Ok(true)
 }

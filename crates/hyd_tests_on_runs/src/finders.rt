@@ -1,6 +1,6 @@
 //! Finders of the tests' own: a proposal that passes the check is used, and one that doesn't changes nothing.
 
-ghost use Rattle.std.specs.Prelude.{◌≡◌, None, length};
+ghost use Rattle.std.specs.Prelude.{◌≡◌, ◌∷◌, [], None, Some, length};
 
 use hyd_cert::Record;
 use hyd_graph::Net;
@@ -55,6 +55,39 @@ impl Finder for Heads {
     ) -> bool {
         self.put(side, out);
         true
+    }
+}
+
+/// Tells the list of one head for UPPER and one for LOWER: the vectors of a network with one junction and no tank.
+#[derive(Clone, Copy, Drop)]
+struct Told {
+    upper: i64,
+    lower: i64,
+}
+
+impl Finder for Told {
+    ghost told = { λ t. Some (t.upper ∷ t.lower ∷ []) };
+
+    fn propose(&mut self, _net: &Net, _problem: Problem, side: Side, out: &mut [i64]) {
+        let head = match side {
+            Side::Upper => self.upper,
+            Side::Lower => self.lower,
+        };
+        if out.len() == 1 {
+            out.copy_from_slice(&[head]);
+        }
+    }
+
+    /// Proposes no start.
+    fn start(
+        &mut self,
+        _net: &Net,
+        _problem: Problem,
+        _side: Side,
+        _out: &mut [i64],
+        _order: &mut [u32],
+    ) -> bool {
+        false
     }
 }
 
@@ -159,6 +192,17 @@ fn first_other(alloc: Global, tight: bool) -> Result<&'static str, Fail> {
 #[test]
 fn proposals_that_pass_are_used(rt: HostRuntime) -> Result<(), Fail> {
     assert_eq!(rt; first_other(rt.alloc(), false)?, "none");
+    Ok(())
+}
+
+#[test]
+fn a_list_that_is_told_is_the_record(rt: HostRuntime) -> Result<(), Fail> {
+    let mut finder = Told {
+        upper: 1_000_000_000_000_003,
+        lower: 999_999_999_999_996,
+    };
+    let wanted = Some((1_000_000_000_000_003, 999_999_999_999_996));
+    assert_eq!(rt; found(rt.alloc(), &mut finder, false)?, wanted);
     Ok(())
 }
 

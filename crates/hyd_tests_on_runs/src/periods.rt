@@ -471,6 +471,27 @@ pub(crate) const STOPS: &[Run] = &[
     },
 ];
 
+/// A row of twelve junctions behind throttle control valves. From the end of the box 200 rounds don't lead to its tight
+/// vectors.
+const ROW: &str =
+    "[OPTIONS]\nUNITS CMD\nHEADLOSS C-M\n[JUNCTIONS]\nJ1 0 1000\nJ2 0 1000\nJ3 0 1000\nJ4 0 1000\n\
+    J5 0 1000\nJ6 0 1000\nJ7 0 1000\nJ8 0 1000\nJ9 0 1000\nJ10 0 1000\nJ11 0 1000\nJ12 0 1000\n\
+    [RESERVOIRS]\nR 100\n[VALVES]\nV1 R J1 304.8 TCV 100 0\nV2 J1 J2 304.8 TCV 100 0\n\
+    V3 J2 J3 304.8 TCV 100 0\nV4 J3 J4 304.8 TCV 100 0\nV5 J4 J5 304.8 TCV 100 0\n\
+    V6 J5 J6 304.8 TCV 100 0\nV7 J6 J7 304.8 TCV 100 0\nV8 J7 J8 304.8 TCV 100 0\n\
+    V9 J8 J9 304.8 TCV 100 0\nV10 J9 J10 304.8 TCV 100 0\nV11 J10 J11 304.8 TCV 100 0\n\
+    V12 J11 J12 304.8 TCV 100 0\n";
+
+/// Its certificate.
+const ROW_VECTORS: &str =
+    "HYDCERT 1 12 0\nPERIOD 0 0 0\nMU 815437525242496\nMU 660353779089509\nMU 532185393836543\n\
+    MU 428369001779103\nMU 346341235212694\nMU 283538726432820\nMU 237398107734985\n\
+    MU 205356011414695\nMU 184849069767454\nMU 173313915088766\nMU 168187179674136\n\
+    MU 166905495819069\nML 815437521471269\nML 660353772154572\nML 532185384292097\n\
+    ML 428368990126030\nML 346341221898557\nML 283538711851865\nML 237398092228141\n\
+    ML 205355995269571\nML 184849053218342\nML 173313898316640\nML 168187162806652\n\
+    ML 166905478930564\nEND 1 FINISHED\n";
+
 /// Other numbers of rounds, and other widths.
 pub(crate) const OPTIONS: &[Run] = &[
     Run {
@@ -500,5 +521,13 @@ pub(crate) const OPTIONS: &[Run] = &[
         written: Bytes::Text(
             "HYDCERT 1 1 0\nPERIOD 0 0 0\nMU 998718316144933\nML 998718316123912\nEND 1 FINISHED\n",
         ),
+    },
+    Run {
+        name: "a few rounds, from starts that are proposed",
+        text: ROW,
+        words: &["--sweeps", "5", "--tight"],
+        status: Status::Done,
+        printed: Bytes::Sum(1_655, 0x6906_a0f3_1f9b_329c),
+        written: Bytes::Text(ROW_VECTORS),
     },
 ];
