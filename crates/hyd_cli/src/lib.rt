@@ -2,6 +2,7 @@
 #![tactic(auto)]
 
 mod command;
+mod messages;
 mod network;
 mod output;
 mod program;

@@ -10,6 +10,7 @@ ghost use Rattle.hyd_cli.specs.Answers.{seen, settings_of, ChangesOnly, HasCause
 ghost use Rattle.hyd_cli.specs.declared.status.Status.TheVariants.{Usage, OutOfMemory};
 
 use crate::command::tool;
+use crate::messages::say_why;
 use crate::status::Status;
 use hyd_io::{Desk, FileDesk};
 use std::alloc::{AllocError, Global};
@@ -18,12 +19,15 @@ use std::rt::{Env, Files};
 use std::{env, io};
 
 /// The whole program on a runtime: makes the desk on its files and its standard output, starts on
-/// its words, and ends with the answer.
-pub fn run_program<R: AllocGlobal + Env + Files + Print + Drop>(rt: R) -> Status {
+/// its words, and ends with the answer. Where memory ran out or a call on the desk failed, it says so on standard error
+/// before it ends, in one line with the file's name.
+pub fn run_program<R: AllocGlobal + Env + Files + Print + Eprint + Drop>(rt: R) -> Status {
     let alloc = rt.alloc();
     let given = env::args(&rt);
     let mut desk = FileDesk::new(rt);
-    start(alloc, given, &mut desk)
+    let status = start(alloc, given, &mut desk);
+    say_why(status, &desk);
+    status
 }
 
 /// Runs the command of the words that the system gives: what is said of `tool` holds of it on the

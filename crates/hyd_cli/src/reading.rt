@@ -3,7 +3,7 @@
 ghost use Rattle.std.specs.Prelude.{◌≡◌, ◌⊎◌, ◌<◌, List, ℕ, IsTrue, IfOk, IfErr, IfSome, IfNone, OnOk, length};
 ghost use Rattle.hyd_io.specs.Told.{IsTold};
 ghost use Rattle.hyd_io.specs.Counts.{with_opened};
-ghost use Rattle.hyd_lex.specs.Lines.{items_of, rows_in};
+ghost use Rattle.hyd_spec_lines.specs.Lines.{items_of, rows_in};
 ghost use Rattle.hyd_net.specs.Sound.{Sound};
 ghost use Rattle.hyd_spec_input.specs.Faults.{IsFault, HasNoFault};
 ghost use Rattle.hyd_spec_input.specs.Project.{IsProject};

@@ -1,9 +1,9 @@
 //! The desk on real files, tried on the system: which file a name opens, that a file keeps what was
-//! written, and that what is printed goes out. It prints a file that lies in a folder, and ends with
-//! status 0 where all is as it should be.
+//! written, that what is printed goes out, and which files are never overwritten. It prints a file that lies in a folder,
+//! and ends with status 0 where all is as it should be.
 #![tactic(auto)]
 
-use hyd_io::{Channel, Desk, Failed, FileDesk, InFault, OutFault, Pen, read_all};
+use hyd_io::{Call, Channel, Desk, Failed, FileDesk, InFault, OutFault, Pen, read_all};
 use std::alloc::{AllocError, Global};
 use std::process::ExitCode;
 use std::rt::Files;
@@ -22,7 +22,20 @@ const MADE: [&str; 3] = [
 const LENGTH: usize = 120_000;
 
 /// What each of them gets when it is made anew: of the longer bytes nothing is left.
-const SHORT: &[u8] = b"one line\n";
+const SHORT: &[u8] = b"HYDCERT and no more\n";
+
+/// Files that lie there, and what they hold: one that is empty, and three that aren't.
+const EMPTY: &str = "empty.txt";
+
+const NETWORK: &str = "folder/network.inp";
+
+const LETTER: &str = "folder/letter.txt";
+
+const CERTIFICATE: &str = "folder/old.cert";
+
+const NETWORK_TEXT: &[u8] = b"[Title]\nA network that somebody drew\n";
+
+const LETTER_TEXT: &[u8] = b"HYDCER is no certificate\n";
 
 /// What went wrong.
 enum Wrong {
@@ -64,9 +77,7 @@ impl From<InFault> for Wrong {
 
 /// Tries the desk on the files and the standard output of the host.
 fn main(rt: HostRuntime) -> ExitCode {
-    let alloc = rt.alloc();
-    let mut desk = FileDesk::new(rt);
-    match try_all(alloc, &mut desk) {
+    match try_all(rt.alloc(), &rt) {
         Ok(()) => ExitCode::SUCCESS,
         Err(Wrong::OutOfMemory) => ExitCode::from(1),
         Err(Wrong::Fault) => ExitCode::from(2),
@@ -74,8 +85,16 @@ fn main(rt: HostRuntime) -> ExitCode {
     }
 }
 
+/// Tries all, each kind of trial at a desk of its own.
+fn try_all<R: Files + Print + Drop>(alloc: Global, rt: &R) -> Result<(), Wrong> {
+    try_bytes(alloc, &mut FileDesk::new(rt))?;
+    try_itself(alloc, &mut FileDesk::new(rt))?;
+    try_others(alloc, &mut FileDesk::new(rt))?;
+    try_networks(alloc, rt)
+}
+
 /// Prints the file that lies there, makes the others, and reads them back.
-fn try_all<R: Files + Print + Drop>(alloc: Global, desk: &mut FileDesk<R>) -> Result<(), Wrong> {
+fn try_bytes<R: Files + Print + Drop>(alloc: Global, desk: &mut FileDesk<R>) -> Result<(), Wrong> {
     print_given(alloc, desk)?;
     for (place, name) in MADE.iter().enumerate() {
         make(desk, name, varied(alloc, place)?.as_slice())?;
@@ -83,13 +102,67 @@ fn try_all<R: Files + Print + Drop>(alloc: Global, desk: &mut FileDesk<R>) -> Re
     for (place, name) in MADE.iter().enumerate() {
         expect(alloc, desk, name, varied(alloc, place)?.as_slice())?;
     }
+    // The file that was read last is open still.
+    desk.open(GIVEN)?;
     for name in MADE {
         make(desk, name, SHORT)?;
+    }
+    for name in MADE {
         expect(alloc, desk, name, SHORT)?;
     }
     match desk.open("no_such_file.tmp") {
         Ok(()) => Err(Wrong::Content),
         Err(_) => Ok(()),
+    }
+}
+
+/// The file that is read isn't created over, nor the one that was created last, by whatever name.
+fn try_itself<R: Files + Print + Drop>(alloc: Global, desk: &mut FileDesk<R>) -> Result<(), Wrong> {
+    desk.open("made.tmp")?;
+    refuse(desk, "./made.tmp")?;
+    refuse(desk, "folder/../made.tmp")?;
+    make(desk, "folder/made.tmp", SHORT)?;
+    refuse(desk, "folder/./made.tmp")?;
+    expect(alloc, desk, "made.tmp", SHORT)?;
+    expect(alloc, desk, "folder/made.tmp", SHORT)
+}
+
+/// A file that holds something else isn't created over; a certificate is, and an empty file.
+fn try_others<R: Files + Print + Drop>(alloc: Global, desk: &mut FileDesk<R>) -> Result<(), Wrong> {
+    desk.open(GIVEN)?;
+    refuse(desk, LETTER)?;
+    refuse(desk, NETWORK)?;
+    refuse(desk, "folder")?;
+    refuse(desk, "no_such_folder/file.tmp")?;
+    make(desk, CERTIFICATE, SHORT)?;
+    make(desk, EMPTY, SHORT)?;
+    expect(alloc, desk, LETTER, LETTER_TEXT)?;
+    expect(alloc, desk, NETWORK, NETWORK_TEXT)?;
+    expect(alloc, desk, CERTIFICATE, SHORT)?;
+    expect(alloc, desk, EMPTY, SHORT)
+}
+
+/// What a desk creates before all else may take the place of a network, and of nothing else; what it creates then may
+/// not.
+fn try_networks<R: Files + Print + Drop>(alloc: Global, rt: &R) -> Result<(), Wrong> {
+    refuse(&mut FileDesk::new(rt), LETTER)?;
+    let mut desk = FileDesk::new(rt);
+    make(&mut desk, NETWORK, NETWORK_TEXT)?;
+    make(&mut desk, CERTIFICATE, SHORT)?;
+    refuse(&mut desk, NETWORK)?;
+    expect(alloc, &mut desk, LETTER, LETTER_TEXT)?;
+    expect(alloc, &mut desk, NETWORK, NETWORK_TEXT)?;
+    expect(alloc, &mut desk, CERTIFICATE, SHORT)
+}
+
+/// A file that can't be created.
+fn refuse<R: Files + Print + Drop>(desk: &mut FileDesk<R>, name: &str) -> Result<(), Wrong> {
+    if desk.create(name).is_ok() {
+        return Err(Wrong::Content);
+    }
+    match desk.failure() {
+        Some(failure) if failure.call == Call::Create && failure.file == name => Ok(()),
+        _ => Err(Wrong::Content),
     }
 }
 
@@ -141,11 +214,12 @@ fn expect<R: Files + Print + Drop>(
     }
 }
 
-/// Bytes of all values in no order, others for each place.
+/// Bytes of all values in no order behind the front of a certificate, others for each place.
 fn varied(alloc: Global, place: usize) -> Result<Vec<u8>, AllocError> {
     let mut bytes = Vec::new(alloc);
+    bytes.extend_from_slice(b"HYDCERT")?;
     let mut state = (place as u64).wrapping_add(1);
-    for _ in 0..LENGTH {
+    for _ in bytes.len()..LENGTH {
         state = state.wrapping_mul(1_103_515_245).wrapping_add(12_345);
         bytes.push(((state >> 16) % 256) as u8)?;
     }

@@ -4,3 +4,4 @@ pub mod Output
 pub mod Memory
 pub mod MemoryView
 pub mod Standing
+pub mod Replacing

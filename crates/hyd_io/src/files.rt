@@ -2,9 +2,12 @@
 
 ghost use Rattle.std.specs.Prelude.{◌≡◌, true, None, refl};
 
+use crate::creating::{Content, create_file};
 use crate::desk::{Desk, Failed, Faults, Openings, stalls_after};
+use crate::failure::{Call, Failure};
+use arrayvec::ArrayString;
 use std::fs;
-use std::io::{Read, Write};
+use std::io::{self, ErrorKind, Read, Write};
 use std::marker::Model;
 use std::rt::Files;
 
@@ -13,6 +16,12 @@ use std::rt::Files;
 /// is open to be read, whether one was created, how many calls failed or took nothing, how often it
 /// opened and created, and, where a file tells its own bytes, what is left in the one and held by the
 /// other. Any name may be opened and created.
+///
+/// No file is lost by it. It creates neither over the file that it has opened nor over the one that it created last,
+/// whatever names they are given: they are told by device and number there. And of a file that is there and not empty it
+/// looks at the first bytes: it is emptied where they are `HYDCERT`, or, where the desk has neither opened nor created
+/// anything yet and so begins a network, a heading of an input file; else it stays as it is, and `create` fails. A device
+/// or a pipe is never emptied.
 #[derive(Drop)]
 pub struct FileDesk<R: Files + Print + Drop> {
     rt: R,
@@ -20,7 +29,13 @@ pub struct FileDesk<R: Files + Print + Drop> {
     output: Option<R::File>,
     counts: Faults,
     openings: Openings,
+    input_name: Name,
+    output_name: Name,
+    failed: Option<FailedCall>,
 }
+
+/// A name that was given to a file, and none where it is longer than a system takes.
+type Name = ArrayString<4096>;
 
 impl<R: Files + Print + Drop> Model for FileDesk<R> {
     ghost use Rattle.std.specs.Prelude.{is_some, option_and_then};
@@ -59,7 +74,57 @@ impl<R: Files + Print + Drop> FileDesk<R> {
                 opened: 0,
                 created: 0,
             },
+            input_name: Name::new(),
+            output_name: Name::new(),
+            failed: None,
         }
+    }
+
+    /// The runtime on whose files it works.
+    pub fn runtime(&self) -> &R {
+        &self.rt
+    }
+
+    /// The name of the file that it was to open last, and none where it was to open none.
+    pub fn input_name(&self) -> &str {
+        self.input_name.as_str()
+    }
+
+    /// The last call that failed or took nothing, if one did.
+    pub fn failure(&self) -> Option<Failure<'_>> {
+        let (call, error) = self.failed?;
+        let file = match call {
+            Call::Open | Call::Read => self.input_name.as_str(),
+            Call::Create | Call::Write => self.output_name.as_str(),
+            Call::Print => "standard output",
+        };
+        Some(Failure { file, call, error })
+    }
+}
+
+// A name, if it isn't longer than a system takes.
+fn kept(name: &str) -> Name {
+    match Name::from(name) {
+        Ok(kept) => kept,
+        Err(_) => Name::new(),
+    }
+}
+
+// A call that failed.
+type FailedCall = (Call, io::Error);
+
+// The last call that failed, after one that took `taken` bytes of the piece.
+fn failed_after(
+    failed: Option<FailedCall>,
+    call: Call,
+    taken: usize,
+    piece: &[u8],
+) -> Option<FailedCall> {
+    if taken == 0 && !piece.is_empty() {
+        let error = io::Error::new(ErrorKind::WriteZero, "nothing more was taken");
+        Some((call, error))
+    } else {
+        failed
     }
 }
 
@@ -100,13 +165,15 @@ impl<R: Files + Print + Drop> Desk for FileDesk<R> {
 
     fn open(&mut self, name: &str) -> Result<(), Failed> {
         self.openings.opened = self.openings.opened.saturating_add(1);
+        self.input_name = kept(name);
         match fs::open(&self.rt, name) {
             Ok(file) => {
                 self.input = Some(file);
                 Ok(())
             }
-            Err(_) => {
+            Err(error) => {
                 self.input = None;
+                self.failed = Some((Call::Open, error));
                 self.counts.read = self.counts.read.saturating_add(1);
                 Err(Failed)
             }
@@ -119,7 +186,8 @@ impl<R: Files + Print + Drop> Desk for FileDesk<R> {
         };
         match file.read(buffer) {
             Ok(n) => Ok(n),
-            Err(_) => {
+            Err(error) => {
+                self.failed = Some((Call::Read, error));
                 self.counts.read = self.counts.read.saturating_add(1);
                 Err(Failed)
             }
@@ -127,14 +195,23 @@ impl<R: Files + Print + Drop> Desk for FileDesk<R> {
     }
 
     fn create(&mut self, name: &str) -> Result<(), Failed> {
+        let content = match self.openings {
+            Openings {
+                opened: 0,
+                created: 0,
+            } => Content::Network,
+            _ => Content::Certificate,
+        };
         self.openings.created = self.openings.created.saturating_add(1);
-        match fs::create(&self.rt, name) {
+        self.output_name = kept(name);
+        match create_file(&self.rt, name, content, &self.input, &self.output) {
             Ok(file) => {
                 self.output = Some(file);
                 Ok(())
             }
-            Err(_) => {
+            Err(error) => {
                 self.output = None;
+                self.failed = Some((Call::Create, error));
                 self.counts.write = self.counts.write.saturating_add(1);
                 Err(Failed)
             }
@@ -147,10 +224,12 @@ impl<R: Files + Print + Drop> Desk for FileDesk<R> {
         };
         match file.write(piece) {
             Ok(n) => {
+                self.failed = failed_after(self.failed, Call::Write, n, piece);
                 self.counts.stall = stalls_after(self.counts.stall, n, piece);
                 Ok(n)
             }
-            Err(_) => {
+            Err(error) => {
+                self.failed = Some((Call::Write, error));
                 self.counts.write = self.counts.write.saturating_add(1);
                 Err(Failed)
             }
@@ -160,10 +239,12 @@ impl<R: Files + Print + Drop> Desk for FileDesk<R> {
     fn print(&mut self, piece: &[u8]) -> Result<usize, Failed> {
         match self.rt.write_some(piece) {
             Ok(n) => {
+                self.failed = failed_after(self.failed, Call::Print, n, piece);
                 self.counts.stall = stalls_after(self.counts.stall, n, piece);
                 Ok(n)
             }
-            Err(_) => {
+            Err(error) => {
+                self.failed = Some((Call::Print, error));
                 self.counts.print = self.counts.print.saturating_add(1);
                 Err(Failed)
             }

@@ -2,13 +2,16 @@
 //! files, and buffered reading and writing over any of them.
 #![tactic(auto)]
 
+mod creating;
 pub mod desk;
+pub mod failure;
 pub mod files;
 pub mod input;
 pub mod memory;
 pub mod output;
 
 pub use desk::{Desk, Failed, Faults, Openings};
+pub use failure::{Call, Failure};
 pub use files::FileDesk;
 pub use input::{InFault, read_all};
 pub use memory::MemDesk;
