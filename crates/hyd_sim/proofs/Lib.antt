@@ -1,4 +1,5 @@
 pub mod Attempting
+pub mod Checking
 pub mod Fitting
 pub mod Lacking
 pub mod Leaving
@@ -7,6 +8,7 @@ pub mod Opening
 pub mod Placing
 pub mod Proposed
 pub mod Proposing
+pub mod Refusing
 pub mod Running
 pub mod Starting
 pub mod Widths

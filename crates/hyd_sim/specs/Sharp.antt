@@ -40,6 +40,11 @@ abbrev pub stop_of : ℕ → ℕ → Lack → StopCause
 stop_of number rounds (LacksCertificate problem side junction) = NoCertificate number problem side junction
 stop_of number rounds (SpentRounds problem side) = RoundsSpent number problem side rounds
 
+-- a stop says that no vector is a certificate
+abbrev pub SaysNone : StopCause → Type 0
+SaysNone (NoCertificate period problem side junction) = Unit {0}
+SaysNone cause = ⊥
+
 -- the stop of a period with an open matter
 abbrev pub open_stop_of : ℕ → Open → StopCause
 open_stop_of number (Rule found) = RuleOpen number found.rule found.clause found.lo found.hi

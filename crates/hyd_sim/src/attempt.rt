@@ -61,8 +61,9 @@ fn end_run(project: &Project, standing: &Standing, net: &Net, row: &mut Record, 
     row.length = 0;
 }
 
-// Ends a period by the vectors of its record, which are certificates. Fails with the first matter that they leave open.
-fn end_period(
+/// Ends a period by the vectors of its record, which are certificates. Fails with the first matter that they leave
+/// open.
+pub(crate) fn end_period(
     project: &Project,
     standing: &Standing,
     net: &Net,

@@ -1,8 +1,8 @@
 //! The causes of a stop.
 #![tactic(auto)]
 
-ghost use Rattle.std.specs.Prelude.{◌≡◌};
-ghost use Rattle.hyd_sim.specs.Sharp.{stop_of, open_stop_of};
+ghost use Rattle.std.specs.Prelude.{◌≡◌, false, IfErr, IfOk};
+ghost use Rattle.hyd_sim.specs.Sharp.{SaysNone, stop_of, open_stop_of};
 
 use hyd_close::Open;
 use hyd_graph::PeriodDemand;
@@ -41,6 +41,19 @@ pub(crate) fn lack_stop(number: u32, rounds: u32, lack: Lack) -> StopCause
             side,
             rounds,
         },
+    }
+}
+
+/// Whether a period that lacks a vector is done: it isn't, but where only rounds were spent the tight vectors may be
+/// reached from other starts. Fails with the stop where no vector is a certificate.
+pub(crate) fn lack_fits(number: u32, rounds: u32, lack: Lack) -> Result<bool, StopCause>
+    ensures stop { IfErr result (λ cause. cause ≡ stop_of number rounds lack) }
+    ensures certain { IfErr result SaysNone }
+    ensures goes_on { IfOk result (λ fits. fits ≡ false) }
+{
+    match lack {
+        Lack::NoCertificate { .. } => Err(lack_stop(number, rounds, lack)),
+        Lack::RoundsSpent { .. } => Ok(false),
     }
 }
 

@@ -1,6 +1,7 @@
-//! A run, one period after another: the record of each is valid, and its facts are its own.
+//! A run, one period after another, found or checked: the record of each is valid, and its facts are its own.
 #![tactic(auto)]
 
+mod accept;
 mod attempt;
 mod causes;
 mod narrow;
@@ -11,6 +12,7 @@ mod sim;
 mod standing;
 mod start;
 mod steps;
+mod vectors;
 
 pub use settings::Settings;
 pub use sim::Sim;

@@ -15,11 +15,12 @@ ghost use Rattle.hyd_graph.specs.Periods.{IsNetOf};
 ghost use Rattle.hyd_close.specs.Closing.{HasRoom as HasCloseRoom};
 ghost use Rattle.hyd_vectors.specs.Vectors.{HaveSame};
 ghost use Rattle.hyd_sim.specs.Attempts.{IsMade, IsStarted, fault_stop_of, next_standing};
+ghost use Rattle.hyd_sim.specs.Sharp.{SaysNone};
 ghost use Rattle.hyd_sim.specs.Steps.{AreTight, IsAdvanced, IsDone, IsProposal};
 ghost use Rattle.hyd_sim.specs.View.{IsStanding, header_for, standing_for};
 
 use crate::attempt::{Fault, try_period};
-use crate::causes::{demand_stop, lack_stop, open_stop};
+use crate::causes::{demand_stop, lack_fits, lack_stop, open_stop};
 use crate::narrow::are_narrow;
 use crate::settings::Settings;
 use crate::standing::Standing;
@@ -59,9 +60,9 @@ fn is_narrow(
     are_narrow(upper, lower, before, close.next.levels.as_slice(), width)
 }
 
-// Puts the net into the period that begins at a standing, and facts and links to its start. Fails with the stop where a
-// demand is out of range.
-fn start_period(
+/// Puts the net into the period that begins at a standing, and facts and links to its start. Fails with the stop where
+/// a demand is out of range.
+pub(crate) fn start_period(
     project: &Project,
     standing: &Standing,
     net: &mut Net,
@@ -147,7 +148,8 @@ fn tighten<F: Finder>(
 }
 
 // Does a period that was started, with vectors that needn't be tight, and tells whether its record does: whether it is
-// narrow, and its vectors leave no matter open. Fails with the cause that stops the run where a vector is lacking.
+// narrow, none of its vectors is lacking, and they leave no matter open. Fails with the cause that stops the run where
+// no vector is a certificate; where only rounds were spent, the tight vectors may still be reached.
 fn does<F: Finder>(
     project: &Project,
     settings: Settings,
@@ -172,6 +174,7 @@ fn does<F: Finder>(
     ensures narrow { IfOk result (λ fits. fits ≡ true → IsNarrow settings.width (standing_for standing.now)
         (row_of row.new) (next_standing project.now standing.now row.new.length close.new)) }
     ensures stops { IfErr result (Stops project.now (standing_for standing.now) settings.rounds) }
+    ensures certain { IfErr result SaysNone }
     ensures proposal { (w : Row) → IsProposal (F.told finder.old) project.now settings.width (standing_for standing.now) w
         → (result ≡ Ok true) × HaveSame (tank_count project.now) (row_of row.new) w }
     ensures header { header_of row.new ≡ header_of row.old }
@@ -187,14 +190,14 @@ fn does<F: Finder>(
         project, standing, net, finder, false, search, row, facts, close,
     ) {
         Ok(()) => Ok(is_narrow(project, standing, row, close, settings.width)),
-        Err(Fault::Lack(lack)) => Err(lack_stop(standing.number, settings.rounds, lack)),
+        Err(Fault::Lack(lack)) => lack_fits(standing.number, settings.rounds, lack),
         Err(Fault::Open(_)) => Ok(false),
     }
 }
 
 // Does the period that begins at a standing: sets the net and the links, finds vectors and ends the period by them.
-// Where these leave a matter open, or the record isn't narrow, it does so again with the tight vectors. Fails with the
-// cause that stops the run there.
+// Where these leave a matter open, the record isn't narrow, or rounds toward one were spent, it does so again with the
+// tight vectors. Fails with the cause that stops the run there.
 fn do_period<F: Finder>(
     project: &Project,
     settings: Settings,

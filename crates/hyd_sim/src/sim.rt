@@ -87,6 +87,13 @@ impl Sim {
         self.standing.time
     }
 
+    /// Whether the period at the end of the run was done.
+    pub fn is_finished(&self) -> bool
+        ensures { result ≡ (standing_of self.now).finished }
+    {
+        self.standing.finished
+    }
+
     /// The network of the last period.
     pub fn net(&self) -> &Net
         ensures { result.now ≡ self.now.net }

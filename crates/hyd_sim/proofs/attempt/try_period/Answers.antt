@@ -30,6 +30,9 @@ find-requires-clause-fits g c = record {
   tanks = ap (λ (h : Header). h.tanks) c.requires.header ∙ sym c.requires.of.each_tank;
 }
 
+pub find-requires-clause-order : goal.find-requires-clause-order
+find-requires-clause-order g c = c.requires.started.order
+
 pub end_period-requires-clause-certificates : goal.end_period-requires-clause-certificates
 end_period-requires-clause-certificates g c =
     let network = c.args.project.now in

@@ -1,5 +1,5 @@
 use Rattle.std.proofs.Common.{◌≡◌, ℕ, Bool, true, false, refl, sym, ap, subst, ◌∙◌, ◌⊎◌, inl, inr}
-use Rattle.std.specs.Prelude.{length, Ok, Result}
+use Rattle.std.specs.Prelude.{length, Ok, Err, Result, IfOk}
 use Rattle.hyd_spec.specs.Network.{junction_count, tank_count}
 use Rattle.std.proofs.Common.{ℤ, arith, to_z, of_z, w64}
 use Rattle.std.proofs.lemmas.Int.{ints}
@@ -13,11 +13,18 @@ use Rattle.hyd_graph.specs.GridOf.{grid_of}
 use Rattle.hyd_vectors.specs.Room.{Room}
 use Rattle.hyd_vectors.specs.Vectors.{LacksFirst}
 use Rattle.hyd_sim.specs.Attempts.{IsFault, next_standing}
+use Rattle.hyd_sim.specs.Sharp.{stop_of}
 use Rattle.hyd_sim.specs.View.{standing_for}
 use Rattle.hyd_sim.proofs.Fitting.{heads-each, next-long, told-here, same-here, nothing-open, narrow-too}
-use Rattle.hyd_sim.proofs.Lacking.{lacks-one, none-lacking}
+use Rattle.hyd_sim.proofs.Lacking.{if-err, lacks-one, none-lacking}
 use Rattle.hyd_sim.proofs.Running.{net-junctions, problems-each, lack-stops}
 use Rattle.hyd_sim.proofs.period.does.Goals as goal
+
+-- where a period isn't done nothing need hold of its record
+not-done : {E : Type 0} (P : Type 0) (result : Result Bool E) → IfOk result (λ fits. fits ≡ false)
+    → IfOk result (λ fits. fits ≡ true → P)
+not-done P (Ok fits) e = λ is. absurd (cc)
+not-done P (Err fault) e = e
 
 kept-true : (fits : Bool) → (fits ≡ false → ⊥) → fits ≡ true
 kept-true true never = refl
@@ -52,6 +59,12 @@ returns-in-Ok-clause-proposal g c = λ w p.
           (g.F.Finder.told c.args.finder.now) w p (row_of row) pinned c.in-Ok.ensures.sought,
     )
 
+pub returns-in-Err-Lack-clause-made : goal.returns-in-Err-Lack-clause-made
+returns-in-Err-Lack-clause-made g c = not-done _ c.lack_fits.result c.lack_fits.ensures.goes_on
+
+pub returns-in-Err-Lack-clause-narrow : goal.returns-in-Err-Lack-clause-narrow
+returns-in-Err-Lack-clause-narrow g c = not-done _ c.lack_fits.result c.lack_fits.ensures.goes_on
+
 pub returns-in-Err-Lack-clause-stops : goal.returns-in-Err-Lack-clause-stops
 returns-in-Err-Lack-clause-stops g c =
     let network = c.args.project.now in
@@ -65,10 +78,13 @@ returns-in-Err-Lack-clause-stops g c =
     subst (λ (n : ℕ). LacksFirst false told grid (tank_count network) n row c.in-Err-Lack.lack)
     (ap (λ (room : Room). room.rounds) c.requires.search) (subst (IsFault false told network grid standing
     c.args.search.now.rounds row) c.in-Err-Lack.field-0-is c.in-Err-Lack.ensures.fault) in
-    subst (λ (cause : StopCause). Stops network standing c.args.settings.rounds cause) (sym c.lack_stop.ensures)
-    (lack-stops network standing grid (tank_count network) c.args.settings.rounds c.in-Err-Lack.lack refl count
-    c.requires.started.in_range c.requires.started.is_grid
-    (lacks-one false told grid (tank_count network) c.args.settings.rounds row c.in-Err-Lack.lack first))
+    let stops = lack-stops network standing grid (tank_count network) c.args.settings.rounds c.in-Err-Lack.lack refl
+    count c.requires.started.in_range c.requires.started.is_grid
+    (lacks-one false told grid (tank_count network) c.args.settings.rounds row c.in-Err-Lack.lack first) in
+    if-err (λ (cause : StopCause). cause ≡ stop_of c.args.standing.now.number c.args.settings.rounds c.in-Err-Lack.lack)
+    (λ (cause : StopCause). Stops network standing c.args.settings.rounds cause) c.lack_fits.result
+    (λ cause same. subst (λ (other : StopCause). Stops network standing c.args.settings.rounds other) (sym same) stops)
+    c.lack_fits.ensures.stop
 
 pub returns-in-Err-Lack-clause-proposal : goal.returns-in-Err-Lack-clause-proposal
 returns-in-Err-Lack-clause-proposal g c = λ w p.
