@@ -21,10 +21,11 @@ ROOT = Path(__file__).resolve().parent.parent
 CRATES = {
     'hyd_num': 'thiserror',
     'hyd_net': 'hyd_num indexmap',
-    'hyd_lex': '',
+    'hyd_spec_lines': '',
+    'hyd_lex': 'hyd_spec_lines',
     'hyd_spec': 'hyd_net hyd_num',
-    'hyd_spec_input': 'hyd_lex hyd_net hyd_num hyd_spec',
-    'hyd_opts': 'hyd_lex hyd_net hyd_num hyd_spec_input',
+    'hyd_spec_input': 'hyd_net hyd_num hyd_spec hyd_spec_lines',
+    'hyd_opts': 'hyd_lex hyd_net hyd_num hyd_spec_input hyd_spec_lines',
     'compare_lines': 'hyd_lex hyd_net hyd_opts',
 }
 TEXT = (ROOT / 'scripts' / 'compare_lines_text.inp').read_text()

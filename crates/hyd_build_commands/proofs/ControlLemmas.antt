@@ -2,11 +2,11 @@
 use Rattle.std.proofs.Common.{◌≡◌, ◌+◌, ◌++◌, ℕ, Bool, true, false, List, [], ◌∷◌, map, take, drop, slice_get, Option, Some, None, refl, sym, ap, ◌∙◌, subst, true≢false, codes, if◌then◌else◌, inl, inr}
 use Rattle.std.specs.Prelude.{◌||◌}
 use Rattle.std.proofs.lemmas.List.{map-append}
-use Rattle.hyd_lex.specs.Bytes.{is_keyword}
-use Rattle.hyd_lex.specs.Headings.{is_one_of}
-use Rattle.hyd_lex.specs.Lines.{Row}
-use Rattle.hyd_lex.specs.declared.section.Section.{Section}
-use Rattle.hyd_lex.specs.declared.section.Section.TheVariants.{Rules, Tanks, Controls as InControls}
+use Rattle.hyd_spec_lines.specs.Bytes.{is_keyword}
+use Rattle.hyd_spec_lines.specs.Headings.{is_one_of}
+use Rattle.hyd_spec_lines.specs.Lines.{Row}
+use Rattle.hyd_spec_lines.specs.declared.section.Section.{Section}
+use Rattle.hyd_spec_lines.specs.declared.section.Section.TheVariants.{Rules, Tanks, Controls as InControls}
 use Rattle.hyd_net.specs.Ranges.{IsHead}
 use Rattle.hyd_net.specs.declared.cause.Cause.{Cause}
 use Rattle.hyd_net.specs.declared.cause.Cause.TheVariants.{Syntax, Range, UnknownName, Unsupported, Limit}

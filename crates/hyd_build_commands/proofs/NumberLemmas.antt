@@ -3,8 +3,8 @@ use Rattle.std.proofs.Common.{◌≡◌, ℕ, zero, suc, Bool, true, List, [], �
 use Rattle.std.specs.Option.{option_map}
 use Rattle.std.proofs.lemmas.Bool.{cases_Bool}
 use Rattle.std.proofs.lemmas.Option.{slice_get-map}
-use Rattle.hyd_lex.specs.Lines.{Row}
-use Rattle.hyd_lex.specs.declared.section.Section.TheVariants.{Junctions, Reservoirs, Tanks, Pipes, Pumps, Valves}
+use Rattle.hyd_spec_lines.specs.Lines.{Row}
+use Rattle.hyd_spec_lines.specs.declared.section.Section.TheVariants.{Junctions, Reservoirs, Tanks, Pipes, Pumps, Valves}
 use Rattle.hyd_spec_input.specs.Network.{node_ids, tank_ids, link_ids, number_in}
 use Rattle.hyd_spec_input.specs.Tables.{is_of, is_node, is_link, own_id, rows_of, node_rows, link_rows, node_named, link_named}
 use Rattle.hyd_spec_networks.proofs.Names.{First, Second, Third, one_of_three, named_stands, node_ids_are, link_ids_are, tank_ids_are}

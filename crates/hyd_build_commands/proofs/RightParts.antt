@@ -1,8 +1,8 @@
 -- The lines of rules of a file without a fault, at the stage before them.
 use Rattle.std.proofs.Common.{◌≡◌, ◌+◌, ℕ, Bool, true, false, List, ◌∷◌, [], drop, take, slice_get, Option, Some, None, refl, sym, subst, true≢false, inl}
-use Rattle.hyd_lex.specs.Lines.{Row}
-use Rattle.hyd_lex.specs.declared.section.Section.{Section}
-use Rattle.hyd_lex.specs.declared.section.Section.TheVariants.{Rules}
+use Rattle.hyd_spec_lines.specs.Lines.{Row}
+use Rattle.hyd_spec_lines.specs.declared.section.Section.{Section}
+use Rattle.hyd_spec_lines.specs.declared.section.Section.TheVariants.{Rules}
 use Rattle.hyd_net.specs.declared.cause.Cause.TheVariants.{Syntax}
 use Rattle.hyd_opts.specs.Meanings.{IsClauseLine, ClauseSays}
 use Rattle.hyd_opts.specs.declared.rules.ClauseLine.{ClauseLine}

@@ -1,7 +1,7 @@
 -- Controls of a file without a fault.
 use Rattle.std.specs.Prelude.{◌≡◌, ℕ, true, false, List, codes, take, None}
-use Rattle.hyd_lex.specs.Lines.{Row}
-use Rattle.hyd_lex.specs.declared.section.Section.TheVariants.{Controls}
+use Rattle.hyd_spec_lines.specs.Lines.{Row}
+use Rattle.hyd_spec_lines.specs.declared.section.Section.TheVariants.{Controls}
 use Rattle.hyd_net.specs.Ranges.{IsHead}
 use Rattle.hyd_net.specs.declared.controls.Control.{Control}
 use Rattle.hyd_num.specs.Quantity.{is_us_unit, head_ticks}

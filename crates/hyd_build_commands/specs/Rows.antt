@@ -1,6 +1,6 @@
 -- Rows of commands of a file without a fault.
 use Rattle.std.specs.Prelude.{◌≡◌, ℕ, List, Some, None}
-use Rattle.hyd_lex.specs.Lines.{Row}
+use Rattle.hyd_spec_lines.specs.Lines.{Row}
 use Rattle.hyd_spec_input.specs.Capacities.{IsRefusedSetting}
 use Rattle.hyd_spec_input.specs.Columns.{word}
 use Rattle.hyd_spec_input.specs.ControlRows as row_form

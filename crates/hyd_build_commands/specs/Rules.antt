@@ -1,7 +1,7 @@
 -- Rules of a file without a fault.
 use Rattle.std.specs.Prelude.{◌≡◌, ℕ, Bool, true, false, List, ◌++◌, drop, take, Option, Some, None}
-use Rattle.hyd_lex.specs.Lines.{Row}
-use Rattle.hyd_lex.specs.declared.section.Section.TheVariants.{Rules}
+use Rattle.hyd_spec_lines.specs.Lines.{Row}
+use Rattle.hyd_spec_lines.specs.declared.section.Section.TheVariants.{Rules}
 use Rattle.hyd_net.specs.declared.rules.Rule.{Rule}
 use Rattle.hyd_spec_input.specs.Network.{rule_groups, lines_at, is_doing, is_otherwise}
 use Rattle.hyd_spec_input.specs.Project.{Match, IsRule}

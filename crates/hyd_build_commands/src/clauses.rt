@@ -2,7 +2,7 @@
 #![tactic(auto)]
 
 ghost use Rattle.std.specs.Prelude.{◌≡◌, ℕ, List, Some, true, ℤ, pos, ◌*ℤ◌};
-ghost use Rattle.hyd_lex.specs.Lines.{LiesIn, Row};
+ghost use Rattle.hyd_spec_lines.specs.Lines.{LiesIn, Row};
 ghost use Rattle.hyd_opts.specs.Judged.{words_at};
 ghost use Rattle.hyd_opts.specs.Meanings as meaning;
 ghost use Rattle.hyd_opts.specs.Meanings.{IsClauseLine};

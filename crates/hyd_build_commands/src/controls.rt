@@ -3,8 +3,8 @@
 
 ghost use Rattle.std.specs.Prelude.{◌≡◌, ◌<◌, ◌+◌, ◌==◌, List as ListOf, Some, true, length, slice_get, IfOk, OnOk};
 ghost use Rattle.std.specs.List.{All};
-ghost use Rattle.hyd_lex.specs.Lines.{LiesIn, Row};
-ghost use Rattle.hyd_lex.specs.declared.section.Section.TheVariants.{Controls};
+ghost use Rattle.hyd_spec_lines.specs.Lines.{LiesIn, Row};
+ghost use Rattle.hyd_spec_lines.specs.declared.section.Section.TheVariants.{Controls};
 ghost use Rattle.hyd_opts.specs.Judged.{words_at};
 ghost use Rattle.hyd_opts.specs.Meanings as meaning;
 ghost use Rattle.hyd_spec_input.specs.ByItself.{IsWrongByItself};

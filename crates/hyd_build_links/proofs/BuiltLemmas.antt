@@ -1,10 +1,10 @@
 -- Links, one row further.
 use Rattle.std.proofs.Common.{◌≡◌, ◌+◌, ◌≤◌, ◌++◌, ℕ, true, true≢false, false, List, [], ◌∷◌, take, length, slice_get, Some, refl, sym, ap, ◌∙◌, subst, append_assoc, append-nil, ◌==◌}
 use Rattle.std.proofs.lemmas.Bool.{eqb-true, false_from_ne_true, or_left, or_right}
-use Rattle.hyd_lex.specs.Lines.{Row}
-use Rattle.hyd_lex.specs.declared.line.Line.{Line}
-use Rattle.hyd_lex.specs.declared.section.Section.{Section}
-use Rattle.hyd_lex.specs.declared.section.Section.TheVariants.{Pipes, Pumps, Valves}
+use Rattle.hyd_spec_lines.specs.Lines.{Row}
+use Rattle.hyd_spec_lines.specs.declared.line.Line.{Line}
+use Rattle.hyd_spec_lines.specs.declared.section.Section.{Section}
+use Rattle.hyd_spec_lines.specs.declared.section.Section.TheVariants.{Pipes, Pumps, Valves}
 use Rattle.hyd_net.specs.declared.links.Link.{Link}
 use Rattle.hyd_spec_input.specs.Project.{IsLink, Match}
 use Rattle.hyd_spec_input.specs.Tables.{place, is_of, is_link, rows_of}

@@ -4,7 +4,7 @@ use Rattle.std.proofs.lemmas.Bool.{cases_Bool}
 use Rattle.hyd_num.specs.Chain.{IsMade}
 use Rattle.hyd_num.specs.declared.capacities.Capacity.{Capacity}
 use Rattle.hyd_num.specs.declared.capacities.Origin.TheVariants.{Pipe}
-use Rattle.hyd_lex.specs.Lines.{Row}
+use Rattle.hyd_spec_lines.specs.Lines.{Row}
 use Rattle.hyd_rows.specs.Rows.{IsPipeRow, pipe_status}
 use Rattle.hyd_rows.specs.declared.pipes.PipeRow.{PipeRow}
 use Rattle.hyd_rows.specs.declared.pipes.PipeStatus.{PipeStatus}

@@ -15,7 +15,7 @@ use Rattle.hyd_num.specs.declared.decimals.Span.{Span}
 use Rattle.hyd_num.specs.declared.units.FlowUnit.{FlowUnit}
 use Rattle.hyd_net.specs.Made.{IsRounded, IsExactly}
 use Rattle.hyd_net.specs.declared.links.ShutoffHead.TheVariants.{FourThirds, Given}
-use Rattle.hyd_lex.specs.Lines.{Row}
+use Rattle.hyd_spec_lines.specs.Lines.{Row}
 use Rattle.hyd_net.specs.declared.links.LinkKind.TheVariants.{Pump}
 use Rattle.hyd_spec_input.specs.Curves.{square, is_bent}
 use Rattle.hyd_spec_input.specs.InForce as force

@@ -5,9 +5,9 @@ use Rattle.std.proofs.lemmas.Bool.{cases_Bool, leb-true, leb-false}
 use Rattle.std.proofs.lemmas.List.{length-map}
 use Rattle.hyd_num.specs.Quantity.{is_us_unit}
 use Rattle.hyd_num.specs.declared.decimals.Decimal.{Decimal}
-use Rattle.hyd_lex.specs.Lines.{row_of}
-use Rattle.hyd_lex.specs.declared.line.Line.{Line}
-use Rattle.hyd_lex.specs.declared.section.Section.TheVariants.{Pipes, Pumps, Valves}
+use Rattle.hyd_spec_lines.specs.Lines.{row_of}
+use Rattle.hyd_spec_lines.specs.declared.line.Line.{Line}
+use Rattle.hyd_spec_lines.specs.declared.section.Section.TheVariants.{Pipes, Pumps, Valves}
 use Rattle.hyd_net.specs.Ranges.{IsUpTo}
 use Rattle.hyd_net.specs.declared.cause.Cause.{Cause}
 use Rattle.hyd_rows.specs.Rows.{IsPipeRow, IsValveRow}

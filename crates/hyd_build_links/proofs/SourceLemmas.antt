@@ -3,9 +3,9 @@ use Rattle.std.proofs.Common.{◌≡◌, ℕ, ◌≤◌, true, List, length, tak
 use Rattle.std.specs.List.{All, slice_split}
 use Rattle.std.proofs.lemmas.Bool.{leb-true}
 use Rattle.std.proofs.lemmas.List.Elements.{filter_passes}
-use Rattle.hyd_lex.specs.Bytes.{words_in, is_blank}
-use Rattle.hyd_lex.specs.Lines.{Row, row_of}
-use Rattle.hyd_lex.specs.declared.section.Section.{Section}
+use Rattle.hyd_spec_lines.specs.Bytes.{words_in, is_blank}
+use Rattle.hyd_spec_lines.specs.Lines.{Row, row_of}
+use Rattle.hyd_spec_lines.specs.declared.section.Section.{Section}
 use Rattle.hyd_net.specs.declared.cause.Cause.TheVariants.{Limit}
 use Rattle.hyd_spec_input.specs.ByItself as itself
 use Rattle.hyd_spec_input.specs.Capacities.{IsRefusedIn, IsRefusedRow}

@@ -7,9 +7,9 @@ use Rattle.std.proofs.lemmas.Bool.{cases_Bool}
 use Rattle.std.proofs.lemmas.List.{get_or-set_same, get_or-set_other, length-set}
 use Rattle.std.proofs.lemmas.List.Elements.{All-set}
 use Rattle.std.proofs.Math.ListN.{get_or-eq_default}
-use Rattle.hyd_lex.specs.Lines.{Row, LiesIn, row_of}
-use Rattle.hyd_lex.specs.declared.line.Line.{Line}
-use Rattle.hyd_lex.specs.declared.section.Section.TheVariants.{Status}
+use Rattle.hyd_spec_lines.specs.Lines.{Row, LiesIn, row_of}
+use Rattle.hyd_spec_lines.specs.declared.line.Line.{Line}
+use Rattle.hyd_spec_lines.specs.declared.section.Section.TheVariants.{Status}
 use Rattle.hyd_spec_input.specs.InForce.{last_where, or_earlier, where_passes}
 use Rattle.hyd_spec_input.specs.Network.{number_in, last_naming}
 use Rattle.hyd_spec_input.specs.Tables.{is_of, rows_of, own_id}

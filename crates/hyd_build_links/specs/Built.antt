@@ -1,8 +1,8 @@
 -- Links as they are built.
 use Rattle.std.specs.Prelude.{ℕ, Bool, true, false, List, ◌++◌, take}
-use Rattle.hyd_lex.specs.Lines.{Row}
-use Rattle.hyd_lex.specs.declared.section.Section.{Section}
-use Rattle.hyd_lex.specs.declared.section.Section.TheVariants.{Pipes, Pumps, Valves}
+use Rattle.hyd_spec_lines.specs.Lines.{Row}
+use Rattle.hyd_spec_lines.specs.declared.section.Section.{Section}
+use Rattle.hyd_spec_lines.specs.declared.section.Section.TheVariants.{Pipes, Pumps, Valves}
 use Rattle.hyd_net.specs.declared.links.Link.{Link}
 use Rattle.hyd_spec_input.specs.Project.{IsLink, Match}
 use Rattle.hyd_spec_input.specs.Tables.{rows_of}

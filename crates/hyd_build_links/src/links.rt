@@ -2,7 +2,7 @@
 #![tactic(auto)]
 
 ghost use Rattle.std.specs.Prelude.{◌≡◌, ◌<◌, ◌+◌, ◌++◌, List, true, length, IfOk, OnOk};
-ghost use Rattle.hyd_lex.specs.Lines.{Row, row_of};
+ghost use Rattle.hyd_spec_lines.specs.Lines.{Row, row_of};
 ghost use Rattle.hyd_spec_input.specs.Project.{IsKind, IsLink, Match, numbered_links};
 ghost use Rattle.hyd_spec_input.specs.Tables.{place as section_place, is_link, rows_of};
 ghost use Rattle.hyd_build_links.specs.Sources.{IsRightSource, IsRowOf, rows_from};

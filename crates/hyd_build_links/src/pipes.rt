@@ -2,8 +2,8 @@
 #![tactic(auto)]
 
 ghost use Rattle.std.specs.Prelude.{◌≡◌, List};
-ghost use Rattle.hyd_lex.specs.Lines.{Row, row_of};
-ghost use Rattle.hyd_lex.specs.declared.section.Section.TheVariants.{Pipes};
+ghost use Rattle.hyd_spec_lines.specs.Lines.{Row, row_of};
+ghost use Rattle.hyd_spec_lines.specs.declared.section.Section.TheVariants.{Pipes};
 ghost use Rattle.hyd_resist.specs.Ranges.{IsLength, IsDiameter, IsRoughness, IsMinorCoefficient};
 ghost use Rattle.hyd_rows.specs.Rows.{IsPipeRow};
 ghost use Rattle.hyd_spec_input.specs.Capacities.{IsRefusedPipe};

@@ -1,8 +1,8 @@
 //! Pumps.
 #![tactic(auto)]
 
-ghost use Rattle.hyd_lex.specs.Lines.{row_of};
-ghost use Rattle.hyd_lex.specs.declared.section.Section.TheVariants.{Pumps};
+ghost use Rattle.hyd_spec_lines.specs.Lines.{row_of};
+ghost use Rattle.hyd_spec_lines.specs.declared.section.Section.TheVariants.{Pumps};
 ghost use Rattle.hyd_spec_input.specs.Project.{IsPumpKind};
 ghost use Rattle.hyd_spec_input.specs.Tables.{is_of};
 ghost use Rattle.hyd_build_links.specs.Sources.{IsRowOf, rows_from};

@@ -2,8 +2,8 @@
 #![tactic(auto)]
 
 ghost use Rattle.std.specs.Prelude.{◌≡◌, List, ℕ, Some, length, if◌then◌else◌};
-ghost use Rattle.hyd_lex.specs.Lines.{LiesIn, row_of};
-ghost use Rattle.hyd_lex.specs.declared.section.Section.TheVariants.{Pumps, Valves};
+ghost use Rattle.hyd_spec_lines.specs.Lines.{LiesIn, row_of};
+ghost use Rattle.hyd_spec_lines.specs.declared.section.Section.TheVariants.{Pumps, Valves};
 ghost use Rattle.hyd_rows.specs.Rows.{pipe_status};
 ghost use Rattle.hyd_spec_input.specs.Columns.{word, amount};
 ghost use Rattle.hyd_spec_input.specs.Network.{status_of};

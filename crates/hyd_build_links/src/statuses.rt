@@ -3,9 +3,9 @@
 
 ghost use Rattle.std.specs.Prelude.{◌≡◌, ◌<◌, ◌+◌, ◌==◌, ℕ, List, Option, length, take, IfOk, IfSome};
 ghost use Rattle.std.specs.List.{All};
-ghost use Rattle.hyd_lex.specs.Lines.{LiesIn, Row};
+ghost use Rattle.hyd_spec_lines.specs.Lines.{LiesIn, Row};
 ghost use Rattle.hyd_spec_input.specs.Network.{last_naming};
-ghost use Rattle.hyd_lex.specs.declared.section.Section.TheVariants.{Status};
+ghost use Rattle.hyd_spec_lines.specs.declared.section.Section.TheVariants.{Status};
 ghost use Rattle.hyd_spec_input.specs.Tables.{place as section_place, rows_of};
 ghost use Rattle.hyd_tables.specs.Found.{rows_at};
 ghost use Rattle.hyd_tables.specs.Tables.{IsEven};

@@ -8,10 +8,10 @@ use Rattle.std.proofs.lemmas.List.{map-set, map-append, length-map, get_or-set_s
 use Rattle.std.proofs.lemmas.List.Elements.{filter-append, All-push, All-map}
 use Rattle.hyd_num.specs.Quantity.{flow_ticks}
 use Rattle.hyd_num.specs.declared.units.FlowUnit.{FlowUnit}
-use Rattle.hyd_lex.specs.Bytes.{text_of}
-use Rattle.hyd_lex.specs.Lines.{Row}
-use Rattle.hyd_lex.specs.declared.line.Line.{Line}
-use Rattle.hyd_lex.specs.declared.section.Section.TheVariants.{Demands}
+use Rattle.hyd_spec_lines.specs.Bytes.{text_of}
+use Rattle.hyd_spec_lines.specs.Lines.{Row}
+use Rattle.hyd_spec_lines.specs.declared.line.Line.{Line}
+use Rattle.hyd_spec_lines.specs.declared.section.Section.TheVariants.{Demands}
 use Rattle.hyd_net.specs.ListView.{ListView}
 use Rattle.hyd_net.specs.Ranges.{IsFlow}
 use Rattle.hyd_net.specs.declared.nodes.Demand.{Demand}

@@ -6,8 +6,8 @@ use Rattle.std.proofs.lemmas.Bool.{and_parts}
 use lib.Signed.{le_z}
 use Rattle.hyd_num.specs.Quantity.{head_ticks}
 use Rattle.hyd_num.specs.declared.units.FlowUnit.{FlowUnit}
-use Rattle.hyd_lex.specs.Lines.{Row}
-use Rattle.hyd_lex.specs.declared.section.Section.TheVariants.{Tanks}
+use Rattle.hyd_spec_lines.specs.Lines.{Row}
+use Rattle.hyd_spec_lines.specs.declared.section.Section.TheVariants.{Tanks}
 use Rattle.hyd_net.specs.Ranges.{IsHead, Lies}
 use Rattle.hyd_net.specs.declared.nodes.Tank.{Tank}
 use Rattle.hyd_spec_input.specs.ByItself.{IsWrongByItself}

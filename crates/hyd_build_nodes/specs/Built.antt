@@ -9,7 +9,7 @@ use Rattle.hyd_spec_input.specs.Columns.{amount}
 use Rattle.hyd_spec_input.specs.Network.{number_in}
 use Rattle.hyd_rows.specs.Rows.{IsTankRow}
 use Rattle.hyd_rows.specs.declared.tanks.TankRow.{TankRow}
-use Rattle.hyd_lex.specs.Bytes.{text_of}
+use Rattle.hyd_spec_lines.specs.Bytes.{text_of}
 
 -- the number of a name that may be given
 abbrev pub number_of : List (List ℕ) → Option (List ℕ) → Option ℕ

@@ -3,8 +3,8 @@ use Rattle.std.specs.Prelude.{◌≡◌, ℕ, List, Option}
 use Rattle.hyd_num.specs.Quantity.{is_us_unit, head_ticks}
 use Rattle.hyd_num.specs.declared.capacities.Capacity.{Capacity}
 use Rattle.hyd_num.specs.declared.units.FlowUnit.{FlowUnit}
-use Rattle.hyd_lex.specs.Bytes.{text_of}
-use Rattle.hyd_lex.specs.Lines.{Row}
+use Rattle.hyd_spec_lines.specs.Bytes.{text_of}
+use Rattle.hyd_spec_lines.specs.Lines.{Row}
 use Rattle.hyd_net.specs.declared.nodes.Demand.{Demand}
 use Rattle.hyd_net.specs.declared.nodes.Junction.{Junction}
 use Rattle.hyd_rows.specs.declared.nodes.JunctionRow.{JunctionRow}

@@ -4,7 +4,7 @@
 ghost use Rattle.std.specs.Prelude.{◌≡◌, ◌<◌, ◌≤◌, ◌+◌, ◌^◌, ◌==◌, ◌++◌, [], ◌∷◌, length, slice_index_or, unsigned_abs, IfOk, OnOk};
 ghost use Rattle.std.specs.List.{All};
 ghost use Rattle.hyd_num.specs.Quantity as quantity;
-ghost use Rattle.hyd_lex.specs.Lines.{LiesIn};
+ghost use Rattle.hyd_spec_lines.specs.Lines.{LiesIn};
 ghost use Rattle.hyd_spec_input.specs.ByItself.{IsWrongByItself};
 ghost use Rattle.hyd_spec_input.specs.Faults.{NoneIs, IsWrongWithOthers};
 ghost use Rattle.hyd_spec_input.specs.InForce as force;
@@ -13,7 +13,7 @@ ghost use Rattle.hyd_spec_input.specs.Tables.{place as section_place, node_rows}
 ghost use Rattle.hyd_tables.specs.Found.{rows_at};
 ghost use Rattle.hyd_tables.specs.Tables.{IsTable};
 ghost use Rattle.hyd_build_nodes.specs.Gathered.{AreDemands, AreEmpty, each, IsSetAt, demand_by as demand_as};
-ghost use Rattle.hyd_lex.specs.Bytes.{text_of};
+ghost use Rattle.hyd_spec_lines.specs.Bytes.{text_of};
 
 use crate::quantities::{flow_of, number_named};
 use hyd_lex::{Line, Lines, Section};

@@ -4,7 +4,7 @@
 ghost use Rattle.std.specs.Prelude.{◌≡◌, ◌≤◌, ◌*◌, ◌^◌, unsigned_abs};
 ghost use Rattle.hyd_num.specs.Quantity as quantity;
 ghost use Rattle.hyd_num.specs.Quantity.{is_us_unit};
-ghost use Rattle.hyd_lex.specs.Bytes.{text_of};
+ghost use Rattle.hyd_spec_lines.specs.Bytes.{text_of};
 ghost use Rattle.hyd_build_nodes.specs.Built.{number_of};
 
 use hyd_net::Names;

@@ -5,8 +5,8 @@ ghost use Rattle.std.specs.Prelude.{◌≡◌, ◌<◌, ◌≤◌, ◌+◌, ◌*
 ghost use Rattle.std.specs.List.{All};
 ghost use Rattle.hyd_num.specs.Quantity.{is_us_unit, head_ticks};
 ghost use Rattle.hyd_num.specs.Roots.{IsFloor};
-ghost use Rattle.hyd_lex.specs.Lines.{LiesIn, row_of};
-ghost use Rattle.hyd_lex.specs.declared.section.Section.TheVariants.{Tanks};
+ghost use Rattle.hyd_spec_lines.specs.Lines.{LiesIn, row_of};
+ghost use Rattle.hyd_spec_lines.specs.declared.section.Section.TheVariants.{Tanks};
 ghost use Rattle.hyd_opts.specs.Judged.{words_at};
 ghost use Rattle.hyd_spec_input.specs.ByItself.{IsWrongByItself};
 ghost use Rattle.hyd_spec_input.specs.Faults.{NoneIs, IsWrongWithOthers};

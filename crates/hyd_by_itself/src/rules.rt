@@ -3,7 +3,7 @@
 
 ghost use Rattle.std.specs.Prelude.{◌≡◌};
 ghost use Rattle.std.specs.List.{All};
-ghost use Rattle.hyd_lex.specs.Lines.{LiesIn};
+ghost use Rattle.hyd_spec_lines.specs.Lines.{LiesIn};
 ghost use Rattle.hyd_opts.specs.Judged.{Judged, words_at};
 ghost use Rattle.hyd_spec_input.specs.RuleRows as rules;
 ghost use Rattle.hyd_by_itself.specs.Stages.{line_fault, rule_lines};

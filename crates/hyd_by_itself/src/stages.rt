@@ -2,12 +2,12 @@
 #![tactic(auto)]
 
 ghost use Rattle.std.specs.Prelude.{◌≡◌};
-ghost use Rattle.hyd_lex.specs.Lines.{LiesIn, row_of};
+ghost use Rattle.hyd_spec_lines.specs.Lines.{LiesIn, row_of};
 ghost use Rattle.hyd_opts.specs.Judged.{Judged, words_at};
 ghost use Rattle.hyd_spec_input.specs.RuleRows as rules;
 ghost use Rattle.hyd_spec_input.specs.RuleRows.{begins_with};
 ghost use Rattle.hyd_spec_input.specs.Tables.{is_of};
-ghost use Rattle.hyd_lex.specs.declared.section.Section.TheVariants.{Rules};
+ghost use Rattle.hyd_spec_lines.specs.declared.section.Section.TheVariants.{Rules};
 ghost use Rattle.hyd_by_itself.specs.Stages.{stage_with};
 
 use hyd_lex::{Line, Lines, Section};

@@ -8,10 +8,10 @@ use Rattle.std.proofs.lemmas.List.{map-set, map-append, length-map, get_or-set_s
 use Rattle.std.proofs.lemmas.List.Elements.{filter-append, All-push}
 use Rattle.std.proofs.Math.ListN.{get_or-eq_default}
 use Rattle.std.proofs.lemmas.List.Quantifiers.{position-Some}
-use Rattle.hyd_lex.specs.Lines.{Row}
-use Rattle.hyd_lex.specs.declared.line.Line.{Line}
-use Rattle.hyd_lex.specs.declared.section.Section.{Section}
-use Rattle.hyd_lex.specs.declared.section.Section.TheVariants.{Curves}
+use Rattle.hyd_spec_lines.specs.Lines.{Row}
+use Rattle.hyd_spec_lines.specs.declared.line.Line.{Line}
+use Rattle.hyd_spec_lines.specs.declared.section.Section.{Section}
+use Rattle.hyd_spec_lines.specs.declared.section.Section.TheVariants.{Curves}
 use Rattle.hyd_net.specs.ListView.{ListView}
 use Rattle.hyd_spec_input.specs.ByItself as itself
 use Rattle.hyd_spec_input.specs.ByItself.{IsWrongByItself}

@@ -8,9 +8,9 @@ use Rattle.std.proofs.lemmas.List.{length-map, get_or-map, length-append}
 use Rattle.std.proofs.lemmas.List.Elements.{All-nil, All-cons}
 use lib.Signed.{le_z}
 use Rattle.hyd_num.specs.Quantity.{head_ticks}
-use Rattle.hyd_lex.specs.Lines.{Row}
-use Rattle.hyd_lex.specs.declared.section.Section.{Section}
-use Rattle.hyd_lex.specs.declared.section.Section.TheVariants.{Tanks}
+use Rattle.hyd_spec_lines.specs.Lines.{Row}
+use Rattle.hyd_spec_lines.specs.declared.section.Section.{Section}
+use Rattle.hyd_spec_lines.specs.declared.section.Section.TheVariants.{Tanks}
 use Rattle.hyd_net.specs.Curves.{volume_at}
 use Rattle.hyd_net.specs.ListView.{ListView}
 use Rattle.hyd_net.specs.declared.cause.Cause.{Cause}
@@ -31,7 +31,7 @@ use Rattle.hyd_spec_input.specs.WithOthers.{us}
 use Rattle.hyd_tables.proofs.FoundLemmas.{filter_more, filter_same}
 use Rattle.hyd_tables.specs.Found.{rows_at}
 use Rattle.hyd_tables.proofs.SectionLemmas.{none_of, all_rows}
-use Rattle.hyd_lex.specs.declared.line.Line.{Line}
+use Rattle.hyd_spec_lines.specs.declared.line.Line.{Line}
 use Rattle.hyd_spec_input.specs.InForce as force
 use Rattle.hyd_curves.specs.Asked.{tank_curve_fault}
 use Rattle.hyd_curves.specs.Named.{IsSmallVolume, AreShapes, AreShapesAt, with_name}

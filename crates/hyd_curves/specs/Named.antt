@@ -1,6 +1,6 @@
 -- Curves that rows name, each name once.
 use Rattle.std.specs.Prelude.{◌≡◌, ◌≤◌, ◌^◌, ℕ, List, [], ◌∷◌, ◌++◌, length, take, if◌then◌else◌, unsigned_abs}
-use Rattle.hyd_lex.specs.Lines.{Row}
+use Rattle.hyd_spec_lines.specs.Lines.{Row}
 use Rattle.hyd_net.specs.ListView.{ListView}
 use Rattle.hyd_net.specs.declared.curves.VolumePoint.{VolumePoint}
 use Rattle.hyd_spec_input.specs.Network.{is_among, shape_names}

@@ -3,8 +3,8 @@
 
 ghost use Rattle.std.specs.Prelude.{◌≡◌, ◌≤◌, ◌^◌, ℕ, false, List, Some, None, pos, ◌-ℤ◌, ◌≤ℤ◌, ◌<ℤ◌, IfOk};
 ghost use Rattle.std.specs.Bool.{OnTrue, OnFalse};
-ghost use Rattle.hyd_lex.specs.Bytes.{text_of};
-ghost use Rattle.hyd_lex.specs.Lines.{Row};
+ghost use Rattle.hyd_spec_lines.specs.Bytes.{text_of};
+ghost use Rattle.hyd_spec_lines.specs.Lines.{Row};
 ghost use Rattle.hyd_resist.specs.Ranges.{IsCurveFlow};
 ghost use Rattle.hyd_spec_input.specs.Capacities.{IsRefusedCurve};
 ghost use Rattle.hyd_spec_input.specs.Curves.{drop_of, is_bent};

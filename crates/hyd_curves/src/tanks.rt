@@ -3,8 +3,8 @@
 
 ghost use Rattle.std.specs.Prelude.{◌≡◌, ◌^◌, true, ◌&&◌, List, pos, ◌-ℤ◌, ◌≤ℤ◌};
 ghost use lib.Signed.{le_z};
-ghost use Rattle.hyd_lex.specs.Bytes.{text_of};
-ghost use Rattle.hyd_lex.specs.Lines.{Row};
+ghost use Rattle.hyd_spec_lines.specs.Bytes.{text_of};
+ghost use Rattle.hyd_spec_lines.specs.Lines.{Row};
 ghost use Rattle.hyd_spec_input.specs.Curves as curve;
 ghost use Rattle.hyd_spec_input.specs.Curves.{is_fuller, covers};
 ghost use Rattle.hyd_net.specs.Curves.{volume_at};

@@ -5,10 +5,10 @@ use Rattle.std.specs.List.{list_any}
 use Rattle.std.proofs.lemmas.Bool.{cases_Bool, le-leb}
 use Rattle.std.proofs.lemmas.List.{length-map}
 use Rattle.std.proofs.lemmas.Option.{slice_get_within}
-use Rattle.hyd_lex.specs.Lines.{Row, row_of, items_of, rows_in, fault_in}
-use Rattle.hyd_lex.specs.declared.fault.LexFault.{LexFault}
-use Rattle.hyd_lex.specs.declared.line.Line.{Line}
-use Rattle.hyd_lex.specs.declared.section.Section.TheVariants.{Reservoirs, Tanks}
+use Rattle.hyd_spec_lines.specs.Lines.{Row, row_of, items_of, rows_in, fault_in}
+use Rattle.hyd_spec_lines.specs.declared.fault.LexFault.{LexFault}
+use Rattle.hyd_spec_lines.specs.declared.line.Line.{Line}
+use Rattle.hyd_spec_lines.specs.declared.section.Section.TheVariants.{Reservoirs, Tanks}
 use Rattle.hyd_net.specs.declared.cause.Cause.{Cause}
 use Rattle.hyd_net.specs.declared.cause.Cause.TheVariants.{Missing}
 use Rattle.hyd_spec_input.specs.ByItself.{IsWrongByItself}

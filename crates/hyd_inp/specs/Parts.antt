@@ -1,7 +1,7 @@
 -- Parts of the network of a file without a fault.
 use Rattle.std.specs.Prelude.{◌≡◌, List}
-use Rattle.hyd_lex.specs.Lines.{Row}
-use Rattle.hyd_lex.specs.declared.section.Section.TheVariants.{Junctions, Reservoirs, Tanks, Controls, Rules}
+use Rattle.hyd_spec_lines.specs.Lines.{Row}
+use Rattle.hyd_spec_lines.specs.declared.section.Section.TheVariants.{Junctions, Reservoirs, Tanks, Controls, Rules}
 use Rattle.hyd_net.specs.declared.options.Options.{Options}
 use Rattle.hyd_net.specs.declared.options.Times.{Times}
 use Rattle.hyd_net.specs.declared.project.Project.{Project}

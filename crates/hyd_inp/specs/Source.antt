@@ -1,8 +1,8 @@
 -- A file without a fault, and what its parts are built from.
 use Rattle.std.specs.Prelude.{◌≡◌, ℕ, ◌≤◌, ◌^◌, List, length}
 use Rattle.std.specs.List.{All}
-use Rattle.hyd_lex.specs.Lines.{Row, LiesIn}
-use Rattle.hyd_lex.specs.declared.section.Section.TheVariants.{Curves}
+use Rattle.hyd_spec_lines.specs.Lines.{Row, LiesIn}
+use Rattle.hyd_spec_lines.specs.declared.section.Section.TheVariants.{Curves}
 use Rattle.hyd_curves.specs.Points.{ArePoints}
 use Rattle.hyd_spec_input.specs.ByItself.{IsWrongByItself}
 use Rattle.hyd_spec_input.specs.Faults.{NoneIs, IsWrongWithOthers}

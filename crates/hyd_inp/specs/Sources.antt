@@ -1,6 +1,6 @@
 -- Rows of reservoirs and tanks.
 use Rattle.std.specs.Prelude.{Bool, ◌==◌, ◌||◌}
-use Rattle.hyd_lex.specs.declared.line.Line.{Line}
+use Rattle.hyd_spec_lines.specs.declared.line.Line.{Line}
 use Rattle.hyd_spec_input.specs.Tables.{place}
 
 -- a line of [RESERVOIRS] or [TANKS]

@@ -3,7 +3,7 @@
 
 ghost use Rattle.std.specs.Prelude.{◌≡◌};
 ghost use Rattle.std.specs.List.{All, list_any};
-ghost use Rattle.hyd_lex.specs.Lines.{LiesIn};
+ghost use Rattle.hyd_spec_lines.specs.Lines.{LiesIn};
 ghost use Rattle.hyd_spec_input.specs.Faults as faults;
 ghost use Rattle.hyd_spec_input.specs.InForce as force;
 ghost use Rattle.hyd_tables.specs.Found.{rows_at};

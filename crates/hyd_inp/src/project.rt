@@ -2,7 +2,7 @@
 #![tactic(auto)]
 
 ghost use Rattle.std.specs.Prelude.{IfOk, IfErr};
-ghost use Rattle.hyd_lex.specs.Lines.{items_of, rows_in};
+ghost use Rattle.hyd_spec_lines.specs.Lines.{items_of, rows_in};
 ghost use Rattle.hyd_net.specs.Sound.{Sound};
 ghost use Rattle.hyd_spec_input.specs.Faults.{IsFault, HasNoFault};
 ghost use Rattle.hyd_spec_input.specs.Project.{IsProject};

@@ -3,7 +3,7 @@
 
 ghost use Rattle.std.specs.Prelude.{◌≡◌, ◌≤◌, ◌^◌, ◌==◌, ◌||◌, length, filter, IfOk};
 ghost use Rattle.std.specs.List.{All};
-ghost use Rattle.hyd_lex.specs.Lines.{LiesIn, row_of};
+ghost use Rattle.hyd_spec_lines.specs.Lines.{LiesIn, row_of};
 ghost use Rattle.hyd_spec_input.specs.Tables.{place};
 ghost use Rattle.hyd_tables.specs.Found.{rows_at};
 ghost use Rattle.hyd_tables.specs.Tables.{IsTable};

@@ -4,8 +4,8 @@
 
 ghost use Rattle.std.specs.Prelude.{◌≡◌, ◌≤◌, ◌^◌, length, IfOk};
 ghost use Rattle.std.specs.List.{All};
-ghost use Rattle.hyd_lex.specs.Lines.{LiesIn};
-ghost use Rattle.hyd_lex.specs.declared.section.Section.TheVariants.{Curves as InCurves};
+ghost use Rattle.hyd_spec_lines.specs.Lines.{LiesIn};
+ghost use Rattle.hyd_spec_lines.specs.declared.section.Section.TheVariants.{Curves as InCurves};
 ghost use Rattle.hyd_spec_input.specs.ByItself.{IsWrongByItself};
 ghost use Rattle.hyd_spec_input.specs.Faults.{NoneIs, IsWrongWithOthers};
 ghost use Rattle.hyd_spec_input.specs.InForce as force;

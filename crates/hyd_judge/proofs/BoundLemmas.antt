@@ -3,11 +3,11 @@ use Rattle.std.proofs.Common.{◌≡◌, ◌+◌, ℕ, ◌⊎◌, Bool, true, fa
 use Rattle.std.specs.Prelude.{codes}
 use Rattle.std.proofs.lemmas.Bool.{cases_Bool}
 use Rattle.hyd_num.specs.declared.units.FlowUnit.{FlowUnit}
-use Rattle.hyd_lex.specs.Bytes.{is_keyword}
-use Rattle.hyd_lex.specs.Lines.{Row, Reading, row_of}
-use Rattle.hyd_lex.specs.declared.line.Line.{Line}
-use Rattle.hyd_lex.specs.declared.section.Section.{Section}
-use Rattle.hyd_lex.specs.declared.section.Section.TheVariants.{Options}
+use Rattle.hyd_spec_lines.specs.Bytes.{is_keyword}
+use Rattle.hyd_spec_lines.specs.Lines.{Row, Reading, row_of}
+use Rattle.hyd_spec_lines.specs.declared.line.Line.{Line}
+use Rattle.hyd_spec_lines.specs.declared.section.Section.{Section}
+use Rattle.hyd_spec_lines.specs.declared.section.Section.TheVariants.{Options}
 use Rattle.hyd_spec_input.specs.ByItself as itself
 use Rattle.hyd_spec_input.specs.ByItself.{IsWrongByItself}
 use Rattle.hyd_spec_input.specs.Capacities.{IsRefusedIn}

@@ -1,7 +1,7 @@
 -- The last row that passes, one row more.
 use Rattle.std.proofs.Common.{◌≡◌, ◌+◌, ℕ, Bool, true, false, List, [], ◌∷◌, ◌++◌, take, slice_get, Option, Some, None, refl, sym, ap, ◌∙◌}
-use Rattle.hyd_lex.specs.Lines.{Row}
-use Rattle.hyd_lex.specs.declared.section.Section.TheVariants.{Options}
+use Rattle.hyd_spec_lines.specs.Lines.{Row}
+use Rattle.hyd_spec_lines.specs.declared.section.Section.TheVariants.{Options}
 use Rattle.hyd_spec_input.specs.Tables.{is_of, rows_of}
 use Rattle.hyd_spec_input.specs.InForce.{last_where, or_earlier, where_passes}
 use Rattle.hyd_tables.proofs.FoundLemmas.{filter_more, filter_same}

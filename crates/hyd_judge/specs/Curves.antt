@@ -1,7 +1,7 @@
 -- The curves among the first rows of a file.
 use Rattle.std.specs.Prelude.{◌≡◌, ℕ, ◌≤◌, List, length, take}
-use Rattle.hyd_lex.specs.Lines.{Row}
-use Rattle.hyd_lex.specs.declared.section.Section.TheVariants.{Curves as InCurves}
+use Rattle.hyd_spec_lines.specs.Lines.{Row}
+use Rattle.hyd_spec_lines.specs.declared.section.Section.TheVariants.{Curves as InCurves}
 use Rattle.hyd_spec_input.specs.Tables.{rows_of, distinct}
 use Rattle.hyd_tables.specs.Found.{HasFound}
 use Rattle.hyd_tables.specs.Tables.{IsTable}

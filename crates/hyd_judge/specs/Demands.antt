@@ -1,8 +1,8 @@
 -- The demands among the first rows of a file.
 use Rattle.std.specs.Prelude.{◌≡◌, ℕ, ◌≤◌, List, [], ◌∷◌, length, take, slice_get, Option}
 use Rattle.hyd_num.specs.declared.units.FlowUnit.{FlowUnit}
-use Rattle.hyd_lex.specs.Lines.{Row}
-use Rattle.hyd_lex.specs.declared.section.Section.TheVariants.{Demands as InDemands}
+use Rattle.hyd_spec_lines.specs.Lines.{Row}
+use Rattle.hyd_spec_lines.specs.declared.section.Section.TheVariants.{Demands as InDemands}
 use Rattle.hyd_spec_input.specs.Columns.{first, word, amount}
 use Rattle.hyd_spec_input.specs.Tables.{rows_of}
 use Rattle.hyd_spec_input.specs.WithOthers.{passes, known_junction, known_pattern}

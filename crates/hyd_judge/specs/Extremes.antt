@@ -3,7 +3,7 @@ use Rattle.std.specs.Prelude.{◌≡◌, ℕ, Bool, true, ◌&&◌, List, [], �
 use Rattle.std.specs.List.{All}
 use Rattle.std.specs.Option.{option_map}
 use lib.Signed.{le_z, lt_z}
-use Rattle.hyd_lex.specs.Lines.{Row}
+use Rattle.hyd_spec_lines.specs.Lines.{Row}
 use Rattle.hyd_spec_input.specs.Network.{number_in}
 use Rattle.hyd_spec_input.specs.Tables.{pattern_named}
 use Rattle.hyd_judge.specs.declared.extremes.Extremes.{Extremes}

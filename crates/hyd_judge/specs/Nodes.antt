@@ -4,7 +4,7 @@ use Rattle.std.specs.List.{list_all}
 use lib.Signed.{le_z}
 use Rattle.hyd_num.specs.Quantity.{is_us_unit, head_ticks}
 use Rattle.hyd_num.specs.declared.units.FlowUnit.{FlowUnit}
-use Rattle.hyd_lex.specs.Lines.{Row}
+use Rattle.hyd_spec_lines.specs.Lines.{Row}
 use Rattle.hyd_spec_input.specs.Columns.{or_else, first, unless, amount, amount_or}
 use Rattle.hyd_spec_input.specs.Curves.{is_within, is_head}
 use Rattle.hyd_spec_input.specs.NetworkRows.{tank_curve}

@@ -3,8 +3,8 @@ use Rattle.std.specs.Prelude.{◌≡◌, ℕ, ◌*◌, ◌^◌, ◌==◌, ◌&&�
 use lib.Signed.{le_z}
 use Rattle.hyd_num.specs.Quantity.{is_us_unit, pressure_numerator, pressure_denominator}
 use Rattle.hyd_num.specs.declared.units.FlowUnit.{FlowUnit}
-use Rattle.hyd_lex.specs.Lines.{Row, Reading}
-use Rattle.hyd_lex.specs.declared.line.Line.{Line}
+use Rattle.hyd_spec_lines.specs.Lines.{Row, Reading}
+use Rattle.hyd_spec_lines.specs.declared.line.Line.{Line}
 use Rattle.hyd_opts.specs.Judged.{words_at}
 use Rattle.hyd_spec_input.specs.Columns.{or_else, unless, needed, number, amount, word_is_of}
 use Rattle.hyd_spec_input.specs.InForce as force

@@ -3,8 +3,8 @@
 
 ghost use Rattle.std.specs.Prelude.{◌≡◌, ◌<◌, ◌^◌, ◌+◌, ◌*◌, ◌==◌, ◌≤ℤ◌, pos, List, None, length};
 ghost use Rattle.std.specs.List.{All};
-ghost use Rattle.hyd_lex.specs.Lines.{LiesIn, Row};
-ghost use Rattle.hyd_lex.specs.declared.section.Section.TheVariants.{Emitters};
+ghost use Rattle.hyd_spec_lines.specs.Lines.{LiesIn, Row};
+ghost use Rattle.hyd_spec_lines.specs.declared.section.Section.TheVariants.{Emitters};
 ghost use Rattle.hyd_opts.specs.Judged.{words_at};
 ghost use Rattle.hyd_spec_input.specs.ByItself.{IsWrongByItself};
 ghost use Rattle.hyd_spec_input.specs.Capacities.{IsRefusedEmitter};

@@ -4,9 +4,9 @@
 ghost use Rattle.std.specs.Prelude.{◌≡◌, ◌<◌, ◌+◌, ◌^◌, ◌==◌, None, length, map, IfOk};
 ghost use Rattle.std.specs.List.{All};
 ghost use Rattle.hyd_num.specs.Numeral.{nano_of};
-ghost use Rattle.hyd_lex.specs.Bytes.{words_in};
-ghost use Rattle.hyd_lex.specs.Lines.{LiesIn};
-ghost use Rattle.hyd_lex.specs.declared.section.Section.TheVariants.{Patterns};
+ghost use Rattle.hyd_spec_lines.specs.Bytes.{words_in};
+ghost use Rattle.hyd_spec_lines.specs.Lines.{LiesIn};
+ghost use Rattle.hyd_spec_lines.specs.declared.section.Section.TheVariants.{Patterns};
 ghost use Rattle.hyd_opts.specs.Judged.{words_at};
 ghost use Rattle.hyd_spec_input.specs.ByItself.{IsWrongByItself};
 ghost use Rattle.hyd_spec_input.specs.Columns.{within};

@@ -3,8 +3,8 @@
 
 ghost use Rattle.std.specs.Prelude.{◌≡◌, ◌<◌, ◌+◌, ◌*◌, ◌^◌, [], ◌∷◌, List, ℤ, None, length, pos, max, codes, IfSome};
 ghost use Rattle.std.specs.List.{All};
-ghost use Rattle.hyd_lex.specs.Lines.{LiesIn, Row, row_of};
-ghost use Rattle.hyd_lex.specs.declared.section.Section.TheVariants.{Options as InOptions};
+ghost use Rattle.hyd_spec_lines.specs.Lines.{LiesIn, Row, row_of};
+ghost use Rattle.hyd_spec_lines.specs.declared.section.Section.TheVariants.{Options as InOptions};
 ghost use Rattle.hyd_opts.specs.Judged.{words_at};
 ghost use Rattle.hyd_spec_input.specs.ByItself.{IsWrongByItself};
 ghost use Rattle.hyd_spec_input.specs.Columns as column;

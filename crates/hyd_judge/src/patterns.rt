@@ -3,9 +3,9 @@
 
 ghost use Rattle.std.specs.Prelude.{◌≡◌, ◌<◌, ◌+◌, ◌^◌, [], ◌∷◌, List, ℕ, ℤ, length, min, IfOk, OnOk};
 ghost use Rattle.std.specs.List.{All, list_all};
-ghost use Rattle.hyd_lex.specs.Bytes.{text_of};
-ghost use Rattle.hyd_lex.specs.Lines.{LiesIn, Row};
-ghost use Rattle.hyd_lex.specs.declared.section.Section.TheVariants.{Patterns as InPatterns};
+ghost use Rattle.hyd_spec_lines.specs.Bytes.{text_of};
+ghost use Rattle.hyd_spec_lines.specs.Lines.{LiesIn, Row};
+ghost use Rattle.hyd_spec_lines.specs.declared.section.Section.TheVariants.{Patterns as InPatterns};
 ghost use Rattle.hyd_opts.specs.Judged.{words_at};
 ghost use Rattle.hyd_spec_input.specs.ByItself.{IsWrongByItself};
 ghost use Rattle.hyd_spec_input.specs.Columns.{first};

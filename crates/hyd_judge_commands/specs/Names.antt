@@ -1,7 +1,7 @@
 -- Links and nodes that commands name.
 use Rattle.std.specs.Prelude.{◌≡◌, ℕ, List, Some}
-use Rattle.hyd_lex.specs.Lines.{Row, LiesIn, row_of}
-use Rattle.hyd_lex.specs.declared.line.Line.{Line}
+use Rattle.hyd_spec_lines.specs.Lines.{Row, LiesIn, row_of}
+use Rattle.hyd_spec_lines.specs.declared.line.Line.{Line}
 use Rattle.hyd_spec_input.specs.Tables.{node_named, link_named}
 use Rattle.hyd_states.specs.States.{IsRightLink}
 

@@ -3,8 +3,8 @@
 
 ghost use Rattle.std.specs.Prelude.{◌≡◌, ◌<◌, ◌+◌, ◌^◌, ◌==◌, ℕ, List, Some, true, length, slice_get};
 ghost use Rattle.std.specs.List.{All};
-ghost use Rattle.hyd_lex.specs.Lines.{LiesIn, Row, row_of};
-ghost use Rattle.hyd_lex.specs.declared.section.Section.TheVariants.{Controls as InControls};
+ghost use Rattle.hyd_spec_lines.specs.Lines.{LiesIn, Row, row_of};
+ghost use Rattle.hyd_spec_lines.specs.declared.section.Section.TheVariants.{Controls as InControls};
 ghost use Rattle.hyd_opts.specs.Judged.{Judged, words_at};
 ghost use Rattle.hyd_opts.specs.Meanings.{IsControlLine, IsWhen};
 ghost use Rattle.hyd_spec_input.specs.ByItself.{IsWrongByItself};

@@ -2,7 +2,7 @@
 #![tactic(auto)]
 
 ghost use Rattle.std.specs.Prelude.{◌≡◌, ◌==◌, List, Some};
-ghost use Rattle.hyd_lex.specs.Lines.{Row, row_of};
+ghost use Rattle.hyd_spec_lines.specs.Lines.{Row, row_of};
 ghost use Rattle.hyd_opts.specs.Judged.{Judged};
 ghost use Rattle.hyd_spec_input.specs.ByItself.{IsWrongByItself};
 ghost use Rattle.hyd_spec_input.specs.Faults.{NoneIs};

@@ -3,8 +3,8 @@
 
 ghost use Rattle.std.specs.Prelude.{◌≡◌, ◌<◌, ◌+◌, ◌^◌, ◌∷◌, [], Some, true, not, length, take, slice_get, IfOk, OnOk};
 ghost use Rattle.std.specs.List.{All};
-ghost use Rattle.hyd_lex.specs.Lines.{LiesIn, Row};
-ghost use Rattle.hyd_lex.specs.declared.section.Section.TheVariants.{Rules as InRules};
+ghost use Rattle.hyd_spec_lines.specs.Lines.{LiesIn, Row};
+ghost use Rattle.hyd_spec_lines.specs.declared.section.Section.TheVariants.{Rules as InRules};
 ghost use Rattle.hyd_net.specs.declared.cause.Cause.TheVariants as cause;
 ghost use Rattle.hyd_spec_input.specs.ByItself.{IsWrongByItself};
 ghost use Rattle.hyd_spec_input.specs.Columns.{or_else, unless, word};

@@ -2,7 +2,7 @@
 #![tactic(auto)]
 
 ghost use Rattle.std.specs.Prelude.{◌≡◌, ℕ, List, None, Some};
-ghost use Rattle.hyd_lex.specs.Lines.{LiesIn, Row, row_of};
+ghost use Rattle.hyd_spec_lines.specs.Lines.{LiesIn, Row, row_of};
 ghost use Rattle.hyd_opts.specs.Meanings.{IsAsked};
 ghost use Rattle.hyd_spec_input.specs.Capacities.{IsRefusedSetting};
 ghost use Rattle.hyd_spec_input.specs.InForce as force;

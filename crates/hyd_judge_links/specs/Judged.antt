@@ -1,6 +1,6 @@
 -- The links among the first rows of a file.
 use Rattle.std.specs.Prelude.{◌≡◌, ℕ, ◌≤◌, List, length, take}
-use Rattle.hyd_lex.specs.Lines.{Row}
+use Rattle.hyd_spec_lines.specs.Lines.{Row}
 use Rattle.hyd_spec_input.specs.Faults.{IsWrongWithOthers}
 use Rattle.hyd_spec_input.specs.Tables.{is_link, link_rows}
 use Rattle.hyd_net.specs.declared.cause.Cause.{Cause}

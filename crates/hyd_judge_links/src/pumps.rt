@@ -2,9 +2,9 @@
 #![tactic(auto)]
 
 ghost use Rattle.std.specs.Prelude.{◌≡◌, [], ◌∷◌, ℕ, List, Some, None};
-ghost use Rattle.hyd_lex.specs.Bytes.{text_of};
-ghost use Rattle.hyd_lex.specs.Lines.{LiesIn, Row};
-ghost use Rattle.hyd_lex.specs.declared.section.Section.TheVariants.{Curves};
+ghost use Rattle.hyd_spec_lines.specs.Bytes.{text_of};
+ghost use Rattle.hyd_spec_lines.specs.Lines.{LiesIn, Row};
+ghost use Rattle.hyd_spec_lines.specs.declared.section.Section.TheVariants.{Curves};
 ghost use Rattle.hyd_opts.specs.Judged.{words_at};
 ghost use Rattle.hyd_spec_input.specs.Capacities.{IsRefusedCurve};
 ghost use Rattle.hyd_spec_input.specs.Columns.{first};

@@ -7,11 +7,12 @@ use Rattle.std.proofs.lemmas.Bool.Decides.{nat_tests}
 use Rattle.std.proofs.lemmas.List.{length-map}
 use Rattle.std.proofs.lemmas.Option.{slice_get_within}
 use denote.Ref.{Bor}
-use Rattle.hyd_lex.specs.Bytes.{is_line_feed, is_blank, without_empty_end, text_lines, words_in, text_of}
-use Rattle.hyd_lex.specs.Lines.{items, given, kind_of, region_after}
-use Rattle.hyd_lex.specs.declared.section.Region.{Region}
-use Rattle.hyd_lex.specs.declared.section.Kind.{Kind}
-use Rattle.hyd_lex.specs.declared.section.Kind.TheVariants.{Nothing, Wrong, Row as RowOf, Opens}
+use Rattle.hyd_spec_lines.specs.Bytes.{is_line_feed, is_blank, without_empty_end, text_lines, words_in, text_of}
+use Rattle.hyd_spec_lines.specs.Lines.{given, kind_of}
+use Rattle.hyd_lex.specs.Walk.{items, region_after}
+use Rattle.hyd_spec_lines.specs.declared.section.Region.{Region}
+use Rattle.hyd_spec_lines.specs.declared.section.Kind.{Kind}
+use Rattle.hyd_spec_lines.specs.declared.section.Kind.TheVariants.{Nothing, Wrong, Row as RowOf, Opens}
 use Rattle.hyd_lex.proofs.FirstLine.{more_pieces}
 
 longer_first : (x : ℕ) (parts : List (List ℕ)) (n : ℕ) → length (without_empty_end parts) ≤ n

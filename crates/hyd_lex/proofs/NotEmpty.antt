@@ -4,13 +4,15 @@ use Rattle.std.specs.Prelude.{Result}
 use Rattle.std.specs.List.{All, AllByRecursion, slice_split}
 use Rattle.std.proofs.lemmas.Bool.{leb-true}
 use Rattle.std.proofs.lemmas.List.Elements.{filter_passes}
-use Rattle.hyd_lex.specs.Bytes.{words_in, text_lines, body, is_blank}
-use Rattle.hyd_lex.specs.Lines.{Row, items, items_of, rows_in, given, kind_of, region_after}
-use Rattle.hyd_lex.specs.declared.fault.LexFault.{LexFault}
-use Rattle.hyd_lex.specs.declared.section.Kind.{Kind}
-use Rattle.hyd_lex.specs.declared.section.Kind.TheVariants.{Nothing, Wrong, Row as RowOf, Opens}
-use Rattle.hyd_lex.specs.declared.section.Region.{Region}
-use Rattle.hyd_lex.specs.declared.section.Region.TheVariants.{BeforeHeadings}
+use Rattle.hyd_spec_lines.specs.Bytes.{words_in, text_lines, body, is_blank}
+use Rattle.hyd_spec_lines.specs.Lines.{Row, items_of, rows_in, given, kind_of}
+use Rattle.hyd_lex.specs.Walk.{items, region_after}
+use Rattle.hyd_spec_lines.specs.declared.fault.LexFault.{LexFault}
+use Rattle.hyd_spec_lines.specs.declared.section.Kind.{Kind}
+use Rattle.hyd_spec_lines.specs.declared.section.Kind.TheVariants.{Nothing, Wrong, Row as RowOf, Opens}
+use Rattle.hyd_spec_lines.specs.declared.section.Region.{Region}
+use Rattle.hyd_spec_lines.specs.declared.section.Region.TheVariants.{BeforeHeadings}
+use Rattle.hyd_lex.proofs.Sections.{walk_is}
 
 -- each word of a row has a byte
 abbrev pub HasWords : Row → Type 0
@@ -37,5 +39,5 @@ items_words region number (line ∷ lines) =
     (items_words (region_after region (kind_of region line)) (number + 1) lines)
 
 pub not_empty : (text : List ℕ) → AllByRecursion HasWords (rows_in (items_of text))
-unfolding items_of
-not_empty text = items_words BeforeHeadings 1 (text_lines text)
+not_empty text =
+    rw (← walk_is text) (items_words BeforeHeadings 1 (text_lines text))

@@ -4,8 +4,8 @@
 ghost use Rattle.std.specs.Prelude.{not, [], ◌≡◌, ◌+◌, ◌-◌, ◌<◌, ◌≤◌, length, take, drop, ◌∷◌, filter, nat_le, slice_get, slice_index, position, unwrap_or, IfSome, IfNone};
 ghost use Rattle.std.specs.List.{before_first, list_all, slice_split, position_or_len};
 ghost use Rattle.std.specs.Str.Lines.{strip_carriage_return};
-ghost use Rattle.hyd_lex.specs.Bytes as form;
-ghost use Rattle.hyd_lex.specs.Bytes.{is_line_feed, is_semicolon, is_blank, words_in, text_of, text_lines};
+ghost use Rattle.hyd_spec_lines.specs.Bytes as form;
+ghost use Rattle.hyd_spec_lines.specs.Bytes.{is_line_feed, is_semicolon, is_blank, words_in, text_of, text_lines};
 
 /// Whether a word is a keyword, in any letter case.
 pub fn is_keyword(word: &[u8], keyword: &[u8]) -> bool
@@ -50,6 +50,7 @@ pub(crate) fn first_line(text: &[u8]) -> (&[u8], usize)
     ensures shorter { length result.0.now ≤ result.1 }
     ensures some { 0 < result.1 }
     ensures within { result.1 ≤ length text.now }
+    ensures feed { result.1 < length text.now → result.1 ≡ position_or_len is_line_feed text.now + 1 }
 {
     let length = line_length(text);
     let line = without_carriage_return(&text[..length]);

@@ -2,14 +2,9 @@
 #![tactic(auto)]
 
 mod bytes;
-mod fault;
 mod headings;
-mod line;
 mod lines;
-mod section;
 
 pub use bytes::{is_keyword, split_word};
-pub use fault::{LexCause, LexFault};
-pub use line::Line;
+pub use hyd_spec_lines::{LexCause, LexFault, Line, Section};
 pub use lines::Lines;
-pub use section::Section;

@@ -1,18 +1,16 @@
 //! The reader of lines.
 #![tactic(auto)]
 
-ghost use Rattle.std.specs.Prelude.{◌≡◌, ◌+◌, ◌-◌, ◌<◌, ◌≤◌, ◌^◌, [], ◌∷◌, length, take, drop, slice_get, slice_range, IfSome, IfNone, IfOk, IfErr};
-ghost use Rattle.std.specs.Str.Lines.{strip_carriage_return};
-ghost use Rattle.hyd_lex.specs.Bytes as form;
-ghost use Rattle.hyd_lex.specs.Bytes.{words_in, text_of};
-ghost use Rattle.hyd_lex.specs.Lines.{items_of, item_of, row_of, LiesIn};
-ghost use Rattle.hyd_lex.specs.Lines as lines_form;
+ghost use Rattle.std.specs.Prelude.{◌≡◌, ◌+◌, ◌-◌, ◌<◌, ◌≤◌, ◌^◌, [], ◌∷◌, length, drop, slice_get, IfSome, IfNone, IfOk, IfErr};
+ghost use Rattle.hyd_spec_lines.specs.Bytes as form;
+ghost use Rattle.hyd_spec_lines.specs.Bytes.{words_in, text_of};
+ghost use Rattle.hyd_spec_lines.specs.Lines.{items_of, item_of, row_of, LiesIn, IsLineOf};
+ghost use Rattle.hyd_spec_lines.specs.Lines as lines_form;
+ghost use Rattle.hyd_lex.specs.Walk as walk;
 
 use crate::bytes::{body, first_line, is_plain, word};
-use crate::fault::{LexCause, LexFault};
 use crate::headings::heading_kind;
-use crate::line::Line;
-use crate::section::{Kind, Region};
+use hyd_spec_lines::{Kind, LexCause, LexFault, Line, Region};
 use std::marker::Model;
 
 // The most bytes of a line.
@@ -30,8 +28,9 @@ pub struct Lines<'a> {
 
 impl<'a> Model for Lines<'a> {
     ghost use Rattle.std.specs.Prelude.{◌≤◌, ◌^◌, ◌+◌, length, drop};
-    ghost use Rattle.hyd_lex.specs.Lines.{Reading, items};
-    ghost use Rattle.hyd_lex.specs.Bytes.{text_lines};
+    ghost use Rattle.hyd_spec_lines.specs.Lines.{Reading};
+    ghost use Rattle.hyd_lex.specs.Walk.{Stands, items};
+    ghost use Rattle.hyd_spec_lines.specs.Bytes.{text_lines};
 
     ghost Value = { Reading };
 
@@ -41,7 +40,9 @@ impl<'a> Model for Lines<'a> {
           items s.region (s.number + 1) (text_lines (drop s.at s.text.now));
     } };
 
-    ghost invariant = { λ s. (length s.text.now ≤ 2 ^ 26) × (s.at ≤ length s.text.now) × (s.number ≤ s.at) };
+    ghost invariant = { λ s.
+        (length s.text.now ≤ 2 ^ 26) × (s.at ≤ length s.text.now) × (s.number ≤ s.at)
+        × Stands s.text.now s.at s.number };
 }
 
 // What a line with a word that is no heading is.
@@ -92,7 +93,7 @@ fn line_kind(region: Region, line: &[u8]) -> Kind
 }
 
 /// What a line is in a region.
-#[tactic(auto, unfolding(crate::specs::Lines::kind_of))]
+#[tactic(auto, unfolding(hyd_spec_lines::specs::Lines::kind_of))]
 fn kind_of(region: Region, line: &[u8]) -> Kind
     ensures { result ≡ lines_form.kind_of region line.now }
 {
@@ -104,7 +105,7 @@ fn kind_of(region: Region, line: &[u8]) -> Kind
 
 /// The region after a line of a kind.
 fn region_after(region: Region, kind: Kind) -> Region
-    ensures { result ≡ lines_form.region_after region kind }
+    ensures { result ≡ walk.region_after region kind }
 {
     match kind {
         Kind::Nothing => region,
@@ -116,7 +117,6 @@ fn region_after(region: Region, kind: Kind) -> Region
 
 impl<'a> Lines<'a> {
     /// The reader at the start of a text of at most 64 MiB.
-    #[tactic(auto, unfolding(crate::specs::Lines::items_of))]
     pub fn new(text: &'a [u8]) -> Lines<'a>
         requires { length text.now ≤ 2 ^ 26 }
         ensures text { result.text ≡ text.now }
@@ -140,6 +140,7 @@ impl<'a> Lines<'a> {
         ensures some { IfSome result (λ item. self.old.rest ≡ item_of self.old.text item ∷ self.new.rest) }
         ensures fault { IfSome result (λ item. IfErr item (λ _. self.new.rest ≡ [])) }
         ensures lies { IfSome result (λ item. IfOk item (LiesIn self.old.text)) }
+        ensures place { IfSome result (λ item. IfOk item (IsLineOf self.old.text)) }
     {
         while self.at < self.text.len() {
             let from = self.at;

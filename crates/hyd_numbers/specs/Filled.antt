@@ -1,8 +1,8 @@
 -- The multipliers of patterns, as far as rows were read.
 use Rattle.std.specs.Prelude.{◌≡◌, ℕ, ◌==◌, List, [], ◌∷◌, ◌++◌, map, length, take, if◌then◌else◌, ℤ}
 use Rattle.std.specs.List.{flat_map}
-use Rattle.hyd_lex.specs.Lines.{Row}
-use Rattle.hyd_lex.specs.declared.section.Section.TheVariants.{Patterns}
+use Rattle.hyd_spec_lines.specs.Lines.{Row}
+use Rattle.hyd_spec_lines.specs.declared.section.Section.TheVariants.{Patterns}
 use Rattle.hyd_net.specs.declared.patterns.Pattern.{Pattern}
 use Rattle.hyd_spec_input.specs.Tables.{own_id, rows_of, rows_with, row_multipliers}
 use Rattle.hyd_spec_input.specs.Network.{new_names}

@@ -1,8 +1,8 @@
 -- Lines in force.
 use Rattle.std.specs.Prelude.{◌≡◌, ℕ, Bool, true, List, Option, Some, None}
 use Rattle.std.specs.Option.{option_map}
-use Rattle.hyd_lex.specs.Lines.{Row, row_of}
-use Rattle.hyd_lex.specs.declared.line.Line.{Line}
+use Rattle.hyd_spec_lines.specs.Lines.{Row, row_of}
+use Rattle.hyd_spec_lines.specs.declared.line.Line.{Line}
 use Rattle.hyd_spec_input.specs.Columns.{word_is}
 use Rattle.hyd_spec_input.specs.InForce.{begins, begins_both}
 use Rattle.hyd_spec_input.specs.Moments.{time}

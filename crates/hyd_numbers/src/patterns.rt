@@ -4,8 +4,8 @@
 ghost use Rattle.std.specs.Prelude.{◌≡◌, ◌<◌, ◌≤◌, ◌+◌, ◌^◌, ◌++◌, [], None, length, map, slice_set, slice_index_or, IfOk, OnOk};
 ghost use Rattle.std.specs.List.{All};
 ghost use Rattle.hyd_num.specs.Numeral.{nano_of};
-ghost use Rattle.hyd_lex.specs.Bytes.{words_in};
-ghost use Rattle.hyd_lex.specs.Lines.{LiesIn};
+ghost use Rattle.hyd_spec_lines.specs.Bytes.{words_in};
+ghost use Rattle.hyd_spec_lines.specs.Lines.{LiesIn};
 ghost use Rattle.hyd_spec_input.specs.ByItself.{IsWrongByItself};
 ghost use Rattle.hyd_spec_input.specs.Columns.{within};
 ghost use Rattle.hyd_spec_input.specs.DataRows as row;

@@ -1,7 +1,7 @@
 -- A result that is a fault exactly where there is one, and else a value.
 use Rattle.std.specs.Prelude.{◌≡◌, ℕ, List, Option, Some, None, Result, Ok, Err}
-use Rattle.hyd_lex.specs.Lines.{Reading, row_of}
-use Rattle.hyd_lex.specs.declared.line.Line.{Line}
+use Rattle.hyd_spec_lines.specs.Lines.{Reading, row_of}
+use Rattle.hyd_spec_lines.specs.declared.line.Line.{Line}
 use Rattle.hyd_net.specs.declared.cause.Cause.{Cause}
 
 -- the fault where there is one, else a value with a property

@@ -2,8 +2,8 @@
 use Rattle.std.specs.Prelude.{◌≡◌, ℕ, ◌+◌, Bool, true, false, List, codes, Option, Some, None, unwrap_or, if◌then◌else◌, ℤ}
 use Rattle.hyd_num.specs.Numeral.{nano_of}
 use Rattle.hyd_num.specs.declared.units.FlowUnit.TheVariants.{Gpm}
-use Rattle.hyd_lex.specs.Bytes.{is_keyword}
-use Rattle.hyd_lex.specs.Headings.{is_one_of}
+use Rattle.hyd_spec_lines.specs.Bytes.{is_keyword}
+use Rattle.hyd_spec_lines.specs.Headings.{is_one_of}
 use Rattle.hyd_spec_input.specs.Columns.{word, amount, word_is, status_words}
 use Rattle.hyd_spec_input.specs.Keywords.{flow_unit, option_word, time_word, link_word, node_word, object_word, attribute_word, relation_word}
 use Rattle.hyd_spec_input.specs.Moments.{time_seconds, clock_seconds}

@@ -2,7 +2,7 @@
 #![tactic(auto)]
 
 ghost use Rattle.std.specs.Prelude.{◌≡◌, ◌≤◌, IfSome};
-ghost use Rattle.hyd_lex.specs.Headings.{is_one_of};
+ghost use Rattle.hyd_spec_lines.specs.Headings.{is_one_of};
 ghost use Rattle.hyd_spec_input.specs.Keywords as form;
 ghost use Rattle.hyd_spec_input.specs.Keywords.{first_named};
 ghost use Rattle.hyd_spec_input.specs.Moments as moments;

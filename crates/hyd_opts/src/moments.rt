@@ -2,7 +2,7 @@
 #![tactic(auto)]
 
 ghost use Rattle.std.specs.Prelude.{◌≡◌, ◌≤◌, ◌<◌, ◌≤ℤ◌, ◌*◌, ◌^◌, ◌&&◌, pos, slice_get, IfOk};
-ghost use Rattle.hyd_lex.specs.Lines.{LiesIn};
+ghost use Rattle.hyd_spec_lines.specs.Lines.{LiesIn};
 ghost use lib.Signed.{le_z, lt_z};
 ghost use Rattle.hyd_spec_input.specs.Columns as column;
 ghost use Rattle.hyd_spec_input.specs.Columns.{unless};

@@ -5,8 +5,8 @@
 ghost use Rattle.std.specs.Prelude.{◌≡◌, ◌≤◌, ◌+◌, ◌↔◌, IsTrue, length, drop, slice_get, pos};
 ghost use lib.Signed.{le_z};
 ghost use Rattle.hyd_num.specs.Numeral.{nano_of};
-ghost use Rattle.hyd_lex.specs.Bytes.{text_of, words_in};
-ghost use Rattle.hyd_lex.specs.Lines.{LiesIn};
+ghost use Rattle.hyd_spec_lines.specs.Bytes.{text_of, words_in};
+ghost use Rattle.hyd_spec_lines.specs.Lines.{LiesIn};
 ghost use Rattle.hyd_opts.specs.Judged.{Judged, words_at};
 ghost use Rattle.hyd_spec_input.specs.Columns as column;
 ghost use Rattle.hyd_spec_input.specs.Columns.{amount, amount_or};

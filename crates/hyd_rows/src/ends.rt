@@ -2,7 +2,7 @@
 #![tactic(auto)]
 
 ghost use Rattle.std.specs.Prelude.{◌≡◌, Some, slice_get};
-ghost use Rattle.hyd_lex.specs.Lines.{LiesIn};
+ghost use Rattle.hyd_spec_lines.specs.Lines.{LiesIn};
 ghost use Rattle.hyd_opts.specs.Judged.{Judged, words_at};
 ghost use Rattle.hyd_spec_input.specs.Columns as column;
 ghost use Rattle.hyd_spec_input.specs.NetworkRows as row;

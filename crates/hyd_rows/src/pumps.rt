@@ -2,9 +2,9 @@
 #![tactic(auto)]
 
 ghost use Rattle.std.specs.Prelude.{◌≡◌, [], ◌∷◌, None, codes, drop};
-ghost use Rattle.hyd_lex.specs.Bytes.{text_of, words_in};
-ghost use Rattle.hyd_lex.specs.Headings.{is_one_of};
-ghost use Rattle.hyd_lex.specs.Lines.{LiesIn};
+ghost use Rattle.hyd_spec_lines.specs.Bytes.{text_of, words_in};
+ghost use Rattle.hyd_spec_lines.specs.Headings.{is_one_of};
+ghost use Rattle.hyd_spec_lines.specs.Lines.{LiesIn};
 ghost use Rattle.hyd_opts.specs.Judged.{Judged, words_at};
 ghost use Rattle.hyd_spec_input.specs.NetworkRows as row;
 ghost use Rattle.hyd_rows.specs.Rows.{IsPumpRow};

@@ -9,10 +9,10 @@ use Rattle.hyd_num.specs.declared.capacities.Origin.TheVariants.{Emitter}
 use Rattle.hyd_num.specs.Numeral.{is_numeral, magnitude_of, nano_of}
 use Rattle.hyd_num.specs.Scaled.{numerator, denominator, IsDown}
 use Rattle.hyd_num.specs.Refusal.{IsRefused}
-use Rattle.hyd_lex.specs.Bytes.{words_in, is_keyword}
-use Rattle.hyd_lex.specs.Headings.{read_section, is_passed_over, heading_kind}
-use Rattle.hyd_lex.specs.Lines.{Row, items_of, rows_in, fault_in, kind_of}
-use Rattle.hyd_lex.specs.declared.section.Section.TheVariants.{Junctions, Emitters, Options}
+use Rattle.hyd_spec_lines.specs.Bytes.{words_in, is_keyword}
+use Rattle.hyd_spec_lines.specs.Headings.{read_section, is_passed_over, heading_kind}
+use Rattle.hyd_spec_lines.specs.Lines.{Row, items_of, rows_in, fault_in, kind_of}
+use Rattle.hyd_spec_lines.specs.declared.section.Section.TheVariants.{Junctions, Emitters, Options}
 use Rattle.hyd_net.specs.declared.cause.Cause.{Cause}
 use Rattle.hyd_net.specs.declared.cause.Cause.TheVariants.{Limit}
 use Rattle.hyd_spec_input.specs.Keywords.{flow_unit, option_word, time_word, link_word, node_word, object_word, attribute_word, relation_word, rule_word}

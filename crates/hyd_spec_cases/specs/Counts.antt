@@ -1,9 +1,9 @@
 -- The fault of one row among many, where a limit is one of counts.
 use Rattle.std.specs.Prelude.{ℕ, ◌-◌, List, ◌∷◌, codes, replicate, Option}
-use Rattle.hyd_lex.specs.Bytes.{words_in}
-use Rattle.hyd_lex.specs.Lines.{Row}
-use Rattle.hyd_lex.specs.declared.section.Section.{Section}
-use Rattle.hyd_lex.specs.declared.section.Section.TheVariants.{Patterns}
+use Rattle.hyd_spec_lines.specs.Bytes.{words_in}
+use Rattle.hyd_spec_lines.specs.Lines.{Row}
+use Rattle.hyd_spec_lines.specs.declared.section.Section.{Section}
+use Rattle.hyd_spec_lines.specs.declared.section.Section.TheVariants.{Patterns}
 use Rattle.hyd_spec_input.specs.WithOthers as others
 use Rattle.hyd_net.specs.declared.cause.Cause.{Cause}
 

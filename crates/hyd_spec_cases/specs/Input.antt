@@ -1,8 +1,8 @@
 -- The fault of a text as a value that computes, capacities out of range left out, and texts that many examples begin with.
 use Rattle.std.specs.Prelude.{ℕ, ◌+◌, List, [], ◌∷◌, ◌++◌, codes, Option, Some, None}
 use Rattle.std.specs.List.{flat_map}
-use Rattle.hyd_lex.specs.Lines.{Row, items_of, rows_in, fault_in}
-use Rattle.hyd_lex.specs.declared.fault.LexFault.{LexFault}
+use Rattle.hyd_spec_lines.specs.Lines.{Row, items_of, rows_in, fault_in}
+use Rattle.hyd_spec_lines.specs.declared.fault.LexFault.{LexFault}
 use Rattle.hyd_spec_input.specs.Keywords.{either}
 use Rattle.hyd_spec_input.specs.ByItself as itself
 use Rattle.hyd_spec_input.specs.WithOthers as others

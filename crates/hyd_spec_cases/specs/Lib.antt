@@ -4,6 +4,7 @@ pub mod Capacities
 pub mod City
 pub mod Single
 pub mod Input
+pub mod Plant
 pub mod Counts
 pub mod Tanks
 pub mod Curves

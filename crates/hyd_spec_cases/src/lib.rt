@@ -24,6 +24,7 @@ pub mod outcomes;
 pub mod parts;
 pub mod quantities;
 pub mod refused;
+pub mod rows;
 pub mod rules;
 pub mod starts;
 pub mod stocks;

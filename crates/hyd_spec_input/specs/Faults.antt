@@ -2,11 +2,11 @@
 -- that is wrong with the others; else what the whole file lacks.
 -- Source: EPANET 2.2 User Manual, appendix C; the order of faults is this program's.
 use Rattle.std.specs.Prelude.{◌≡◌, ℕ, ◌^◌, ◌<◌, ◌≤◌, Bool, ◌||◌, nat_le, List, [], ◌∷◌, length, take, Option, Some, None, slice_get, ◌⊎◌, Result}
-use Rattle.hyd_lex.specs.Lines.{Row, items_of, rows_in, fault_in}
-use Rattle.hyd_lex.specs.declared.fault.LexFault.{LexFault}
-use Rattle.hyd_lex.specs.declared.fault.LexCause.{LexCause}
-use Rattle.hyd_lex.specs.declared.fault.LexCause.TheVariants.{LongLine}
-use Rattle.hyd_lex.specs.declared.section.Section.TheVariants.{Reservoirs, Tanks}
+use Rattle.hyd_spec_lines.specs.Lines.{Row, items_of, rows_in, fault_in}
+use Rattle.hyd_spec_lines.specs.declared.fault.LexFault.{LexFault}
+use Rattle.hyd_spec_lines.specs.declared.fault.LexCause.{LexCause}
+use Rattle.hyd_spec_lines.specs.declared.fault.LexCause.TheVariants.{LongLine}
+use Rattle.hyd_spec_lines.specs.declared.section.Section.TheVariants.{Reservoirs, Tanks}
 use Rattle.hyd_spec_input.specs.Columns.{first, unless}
 use Rattle.hyd_spec_input.specs.ByItself.{IsWrongByItself}
 use Rattle.hyd_spec_input.specs.Tables.{rows_of}

@@ -4,8 +4,8 @@
 use Rattle.std.specs.Prelude.{ℕ, ◌/◌, ◌^◌, Bool, true, false, ◌&&◌, List, [], ◌∷◌, min, max, codes, Option, Some, None, unwrap_or, if◌then◌else◌, ℤ, pos}
 use Rattle.hyd_num.specs.declared.units.FlowUnit.{FlowUnit}
 use Rattle.hyd_num.specs.declared.units.FlowUnit.TheVariants.{Gpm}
-use Rattle.hyd_lex.specs.Lines.{Row}
-use Rattle.hyd_lex.specs.declared.section.Section.TheVariants.{Options, Times}
+use Rattle.hyd_spec_lines.specs.Lines.{Row}
+use Rattle.hyd_spec_lines.specs.declared.section.Section.TheVariants.{Options, Times}
 use Rattle.hyd_spec_input.specs.Columns.{word, word_is, amount}
 use Rattle.hyd_spec_input.specs.Keywords.{flow_unit}
 use Rattle.hyd_spec_input.specs.Moments.{time_seconds, clock_seconds}

@@ -1,8 +1,8 @@
 -- The keywords that stand for something.
 -- Source: EPANET 2.2 User Manual, appendix C.
 use Rattle.std.specs.Prelude.{ℕ, List, [], ◌∷◌, codes, Option, Some, None, if◌then◌else◌}
-use Rattle.hyd_lex.specs.Bytes.{is_keyword}
-use Rattle.hyd_lex.specs.Headings.{is_one_of}
+use Rattle.hyd_spec_lines.specs.Bytes.{is_keyword}
+use Rattle.hyd_spec_lines.specs.Headings.{is_one_of}
 use Rattle.hyd_num.specs.declared.units.FlowUnit.{FlowUnit}
 use Rattle.hyd_num.specs.declared.units.FlowUnit.TheVariants.{Cfs, Gpm, Mgd, Imgd, Afd, Lps, Lpm, Mld, Cmh, Cmd}
 use Rattle.hyd_net.specs.declared.rules.Relation.{Relation}

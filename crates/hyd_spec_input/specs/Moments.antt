@@ -6,7 +6,7 @@ use lib.Signed.{le_z, lt_z}
 use borrow.Author.Differences.{up}
 use Rattle.hyd_num.specs.Numeral as numeral
 use Rattle.hyd_num.specs.Numeral.{is_digit, nano_of}
-use Rattle.hyd_lex.specs.Bytes.{is_keyword}
+use Rattle.hyd_spec_lines.specs.Bytes.{is_keyword}
 use Rattle.hyd_spec_input.specs.Columns.{Column, first, unless, is_there, number, one_of, needed, optional, ends, word}
 use Rattle.hyd_spec_input.specs.Keywords.{first_named, either}
 use Rattle.hyd_net.specs.declared.cause.Cause.{Cause}

@@ -4,8 +4,8 @@ use Rattle.std.specs.Prelude.{ℕ, Bool, true, false, ◌||◌, List, [], ◌∷
 use Rattle.std.specs.List.{flat_map}
 use Rattle.std.specs.Str.{bytes_eq}
 use Rattle.hyd_num.specs.Quantity.{flow_ticks}
-use Rattle.hyd_lex.specs.Lines.{Row}
-use Rattle.hyd_lex.specs.declared.section.Section.TheVariants.{Junctions, Reservoirs, Tanks, Pipes, Pumps, Valves, Demands, Emitters, Patterns, Status}
+use Rattle.hyd_spec_lines.specs.Lines.{Row}
+use Rattle.hyd_spec_lines.specs.declared.section.Section.TheVariants.{Junctions, Reservoirs, Tanks, Pipes, Pumps, Valves, Demands, Emitters, Patterns, Status}
 use Rattle.hyd_spec_input.specs.Columns.{word, or_empty, amount, amount_or}
 use Rattle.hyd_spec_input.specs.NetworkRows.{tank_curve, pump_curve, valve_curve}
 use Rattle.hyd_spec_input.specs.RuleRows.{begins_with, is_rule, until_rule, stage_by}

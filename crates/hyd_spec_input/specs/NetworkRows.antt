@@ -4,7 +4,7 @@ use Rattle.std.specs.Prelude.{ℕ, ◌^◌, Bool, false, ◌==◌, ◌&&◌, ◌
 use Rattle.std.specs.Str.{bytes_eq}
 use lib.Signed.{le_z}
 use Rattle.hyd_num.specs.Numeral.{nano_of}
-use Rattle.hyd_lex.specs.Bytes.{is_keyword}
+use Rattle.hyd_spec_lines.specs.Bytes.{is_keyword}
 use Rattle.hyd_spec_input.specs.Columns.{Column, id, one_of, number, number_where, number_within, not_negative, up_to, above_0_to, supported, or_else, first, unless, is_there, needed, optional, ends, word, amount_or, amount, word_is, word_is_of, units}
 use Rattle.hyd_spec_input.specs.declared.EarlierKeys.{EarlierKeys}
 use Rattle.hyd_net.specs.declared.cause.Cause.{Cause}

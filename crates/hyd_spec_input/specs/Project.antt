@@ -10,9 +10,9 @@ use Rattle.hyd_num.specs.declared.decimals.Decimal.{Decimal}
 use Rattle.hyd_num.specs.declared.units.FlowUnit.{FlowUnit}
 use Rattle.hyd_num.specs.declared.capacities.Capacity.{Capacity}
 use Rattle.hyd_num.specs.declared.capacities.Origin.TheVariants.{Pipe as PipeOrigin, Valve as ValveOrigin, Pump as PumpOrigin, Emitter as EmitterOrigin}
-use Rattle.hyd_lex.specs.Bytes.{is_keyword}
-use Rattle.hyd_lex.specs.Lines.{Row}
-use Rattle.hyd_lex.specs.declared.section.Section.TheVariants.{Junctions, Reservoirs, Tanks, Pipes, Pumps, Valves, Controls, Rules}
+use Rattle.hyd_spec_lines.specs.Bytes.{is_keyword}
+use Rattle.hyd_spec_lines.specs.Lines.{Row}
+use Rattle.hyd_spec_lines.specs.declared.section.Section.TheVariants.{Junctions, Reservoirs, Tanks, Pipes, Pumps, Valves, Controls, Rules}
 use Rattle.hyd_spec_input.specs.Columns.{word, or_empty, amount, word_is, units}
 use Rattle.hyd_spec_input.specs.Keywords.{object_word, attribute_word, relation_word}
 use Rattle.hyd_spec_input.specs.Moments.{time_seconds, clock_seconds}

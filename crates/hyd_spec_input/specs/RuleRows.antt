@@ -1,7 +1,7 @@
 -- The lines of rules: their order, and each judged by itself.
 -- Source: EPANET 2.2 User Manual, appendix C ([RULES]).
 use Rattle.std.specs.Prelude.{ℕ, ◌+◌, Bool, true, false, ◌||◌, not, List, [], ◌∷◌, fold, codes, Option, Some, None, if◌then◌else◌}
-use Rattle.hyd_lex.specs.Headings.{is_one_of}
+use Rattle.hyd_spec_lines.specs.Headings.{is_one_of}
 use Rattle.hyd_spec_input.specs.Columns.{Column, id, one_of, meant, number, or_else, first, unless, needed, ends, word}
 use Rattle.hyd_spec_input.specs.Keywords.{object_word, attribute_word, relation_word, link_word, rule_word}
 use Rattle.hyd_spec_input.specs.Moments.{time, clock}

@@ -6,10 +6,10 @@ use Rattle.std.specs.Str.{bytes_eq}
 use lib.Signed.{le_z}
 use Rattle.hyd_num.specs.Numeral.{nano_of}
 use Rattle.hyd_num.specs.Quantity.{is_us_unit, head_ticks, pressure_numerator, pressure_denominator}
-use Rattle.hyd_lex.specs.Headings.{is_one_of}
-use Rattle.hyd_lex.specs.Lines.{Row}
-use Rattle.hyd_lex.specs.declared.section.Section.{Section}
-use Rattle.hyd_lex.specs.declared.section.Section.TheVariants.{Junctions, Reservoirs, Tanks, Pipes, Pumps, Valves, Demands, Emitters, Curves, Patterns, Status, Controls, Rules, Options, Times}
+use Rattle.hyd_spec_lines.specs.Headings.{is_one_of}
+use Rattle.hyd_spec_lines.specs.Lines.{Row}
+use Rattle.hyd_spec_lines.specs.declared.section.Section.{Section}
+use Rattle.hyd_spec_lines.specs.declared.section.Section.TheVariants.{Junctions, Reservoirs, Tanks, Pipes, Pumps, Valves, Demands, Emitters, Curves, Patterns, Status, Controls, Rules, Options, Times}
 use Rattle.hyd_spec_input.specs.Columns.{or_else, first, unless, of_word, word, amount, amount_or, word_is, word_is_of, status_words, units}
 use Rattle.hyd_spec_input.specs.Keywords.{link_word, node_word, object_word, attribute_word}
 use Rattle.hyd_spec_input.specs.NetworkRows.{has_check_valve, is_throttle, is_general, tank_curve, pump_curve, pump_pattern, valve_curve}

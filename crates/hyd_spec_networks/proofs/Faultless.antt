@@ -7,10 +7,10 @@ use Rattle.std.proofs.lemmas.Int.{ints}
 use Rattle.std.proofs.lemmas.List.Elements.{All-from_recursion}
 use lib.Signed.{le_z, lt_z}
 use Rattle.hyd_num.specs.Numeral.{nano_of}
-use Rattle.hyd_lex.specs.Lines.{Row, items_of, rows_in}
+use Rattle.hyd_spec_lines.specs.Lines.{Row, items_of, rows_in}
 use Rattle.hyd_lex.proofs.NotEmpty.{HasWords, not_empty}
-use Rattle.hyd_lex.specs.declared.section.Section.{Section}
-use Rattle.hyd_lex.specs.declared.section.Section.TheVariants.{Junctions, Reservoirs, Tanks, Pipes, Pumps, Valves, Demands, Emitters, Curves, Patterns, Status, Controls, Rules, Options, Times}
+use Rattle.hyd_spec_lines.specs.declared.section.Section.{Section}
+use Rattle.hyd_spec_lines.specs.declared.section.Section.TheVariants.{Junctions, Reservoirs, Tanks, Pipes, Pumps, Valves, Demands, Emitters, Curves, Patterns, Status, Controls, Rules, Options, Times}
 use Rattle.hyd_net.specs.Ranges.{Lies}
 use Rattle.hyd_net.specs.declared.cause.Cause.{Cause}
 use Rattle.hyd_spec_input.specs.Columns.{Column, or_else, first, unless, of_needed, needed, of_word, optional, or_empty, word, number, number_where, number_within, nano_or, amount_or}

@@ -14,9 +14,9 @@ use Rattle.hyd_num.specs.declared.decimals.Decimal.{Decimal}
 use Rattle.hyd_num.specs.declared.capacities.Capacity.{Capacity}
 use Rattle.hyd_num.specs.declared.capacities.Origin.{Origin}
 use Rattle.hyd_num.specs.declared.capacities.Origin.TheVariants.{Pump as PumpOrigin}
-use Rattle.hyd_lex.specs.Lines.{Row}
-use Rattle.hyd_lex.specs.declared.section.Section.{Section}
-use Rattle.hyd_lex.specs.declared.section.Section.TheVariants.{Pipes, Pumps, Valves}
+use Rattle.hyd_spec_lines.specs.Lines.{Row}
+use Rattle.hyd_spec_lines.specs.declared.section.Section.{Section}
+use Rattle.hyd_spec_lines.specs.declared.section.Section.TheVariants.{Pipes, Pumps, Valves}
 use Rattle.hyd_net.specs.Ranges.{Lies, IsUpTo}
 use Rattle.hyd_net.specs.Sizes.{HasSizes, IsPipe, IsValve, IsValveOrigin, IsPumpOrigin}
 use Rattle.hyd_net.specs.Sound as sound

@@ -13,9 +13,9 @@ use Rattle.hyd_num.specs.Quantity.{flow_ticks}
 use Rattle.hyd_num.specs.Numeral.{nano_of}
 use Rattle.hyd_num.specs.declared.units.FlowUnit.{FlowUnit}
 use Rattle.hyd_num.specs.declared.capacities.Origin.{Origin}
-use Rattle.hyd_lex.specs.Lines.{Row}
-use Rattle.hyd_lex.specs.Bytes.{is_keyword}
-use Rattle.hyd_lex.specs.declared.section.Section.TheVariants.{Pipes, Pumps, Valves, Status as StatusSection}
+use Rattle.hyd_spec_lines.specs.Lines.{Row}
+use Rattle.hyd_spec_lines.specs.Bytes.{is_keyword}
+use Rattle.hyd_spec_lines.specs.declared.section.Section.TheVariants.{Pipes, Pumps, Valves, Status as StatusSection}
 use Rattle.hyd_net.specs.Ranges.{Lies, IsUpTo}
 use Rattle.hyd_net.specs.States.{IsSpeed, IsFlowSetting, CanHave}
 use Rattle.hyd_net.specs.Made.{IsStateMade, HasLaw, HasCoefficient, IsLawAcross, IsOriginAcross, IsStateAcross}

@@ -4,9 +4,9 @@ use Rattle.std.specs.Prelude.{slice_get, nat_le, codes, min, max, ℤ, pos, negs
 use Rattle.std.proofs.lemmas.Bool.{and_parts, leb-true, cond_both}
 use Rattle.std.proofs.lemmas.Int.{ints}
 use lib.Signed.{le_z, lt_z}
-use Rattle.hyd_lex.specs.Lines.{Row}
-use Rattle.hyd_lex.specs.Bytes.{is_keyword}
-use Rattle.hyd_lex.specs.declared.section.Section.TheVariants.{Times as TimesSection}
+use Rattle.hyd_spec_lines.specs.Lines.{Row}
+use Rattle.hyd_spec_lines.specs.Bytes.{is_keyword}
+use Rattle.hyd_spec_lines.specs.declared.section.Section.TheVariants.{Times as TimesSection}
 use Rattle.hyd_net.specs.Sound.{AreTimes}
 use Rattle.hyd_net.specs.declared.options.Times.{Times}
 use Rattle.hyd_spec_input.specs.Columns.{first, needed, optional, ends, one_of, word, word_is}

@@ -11,9 +11,9 @@ use Rattle.hyd_num.specs.Quantity.{head_ticks, flow_ticks}
 use Rattle.hyd_num.specs.declared.units.FlowUnit.{FlowUnit}
 use Rattle.hyd_num.specs.declared.capacities.Capacity.{Capacity}
 use Rattle.hyd_num.specs.declared.capacities.Origin.{Origin}
-use Rattle.hyd_lex.specs.Lines.{Row}
-use Rattle.hyd_lex.specs.declared.section.Section.{Section}
-use Rattle.hyd_lex.specs.declared.section.Section.TheVariants.{Junctions, Reservoirs, Tanks, Demands, Emitters}
+use Rattle.hyd_spec_lines.specs.Lines.{Row}
+use Rattle.hyd_spec_lines.specs.declared.section.Section.{Section}
+use Rattle.hyd_spec_lines.specs.declared.section.Section.TheVariants.{Junctions, Reservoirs, Tanks, Demands, Emitters}
 use Rattle.hyd_net.specs.Ranges.{Lies, LiesWithin, IsHead, IsFlow, IsUpTo, Numbers}
 use Rattle.hyd_net.specs.Sizes as size
 use Rattle.hyd_net.specs.Sizes.{HasPattern, IsDemand, IsShapeOf}

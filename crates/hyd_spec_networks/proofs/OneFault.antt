@@ -1,8 +1,8 @@
 -- A text has one fault at most, and a text without a fault has none.
 use Rattle.std.proofs.Common.{◌≡◌, ℕ, ◌<◌, ◌≤◌, ◌^◌, List, length, Option, Some, None, refl, sym, ap, ◌∙◌, subst, arith, inl, inr}
 use Rattle.std.specs.Prelude.{slice_get, Result}
-use Rattle.hyd_lex.specs.Lines.{Row, items_of, rows_in, fault_in}
-use Rattle.hyd_lex.specs.declared.fault.LexFault.{LexFault}
+use Rattle.hyd_spec_lines.specs.Lines.{Row, items_of, rows_in, fault_in}
+use Rattle.hyd_spec_lines.specs.declared.fault.LexFault.{LexFault}
 use Rattle.hyd_net.specs.declared.cause.Cause.{Cause}
 use Rattle.hyd_spec_input.specs.ByItself as itself
 use Rattle.hyd_spec_input.specs.ByItself.{IsWrongByItself}

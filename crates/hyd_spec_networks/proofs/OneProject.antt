@@ -14,9 +14,9 @@ use Rattle.hyd_num.specs.declared.capacities.Origin.TheVariants.{Pipe as PipeOri
 use Rattle.hyd_num.specs.Numeral.{nano_of}
 use Rattle.hyd_num.specs.Roots.{IsFloor, IsCeiling}
 use Rattle.hyd_num.specs.Quantity.{is_us_unit, head_ticks, flow_ticks}
-use Rattle.hyd_lex.specs.Bytes.{is_keyword}
-use Rattle.hyd_lex.specs.Lines.{Row}
-use Rattle.hyd_lex.specs.declared.section.Section.TheVariants.{Junctions, Reservoirs, Tanks, Pipes, Pumps, Controls, Rules}
+use Rattle.hyd_spec_lines.specs.Bytes.{is_keyword}
+use Rattle.hyd_spec_lines.specs.Lines.{Row}
+use Rattle.hyd_spec_lines.specs.declared.section.Section.TheVariants.{Junctions, Reservoirs, Tanks, Pipes, Pumps, Controls, Rules}
 use Rattle.hyd_net.proofs.Equal.{Decimal-equal, Span-equal}
 use Rattle.hyd_net.specs.Made.{IsRounded, IsExactly, IsSeconds, IsAmount, IsAreaMade, IsShutoffMade}
 use Rattle.hyd_net.specs.Views.{no_number, no_head, bare_list, plain_capacity, plain_valve, plain_kind, plain_state, plain_link, plain_junction, plain_tank, plain_pattern, plain_control, plain_value, plain_rule_clause, plain_action, plain_rule, plain_project}

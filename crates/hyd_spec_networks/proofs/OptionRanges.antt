@@ -6,10 +6,10 @@ use Rattle.std.proofs.lemmas.Int.{ints}
 use lib.Signed.{le_z}
 use Rattle.hyd_num.specs.Quantity.{pressure_numerator, pressure_denominator}
 use Rattle.hyd_num.specs.declared.decimals.Decimal.{Decimal}
-use Rattle.hyd_lex.specs.Lines.{Row}
-use Rattle.hyd_lex.specs.Bytes.{is_keyword}
-use Rattle.hyd_lex.specs.Headings.{is_one_of}
-use Rattle.hyd_lex.specs.declared.section.Section.TheVariants.{Options as OptionsSection}
+use Rattle.hyd_spec_lines.specs.Lines.{Row}
+use Rattle.hyd_spec_lines.specs.Bytes.{is_keyword}
+use Rattle.hyd_spec_lines.specs.Headings.{is_one_of}
+use Rattle.hyd_spec_lines.specs.declared.section.Section.TheVariants.{Options as OptionsSection}
 use Rattle.hyd_net.specs.Ranges.{IsUpTo}
 use Rattle.hyd_net.specs.declared.cause.Cause.TheVariants.{Range}
 use Rattle.hyd_net.specs.Sizes.{IsPressure, HasOptions}

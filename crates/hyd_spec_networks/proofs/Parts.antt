@@ -1,7 +1,7 @@
 -- What holds of the rows of a text without a fault, of its project.
 use Rattle.std.proofs.Common.{ℕ, List}
 use Rattle.std.specs.Prelude.{All}
-use Rattle.hyd_lex.specs.Lines.{items_of, rows_in}
+use Rattle.hyd_spec_lines.specs.Lines.{items_of, rows_in}
 use Rattle.hyd_net.specs.Sizes.{HasOptions, IsJunction, IsReservoir, IsTank, HasSizes}
 use Rattle.hyd_net.specs.States.{CanHave}
 use Rattle.hyd_net.specs.Sound.{HasIds, IsWithinLimits, AreTimes, HasEnds, IsPattern, Sound}

@@ -8,8 +8,8 @@ use Rattle.std.proofs.lemmas.List.{length-append, length-map, length-drop}
 use Rattle.std.proofs.lemmas.List.Elements.{All-nil, All-cons, All-head, All-tail, All-filter, All-map, All-weaker}
 use Rattle.std.proofs.lemmas.Option.{slice_get_within}
 use Rattle.hyd_num.specs.Numeral.{nano_of}
-use Rattle.hyd_lex.specs.Lines.{Row}
-use Rattle.hyd_lex.specs.declared.section.Section.TheVariants.{Patterns}
+use Rattle.hyd_spec_lines.specs.Lines.{Row}
+use Rattle.hyd_spec_lines.specs.declared.section.Section.TheVariants.{Patterns}
 use Rattle.hyd_net.specs.Ranges.{LiesWithin}
 use Rattle.hyd_net.specs.Sound as sound
 use Rattle.hyd_net.specs.declared.patterns.Pattern.{Pattern}

@@ -5,8 +5,8 @@ use Rattle.std.proofs.lemmas.Option.{get_or_from_slice_get}
 use Rattle.hyd_num.specs.Chain.{IsMade}
 use Rattle.hyd_num.specs.declared.units.FlowUnit.{FlowUnit}
 use Rattle.hyd_num.specs.declared.capacities.Capacity.{Capacity}
-use Rattle.hyd_lex.specs.Lines.{Row}
-use Rattle.hyd_lex.specs.declared.section.Section.TheVariants.{Junctions, Tanks, Pipes, Pumps}
+use Rattle.hyd_spec_lines.specs.Lines.{Row}
+use Rattle.hyd_spec_lines.specs.declared.section.Section.TheVariants.{Junctions, Tanks, Pipes, Pumps}
 use Rattle.hyd_net.specs.Made.{IsAreaMade, IsStateMade, IsRuleMade, IsKindAcross, IsStateAcross, IsAcross, IsAllMade}
 use Rattle.hyd_net.specs.declared.controls.Control.{Control}
 use Rattle.hyd_net.specs.declared.links.Link.{Link}

@@ -5,8 +5,8 @@ use Rattle.std.specs.List.{AllByRecursion}
 use Rattle.std.proofs.lemmas.Bool.{cases_Bool}
 use Rattle.std.proofs.lemmas.List.{take_at, take-map}
 use Rattle.std.proofs.lemmas.List.Sums.{fold-append}
-use Rattle.hyd_lex.specs.Lines.{Row}
-use Rattle.hyd_lex.specs.declared.section.Section.TheVariants.{Rules as RulesSection}
+use Rattle.hyd_spec_lines.specs.Lines.{Row}
+use Rattle.hyd_spec_lines.specs.declared.section.Section.TheVariants.{Rules as RulesSection}
 use Rattle.hyd_net.specs.declared.cause.Cause.TheVariants.{Syntax}
 use Rattle.hyd_spec_input.specs.Columns.{first, unless, needed, ends, id}
 use Rattle.hyd_spec_input.specs.declared.RuleWord.{RuleWord}

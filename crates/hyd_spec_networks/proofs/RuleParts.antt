@@ -9,10 +9,10 @@ use Rattle.std.proofs.lemmas.List.{length-append, length-map}
 use Rattle.std.proofs.lemmas.Option.{slice_get-map, slice_get_within}
 use Rattle.hyd_num.specs.Numeral.{is_numeral, is_negative, magnitude_of, nano_of, signed}
 use Rattle.hyd_num.specs.declared.units.FlowUnit.{FlowUnit}
-use Rattle.hyd_lex.specs.Lines.{Row}
-use Rattle.hyd_lex.specs.Bytes.{is_keyword}
-use Rattle.hyd_lex.specs.Headings.{is_one_of}
-use Rattle.hyd_lex.specs.declared.section.Section.TheVariants.{Junctions, Reservoirs, Tanks, Pumps, Valves, Rules as RulesSection}
+use Rattle.hyd_spec_lines.specs.Lines.{Row}
+use Rattle.hyd_spec_lines.specs.Bytes.{is_keyword}
+use Rattle.hyd_spec_lines.specs.Headings.{is_one_of}
+use Rattle.hyd_spec_lines.specs.declared.section.Section.TheVariants.{Junctions, Reservoirs, Tanks, Pumps, Valves, Rules as RulesSection}
 use Rattle.hyd_net.specs.Ids.{IsId}
 use Rattle.hyd_net.specs.Ranges.{LiesWithin, Numbers}
 use Rattle.hyd_net.specs.Made.{IsValueMade}

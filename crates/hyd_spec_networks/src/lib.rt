@@ -4,7 +4,7 @@
 #![tactic(auto)]
 
 ghost use Rattle.std.specs.Prelude.{◌≡◌, ℕ, List, All};
-ghost use Rattle.hyd_lex.specs.Lines.{Row, items_of, rows_in};
+ghost use Rattle.hyd_spec_lines.specs.Lines.{Row, items_of, rows_in};
 ghost use Rattle.hyd_net.specs.declared.cause.Cause.{Cause};
 ghost use Rattle.hyd_net.specs.declared.project.Project.{Project};
 ghost use Rattle.hyd_net.specs.Commands.{node_count, IsControl, IsRule};

@@ -5,7 +5,7 @@ use Rattle.std.proofs.lemmas.Int.{ints}
 use Rattle.hyd_num.specs.Refusal.{IsRefused}
 use Rattle.hyd_num.specs.declared.capacities.Origin.TheVariants.{Pipe}
 use Rattle.hyd_num.specs.declared.decimals.Decimal.{Decimal}
-use Rattle.hyd_lex.specs.Bytes.{is_keyword}
+use Rattle.hyd_spec_lines.specs.Bytes.{is_keyword}
 use Rattle.hyd_net.proofs.Equal.{Decimal-equal}
 use Rattle.hyd_net.specs.Ranges.{Lies, IsUpTo}
 use Rattle.hyd_resist.specs.Ranges.{IsPositiveUpTo, IsMinorCoefficient}

@@ -7,9 +7,9 @@ use Rattle.hyd_num.specs.declared.decimals.Decimal.{Decimal}
 use Rattle.hyd_num.specs.declared.units.FlowUnit.{FlowUnit}
 use Rattle.hyd_num.specs.declared.capacities.Origin.TheVariants.{Valve}
 use Rattle.hyd_num.specs.Refusal.{IsRefused}
-use Rattle.hyd_lex.specs.Bytes.{is_keyword}
-use Rattle.hyd_lex.specs.Lines.{Row}
-use Rattle.hyd_lex.specs.declared.section.Section.TheVariants.{Valves}
+use Rattle.hyd_spec_lines.specs.Bytes.{is_keyword}
+use Rattle.hyd_spec_lines.specs.Lines.{Row}
+use Rattle.hyd_spec_lines.specs.declared.section.Section.TheVariants.{Valves}
 use Rattle.hyd_net.proofs.Equal.{Decimal-equal}
 use Rattle.hyd_opts.specs.Meanings.{IsAsked}
 use Rattle.hyd_opts.specs.declared.controls.Asked.TheVariants.{Number}

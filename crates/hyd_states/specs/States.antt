@@ -4,8 +4,8 @@ use lib.Signed.{le_z}
 use Rattle.hyd_num.specs.declared.decimals.Decimal.{Decimal}
 use Rattle.hyd_num.specs.Quantity.{is_us_unit}
 use Rattle.hyd_num.specs.declared.units.FlowUnit.{FlowUnit}
-use Rattle.hyd_lex.specs.Lines.{Row}
-use Rattle.hyd_lex.specs.declared.section.Section.TheVariants.{Pipes, Pumps, Valves}
+use Rattle.hyd_spec_lines.specs.Lines.{Row}
+use Rattle.hyd_spec_lines.specs.declared.section.Section.TheVariants.{Pipes, Pumps, Valves}
 use Rattle.hyd_opts.specs.declared.controls.Asked.{Asked}
 use Rattle.hyd_opts.specs.declared.controls.Asked.TheVariants.{Number}
 use Rattle.hyd_spec_input.specs.ByItself.{section_fault}

@@ -3,7 +3,7 @@
 
 ghost use Rattle.std.specs.Prelude.{◌≡◌, ◌↔◌, ℕ, true, None, List, Some};
 ghost use Rattle.hyd_num.specs.Quantity as quantity;
-ghost use Rattle.hyd_lex.specs.Lines.{LiesIn, Row, row_of};
+ghost use Rattle.hyd_spec_lines.specs.Lines.{LiesIn, Row, row_of};
 ghost use Rattle.hyd_opts.specs.Judged.{words_at};
 ghost use Rattle.hyd_opts.specs.Meanings.{IsAsked};
 ghost use Rattle.hyd_resist.specs.Ranges.{IsDiameter};

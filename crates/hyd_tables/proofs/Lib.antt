@@ -2,3 +2,4 @@ pub mod FoundLemmas
 pub mod LeastLemmas
 pub mod TableLemmas
 pub mod SectionLemmas
+pub mod Gathering

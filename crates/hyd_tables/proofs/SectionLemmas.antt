@@ -1,9 +1,9 @@
 -- A row of one section among all rows.
 use Rattle.std.proofs.Common.{◌≡◌, ◌≤◌, ℕ, Bool, true, false, List, length, filter, take, slice_get, Option, Some, None, refl, sym, ◌∙◌, subst, arith, inl, inr, true≢false}
 use Rattle.std.proofs.lemmas.List.{length-map, take_all}
-use Rattle.hyd_lex.specs.Lines.{Row, row_of}
-use Rattle.hyd_lex.specs.declared.line.Line.{Line}
-use Rattle.hyd_lex.specs.declared.section.Section.{Section}
+use Rattle.hyd_spec_lines.specs.Lines.{Row, row_of}
+use Rattle.hyd_spec_lines.specs.declared.line.Line.{Line}
+use Rattle.hyd_spec_lines.specs.declared.section.Section.{Section}
 use Rattle.hyd_spec_input.specs.Capacities.{IsRefusedRow}
 use Rattle.hyd_spec_input.specs.Tables.{is_of}
 use Rattle.hyd_spec_input.specs.WithOthers.{row_fault}

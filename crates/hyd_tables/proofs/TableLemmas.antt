@@ -10,8 +10,8 @@ use Rattle.std.proofs.lemmas.List.Elements.{All-push, All-get_or}
 use Rattle.std.proofs.lemmas.List.{map-append, length-map}
 use Rattle.std.proofs.lemmas.Option.{slice_get-map, slice_get_read}
 use Rattle.std.proofs.lemmas.Map.Views.{Contains-from_any, list_any-from_Contains}
-use Rattle.hyd_lex.specs.Lines.{Row, row_of, LiesIn}
-use Rattle.hyd_lex.specs.declared.line.Line.{Line}
+use Rattle.hyd_spec_lines.specs.Lines.{Row, row_of, LiesIn}
+use Rattle.hyd_spec_lines.specs.declared.line.Line.{Line}
 use Rattle.hyd_spec_input.specs.Tables.{own_id, row_with, has_id}
 use Rattle.hyd_tables.specs.Found.{rows_at}
 use Rattle.hyd_tables.specs.Tables.{AreFirsts}

@@ -1,7 +1,7 @@
 -- The first wrong row among the first rows of a file.
 use Rattle.std.specs.Prelude.{◌≡◌, ℕ, ◌<◌, ◌⊎◌, Bool, true, List, Option, Some, None, slice_get, map, nat_lt, if◌then◌else◌}
-use Rattle.hyd_lex.specs.Lines.{Row, row_of}
-use Rattle.hyd_lex.specs.declared.line.Line.{Line}
+use Rattle.hyd_spec_lines.specs.Lines.{Row, row_of}
+use Rattle.hyd_spec_lines.specs.declared.line.Line.{Line}
 use Rattle.hyd_net.specs.declared.cause.Cause.{Cause}
 use Rattle.hyd_tables.specs.declared.found.Found.{Found}
 

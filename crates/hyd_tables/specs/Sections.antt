@@ -1,7 +1,7 @@
 -- Rows of one section that are wrong with the others.
 use Rattle.std.specs.Prelude.{◌≡◌, ℕ, List, Option, Some, None}
-use Rattle.hyd_lex.specs.Lines.{Row}
-use Rattle.hyd_lex.specs.declared.section.Section.{Section}
+use Rattle.hyd_spec_lines.specs.Lines.{Row}
+use Rattle.hyd_spec_lines.specs.declared.section.Section.{Section}
 use Rattle.hyd_spec_input.specs.Faults.{IsWrongWithOthers}
 use Rattle.hyd_spec_input.specs.Tables.{is_of}
 use Rattle.hyd_net.specs.declared.cause.Cause.{Cause}

@@ -1,8 +1,8 @@
 -- Tables of IDs.
 use Rattle.std.specs.Prelude.{◌≡◌, ℕ, List, map, length}
 use Rattle.std.specs.List.{All}
-use Rattle.hyd_lex.specs.Lines.{Row, LiesIn}
-use Rattle.hyd_lex.specs.declared.line.Line.{Line}
+use Rattle.hyd_spec_lines.specs.Lines.{Row, LiesIn}
+use Rattle.hyd_spec_lines.specs.declared.line.Line.{Line}
 use Rattle.hyd_spec_input.specs.Tables.{own_id, row_with}
 use Rattle.hyd_tables.specs.Found.{rows_at}
 use Rattle.hyd_tables.specs.declared.table.Table.{Table}

@@ -2,9 +2,9 @@
 #![tactic(auto)]
 
 ghost use Rattle.std.specs.Prelude.{◌≡◌, ◌==◌, List, ℕ};
-ghost use Rattle.hyd_lex.specs.Bytes.{text_of};
-ghost use Rattle.hyd_lex.specs.Lines.{Row};
-ghost use Rattle.hyd_lex.specs.declared.section.Section.TheVariants.{Curves, Patterns};
+ghost use Rattle.hyd_spec_lines.specs.Bytes.{text_of};
+ghost use Rattle.hyd_spec_lines.specs.Lines.{Row};
+ghost use Rattle.hyd_spec_lines.specs.declared.section.Section.TheVariants.{Curves, Patterns};
 ghost use Rattle.hyd_spec_input.specs.Tables.{place as section_place, has_id, rows_of, node_rows};
 ghost use Rattle.hyd_spec_input.specs.WithOthers as others;
 ghost use Rattle.hyd_tables.specs.Tables.{IsTable, IsEven};

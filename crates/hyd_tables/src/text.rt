@@ -3,7 +3,7 @@
 
 ghost use Rattle.std.specs.Prelude.{◌≡◌, ◌^◌, ◌≤◌, length, IfOk};
 ghost use Rattle.std.specs.List.{All};
-ghost use Rattle.hyd_lex.specs.Lines.{LiesIn, items_of, rows_in, fault_in};
+ghost use Rattle.hyd_spec_lines.specs.Lines.{LiesIn, items_of, rows_in, fault_in};
 ghost use Rattle.hyd_tables.specs.Found.{rows_at};
 
 use hyd_lex::{LexFault, Line, Lines};

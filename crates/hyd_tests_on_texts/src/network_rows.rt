@@ -1,7 +1,7 @@
 //! Rows of nodes, links and what belongs to them, with what an independent reader says of each.
 #![tactic(auto)]
 
-ghost use Rattle.hyd_lex.specs.Lines.{LiesIn};
+ghost use Rattle.hyd_spec_lines.specs.Lines.{LiesIn};
 
 use hyd_lex::{Line, Lines, Section};
 use hyd_rows::{

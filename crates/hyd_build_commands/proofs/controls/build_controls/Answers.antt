@@ -1,6 +1,6 @@
 use Rattle.std.proofs.Common.{List, subst}
-use Rattle.hyd_lex.specs.Lines.{Row}
-use Rattle.hyd_lex.specs.declared.section.Section.TheVariants.{Controls}
+use Rattle.hyd_spec_lines.specs.Lines.{Row}
+use Rattle.hyd_spec_lines.specs.declared.section.Section.TheVariants.{Controls}
 use Rattle.hyd_spec_input.specs.Project.{Match, IsControl}
 use Rattle.hyd_spec_input.specs.Tables.{words_of}
 use Rattle.hyd_tables.specs.Found.{rows_at}

@@ -1,6 +1,6 @@
 use Rattle.std.proofs.Common.{◌≡◌, Some, ap, ◌∙◌, subst, arith, w64, to_z, of_z}
 use Rattle.std.proofs.lemmas.Int.{ints}
-use Rattle.hyd_lex.specs.Lines.{row_of}
+use Rattle.hyd_spec_lines.specs.Lines.{row_of}
 use Rattle.hyd_num.specs.Quantity.{is_us_unit, head_ticks}
 use Rattle.hyd_num.specs.declared.units.FlowUnit.{FlowUnit}
 use Rattle.hyd_opts.specs.Meanings as meaning

@@ -1,7 +1,7 @@
 use Rattle.std.proofs.Common.{◌≡◌, ◌+◌, ◌∷◌, List, ℕ, get_or, ◌∙◌, refl, subst}
-use Rattle.hyd_lex.specs.Lines.{Row, row_of}
-use Rattle.hyd_lex.specs.declared.line.Line.{Line}
-use Rattle.hyd_lex.specs.declared.section.Section.TheVariants.{Junctions}
+use Rattle.hyd_spec_lines.specs.Lines.{Row, row_of}
+use Rattle.hyd_spec_lines.specs.declared.line.Line.{Line}
+use Rattle.hyd_spec_lines.specs.declared.section.Section.TheVariants.{Junctions}
 use Rattle.hyd_spec_input.specs.Network.{is_asking, is_doing, is_otherwise, clause_lines, then_lines, else_lines}
 use Rattle.hyd_spec_input.specs.Project.{Match, IsClause, IsAction, IsRule}
 use Rattle.hyd_tables.specs.Found.{rows_at}

@@ -1,5 +1,5 @@
 use Rattle.std.proofs.Common.{List}
-use Rattle.hyd_lex.specs.Lines.{Row}
+use Rattle.hyd_spec_lines.specs.Lines.{Row}
 use Rattle.hyd_spec_input.specs.Project.{IsLink, Match}
 use Rattle.hyd_build_links.specs.Built.{AreBuilt}
 use Rattle.hyd_build_links.specs.Sources.{rows_from}

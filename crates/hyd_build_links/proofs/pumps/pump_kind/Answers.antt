@@ -1,5 +1,5 @@
 use Rattle.std.proofs.Common.{refl, ◌∙◌}
-use Rattle.hyd_lex.specs.Lines.{row_of}
+use Rattle.hyd_spec_lines.specs.Lines.{row_of}
 use Rattle.hyd_spec_input.specs.Tables.{curve_named}
 use Rattle.hyd_build_links.specs.Sources.{rows_from}
 use Rattle.hyd_build_links.proofs.NumberLemmas.{pump_bend}

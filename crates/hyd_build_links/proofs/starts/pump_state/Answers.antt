@@ -1,5 +1,5 @@
 use Rattle.std.proofs.Common.{refl}
-use Rattle.hyd_lex.specs.Lines.{row_of}
+use Rattle.hyd_spec_lines.specs.Lines.{row_of}
 use Rattle.hyd_spec_networks.proofs.LinkStates.{pump_speed_right}
 use Rattle.hyd_build_links.specs.Sources.{rows_from}
 use Rattle.hyd_build_links.proofs.RowLemmas.{no_fault, pump_facts}

@@ -1,5 +1,5 @@
 use Rattle.std.proofs.Common.{◌≡◌, Some, subst}
-use Rattle.hyd_lex.specs.Lines.{row_of}
+use Rattle.hyd_spec_lines.specs.Lines.{row_of}
 use Rattle.hyd_rows.specs.Rows.{IsValveSetting}
 use Rattle.hyd_rows.specs.declared.valves.ValveSetting.{ValveSetting}
 use Rattle.hyd_spec_input.specs.NetworkRows.{valve_curve}

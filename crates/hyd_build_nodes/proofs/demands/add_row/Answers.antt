@@ -1,9 +1,9 @@
 use Rattle.std.proofs.Common.{◌≡◌, ℕ, List, Some, None, position, get_or, arith, sym, ap, ◌∙◌}
 use Rattle.std.specs.Str.{bytes_eq}
 use Rattle.std.proofs.lemmas.List.{length-map}
-use Rattle.hyd_lex.specs.Lines.{row_of}
-use Rattle.hyd_lex.specs.declared.line.Line.{Line}
-use Rattle.hyd_lex.specs.declared.section.Section.TheVariants.{Junctions, Demands}
+use Rattle.hyd_spec_lines.specs.Lines.{row_of}
+use Rattle.hyd_spec_lines.specs.declared.line.Line.{Line}
+use Rattle.hyd_spec_lines.specs.declared.section.Section.TheVariants.{Junctions, Demands}
 use Rattle.hyd_net.specs.ListView.{ListView}
 use Rattle.hyd_net.specs.declared.nodes.Demand.{Demand}
 use Rattle.hyd_spec_networks.proofs.Occurs.{number_inside}

@@ -1,4 +1,4 @@
-use Rattle.hyd_lex.specs.declared.section.Section.TheVariants.{Junctions}
+use Rattle.hyd_spec_lines.specs.declared.section.Section.TheVariants.{Junctions}
 use Rattle.hyd_spec_input.specs.Project.{IsJunction}
 use Rattle.hyd_tables.specs.Found.{rows_at}
 use Rattle.hyd_build_nodes.proofs.RightLemmas.{built_all}

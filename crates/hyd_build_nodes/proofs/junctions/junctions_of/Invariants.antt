@@ -1,5 +1,5 @@
 use Rattle.std.proofs.Common.{take}
-use Rattle.hyd_lex.specs.declared.section.Section.TheVariants.{Junctions}
+use Rattle.hyd_spec_lines.specs.declared.section.Section.TheVariants.{Junctions}
 use Rattle.hyd_spec_input.specs.Project.{Match, IsJunction}
 use Rattle.hyd_spec_input.specs.Tables.{rows_of}
 use Rattle.hyd_tables.specs.Found.{rows_at}

@@ -1,5 +1,5 @@
 use Rattle.std.proofs.Common.{◌≡◌, None, take}
-use Rattle.hyd_lex.specs.declared.section.Section.TheVariants.{Rules}
+use Rattle.hyd_spec_lines.specs.declared.section.Section.TheVariants.{Rules}
 use Rattle.hyd_spec_input.specs.ByItself.{IsWrongByItself}
 use Rattle.hyd_spec_input.specs.RuleRows.{stage_after}
 use Rattle.hyd_spec_input.specs.Tables.{words_of}

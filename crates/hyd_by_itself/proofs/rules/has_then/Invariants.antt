@@ -1,7 +1,7 @@
 use Rattle.std.proofs.Common.{◌≡◌, drop}
 use Rattle.hyd_spec_input.specs.RuleRows.{some_then, until_rule}
 use Rattle.hyd_spec_input.specs.Tables.{words_of}
-use Rattle.hyd_lex.specs.declared.section.Section.TheVariants.{Rules}
+use Rattle.hyd_spec_lines.specs.declared.section.Section.TheVariants.{Rules}
 use Rattle.hyd_tables.specs.Found.{rows_at}
 use Rattle.hyd_by_itself.proofs.rules.has_then.Given as goal
 

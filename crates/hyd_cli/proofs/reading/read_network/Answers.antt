@@ -1,6 +1,6 @@
 -- The bytes that were read are the text.
 use Rattle.std.proofs.Common.{◌≡◌, ◌∙◌, ℕ, List, IfOk, IfErr, subst}
-use Rattle.hyd_lex.specs.Lines.{items_of, rows_in}
+use Rattle.hyd_spec_lines.specs.Lines.{items_of, rows_in}
 use Rattle.hyd_spec_input.specs.Faults.{IsFault, HasNoFault}
 use Rattle.hyd_spec_input.specs.Project.{IsProject}
 use Rattle.hyd_cli.specs.Reading.{IfFault}

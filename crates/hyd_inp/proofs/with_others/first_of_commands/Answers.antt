@@ -1,4 +1,4 @@
-use Rattle.hyd_lex.specs.declared.section.Section.TheVariants.{Status, Controls, Rules}
+use Rattle.hyd_spec_lines.specs.declared.section.Section.TheVariants.{Status, Controls, Rules}
 use Rattle.hyd_spec_input.specs.Tables.{is_of}
 use Rattle.hyd_inp.specs.Families.{Both}
 use Rattle.hyd_inp.proofs.Families.{found_next}

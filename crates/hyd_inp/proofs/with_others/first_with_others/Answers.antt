@@ -1,5 +1,5 @@
 use Rattle.std.proofs.Common.{length}
-use Rattle.hyd_lex.specs.declared.section.Section.TheVariants.{Options, Patterns}
+use Rattle.hyd_spec_lines.specs.declared.section.Section.TheVariants.{Options, Patterns}
 use Rattle.hyd_spec_input.specs.Tables.{is_of}
 use Rattle.hyd_tables.specs.Found.{rows_at}
 use Rattle.hyd_inp.specs.Families.{Both, from_curves}

@@ -1,5 +1,5 @@
 use Rattle.std.proofs.Common.{length, arith}
-use Rattle.hyd_lex.specs.declared.section.Section.TheVariants.{Options}
+use Rattle.hyd_spec_lines.specs.declared.section.Section.TheVariants.{Options}
 use Rattle.hyd_tables.specs.Found.{rows_at}
 use Rattle.hyd_tables.specs.Sections.{IsWrongIn}
 use Rattle.hyd_tables.proofs.SectionLemmas.{found_fewer}

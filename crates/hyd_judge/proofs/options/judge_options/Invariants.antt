@@ -1,4 +1,4 @@
-use Rattle.hyd_lex.specs.declared.section.Section.TheVariants.{Options}
+use Rattle.hyd_spec_lines.specs.declared.section.Section.TheVariants.{Options}
 use Rattle.hyd_tables.specs.Found.{rows_at, HasFound}
 use Rattle.hyd_tables.specs.Sections.{IsWrongIn}
 use Rattle.hyd_judge.proofs.options.judge_options.Given as goal

@@ -1,5 +1,5 @@
 use Rattle.std.proofs.Common.{sym, ◌∙◌}
-use Rattle.hyd_lex.specs.Bytes.{text_of}
+use Rattle.hyd_spec_lines.specs.Bytes.{text_of}
 use Rattle.hyd_judge.specs.Extremes.{bounds}
 use Rattle.hyd_judge.proofs.NodeLemmas.{heads_are}
 use Rattle.hyd_judge.proofs.reservoirs.heads_fault.Goals as goal

@@ -1,4 +1,4 @@
-use Rattle.hyd_lex.specs.Lines.{row_of}
+use Rattle.hyd_spec_lines.specs.Lines.{row_of}
 use Rattle.hyd_judge_commands.proofs.parts.read_part.Goals as goal
 
 pub returns-in-Ok : goal.returns-in-Ok

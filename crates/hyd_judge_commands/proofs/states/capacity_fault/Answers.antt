@@ -1,5 +1,5 @@
 use Rattle.std.proofs.Common.{Some}
-use Rattle.hyd_lex.specs.Lines.{row_of}
+use Rattle.hyd_spec_lines.specs.Lines.{row_of}
 use Rattle.hyd_spec_input.specs.Capacities.{IsRefusedSetting}
 use Rattle.hyd_judge_commands.proofs.CommandLemmas.{capacity_there, capacity_not_there}
 use Rattle.hyd_judge_commands.proofs.states.capacity_fault.Goals as goal

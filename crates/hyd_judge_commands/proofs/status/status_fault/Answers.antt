@@ -1,7 +1,7 @@
 use Rattle.std.proofs.Common.{◌≡◌, None, Some, get_or, sym, ◌∙◌}
-use Rattle.hyd_lex.specs.Lines.{row_of}
-use Rattle.hyd_lex.specs.declared.line.Line.{Line}
-use Rattle.hyd_lex.specs.declared.section.Section.TheVariants.{Junctions, Status}
+use Rattle.hyd_spec_lines.specs.Lines.{row_of}
+use Rattle.hyd_spec_lines.specs.declared.line.Line.{Line}
+use Rattle.hyd_spec_lines.specs.declared.section.Section.TheVariants.{Junctions, Status}
 use Rattle.hyd_spec_input.specs.Columns.{word}
 use Rattle.hyd_spec_input.specs.DataRows as row_form
 use Rattle.hyd_spec_input.specs.declared.LinkWord.TheVariants.{Link}

@@ -1,7 +1,7 @@
 use Rattle.std.proofs.Common.{rules, sym, ◌∙◌}
-use Rattle.hyd_lex.specs.Bytes.{text_of}
-use Rattle.hyd_lex.specs.declared.line.Line.{Line}
-use Rattle.hyd_lex.specs.declared.section.Section.TheVariants.{Junctions}
+use Rattle.hyd_spec_lines.specs.Bytes.{text_of}
+use Rattle.hyd_spec_lines.specs.declared.line.Line.{Line}
+use Rattle.hyd_spec_lines.specs.declared.section.Section.TheVariants.{Junctions}
 use Rattle.hyd_tables.specs.Found.{rows_at}
 use Rattle.hyd_tables.proofs.FoundLemmas.{row_at}
 use Rattle.hyd_numbers.specs.InForce.{begins_with}

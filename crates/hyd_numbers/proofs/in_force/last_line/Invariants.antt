@@ -1,6 +1,6 @@
 use Rattle.std.proofs.Common.{◌≡◌, take, IfSome}
-use Rattle.hyd_lex.specs.Bytes.{text_of}
-use Rattle.hyd_lex.specs.Lines.{LiesIn}
+use Rattle.hyd_spec_lines.specs.Bytes.{text_of}
+use Rattle.hyd_spec_lines.specs.Lines.{LiesIn}
 use Rattle.hyd_spec_input.specs.Tables.{rows_of}
 use Rattle.hyd_spec_input.specs.InForce.{last_where}
 use Rattle.hyd_tables.specs.Found.{rows_at}

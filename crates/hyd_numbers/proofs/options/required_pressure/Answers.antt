@@ -1,6 +1,6 @@
 use Rattle.std.proofs.Common.{◌≡◌, None}
 use Rattle.std.specs.Prelude.{codes}
-use Rattle.hyd_lex.specs.declared.section.Section.TheVariants.{Options}
+use Rattle.hyd_spec_lines.specs.declared.section.Section.TheVariants.{Options}
 use Rattle.hyd_spec_input.specs.Columns.{needed, number}
 use Rattle.hyd_spec_input.specs.InForce.{begins}
 use Rattle.hyd_tables.specs.Found.{rows_at}

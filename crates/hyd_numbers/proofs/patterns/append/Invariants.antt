@@ -1,6 +1,6 @@
 use Rattle.std.proofs.Common.{◌≡◌, ◌++◌, ◌^◌, None, map, length}
 use Rattle.hyd_num.specs.Numeral.{nano_of}
-use Rattle.hyd_lex.specs.Bytes.{words_in}
+use Rattle.hyd_spec_lines.specs.Bytes.{words_in}
 use Rattle.hyd_spec_input.specs.Columns.{within}
 use Rattle.hyd_spec_input.specs.DataRows.{each}
 use Rattle.hyd_numbers.proofs.patterns.append.Given as goal

@@ -1,6 +1,6 @@
 use Rattle.std.proofs.Common.{arith}
 use Rattle.std.proofs.lemmas.List.{length-map}
-use Rattle.hyd_lex.specs.Lines.{row_of}
+use Rattle.hyd_spec_lines.specs.Lines.{row_of}
 use Rattle.hyd_tables.specs.Found.{rows_at}
 use Rattle.hyd_numbers.proofs.PatternLemmas.{all_filled}
 use Rattle.hyd_numbers.proofs.patterns.build_patterns.Goals as goal

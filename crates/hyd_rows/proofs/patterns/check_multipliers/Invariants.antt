@@ -1,5 +1,5 @@
 use Rattle.std.proofs.Common.{◌≡◌, ◌^◌, length}
-use Rattle.hyd_lex.specs.Bytes.{words_in}
+use Rattle.hyd_spec_lines.specs.Bytes.{words_in}
 use Rattle.hyd_spec_input.specs.Columns.{within}
 use Rattle.hyd_spec_input.specs.DataRows.{each}
 use Rattle.hyd_rows.proofs.patterns.check_multipliers.Given as goal

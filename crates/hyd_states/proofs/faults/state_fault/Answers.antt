@@ -1,4 +1,4 @@
-use Rattle.hyd_lex.specs.Lines.{row_of}
+use Rattle.hyd_spec_lines.specs.Lines.{row_of}
 use Rattle.hyd_states.proofs.StateLemmas.{type_fault_is, allowed_where}
 use Rattle.hyd_states.proofs.faults.state_fault.Goals as goal
 

@@ -1,7 +1,7 @@
 use Rattle.std.proofs.Common.{◌≡◌, ◌↔◌, true, subst}
 use Rattle.std.specs.Prelude.{Bool}
 use Rattle.hyd_num.specs.Quantity.{is_us_unit}
-use Rattle.hyd_lex.specs.Lines.{row_of}
+use Rattle.hyd_spec_lines.specs.Lines.{row_of}
 use Rattle.hyd_opts.specs.Meanings.{IsAsked}
 use Rattle.hyd_opts.specs.declared.controls.Asked.TheVariants.{Number}
 use Rattle.hyd_spec_input.specs.Capacities.{IsRefusedValve}

@@ -1,6 +1,6 @@
 use Rattle.std.proofs.Common.{◌≡◌, ◌++◌, ◌+◌, ◌≤◌, length}
 use Rattle.std.specs.List.{All}
-use Rattle.hyd_lex.specs.Lines.{LiesIn, items_of, rows_in, fault_in}
+use Rattle.hyd_spec_lines.specs.Lines.{LiesIn, items_of, rows_in, fault_in}
 use Rattle.hyd_tables.specs.Found.{rows_at}
 use Rattle.hyd_tables.proofs.text.gather.Given as goal
 

@@ -1,9 +1,9 @@
 use Rattle.std.proofs.Common.{◌≡◌, ◌∷◌, [], All, get_or, take, sym, ap, ◌∙◌, subst, refl, append-nil}
 use Rattle.hyd_num.specs.Quantity.{is_us_unit}
-use Rattle.hyd_lex.specs.Bytes.{text_of}
-use Rattle.hyd_lex.specs.Lines.{row_of}
-use Rattle.hyd_lex.specs.declared.line.Line.{Line}
-use Rattle.hyd_lex.specs.declared.section.Section.TheVariants.{Junctions}
+use Rattle.hyd_spec_lines.specs.Bytes.{text_of}
+use Rattle.hyd_spec_lines.specs.Lines.{row_of}
+use Rattle.hyd_spec_lines.specs.declared.line.Line.{Line}
+use Rattle.hyd_spec_lines.specs.declared.section.Section.TheVariants.{Junctions}
 use Rattle.hyd_spec_input.specs.Curves.{head_points}
 use Rattle.hyd_spec_input.specs.Network.{as_list}
 use Rattle.hyd_spec_input.specs.Project.{bend_points}

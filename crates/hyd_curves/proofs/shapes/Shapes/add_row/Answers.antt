@@ -1,8 +1,8 @@
 use Rattle.std.proofs.Common.{◌≡◌, Some, None, All, get_or, sym, ap, ◌∙◌, subst, refl}
-use Rattle.hyd_lex.specs.Bytes.{text_of}
-use Rattle.hyd_lex.specs.Lines.{row_of}
-use Rattle.hyd_lex.specs.declared.line.Line.{Line}
-use Rattle.hyd_lex.specs.declared.section.Section.TheVariants.{Junctions}
+use Rattle.hyd_spec_lines.specs.Bytes.{text_of}
+use Rattle.hyd_spec_lines.specs.Lines.{row_of}
+use Rattle.hyd_spec_lines.specs.declared.line.Line.{Line}
+use Rattle.hyd_spec_lines.specs.declared.section.Section.TheVariants.{Junctions}
 use Rattle.hyd_spec_input.specs.Curves.{volume_points}
 use Rattle.hyd_spec_input.specs.Project.{shape_points}
 use Rattle.hyd_tables.specs.Found.{rows_at}

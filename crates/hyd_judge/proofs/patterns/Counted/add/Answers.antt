@@ -1,6 +1,6 @@
 use Rattle.std.proofs.Common.{List, [], ◌∷◌, length, take, sym, ap, ◌∙◌}
-use Rattle.hyd_lex.specs.declared.line.Line.{Line}
-use Rattle.hyd_lex.specs.declared.section.Section.TheVariants.{Junctions, Patterns as InPatterns}
+use Rattle.hyd_spec_lines.specs.declared.line.Line.{Line}
+use Rattle.hyd_spec_lines.specs.declared.section.Section.TheVariants.{Junctions, Patterns as InPatterns}
 use Rattle.hyd_spec_input.specs.Columns.{first}
 use Rattle.hyd_spec_input.specs.Tables.{rows_of}
 use Rattle.hyd_spec_input.specs.WithOthers.{passes}

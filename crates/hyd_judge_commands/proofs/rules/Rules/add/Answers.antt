@@ -1,8 +1,8 @@
 use Rattle.std.proofs.Common.{◌≡◌, None, true, get_or, ap, sym, ◌∙◌, subst}
 use Rattle.std.specs.Prelude.{Bool}
-use Rattle.hyd_lex.specs.Lines.{Row, row_of}
-use Rattle.hyd_lex.specs.declared.line.Line.{Line}
-use Rattle.hyd_lex.specs.declared.section.Section.TheVariants.{Junctions, Rules}
+use Rattle.hyd_spec_lines.specs.Lines.{Row, row_of}
+use Rattle.hyd_spec_lines.specs.declared.line.Line.{Line}
+use Rattle.hyd_spec_lines.specs.declared.section.Section.TheVariants.{Junctions, Rules}
 use Rattle.hyd_spec_input.specs.RuleRows.{is_acting, line_words}
 use Rattle.hyd_spec_input.specs.Tables.{is_of}
 use Rattle.hyd_tables.specs.Found.{rows_at}
