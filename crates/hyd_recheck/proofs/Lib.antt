@@ -1,0 +1,8 @@
+pub mod PenLemmas
+pub mod TextLemmas
+pub mod FeedLemmas
+pub mod ReadLemmas
+pub mod VerdictLemmas
+pub mod EndLemmas
+pub mod RecordLemmas
+pub mod TurnLemmas

@@ -1,0 +1,40 @@
+//! How a check ends.
+
+use hyd_io::OutFault;
+use hyd_spec_reports::CertRefused;
+use thiserror::Error;
+
+/// How a check ended.
+#[derive(Debug, Clone, Copy, PartialEq, Eq, Drop)]
+pub enum CheckEnd {
+    /// The certificate was accepted.
+    Accepted,
+    /// The certificate was refused. The last line of the report says why.
+    Refused,
+}
+
+/// Why a check was broken off.
+#[derive(Clone, Copy, Debug, PartialEq, Eq, Error)]
+pub enum CheckFault {
+    /// A read of the certificate failed.
+    #[error("a read failed")]
+    Read,
+    /// A call that prints failed or took nothing.
+    #[error("a print failed or took nothing")]
+    Output(OutFault),
+}
+
+/// What is found of a certificate where its records end.
+#[derive(Clone, Copy)]
+pub(crate) enum Verdict {
+    /// Its END line says what is so: whether the run is finished.
+    Accepted(bool),
+    /// The next record is refused.
+    Refused(CertRefused),
+    /// Its END line, the line of this number, says what isn't so.
+    OtherEnd(u64),
+    /// The line of this number is the first with which it begins no certificate.
+    Grammar(u64),
+    /// Its header line, the line of this number, has another version or other counts than the network.
+    Counts(u64),
+}

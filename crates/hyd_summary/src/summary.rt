@@ -1,0 +1,135 @@
+//! The summary.
+
+ghost use Rattle.std.specs.Prelude.{◌≡◌, ◌++◌, IsTrue, codes, decimal};
+ghost use Rattle.hyd_io.specs.Output.{OnCert};
+ghost use Rattle.hyd_net.specs.Sound.{Sound};
+ghost use Rattle.hyd_spec_certificates.specs.Record.{Standing};
+ghost use Rattle.hyd_spec_reports.specs.Headline.{last_line};
+ghost use Rattle.hyd_spec_summary.specs.Summary.{summary_line};
+ghost use Rattle.hyd_report.specs.Putting.{Puts};
+ghost use Rattle.hyd_run.specs.Runs.{outcome_of};
+
+use crate::pens::{put_number, put_text};
+use hyd_io::{Desk, OutFault, Pen};
+use hyd_net::Project;
+use hyd_report::{put_done, put_stop};
+use hyd_run::RunEnd;
+
+// Puts a text and the number behind it.
+fn put_counted<D: Desk>(
+    text: &[u8],
+    number: u128,
+    pen: &mut Pen,
+    desk: &mut D,
+) -> Result<(), OutFault>
+    requires { OnCert pen.old.to (IsTrue (D.ready desk.old)) }
+    ensures { Puts D.files D.rest D.written D.printed D.target D.ready D.counts D.openings
+        (text.now ++ decimal number) result pen.old pen.new desk.old desk.new }
+{
+    match put_text(text, pen, desk) {
+        Ok(()) => {}
+        Err(fault) => return Err(fault),
+    }
+    put_number(number, pen, desk)
+}
+
+// Puts two texts, each with the number behind it.
+fn put_two_counted<D: Desk>(
+    first: &[u8],
+    one: u128,
+    second: &[u8],
+    other: u128,
+    pen: &mut Pen,
+    desk: &mut D,
+) -> Result<(), OutFault>
+    requires { OnCert pen.old.to (IsTrue (D.ready desk.old)) }
+    ensures { Puts D.files D.rest D.written D.printed D.target D.ready D.counts D.openings
+        ((first.now ++ decimal one) ++ (second.now ++ decimal other)) result pen.old pen.new desk.old desk.new }
+{
+    match put_counted(first, one, pen, desk) {
+        Ok(()) => {}
+        Err(fault) => return Err(fault),
+    }
+    put_counted(second, other, pen, desk)
+}
+
+// Puts how many periods and events there were, and the line feed.
+fn put_run_counts<D: Desk>(
+    periods: u32,
+    events: u128,
+    pen: &mut Pen,
+    desk: &mut D,
+) -> Result<(), OutFault>
+    requires { OnCert pen.old.to (IsTrue (D.ready desk.old)) }
+    ensures { Puts D.files D.rest D.written D.printed D.target D.ready D.counts D.openings
+        (((codes " periods " ++ decimal periods) ++ (codes " events " ++ decimal events)) ++ codes "\n")
+        result pen.old pen.new desk.old desk.new }
+{
+    match put_two_counted(
+        b" periods ",
+        u128::from(periods),
+        b" events ",
+        events,
+        pen,
+        desk,
+    ) {
+        Ok(()) => {}
+        Err(fault) => return Err(fault),
+    }
+    put_text(b"\n", pen, desk)
+}
+
+/// What the first line of a summary counts.
+#[derive(Clone, Copy, Debug, PartialEq, Eq)]
+pub(crate) struct Counts {
+    pub(crate) junctions: usize,
+    pub(crate) links: usize,
+    pub(crate) periods: u32,
+    pub(crate) events: u128,
+}
+
+/// Puts the line of the counts.
+pub(crate) fn put_counts<D: Desk>(
+    counts: Counts,
+    pen: &mut Pen,
+    desk: &mut D,
+) -> Result<(), OutFault>
+    requires { OnCert pen.old.to (IsTrue (D.ready desk.old)) }
+    ensures { Puts D.files D.rest D.written D.printed D.target D.ready D.counts D.openings
+        (summary_line counts.junctions counts.links counts.periods counts.events)
+        result pen.old pen.new desk.old desk.new }
+{
+    match put_two_counted(
+        b"SUMMARY junctions ",
+        counts.junctions as u128,
+        b" links ",
+        counts.links as u128,
+        pen,
+        desk,
+    ) {
+        Ok(()) => {}
+        Err(fault) => return Err(fault),
+    }
+    put_run_counts(counts.periods, counts.events, pen, desk)
+}
+
+/// Puts the last line of a report.
+pub(crate) fn put_last_line<D: Desk>(
+    project: &Project,
+    time: u32,
+    records: u32,
+    end: RunEnd,
+    pen: &mut Pen,
+    desk: &mut D,
+) -> Result<(), OutFault>
+    requires sound { Sound project.now }
+    requires ready { OnCert pen.old.to (IsTrue (D.ready desk.old)) }
+    ensures { (standing : Standing) → standing.time ≡ time
+        → Puts D.files D.rest D.written D.printed D.target D.ready D.counts D.openings
+        (last_line project.now standing records (outcome_of end)) result pen.old pen.new desk.old desk.new }
+{
+    match end {
+        RunEnd::Finished => put_done(records, pen, desk),
+        RunEnd::Stopped(cause) => put_stop(project, time, &cause, pen, desk),
+    }
+}
