@@ -29,14 +29,14 @@ stands_alone header Between next l (inr is) = (next_is_line l (inr is.0)).0
 stands_alone header (Head i) next l can = (head_is_line (front_at header.junctions i) l (is_front (i / header.junctions)) can.0).0
 stands_alone header Over next l can = absurd can
 
-may_stand : (header : Header) (place next : Place) (l : List ℕ) → CanStand header place l next → MayStand header place l next
+pub may_stand : (header : Header) (place next : Place) (l : List ℕ) → CanStand header place l next → MayStand header place l next
 may_stand header First next l can = (header, can.0)
 may_stand header Between next l can = can
 may_stand header (Head i) next l can = can
 may_stand header Over next l can = can
 
 -- the place behind a line is one
-next_same : (header : Header) (place next other : Place) (l m : List ℕ) → l ≡ m → CanStand header place l next → CanStand header place m other → next ≡ other
+pub next_same : (header : Header) (place next other : Place) (l m : List ℕ) → l ≡ m → CanStand header place l next → CanStand header place m other → next ≡ other
 next_same header First next other l m e can stands = can.1 ∙ sym stands.1
 next_same header Between next other l m e (inl is) (inl was) = is.1 ∙ sym was.1
 next_same header Between next other l m e (inr is) (inr was) = is.1 ∙ sym was.1

@@ -80,7 +80,7 @@ fault_here header i line0 line first now before counts after (Grammar number) wi
     let heads = heads_in header.junctions header.tanks in
     let place = place_head heads i within in
     let stuck : IsFault header (Head i) now 1 = here (λ next l rest can e. h.1 l rest can.0 e) (λ over. absurd (cc)) in
-    (i + 1, (omega (arith, h.0, at), so_far 1 (subst (λ (p : Place). IsFault header p now 1) (sym place) stuck), h.2 ∙ same))
+    (i + 1, (omega (arith, h.0, at), so_far 1 (subst (λ (p : Place). IsFault header p now 1) (sym place) stuck), (h.2 ∙ same, omega (arith, within))))
 
 -- a head as the program keeps it
 pub stored : (xs : List ℤ) (i : ℕ) (u : ℤ) → IsInBox u → slice_set xs i (to_z w64 (of_z w64 u)) ≡ slice_set xs i u
@@ -112,7 +112,7 @@ stuck_in_heads header line0 line l first rest before counts now (Grammar number)
       (
         let far = h.1.0 in omega (arith, far, at),
         subst (λ (t : Option (List ℕ)). IsFault header Between t (suc h.0)) (sym text) (later l can h.1.1),
-        h.1.2 ∙ same,
+        h.1.2.0 ∙ same,
       ),
     )
 

@@ -8,3 +8,4 @@ pub mod SentenceLemmas
 pub mod VectorLemmas
 pub mod VersionLemmas
 pub mod WritingLemmas
+pub mod RecordFaultLemmas

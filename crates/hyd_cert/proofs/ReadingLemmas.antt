@@ -23,7 +23,7 @@ use Rattle.hyd_cert.proofs.VectorLemmas.{row_with, row_text, row_is}
 abbrev pair_heads : Vectors → List ℤ
 pair_heads vectors = vectors.upper ++ vectors.lower
 
-abbrev flat : Row → List ℤ
+abbrev pub flat : Row → List ℤ
 flat row = pair_heads row.main ++ joined (map pair_heads row.pinned)
 
 abbrev IsPair : ℕ → Vectors → Type 0
@@ -80,12 +80,12 @@ pinned_box n (v ∷ pinned) all =
     All-append IsInBox (pair_heads v) (joined (map pair_heads pinned)) (pair_box n v (All-head (IsPair n) v pinned all)) (pinned_box n pinned (All-tail (IsPair n) v pinned all))
 
 -- what a record is, by its heads
-record ByHeads (n tanks : ℕ) (row : Row) : Type 0 where
-  whole : AreVectors n tanks (flat row)
-  box : All IsInBox (flat row)
-  same : row_with n tanks row.number row.time row.length (flat row) ≡ row
+pub record ByHeads (n tanks : ℕ) (row : Row) : Type 0 where
+  pub whole : AreVectors n tanks (flat row)
+  pub box : All IsInBox (flat row)
+  pub same : row_with n tanks row.number row.time row.length (flat row) ≡ row
 
-by_heads : (n tanks : ℕ) (row : Row) → IsRow n tanks row → ByHeads n tanks row
+pub by_heads : (n tanks : ℕ) (row : Row) → IsRow n tanks row → ByHeads n tanks row
 by_heads n tanks row is =
     let main : IsPair n row.main = (is.main_upper, is.main_lower) in
     let pinned : All (IsPair n) row.pinned = λ k d low. (is.pinned_upper k d low, is.pinned_lower k d low) in
@@ -111,7 +111,7 @@ header_parts header line rest is =
     ap (λ l. l ++ (10 ∷ rest)) is.is
     ∙ sym (append_assoc (words (codes "HYDCERT" ∷ (decimal header.version ∷ (decimal header.junctions ∷ (decimal header.tanks ∷ []))))) (10 ∷ []) rest)
 
-place_end : (heads i : ℕ) → heads ≤ i → place_after heads i ≡ Between
+pub place_end : (heads i : ℕ) → heads ≤ i → place_after heads i ≡ Between
 place_end heads i low = go (nat_lt i heads) refl
   where
     go : (b : Bool) → nat_lt i heads ≡ b → (if nat_lt i heads then Head i else Between) ≡ Between

@@ -1,11 +1,15 @@
 -- What the faults of a reader say.
-use Rattle.std.specs.Prelude.{◌≡◌, ◌≢◌, ℕ, ◌+◌, ◌-◌, ◌^◌, ◌<◌, min, List, [], ◌∷◌, ◌++◌, length, Option}
+use Rattle.std.specs.Prelude.{◌≡◌, ◌≢◌, ℕ, ◌+◌, ◌-◌, ◌^◌, ◌<◌, ◌≤◌, min, List, [], ◌∷◌, ◌++◌, length, Option, Some}
 use Rattle.hyd_io.specs.Told.{prepend_known}
 use Rattle.hyd_io.specs.declared.desk.Faults.{Faults}
 use Rattle.hyd_io.specs.Counts.{with_read_fault}
+use Rattle.hyd_spec_certificates.specs.Record.{Record}
+use Rattle.hyd_spec_reports.specs.CertificateText.{IsRow, record_text}
 use Rattle.hyd_cert.specs.Cutting.{HasNo}
 use Rattle.hyd_cert.specs.Lines.{Header, IsHeaderLine}
 use Rattle.hyd_cert.specs.Places.{Place, First, Lacks, IsFault, heads_in, place_after}
+use Rattle.hyd_cert.specs.ReaderView.{lead}
+use Rattle.hyd_cert.specs.declared.answers.Stand.{Stand}
 use Rattle.hyd_cert.specs.declared.answers.CertFault.{CertFault}
 use Rattle.hyd_cert.specs.declared.answers.CertFault.TheVariants.{Read, Grammar, Count}
 
@@ -25,12 +29,14 @@ pub record IsFront (front : List ℕ) : Type 0 where
   pub short : length front < 4
   pub one_line : HasNo 10 front
 
--- Of the heads of a record: a read failed, or the line is the first that can't stand where it does.
+-- Of the heads of a record: a read failed, or the line is the first that can't stand where it does, and one of the lines
+-- of these heads.
 abbrev pub IsHeadsFault : Header → ℕ → Option (List ℕ) → Faults → Faults → CertFault → Type 0
 IsHeadsFault header line text before now Read = now ≡ with_read_fault before
 IsHeadsFault header line text before now (Grammar number) =
     (offset : ℕ) × ((number ≡ lines_on line offset)
-    × IsFault header (place_after (heads_in header.junctions header.tanks) 0) text offset × (now ≡ before))
+    × IsFault header (place_after (heads_in header.junctions header.tanks) 0) text offset
+    × ((now ≡ before) × (offset ≤ heads_in header.junctions header.tanks)))
 IsHeadsFault header line text before now (Count number) = ⊥
 
 -- The text begins with a header line, of another version or of other counts.
@@ -58,3 +64,14 @@ IsTextFault header place line text before now (Grammar number) =
     (offset : ℕ) × ((number ≡ lines_on line offset) × IsFault header place text offset × (now ≡ before))
 IsTextFault header place line text before now (Count number) =
     (place ≡ First) × (number ≡ lines_on line 1) × HasOtherHeader header text × (now ≡ before)
+
+-- The text doesn't go on with a whole record, behind the header line where that is to come.
+abbrev pub LacksRecord : Stand → Header → Option (List ℕ) → Type 0
+LacksRecord at header text = (row : Record) (rest : List ℕ) → IsRow header.junctions header.tanks row
+    → text ≢ Some (lead at header ++ (record_text row ++ rest))
+
+-- The fact, where the fault is that of a line.
+abbrev pub OnGrammar : CertFault → Type 0 → Type 0
+OnGrammar Read P = Unit {0}
+OnGrammar (Grammar line) P = P
+OnGrammar (Count line) P = Unit {0}

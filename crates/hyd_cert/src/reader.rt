@@ -10,9 +10,10 @@ ghost use Rattle.hyd_cert.specs.Cutting.{HasNo};
 ghost use Rattle.hyd_cert.specs.Lines.{Header, IsHeadLine, header_text};
 ghost use Rattle.hyd_cert.specs.NextLine.{next_text, NextFits, IsPeriodOrEnd};
 ghost use Rattle.hyd_cert.specs.Places.{First, Between, front_of, heads_in, head_text};
-ghost use Rattle.hyd_cert.specs.Faults.{lines_on, IsFront, IsLineFault, IsHeadsFault, IsHeaderFault, IsTextFault};
+ghost use Rattle.hyd_cert.specs.Faults.{lines_on, IsFront, IsLineFault, IsHeadsFault, IsHeaderFault, IsTextFault, LacksRecord, OnGrammar};
 ghost use Rattle.hyd_cert.specs.ReaderView.{fresh, to_come, IsGoing, IsDone, place_of, lead, lead_lines, answer_of, stand_of, OnRecord, OnEnd};
 ghost use Rattle.hyd_cert.specs.RecordView.{header_of, row_of};
+ghost use Rattle.hyd_cert.specs.declared.answers.Stand.TheVariants as stand;
 
 use crate::answers::{CertFault, CertNext, End, Stand};
 use crate::lines::{Next, head_line, is_header_line, period_or_end};
@@ -147,7 +148,6 @@ impl Lines {
     fn header<D: Desk>(&mut self, desk: &mut D, row: &Record) -> Result<(), CertFault>
         ensures text { OnOk result (prepend_known self.old.source (D.rest desk.old)
             ≡ prepend_known (header_text (header_of row.now)) (prepend_known self.new.source (D.rest desk.new))) }
-        ensures fits { OnOk result ((row.now.junctions < 2 ^ 32) × (row.now.tanks < 2 ^ 32)) }
         ensures line { OnOk result (self.new.line ≡ lines_on self.old.line 1) }
         ensures fault { IfErr result (IsHeaderFault (header_of row.now) self.old.line
             (prepend_known self.old.source (D.rest desk.old)) (D.counts desk.old) (D.counts desk.new)) }
@@ -266,7 +266,8 @@ impl CertReader {
     /// has to be that of `into`: its version and its counts.
     ///
     /// - `Read`: a read failed, and the read faults rose.
-    /// - `Grammar`: at the first line that can't stand where it does, the end of the text counted in.
+    /// - `Grammar`: at the first line that can't stand where it does, the end of the text counted in. No whole record
+    ///   stands before it.
     /// - `Count`: at a first line that is the header line of another version or of other counts.
     ///
     /// After a fault each call answers it again, and after an end that end. What `into` holds is then open, but for its
@@ -287,6 +288,8 @@ impl CertReader {
         ensures fault { IsGoing self.old.stand → IfErr result (IsTextFault (header_of into.old)
             (place_of self.old.stand) self.old.line
             (to_come self.old (D.rest desk.old)) (D.counts desk.old) (D.counts desk.new)) }
+        ensures no_record { IsGoing self.old.stand → IfErr result (λ fault. OnGrammar fault
+            (LacksRecord self.old.stand (header_of into.old) (to_come self.old (D.rest desk.old)))) }
         ensures stand { IsGoing self.old.stand → self.new.stand ≡ stand_of result }
         ensures again { IsDone self.old.stand
             → (result ≡ answer_of self.old.stand) × (self.new ≡ self.old) × (desk.new ≡ desk.old) }
@@ -327,6 +330,22 @@ fn stand_after(read: &Result<CertNext, CertFault>) -> Stand
     }
 }
 
+// A number is below 2^32.
+fn is_small(number: u32)
+    ensures { number < 2 ^ 32 }
+{
+    let _ = number;
+}
+
+// The counts of a record are below 2^32.
+fn has_small_counts(row: &Record)
+    ensures junctions { row.now.junctions < 2 ^ 32 }
+    ensures tanks { row.now.tanks < 2 ^ 32 }
+{
+    is_small(row.junctions);
+    is_small(row.tanks);
+}
+
 /// Reads the header line, and then a record or the end.
 fn read_first<D: Desk>(
     lines: &mut Lines,
@@ -344,6 +363,8 @@ fn read_first<D: Desk>(
     ensures end_fits { IfOk result (λ next. OnEnd next (λ periods finished. periods < 2 ^ 32)) }
     ensures fault { IfErr result (IsTextFault (header_of into.old) First lines.old.line
         (prepend_known lines.old.source (D.rest desk.old)) (D.counts desk.old) (D.counts desk.new)) }
+    ensures no_record { IfErr result (λ fault. OnGrammar fault
+        (LacksRecord stand.First (header_of into.old) (prepend_known lines.old.source (D.rest desk.old)))) }
     ensures header { header_of into.new ≡ header_of into.old }
     ensures never_fall { NeverFall (D.counts desk.old) (D.counts desk.new) }
     ensures steady { OnOk result (D.counts desk.new ≡ D.counts desk.old) }
@@ -354,6 +375,7 @@ fn read_first<D: Desk>(
     ensures ready_stays { D.ready desk.new ≡ D.ready desk.old }
     ensures openings_stay { D.openings desk.new ≡ D.openings desk.old }
 {
+    has_small_counts(into);
     match lines.header(desk, into) {
         Ok(()) => read_record(lines, desk, into),
         Err(fault) => Err(fault),
@@ -376,6 +398,8 @@ fn read_record<D: Desk>(
     ensures end_fits { IfOk result (λ next. OnEnd next (λ periods finished. periods < 2 ^ 32)) }
     ensures fault { IfErr result (IsTextFault (header_of into.old) Between lines.old.line
         (prepend_known lines.old.source (D.rest desk.old)) (D.counts desk.old) (D.counts desk.new)) }
+    ensures no_record { IfErr result (λ fault. OnGrammar fault
+        (LacksRecord stand.Between (header_of into.old) (prepend_known lines.old.source (D.rest desk.old)))) }
     ensures header { header_of into.new ≡ header_of into.old }
     ensures never_fall { NeverFall (D.counts desk.old) (D.counts desk.new) }
     ensures steady { OnOk result (D.counts desk.new ≡ D.counts desk.old) }

@@ -1,7 +1,7 @@
 -- A check from its first line to its last, and what is printed of it.
 use Rattle.std.proofs.Common.{◌≡◌, ℕ, List, [], ◌∷◌, ◌++◌, length-append, All, Option, Some, None, refl}
 use Rattle.std.proofs.Common.{sym, ap, subst, ◌∙◌, arith, append-nil, inl, inr, ◌⊎◌}
-use Rattle.std.specs.Prelude.{Result, Ok, Err, IfOk, IfErr, OnOk}
+use Rattle.std.specs.Prelude.{⊤, Result, Ok, Err, IfOk, IfErr, OnOk}
 use Rattle.std.proofs.lemmas.List.Elements.{All-push}
 use Rattle.hyd_net.specs.Sound.{Sound}
 use Rattle.hyd_spec.specs.Types.{Project}
@@ -249,6 +249,19 @@ module _ (network : Project) (start now : Moment) (text : List ℕ) (told : comi
 -- ---- what else a check says
 
 module _ (network : Project) (start now : Moment) where
+  pub says-printed : (result : Result CheckEnd CheckFault) → start.pen ≡ new_pen → CheckPuts result network start now
+      → OnOk result (now.pen ≡ new_pen) → IsPrinted (λ printed. ⊤) start.told.printed now.told.printed
+  says-printed (Ok end) pen puts empty = record {
+    report = puts.report;
+    holds = tt;
+    printed = moved-whole start.told.printed now.told.printed start.pen.held puts.report now.pen.held (ap (λ (p :
+        PenState). p.held) pen) (ap (λ (p : PenState). p.held) empty) puts.put.printed;
+  }
+  says-printed (Err why) pen puts empty =
+      let out = subst (λ (x : List ℕ). PutOut start.told.printed now.told.printed (x ++ puts.report)) (ap (λ (p :
+      PenState). p.held) pen) puts.cut.printed in
+      record { report = out.1.front; holds = tt; printed = out.1.out }
+
   pub says-rose : (result : Result CheckEnd CheckFault) → CheckPuts result network start now
       → IfErr result (λ why. Rose why start.told.counts now.told.counts)
   says-rose (Ok end) puts = tt

@@ -11,7 +11,7 @@ use Rattle.hyd_spec_reports.specs.Refusals.{IsRefused}
 use Rattle.hyd_spec_reports.specs.declared.CertRefused.{CertRefused}
 use Rattle.hyd_io.specs.declared.desk.Faults.{Faults}
 use Rattle.hyd_io.specs.Told.{prepend_known, where_told}
-use Rattle.hyd_cert.specs.Faults.{lines_on, IsTextFault, HasOtherHeader}
+use Rattle.hyd_cert.specs.Faults.{lines_on, IsTextFault, HasOtherHeader, LacksRecord}
 use Rattle.hyd_cert.specs.Lines.{Header}
 use Rattle.hyd_cert.specs.Places.{IsFault}
 use Rattle.hyd_cert.specs.ReaderView.{ReaderView, to_come, lead, lead_lines, place_of}
@@ -207,11 +207,12 @@ pub grammar-is : (network : Project) (row : Row) (line : ℕ) (before : Moment) 
     → header_of row ≡ header_for network
     → IsTextFault (header_of row) (place_of before.reader.stand) before.reader.line (coming before) start now
     (Grammar line)
-    → IsGrammarFault network line before
-grammar-is network row line before start now same fault = record {
+    → LacksRecord before.reader.stand (header_of row) (coming before) → IsGrammarFault network line before
+grammar-is network row line before start now same fault lacks = record {
   offset = fault.0;
   number = fault.1.0;
   fault = subst (λ (h : Header). IsFault h (place_of before.reader.stand) (coming before) fault.0) same fault.1.1;
+  no_record = subst (λ (h : Header). LacksRecord before.reader.stand h (coming before)) same lacks;
 }
 
 pub counts-is : (network : Project) (row : Row) (line : ℕ) (before : Moment) (start now : Faults)

@@ -1,6 +1,7 @@
 -- What is found where the records end, as of the whole text.
 use Rattle.std.proofs.Common.{◌≡◌, ℕ, ◌+◌, ◌*◌, Bool, List, [], ◌∷◌, ◌++◌, length, map, All, Option, Some}
-use Rattle.std.proofs.Common.{refl, sym, ap, subst, ◌∙◌, arith, append_assoc}
+use Rattle.std.proofs.Common.{refl, sym, ap, subst, ◌∙◌, arith, append_assoc, ◌≢◌}
+use Rattle.std.proofs.lemmas.List.{append_cancel_left}
 use Rattle.std.proofs.lemmas.List.Elements.{All-push}
 use Rattle.hyd_net.specs.Sound.{Sound}
 use Rattle.hyd_spec.specs.Types.{Project}
@@ -16,7 +17,7 @@ use Rattle.hyd_spec_reports.specs.Headline.{CheckRefusesEnd}
 use Rattle.hyd_spec_histories.proofs.Running.{every_history}
 use Rattle.hyd_cert.specs.Lines.{Header, header_text, header_words}
 use Rattle.hyd_cert.specs.Places.{First, IsFault, heads_in}
-use Rattle.hyd_cert.specs.Faults.{lines_on, HasOtherHeader}
+use Rattle.hyd_cert.specs.Faults.{lines_on, HasOtherHeader, LacksRecord}
 use Rattle.hyd_cert.specs.Sentence.{lines_of as record_lines}
 use Rattle.hyd_cert.specs.ReaderView.{place_of}
 use Rattle.hyd_cert.specs.declared.answers.Stand.{Stand}
@@ -25,6 +26,7 @@ use Rattle.hyd_cert.proofs.ReadingLemmas.{whole_reading, fault_behind}
 use Rattle.hyd_cert.proofs.SentenceLemmas.{first_fault}
 use Rattle.hyd_sim.specs.View.{header_for}
 use Rattle.hyd_recheck.specs.Checks.{refused_grammar_line, refused_counts_line, printed_number}
+use Rattle.hyd_recheck.specs.Checks.{HasNoMoreRecords}
 use Rattle.hyd_recheck.specs.Checks.{CheckRefusesGrammar, CheckRefusesCounts, grammar, counts, record_refused}
 use Rattle.hyd_recheck.specs.Checks.{other_end, CheckEnds, CheckFinds}
 use Rattle.hyd_recheck.specs.Printing.{Moment}
@@ -34,6 +36,7 @@ use Rattle.hyd_recheck.specs.declared.outcome.Verdict.{Verdict}
 use Rattle.hyd_recheck.specs.declared.outcome.Verdict.TheVariants.{Accepted, Refused, OtherEnd, Grammar, Counts}
 use Rattle.hyd_recheck.proofs.TextLemmas.{own-header, no-rows}
 use Rattle.std.proofs.lemmas.List.{length-map}
+use Rattle.hyd_recheck.proofs.TextLemmas.{join-more}
 use Rattle.hyd_recheck.proofs.FeedLemmas.{end-number-is}
 use Rattle.hyd_recheck.proofs.ReadLemmas.{read-more, last-text, begins-so}
 
@@ -53,6 +56,17 @@ behind-records passed line offset lines p e = omega (arith, p, e)
 no-end : (rows : List Record) (row : Record) → [] ≡ rows ++ (row ∷ []) → ⊥
 no-end [] row e = cc
 no-end (r ∷ rows) row e = cc
+
+-- records and one more, and what is behind it
+one-more : (front : List ℕ) (rows : List Record) (row : Record) (unread : List ℕ)
+    → front ++ (joined (map record_text (rows ++ (row ∷ []))) ++ unread)
+    ≡ (front ++ joined (map record_text rows)) ++ (record_text row ++ unread)
+one-more front rows row unread =
+    let last : joined (map record_text (rows ++ (row ∷ []))) ≡ joined (map record_text rows) ++ record_text row =
+    join-more record_text rows row in
+    ap (λ (t : List ℕ). front ++ (t ++ unread)) last
+    ∙ (ap (λ (t : List ℕ). front ++ t) (append_assoc (joined (map record_text rows)) (record_text row) unread)
+    ∙ sym (append_assoc front (joined (map record_text rows)) (record_text row ++ unread)))
 
 module _ (network : Project) (sound : Sound network) (left : Standing) (start at : Moment)
     (so_far : IsSoFar network left start at) (text : List ℕ) (told : coming start ≡ Some text) where
@@ -147,34 +161,57 @@ module _ (network : Project) (sound : Sound network) (left : Standing) (start at
   -- ---- lines
 
   refused-grammar : (line number : ℕ) → IsFault own First (Some text) number → line ≡ printed_number number
+      → HasNoMoreRecords network so_far.founds text
       → CheckRefusesGrammar network text (report-of (refused_grammar_line line))
-  refused-grammar line number fault printed = record {
+  refused-grammar line number fault printed all_records = record {
     founds = so_far.founds;
     left = left;
     is_run = so_far.is_run;
     rows_fit = so_far.fit;
     begins = begins-so network start so_far.founds (rows_of so_far.founds) at text refl so_far.read told;
+    all_records = all_records;
     number = number;
     is_fault = first_fault own (header_words own) text number (own-header network sound) fault;
     report = ap (λ (n : ℕ). report-of (refused_grammar_line n)) printed;
     every_history = every_history network sound so_far.founds left so_far.is_run;
   }
 
-  grammar-by : (rows : List Record) (line : ℕ) → All (IsRow own.junctions own.tanks) rows
+  -- no whole record stands behind those that were read
+  none-more : (rows : List Record) → rows ≡ rows_of so_far.founds → IsReadTo network start at rows
+      → LacksRecord at.reader.stand own (coming at) → HasNoMoreRecords network so_far.founds text
+  none-more _ e (nothing stands same zero_lines) lacks row unread fits is_text =
+      let first = subst (λ (s : Stand). LacksRecord s own (coming at)) stands lacks in
+      let alone : header_text own ++ (joined (map record_text ([] ++ (row ∷ []))) ++ unread)
+      ≡ (header_text own ++ []) ++ (record_text row ++ unread) = one-more (header_text own) [] row unread in
+      first row unread fits (same ∙ (told ∙ ap Some (is_text
+      ∙ (ap (λ (rs : List Record). header_text own ++ (joined (map record_text (rs ++ (row ∷ []))) ++ unread)) (sym e)
+      ∙ (alone ∙ append_assoc (header_text own) [] (record_text row ++ unread))))))
+  none-more rows e (records stands begins passed) lacks row unread fits is_text =
+      let between = subst (λ (s : Stand). LacksRecord s own (coming at)) stands lacks in
+      let front = header_text own ++ joined (map record_text rows) in
+      let k = has_rest front (coming at) text (sym begins ∙ told) in
+      let parts : text ≡ front ++ (record_text row ++ unread) =
+      is_text ∙ (ap (λ (rs : List Record). header_text own ++ (joined (map record_text (rs ++ (row ∷ []))) ++ unread))
+      (sym e) ∙ one-more (header_text own) rows row unread) in
+      between row unread fits (k.told ∙ ap Some (append_cancel_left front k.left (record_text row ++ unread)
+      (sym k.whole ∙ parts)))
+
+  grammar-by : (rows : List Record) (line : ℕ) → rows ≡ rows_of so_far.founds → All (IsRow own.junctions own.tanks) rows
       → IsReadTo network start at rows → IsGrammarFault network line at
       → CheckRefusesGrammar network text (report-of (refused_grammar_line line))
-  grammar-by _ line fit (nothing stands same zero_lines) found =
+  grammar-by _ line e fit (nothing stands same zero_lines) found =
       let here : IsFault own First (Some text) found.offset =
       subst (λ (t : Option (List ℕ)). IsFault own First t found.offset) (same ∙ told)
       (subst (λ (s : Stand). IsFault own (place_of s) (coming at) found.offset) stands found.fault) in
       refused-grammar line found.offset here (at-first line found.offset (found.number ∙ ap (λ (l : ℕ). lines_on l
-      found.offset) zero_lines))
-  grammar-by rows line fit (records stands begins passed) found =
+      found.offset) zero_lines)) (none-more [] e (nothing stands same zero_lines) found.no_record)
+  grammar-by rows line e fit (records stands begins passed) found =
       let here = fault_behind own (header_words own) rows (Some text) (coming at) found.offset
       (own-header network sound) fit (sym told ∙ begins)
       (subst (λ (s : Stand). IsFault own (place_of s) (coming at) found.offset) stands found.fault) in
       refused-grammar line (record_lines own rows + found.offset) here (behind-records at.reader.line line found.offset
       (record_lines own rows) passed found.number)
+      (none-more rows e (records stands begins passed) found.no_record)
 
   counts-by : (founds : List Found) (rows : List Record) (line : ℕ) → rows ≡ rows_of founds
       → IsReadTo network start at rows → IsCountsFault network line at
@@ -196,7 +233,8 @@ module _ (network : Project) (sound : Sound network) (left : Standing) (start at
   holds-whole (Accepted finished) now so = accepted finished so.0 so.1
   holds-whole (Refused cause) now so = record_refused cause (refused-record cause now so)
   holds-whole (OtherEnd line) now so = other_end (refused-end line so.0 so.1)
-  holds-whole (Grammar line) now so = grammar (grammar-by (rows_of so_far.founds) line so_far.fit so_far.read so)
+  holds-whole (Grammar line) now so = grammar (grammar-by (rows_of so_far.founds) line refl so_far.fit
+      so_far.read so)
   holds-whole (Counts line) now so = counts (counts-by so_far.founds (rows_of so_far.founds) line refl so_far.read so)
 
   -- what was found so far

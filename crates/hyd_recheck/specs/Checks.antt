@@ -1,10 +1,10 @@
 -- What a check of a certificate gives: it accepts it, or refuses it and says why, or is broken off.
 -- Source: this program's.
-use Rattle.std.specs.Prelude.{◌≡◌, ℕ, ◌-◌, ◌^◌, ◌⊎◌, min, List, [], ◌∷◌, ◌++◌, map, All, Some, codes, decimal}
+use Rattle.std.specs.Prelude.{◌≡◌, ◌≢◌, ℕ, ◌-◌, ◌^◌, ◌⊎◌, min, List, [], ◌∷◌, ◌++◌, map, All, Some, codes, decimal}
 use Rattle.hyd_spec.specs.Types.{Project}
 use Rattle.hyd_spec.specs.Lists.{joined}
 use Rattle.hyd_spec.specs.Network.{junction_count, tank_count}
-use Rattle.hyd_spec_certificates.specs.Record.{Standing}
+use Rattle.hyd_spec_certificates.specs.Record.{Record, Standing}
 use Rattle.hyd_spec_reports.specs.CertificateText.{IsRow, line, version_of, header_line, record_text}
 use Rattle.hyd_spec_reports.specs.ReportLine.{report_text}
 use Rattle.hyd_spec_reports.specs.declared.CertRefused.{CertRefused}
@@ -41,14 +41,22 @@ BeginsWithFound network founds text =
     (founds ≡ []) ⊎ ((unread : List ℕ) × (text ≡ header_line (version_of network) (junction_count network) (tank_count
     network) ++ (joined (map record_text (rows_of founds)) ++ unread)))
 
+-- Behind the header line of the network and the records of what was found, the text doesn't go on with a whole record.
+abbrev pub HasNoMoreRecords : Project → List Found → List ℕ → Type 0
+HasNoMoreRecords network founds text = (row : Record) (unread : List ℕ)
+    → IsRow (junction_count network) (tank_count network) row
+    → text ≢ header_line (version_of network) (junction_count network) (tank_count network)
+    ++ (joined (map record_text (rows_of founds ++ (row ∷ []))) ++ unread)
+
 -- What was read begins as a certificate of a run, up to a line with which, the end of the text counted in, it begins no
--- certificate; what was printed is the report of the records before it, with that line's number in its last line.
+-- certificate; what was printed is the report of all records before it, with that line's number in its last line.
 pub record CheckRefusesGrammar (network : Project) (text printed : List ℕ) : Type 0 where
   pub founds : List Found
   pub left : Standing
   pub is_run : IsRun network founds left
   pub rows_fit : All (IsRow (junction_count network) (tank_count network)) (rows_of founds)
   pub begins : BeginsWithFound network founds text
+  pub all_records : HasNoMoreRecords network founds text
   pub number : ℕ
   pub is_fault : IsFirstFault (header_for network) text number
   pub report : printed ≡ report_text network (lines_of founds) (refused_grammar_line (printed_number number))

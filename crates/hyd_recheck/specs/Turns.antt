@@ -15,7 +15,7 @@ use Rattle.hyd_spec_reports.specs.Refusals.{IsRefused}
 use Rattle.hyd_spec_reports.specs.Headline.{Found, IsFound, IsRun, rows_of, report_so_far, accepted_line}
 use Rattle.hyd_cert.specs.Lines.{Header}
 use Rattle.hyd_cert.specs.Places.{First, IsFault, heads_in}
-use Rattle.hyd_cert.specs.Faults.{lines_on, HasOtherHeader}
+use Rattle.hyd_cert.specs.Faults.{lines_on, HasOtherHeader, LacksRecord}
 use Rattle.hyd_cert.specs.Sentence.{BeginsWith, lines_of as record_lines}
 use Rattle.hyd_cert.specs.ReaderView.{IsGoing, to_come, lead, lead_lines, place_of}
 use Rattle.hyd_cert.specs.declared.answers.Stand.TheVariants as stand
@@ -114,11 +114,12 @@ pub record IsOtherEnd (network : Project) (left : Standing) (before : Moment) : 
   pub is_end : IsEnd network periods finished before
   pub other : ((periods ≡ left.number) × (finished ≡ left.finished)) → ⊥
 
--- The line of this number is the first that can't stand where it does.
+-- The line of this number is the first that can't stand where it does, and no whole record stands before it.
 pub record IsGrammarFault (network : Project) (line : ℕ) (before : Moment) : Type 0 where
   pub offset : ℕ
   pub number : line ≡ lines_on before.reader.line offset
   pub fault : IsFault (header_for network) (place_of before.reader.stand) (coming before) offset
+  pub no_record : LacksRecord before.reader.stand (header_for network) (coming before)
 
 -- The text goes on with a header line of another version or of other counts.
 pub record IsCountsFault (network : Project) (line : ℕ) (before : Moment) : Type 0 where

@@ -1,7 +1,7 @@
 //! A check.
 #![tactic(auto)]
 
-ghost use Rattle.std.specs.Prelude.{◌≡◌, ℕ, List, None, Some, IfErr, IfOk, OnOk};
+ghost use Rattle.std.specs.Prelude.{◌≡◌, ⊤, ℕ, List, None, Some, IfErr, IfOk, OnOk};
 ghost use Rattle.hyd_spec.specs.Types.{Project};
 ghost use Rattle.hyd_spec_certificates.specs.Record.{initial_standing};
 ghost use Rattle.hyd_cert.specs.ReaderView.{ReaderView, fresh};
@@ -110,7 +110,8 @@ fn finish<D: Desk>(end: CheckEnd, pen: &mut Pen, desk: &mut D) -> Result<CheckEn
 /// - `Read`: a read failed, and the read faults rose by one.
 /// - `Output`: a call that prints failed or took nothing, and its faults or the stalls rose by one.
 ///
-/// After either fault nothing more is called, and what was printed is a front of the report.
+/// After either fault nothing more is called, and what was printed is a front of the report. What was printed before
+/// stays, also where the desk tells no text.
 pub fn check<D: Desk>(
     sim: &mut Sim,
     reader: &mut CertReader,
@@ -129,6 +130,7 @@ pub fn check<D: Desk>(
     ensures report_empty { OnOk result (report.new ≡ new_pen) }
     ensures broken_off { (text : List ℕ) → D.rest desk.old ≡ Some text → IfErr result (λ fault.
         IsPrinted (CheckBreaksOff sim.old.project text) (D.printed desk.old) (D.printed desk.new)) }
+    ensures prints { IsPrinted (λ printed. ⊤) (D.printed desk.old) (D.printed desk.new) }
     ensures cause { IfErr result (λ fault. Rose fault (D.counts desk.old) (D.counts desk.new)) }
     ensures steady { OnOk result (D.counts desk.new ≡ D.counts desk.old) }
     ensures files_stay { D.files desk.new ≡ D.files desk.old }

@@ -9,6 +9,7 @@ use Rattle.hyd_cert.specs.declared.lines.Next.{Next}
 use Rattle.hyd_cert.specs.declared.lines.Next.TheVariants.{Period, End}
 use Rattle.hyd_cert.proofs.HeadLemmas.{stuck_between, stuck_in_heads, stuck_behind, period_is, end_is}
 use Rattle.hyd_cert.proofs.VectorLemmas.{refill_whole, row_read, row_is}
+use Rattle.hyd_cert.proofs.RecordFaultLemmas.{none_between, none_in_heads, none_at_end}
 use Rattle.hyd_cert.proofs.reader.read_record.Goals as goal
 
 pub returns-in-Err-clause-fault : goal.returns-in-Err-clause-fault
@@ -56,3 +57,32 @@ returns-in-Ok-clause-row g c =
     let many : length c.heads.new.into ≡ length c.args.into.now.vectors.list = c.heads.auto.into ∙ ap length c.as_mut_slice.ensures.items in
     let same = refill_whole c.args.into.now.vectors.list c.heads.new.into many in
     row_is c.args.into.now.junctions c.args.into.now.tanks p.number p.time p.length _ c.heads.new.into same (ap length same ∙ (many ∙ c.args.into.now.whole)) c.in-Ok.ensures.in_box fits.0 fits.1 fits.2
+
+-- ---- no whole record
+
+pub returns-in-Err-clause-no_record : goal.returns-in-Err-clause-no_record
+returns-in-Err-clause-no_record g c =
+    none_between (header_of c.args.into.now) _ _ _ _ c.in-Err.fault c.in-Err.ensures.fault
+
+pub returns-in-Err-heads-clause-no_record : goal.returns-in-Err-heads-clause-no_record
+returns-in-Err-heads-clause-no_record g c =
+    let p = c.in-Ok-Period.period in
+    let fits : NextFits (Period p) = subst NextFits c.in-Ok-Period.field-0-is c.in-Ok-Period.ensures.fits in
+    let text = subst (λ (n : Next). prepend_known c.args.lines.now.source (g.D.Desk.rest c.args.desk.now)
+    ≡ prepend_known (next_text n) (prepend_known c.period_or_end.new.self.source
+    (g.D.Desk.rest c.period_or_end.new.desk))) c.in-Ok-Period.field-0-is c.in-Ok-Period.ensures.text in
+    none_in_heads (header_of c.args.into.now) _
+    (words (codes "PERIOD" ∷ (decimal p.number ∷ (decimal p.time ∷ (decimal p.length ∷ []))))) _ _ _ _
+    c.in-Err-heads.fault (period_is p.number p.time p.length fits.0 fits.1 fits.2) text
+    (c.in-Err-heads.ensures.fault (header_of c.args.into.now) refl (ap length c.as_mut_slice.ensures.items
+    ∙ c.args.into.now.whole))
+
+pub returns-in-Ok-false-clause-no_record : goal.returns-in-Ok-false-clause-no_record
+returns-in-Ok-false-clause-no_record g c =
+    let e = c.in-Ok-End.end in
+    let fits : NextFits (End e) = subst NextFits c.in-Ok-End.field-0-is c.in-Ok-End.ensures.fits in
+    let text = subst (λ (n : Next). prepend_known c.args.lines.now.source (g.D.Desk.rest c.args.desk.now)
+    ≡ prepend_known (next_text n) (prepend_known c.period_or_end.new.self.source
+    (g.D.Desk.rest c.period_or_end.new.desk))) c.in-Ok-End.field-0-is c.in-Ok-End.ensures.text in
+    none_at_end (header_of c.args.into.now) (words (codes "END" ∷ (decimal e.periods ∷ (end_word e.finished ∷ []))))
+    _ _ (end_is e.periods e.finished fits) text

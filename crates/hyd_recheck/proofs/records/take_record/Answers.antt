@@ -52,8 +52,9 @@ pub returns-in-Err-Grammar-clause-gives : goal.returns-in-Err-Grammar-clause-giv
 returns-in-Err-Grammar-clause-gives g c =
     let e = c.next.ensures in
     let fault = rw c.in-Err-Grammar.field-0-is at (c.in-Err-Grammar.ensures.fault c.requires.going.going) in
+    let lacks = rw c.in-Err-Grammar.field-0-is at (c.in-Err-Grammar.ensures.no_record c.requires.going.going) in
     over-there (Grammar c.in-Err-Grammar.line) _ _ _
-    (grammar-is _ c.args.row.now c.in-Err-Grammar.line _ _ _ c.requires.header fault)
+    (grammar-is _ c.args.row.now c.in-Err-Grammar.line _ _ _ c.requires.header fault lacks)
     (read-puts _ _ c.requires.going.pen refl e.printed_stays fault.1.2 (record {
       files_stay = e.files_stay;
       written_stays = e.written_stays;

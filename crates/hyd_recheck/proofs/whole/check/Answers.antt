@@ -4,7 +4,7 @@ use Rattle.std.proofs.Common.{◌∙◌, ap}
 use Rattle.hyd_cert.specs.ReaderView.{ReaderView, to_come}
 use Rattle.hyd_recheck.proofs.PenLemmas.{new-open}
 use Rattle.hyd_recheck.proofs.TextLemmas.{nothing-before}
-use Rattle.hyd_recheck.proofs.EndLemmas.{prints-whole, prints-front, says-rose, says-steady, says-leaves}
+use Rattle.hyd_recheck.proofs.EndLemmas.{prints-whole, prints-front, says-printed, says-rose, says-steady, says-leaves}
 use Rattle.hyd_recheck.proofs.whole.check.Goals as goal
 
 pub put_check-requires-clause-unbroken : goal.put_check-requires-clause-unbroken
@@ -26,6 +26,11 @@ returns-in-Ok-clause-broken_off g c = λ text told.
     ∙ (nothing-before (g.D.Desk.rest c.args.desk.now) ∙ told) in
     prints-front c.args.sim.now.project _ _ text coming_is c.requires.report c.finish.result
     (c.finish.ensures.puts _ _ c.put_check.new.reader c.in-Ok.ensures.puts)
+
+pub returns-in-Ok-clause-prints : goal.returns-in-Ok-clause-prints
+returns-in-Ok-clause-prints g c =
+    says-printed c.args.sim.now.project _ _ c.finish.result c.requires.report (c.finish.ensures.puts _ _
+    c.put_check.new.reader c.in-Ok.ensures.puts) c.finish.ensures.report
 
 pub returns-in-Ok-clause-cause : goal.returns-in-Ok-clause-cause
 returns-in-Ok-clause-cause g c =
@@ -67,6 +72,10 @@ returns-in-Err-clause-broken_off g c = λ text told.
     let coming_is = ap (λ (r : ReaderView). to_come r (g.D.Desk.rest c.args.desk.now)) c.requires.reader
     ∙ (nothing-before (g.D.Desk.rest c.args.desk.now) ∙ told) in
     prints-front c.args.sim.now.project _ _ text coming_is c.requires.report (Err c.in-Err.fault) c.in-Err.ensures.puts
+
+pub returns-in-Err-clause-prints : goal.returns-in-Err-clause-prints
+returns-in-Err-clause-prints g c =
+    says-printed c.args.sim.now.project _ _ (Err c.in-Err.fault) c.requires.report c.in-Err.ensures.puts tt
 
 pub returns-in-Err-clause-cause : goal.returns-in-Err-clause-cause
 returns-in-Err-clause-cause g c =
