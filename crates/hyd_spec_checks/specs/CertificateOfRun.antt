@@ -1,0 +1,17 @@
+-- The certificates that hold: those of runs.
+-- Source: this program's.
+use Rattle.std.specs.Prelude.{ℕ, List, length}
+use Rattle.hyd_spec.specs.Types.{Project}
+use Rattle.hyd_spec.specs.Network.{junction_count, tank_count}
+use Rattle.hyd_spec_certificates.specs.Record.{Standing}
+use Rattle.hyd_spec_reports.specs.CertificateText.{IsCertificateText, version_of}
+use Rattle.hyd_spec_reports.specs.Headline.{Found, IsRun, rows_of}
+
+-- The text is the certificate of a run of the network, whole or as far as it went, with an END line that says what is
+-- so: how many records stand before it, and whether the run is finished.
+pub record IsCertificateOfRun (network : Project) (text : List ℕ) : Type 0 where
+  pub founds : List Found
+  pub left : Standing
+  pub is_run : IsRun network founds left
+  pub certificate : IsCertificateText text (version_of network) (junction_count network) (tank_count network)
+      (rows_of founds) (length founds) left.finished
