@@ -1,5 +1,6 @@
 -- How what a call leaves follows from what the calls in it leave.
-use Rattle.std.proofs.Common.{◌≡◌, ◌≢◌, ℕ, List, [], Option, None, Some, ◌⊎◌, inl, inr, ◌∙◌, refl, sym, ap, subst, is_some}
+use Rattle.std.proofs.Common.{◌≡◌, ◌≢◌, ℕ, List, [], Option, None, Some, ◌⊎◌, inl, inr, ◌∙◌, refl, sym, ap, subst}
+use Rattle.std.proofs.Common.{is_some}
 use Rattle.std.specs.Option.{option_map_or}
 use Rattle.std.proofs.lemmas.Bool.{false≢true}
 use Rattle.hyd_io.specs.Told.{Files, where_told, append_known, file_at, content_of, PutOut}
@@ -13,14 +14,19 @@ use Rattle.hyd_net.specs.declared.cause.Cause.{Cause}
 use Rattle.hyd_spec.specs.Types.{Project}
 use Rattle.hyd_spec_input.specs.Project.{IsProject}
 use Rattle.hyd_spec_reports.specs.Headline.{Outcome, Finished, Stopped, outcome_number}
-use Rattle.hyd_spec_reports.specs.declared.StopCause.TheVariants.{NoCertificate, TankOpen, RuleOpen, ControlOpen, EventOpen, RoundsSpent as Rounds, Demand as OutOfRange}
+use Rattle.hyd_spec_reports.specs.declared.StopCause.TheVariants.{NoCertificate, TankOpen, RuleOpen, ControlOpen}
+use Rattle.hyd_spec_reports.specs.declared.StopCause.TheVariants.{EventOpen, RoundsSpent as Rounds}
+use Rattle.hyd_spec_reports.specs.declared.StopCause.TheVariants.{Demand as OutOfRange}
 use Rattle.hyd_sim.specs.declared.settings.Settings.{Settings}
 use Rattle.hyd_run.specs.Pens.{Told, OneRose, LeavesRest}
 use Rattle.hyd_run.specs.Runs.{IsPutOut, IsBrokenOff}
-use Rattle.hyd_cli.specs.Answers.{Seen, IsUntouched, NothingPut, Delivered, CutShort, HasCause, status_of, OpensOnce, OpensCert, Leaves, Holds, AnswersRefused, AnswersRun, AnswersText}
+use Rattle.hyd_cli.specs.Answers.{Seen, IsUntouched, NothingPut, Delivered, CutShort, HasCause, status_of, OpensOnce}
+use Rattle.hyd_cli.specs.Answers.{OpensCert, LeavesRun, Holds, AnswersRefused, AnswersRun, AnswersText}
 use Rattle.hyd_cli.specs.Statuses.{number_of, status_of_outcome}
 use Rattle.hyd_cli.specs.declared.status.Status.{Status}
-use Rattle.hyd_cli.specs.declared.status.Status.TheVariants.{Done, OutOfMemory, Usage, ReadFault, WriteFault, InputRefused, Undecided, RoundsSpent, Demand, Stalled}
+use Rattle.hyd_cli.specs.declared.status.Status.TheVariants.{Done, OutOfMemory, Usage, ReadFault, WriteFault}
+use Rattle.hyd_cli.specs.declared.status.Status.TheVariants.{InputRefused, Undecided, RoundsSpent, Demand}
+use Rattle.hyd_cli.specs.declared.status.Status.TheVariants.{CertificateRefused, Stalled}
 
 -- ---- what was untouched is the same
 
@@ -70,7 +76,7 @@ number_of_end (Stopped (Rounds period problem side rounds)) = refl
 number_of_end (Stopped (OutOfRange period junction demand)) = refl
 
 -- what holds of the four statuses of an end holds of the status of each
-by_end : (P : Status → Type 0) (outcome : Outcome) → (Done ≡ status_of_outcome outcome → P Done)
+pub by_end : (P : Status → Type 0) (outcome : Outcome) → (Done ≡ status_of_outcome outcome → P Done)
     → (Undecided ≡ status_of_outcome outcome → P Undecided) → (RoundsSpent ≡ status_of_outcome outcome → P RoundsSpent)
     → (Demand ≡ status_of_outcome outcome → P Demand) → P (status_of_outcome outcome)
 by_end P Finished d u r o = d refl
@@ -125,7 +131,7 @@ opens_of_fault Stall before now e = inr e
 -- ---- refusals
 
 refusal_leaves : (line : ℕ) (cause : Cause) (status : Status) (before now : Seen)
-    → AnswersRefused line cause status before now → Leaves status before now
+    → AnswersRefused line cause status before now → LeavesRun status before now
 refusal_leaves line cause Done before now h = absurd h
 refusal_leaves line cause OutOfMemory before now h = h
 refusal_leaves line cause Usage before now h = absurd h
@@ -135,6 +141,7 @@ refusal_leaves line cause InputRefused before now h = record { line = line; caus
 refusal_leaves line cause Undecided before now h = absurd h
 refusal_leaves line cause RoundsSpent before now h = absurd h
 refusal_leaves line cause Demand before now h = absurd h
+refusal_leaves line cause CertificateRefused before now h = absurd h
 refusal_leaves line cause Stalled before now h = tt
 
 refusal_holds : (line : ℕ) (cause : Cause) (status : Status) (cert : List ℕ) (before now : Seen)
@@ -148,6 +155,7 @@ refusal_holds line cause InputRefused cert before now h = tt
 refusal_holds line cause Undecided cert before now h = absurd h
 refusal_holds line cause RoundsSpent cert before now h = absurd h
 refusal_holds line cause Demand cert before now h = absurd h
+refusal_holds line cause CertificateRefused cert before now h = absurd h
 refusal_holds line cause Stalled cert before now h = inl h.written
 
 pub refusal_opens : (line : ℕ) (cause : Cause) (status : Status) (before now : Seen) (start end : Openings)
@@ -161,6 +169,7 @@ refusal_opens line cause InputRefused before now start end h n e = e
 refusal_opens line cause Undecided before now start end h n e = absurd h
 refusal_opens line cause RoundsSpent before now start end h n e = absurd h
 refusal_opens line cause Demand before now start end h n e = absurd h
+refusal_opens line cause CertificateRefused before now start end h n e = absurd h
 refusal_opens line cause Stalled before now start end h n e = inl e
 
 pub refusal_never_usage : (line : ℕ) (cause : Cause) (status : Status) (before now : Seen)
@@ -170,7 +179,7 @@ refusal_never_usage line cause status before now h = λ e. subst (λ s. AnswersR
 -- ---- networks
 
 run_leaves : (network : Project) (settings : Settings) (cert : List ℕ) (status : Status) (before now : Seen)
-    → AnswersRun network settings cert status before now → Leaves status before now
+    → AnswersRun network settings cert status before now → LeavesRun status before now
 run_leaves network settings cert Done before now h = tt
 run_leaves network settings cert OutOfMemory before now h = h
 run_leaves network settings cert Usage before now h = absurd h
@@ -180,6 +189,7 @@ run_leaves network settings cert InputRefused before now h = absurd h
 run_leaves network settings cert Undecided before now h = tt
 run_leaves network settings cert RoundsSpent before now h = tt
 run_leaves network settings cert Demand before now h = tt
+run_leaves network settings cert CertificateRefused before now h = absurd h
 run_leaves network settings cert Stalled before now h = tt
 
 -- where nothing or a front was put, nothing was written or the file holds it
@@ -200,44 +210,71 @@ run_holds network settings cert InputRefused before now h = tt
 run_holds network settings cert Undecided before now h = h.held
 run_holds network settings cert RoundsSpent before now h = h.held
 run_holds network settings cert Demand before now h = h.held
+run_holds network settings cert CertificateRefused before now h = tt
 run_holds network settings cert Stalled before now h = fronts_hold network settings cert before now h
 
 pub run_never_usage : (network : Project) (settings : Settings) (cert : List ℕ) (status : Status) (before now : Seen)
     → AnswersRun network settings cert status before now → status ≢ Usage
-run_never_usage network settings cert status before now h = λ e. subst (λ s. AnswersRun network settings cert s before now) e h
+run_never_usage network settings cert status before now h = λ e. subst (λ s. AnswersRun network settings cert s before
+    now) e h
 
 -- the answer of the network of a text is one of the text
-text_answers : (text : List ℕ) (network : Project) (settings : Settings) (cert : List ℕ) (status : Status) (before now : Seen)
+text_answers : (text : List ℕ) (network : Project) (settings : Settings) (cert : List ℕ) (status : Status) (before now
+    : Seen)
     → IsProject (rows_in (items_of text)) network
     → AnswersRun network settings cert status before now → AnswersText text settings cert status before now
 text_answers text network settings cert Done before now p h = record { network = network; is_network = p; holds = h }
 text_answers text network settings cert OutOfMemory before now p h = h
 text_answers text network settings cert Usage before now p h = record { network = network; is_network = p; holds = h }
 text_answers text network settings cert ReadFault before now p h = absurd h
-text_answers text network settings cert WriteFault before now p h = record { network = network; is_network = p; holds = h }
-text_answers text network settings cert InputRefused before now p h = record { network = network; is_network = p; holds = h }
-text_answers text network settings cert Undecided before now p h = record { network = network; is_network = p; holds = h }
-text_answers text network settings cert RoundsSpent before now p h = record { network = network; is_network = p; holds = h }
+text_answers text network settings cert WriteFault before now p h = record {
+  network = network;
+  is_network = p;
+  holds
+      = h;
+}
+text_answers text network settings cert InputRefused before now p h = record {
+  network = network;
+  is_network = p;
+  holds = h;
+}
+text_answers text network settings cert Undecided before now p h = record {
+  network = network;
+  is_network = p;
+  holds =
+      h;
+}
+text_answers text network settings cert RoundsSpent before now p h = record {
+  network = network;
+  is_network = p;
+  holds
+      = h;
+}
 text_answers text network settings cert Demand before now p h = record { network = network; is_network = p; holds = h }
+text_answers text network settings cert CertificateRefused before now p h = absurd h
 text_answers text network settings cert Stalled before now p h = record { network = network; is_network = p; holds = h }
 
 -- ---- the whole command, where nothing was touched before the network was there
 
-pub leaves_since : (network : Project) (settings : Settings) (cert : List ℕ) (status : Status) (before between now : Seen)
-    → IsUntouched before between → AnswersRun network settings cert status between now → Leaves status before now
+pub leaves_since : (network : Project) (settings : Settings) (cert : List ℕ) (status : Status) (before between now :
+    Seen)
+    → IsUntouched before between → AnswersRun network settings cert status between now → LeavesRun status before now
 leaves_since network settings cert status before between now u h = run_leaves network settings cert status before now
     (since_before (λ b. AnswersRun network settings cert status b now) before between u h)
 
-pub holds_since : (network : Project) (settings : Settings) (cert : List ℕ) (status : Status) (before between now : Seen)
+pub holds_since : (network : Project) (settings : Settings) (cert : List ℕ) (status : Status) (before between now :
+    Seen)
     → IsUntouched before between → AnswersRun network settings cert status between now
     → Holds status cert before now
 holds_since network settings cert status before between now u h = run_holds network settings cert status before now
     (since_before (λ b. AnswersRun network settings cert status b now) before between u h)
 
-pub run_since : (text : List ℕ) (network : Project) (settings : Settings) (cert : List ℕ) (status : Status) (before between now : Seen)
+pub run_since : (text : List ℕ) (network : Project) (settings : Settings) (cert : List ℕ) (status : Status) (before
+    between now : Seen)
     → IsUntouched before between → IsProject (rows_in (items_of text)) network
     → AnswersRun network settings cert status between now → AnswersText text settings cert status before now
-run_since text network settings cert status before between now u p h = text_answers text network settings cert status before now p
+run_since text network settings cert status before between now u p h = text_answers text network settings cert status
+    before now p
     (since_before (λ b. AnswersRun network settings cert status b now) before between u h)
 
 pub refused_since : (line : ℕ) (cause : Cause) (status : Status) (before between now : Seen)
@@ -247,7 +284,7 @@ refused_since line cause status before between now u h =
     since_before (λ b. AnswersRefused line cause status b now) before between u h
 
 pub refused_leaves_since : (line : ℕ) (cause : Cause) (status : Status) (before between now : Seen)
-    → IsUntouched before between → AnswersRefused line cause status between now → Leaves status before now
+    → IsUntouched before between → AnswersRefused line cause status between now → LeavesRun status before now
 refused_leaves_since line cause status before between now u h =
     refusal_leaves line cause status before now (refused_since line cause status before between now u h)
 
@@ -269,6 +306,7 @@ opens_once InputRefused start opened end o h = h ∙ o
 opens_once Undecided start opened end o h = rw o at h
 opens_once RoundsSpent start opened end o h = rw o at h
 opens_once Demand start opened end o h = rw o at h
+opens_once CertificateRefused start opened end o h = absurd h
 opens_once Stalled start opened end o (inl e) = inl (e ∙ o)
 opens_once Stalled start opened end o (inr e) = inr (rw o at e)
 
@@ -299,7 +337,8 @@ pub printed_since : (before created now : Option (List ℕ)) (text : List ℕ) �
 printed_since before created now text e p = rw e at p
 
 pub delivered : (network : Project) (settings : Settings) (cert : List ℕ) (outcome : Outcome) (before : Seen)
-    (created after : Told) → IsPutOut network settings outcome created after → created.written ≡ where_told before.files []
+    (created after : Told) → IsPutOut network settings outcome created after → created.written ≡ where_told
+    before.files []
     → created.printed ≡ before.printed → created.target ≡ where_told before.files cert
     → is_some created.files ≡ is_some before.files → LeavesRest created after
     → after.written ≡ content_of after.files after.target

@@ -1,2 +1,5 @@
 pub mod AnswerLemmas
+pub mod CheckLemmas
 pub mod PrintLemmas
+pub mod CommandLemmas
+pub mod GenLemmas

@@ -1,11 +1,12 @@
 -- What the answers of the program mean: which status comes where, and what was created, written and printed then.
 -- Source: this program's.
-use Rattle.std.specs.Prelude.{◌≡◌, ◌≢◌, ℕ, ◌⊎◌, List, Option, ⊤}
+use Rattle.std.specs.Prelude.{◌≡◌, ◌≢◌, ℕ, ◌⊎◌, List, Option, Some, None, IsTrue, Bool, ⊤}
 use Rattle.hyd_io.specs.declared.desk.Faults.{Faults}
 use Rattle.hyd_io.specs.declared.desk.Openings.{Openings}
 use Rattle.hyd_io.specs.declared.output.OutFault.{OutFault}
 use Rattle.hyd_io.specs.declared.output.OutFault.TheVariants.{Fault, Stalled as Stall}
-use Rattle.hyd_io.specs.Counts.{with_read_fault, with_write_fault, with_print_fault, with_stall, with_opened, with_created}
+use Rattle.hyd_io.specs.Counts.{with_read_fault, with_write_fault, with_print_fault, with_stall, with_opened}
+use Rattle.hyd_io.specs.Counts.{with_created}
 use Rattle.hyd_io.specs.Told.{Files, where_told, append_known, file_at, PutOut}
 use Rattle.hyd_spec_lines.specs.Lines.{items_of, rows_in}
 use Rattle.hyd_net.specs.declared.cause.Cause.{Cause}
@@ -15,11 +16,13 @@ use Rattle.hyd_spec_reports.specs.Headline.{Outcome, RunWrites, RunBreaksOff, ou
 use Rattle.hyd_report.specs.RefusedText.{refused_text_line}
 use Rattle.hyd_run.specs.Runs.{sharpness_of}
 use Rattle.hyd_sim.specs.declared.settings.Settings.{Settings}
-use Rattle.hyd_words.specs.Orders.{RunOrder}
+use Rattle.hyd_words.specs.Orders.{Order, RunOrder, run, check, gen}
 use Rattle.hyd_cli.specs.Statuses.{number_of}
 use Rattle.hyd_cli.specs.Words.{usage_line}
 use Rattle.hyd_cli.specs.declared.status.Status.{Status}
-use Rattle.hyd_cli.specs.declared.status.Status.TheVariants.{Done, OutOfMemory, Usage, ReadFault, WriteFault, InputRefused, Undecided, RoundsSpent, Demand, Stalled}
+use Rattle.hyd_cli.specs.declared.status.Status.TheVariants.{Done, OutOfMemory, Usage, ReadFault, WriteFault}
+use Rattle.hyd_cli.specs.declared.status.Status.TheVariants.{InputRefused, Undecided, RoundsSpent, Demand}
+use Rattle.hyd_cli.specs.declared.status.Status.TheVariants.{CertificateRefused, Stalled}
 
 -- ---- what a desk tells
 
@@ -51,9 +54,27 @@ pub record OnlyPrintedFront (line : List ℕ) (before now : Seen) : Type 0 where
   pub written : now.written ≡ before.written
   pub printed : PutOut before.printed now.printed line
 
+-- Nothing was created or written, and a text was printed.
+pub record OnlyPrintedSome (before now : Seen) : Type 0 where
+  pub files : now.files ≡ before.files
+  pub written : now.written ≡ before.written
+  pub text : List ℕ
+  pub printed : now.printed ≡ append_known before.printed text
+
 -- No file but that of the name was changed.
 abbrev pub ChangesOnly : List ℕ → Seen → Seen → Type 0
 ChangesOnly name before now = (other : List ℕ) → other ≢ name → file_at now.files other ≡ file_at before.files other
+
+-- ---- names
+
+-- What a command asks of the desk: `run` opens NET and creates CERT, `check` opens both, and `gen` creates both. Words
+-- that aren't a command ask for nothing.
+abbrev pub MayUse : (may_open may_create : List ℕ → Bool) → Option Order → Type 0
+MayUse may_open may_create None = ⊤
+MayUse may_open may_create (Some (run order)) = IsTrue (may_open order.files.net) × IsTrue (may_create order.files.cert)
+MayUse may_open may_create (Some (check files)) = IsTrue (may_open files.net) × IsTrue (may_open files.cert)
+MayUse may_open may_create (Some (gen order)) = IsTrue (may_create order.files.net) × IsTrue (may_create
+    order.files.cert)
 
 -- ---- faults
 
@@ -65,7 +86,7 @@ HasCause WriteFault before now = (now ≡ with_write_fault before) ⊎ (now ≡ 
 HasCause Stalled before now = now ≡ with_stall before
 HasCause status before now = now ≡ before
 
--- How often a command opens NET and creates CERT: each once at most, so what can be read only once is read whole. NET is
+-- How often a run opens NET and creates CERT: each once at most, so what can be read only once is read whole. NET is
 -- opened but where memory ran out before, and CERT is created when all memory is taken that the run needs.
 abbrev pub OpensOnce : Status → Openings → Openings → Type 0
 OpensOnce Done before now = now ≡ with_created (with_opened before)
@@ -77,6 +98,7 @@ OpensOnce InputRefused before now = now ≡ with_opened before
 OpensOnce Undecided before now = now ≡ with_created (with_opened before)
 OpensOnce RoundsSpent before now = now ≡ with_created (with_opened before)
 OpensOnce Demand before now = now ≡ with_created (with_opened before)
+OpensOnce CertificateRefused before now = ⊥
 OpensOnce Stalled before now = (now ≡ with_opened before) ⊎ (now ≡ with_created (with_opened before))
 
 -- Of these, what is opened and created once NET was read: CERT is created when all memory is taken that the run needs.
@@ -90,6 +112,7 @@ OpensCert InputRefused before now = now ≡ before
 OpensCert Undecided before now = now ≡ with_created before
 OpensCert RoundsSpent before now = now ≡ with_created before
 OpensCert Demand before now = now ≡ with_created before
+OpensCert CertificateRefused before now = ⊥
 OpensCert Stalled before now = (now ≡ before) ⊎ (now ≡ with_created before)
 
 -- The answer of a fault of a channel.
@@ -125,10 +148,11 @@ AnswersRefused line cause status before now = ⊥
 abbrev pub settings_of : RunOrder → Settings
 settings_of order = record { rounds = order.rounds; width = order.width; tight = order.tight }
 
--- The certificate of a run of the network was written to the file created in this call, where files are told, its report
--- was printed, and every history agrees with them; the status says how the run ended. The file of the name CERT holds
--- what was written.
-pub record Delivered (network : Project) (settings : Settings) (cert : List ℕ) (status : Status) (before now : Seen) : Type 0 where
+-- The certificate of a run of the network was written to the file created in this call, where files are told, its
+-- report was printed, and every history agrees with them; the status says how the run ended. The file of the name
+-- CERT holds what was written.
+pub record Delivered (network : Project) (settings : Settings) (cert : List ℕ) (status : Status) (before now : Seen) :
+    Type 0 where
   pub outcome : Outcome
   pub certificate : List ℕ
   pub report : List ℕ
@@ -144,8 +168,8 @@ pub record NothingPut (before now : Seen) : Type 0 where
   pub printed : now.printed ≡ before.printed
 
 -- A fault broke a run of the network off: what was written to the file created in this call, where files are told, and
--- what was printed are fronts of the certificate and of the report of the run as far as it went, and every history agrees
--- with it. The file of the name CERT holds what was written.
+-- what was printed are fronts of the certificate and of the report of the run as far as it went, and every history
+-- agrees with it. The file of the name CERT holds what was written.
 pub record CutShort (network : Project) (settings : Settings) (cert : List ℕ) (before now : Seen) : Type 0 where
   pub certificate : List ℕ
   pub report : List ℕ
@@ -161,7 +185,8 @@ AnswersRun network settings cert Undecided before now = Delivered network settin
 AnswersRun network settings cert RoundsSpent before now = Delivered network settings cert RoundsSpent before now
 AnswersRun network settings cert Demand before now = Delivered network settings cert Demand before now
 AnswersRun network settings cert OutOfMemory before now = IsUntouched before now
-AnswersRun network settings cert WriteFault before now = NothingPut before now ⊎ CutShort network settings cert before now
+AnswersRun network settings cert WriteFault before now = NothingPut before now ⊎ CutShort network settings cert before
+    now
 AnswersRun network settings cert Stalled before now = NothingPut before now ⊎ CutShort network settings cert before now
 AnswersRun network settings cert status before now = ⊥
 
@@ -175,7 +200,8 @@ pub record OfNetwork (text : List ℕ) (P : Project → Type 0) : Type 0 where
 abbrev pub AnswersText : List ℕ → Settings → List ℕ → Status → Seen → Seen → Type 0
 AnswersText text settings cert OutOfMemory before now = IsUntouched before now
 AnswersText text settings cert ReadFault before now = IsUntouched before now
-AnswersText text settings cert status before now = OfNetwork text (λ network. AnswersRun network settings cert status before now)
+AnswersText text settings cert status before now = OfNetwork text (λ network. AnswersRun network settings cert status
+    before now)
 
 -- ---- whatever the text was
 
@@ -185,16 +211,32 @@ pub record PrintsRefusal (before now : Seen) : Type 0 where
   pub cause : Cause
   pub only : OnlyPrinted (refused_text_line line cause) before now
 
--- What an answer leaves, also where the desk tells no text: want of memory and a fault of reading leave all untouched; a
--- refusal prints its one line and creates nothing.
-abbrev pub Leaves : Status → Seen → Seen → Type 0
-Leaves OutOfMemory before now = IsUntouched before now
-Leaves ReadFault before now = IsUntouched before now
-Leaves Usage before now = OnlyPrinted usage_line before now
-Leaves InputRefused before now = PrintsRefusal before now
-Leaves status before now = ⊤
+-- What the answer of a run or of `gen` leaves, also where the desk tells no text: want of memory and a fault of reading
+-- leave all untouched; a refusal prints its one line and creates nothing.
+abbrev pub LeavesRun : Status → Seen → Seen → Type 0
+LeavesRun OutOfMemory before now = IsUntouched before now
+LeavesRun ReadFault before now = IsUntouched before now
+LeavesRun Usage before now = OnlyPrinted usage_line before now
+LeavesRun InputRefused before now = PrintsRefusal before now
+LeavesRun status before now = ⊤
 
--- The file of the name CERT holds what was written, at the end of a run and, where something was written, after a fault.
+-- What the answer of a check leaves: want of memory leaves all untouched, a refusal prints its one line, and every
+-- other answer leaves some text printed and nothing created or written.
+abbrev pub LeavesCheck : Status → Seen → Seen → Type 0
+LeavesCheck OutOfMemory before now = IsUntouched before now
+LeavesCheck Usage before now = OnlyPrinted usage_line before now
+LeavesCheck InputRefused before now = PrintsRefusal before now
+LeavesCheck status before now = OnlyPrintedSome before now
+
+-- What an answer leaves, by what was asked. Words that aren't a command ask for nothing.
+abbrev pub Leaves : Option Order → Status → Seen → Seen → Type 0
+Leaves None status before now = LeavesRun status before now
+Leaves (Some (run order)) status before now = LeavesRun status before now
+Leaves (Some (check files)) status before now = LeavesCheck status before now
+Leaves (Some (gen order)) status before now = LeavesRun status before now
+
+-- The file of the name CERT holds what was written, at the end of a run and, where something was written, after a
+-- fault.
 abbrev pub Holds : Status → List ℕ → Seen → Seen → Type 0
 Holds Done cert before now = file_at now.files cert ≡ now.written
 Holds Undecided cert before now = file_at now.files cert ≡ now.written

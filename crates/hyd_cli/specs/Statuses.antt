@@ -3,7 +3,9 @@ use Rattle.std.specs.Prelude.{ℕ}
 use Rattle.hyd_spec_reports.specs.Headline.{Outcome, Finished, Stopped}
 use Rattle.hyd_spec_reports.specs.declared.StopCause.TheVariants.{Demand as OutOfRange, RoundsSpent as Rounds}
 use Rattle.hyd_cli.specs.declared.status.Status.{Status}
-use Rattle.hyd_cli.specs.declared.status.Status.TheVariants.{Done, OutOfMemory, Usage, ReadFault, WriteFault, InputRefused, Undecided, RoundsSpent, Demand, Stalled}
+use Rattle.hyd_cli.specs.declared.status.Status.TheVariants.{Done, OutOfMemory, Usage, ReadFault, WriteFault}
+use Rattle.hyd_cli.specs.declared.status.Status.TheVariants.{InputRefused, Undecided, RoundsSpent, Demand}
+use Rattle.hyd_cli.specs.declared.status.Status.TheVariants.{CertificateRefused, Stalled}
 
 -- how a run ends, as a status
 abbrev pub status_of_outcome : Outcome → Status
@@ -23,4 +25,5 @@ number_of InputRefused = 5
 number_of Undecided = 6
 number_of RoundsSpent = 7
 number_of Demand = 8
+number_of CertificateRefused = 9
 number_of Stalled = 10

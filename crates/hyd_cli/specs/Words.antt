@@ -1,24 +1,13 @@
 -- The words that the system gives.
-use Rattle.std.specs.Prelude.{ℕ, List, [], ◌++◌, ◌∷◌, codes, map, drop, string_bytes, String, Result, Ok, Err, Option, Some, None, option_and_then}
+use Rattle.std.specs.Prelude.{ℕ, List, [], ◌++◌, ◌∷◌, codes, map, drop, string_bytes, String, Result, Ok, Err}
 use Rattle.std.specs.Vec.Iter.{into_iter_items}
 use Rattle.std.specs.declared.vec.IntoIter.{IntoIter}
-use Rattle.hyd_words.specs.Orders.{Order, RunOrder, run, check, gen, order_of}
 
 -- The words of a command, of all that the system gives: those behind the program's name. There are none where the words
 -- can't be had as a whole, as where one of them isn't text.
 abbrev pub words_behind_name : {A B E : Type 0} → Result (IntoIter (String A) B) E → List (List ℕ)
 words_behind_name (Ok given) = map string_bytes (drop 1 (into_iter_items given))
 words_behind_name (Err fault) = []
-
--- The order to run a network, where the command is one. The other commands aren't taken yet.
-abbrev pub run_of : Order → Option RunOrder
-run_of (run order) = Some order
-run_of (check files) = None
-run_of (gen order) = None
-
--- The order that the words give, where they are a command that is taken.
-abbrev pub command : List (List ℕ) → Option RunOrder
-command words = option_and_then run_of (order_of words)
 
 -- what is printed where the words aren't a command
 abbrev pub usage_line : List ℕ

@@ -1,7 +1,9 @@
 //! The command `hyd`: its statuses, and the call `tool` that the program makes.
 #![tactic(auto)]
 
+mod checking;
 mod command;
+mod generating;
 mod messages;
 mod network;
 mod output;

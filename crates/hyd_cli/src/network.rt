@@ -18,7 +18,7 @@ use hyd_spec_reports::StopCause;
 use std::alloc::Global;
 
 /// The status of the end of a run.
-fn status_of_end(end: RunEnd) -> Status
+pub(crate) fn status_of_end(end: RunEnd) -> Status
     ensures { result ≡ status_of_outcome (outcome_of end) }
 {
     match end {

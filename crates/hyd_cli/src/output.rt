@@ -1,12 +1,14 @@
 //! Lines that are printed, and nothing else done.
 
-ghost use Rattle.std.specs.Prelude.{◌≡◌, IfErr, OnOk, OnErr};
+ghost use Rattle.std.specs.Prelude.{◌≡◌, ℕ, List, IfErr, OnOk, OnErr};
 ghost use Rattle.hyd_io.specs.declared.output.Channel.TheVariants.{Report};
 ghost use Rattle.hyd_io.specs.Output.{HasOutCause};
-ghost use Rattle.hyd_io.specs.Told.{append_known, PutOut};
+ghost use Rattle.hyd_io.specs.Told.{append_known, file_at, PutOut};
 ghost use Rattle.hyd_report.specs.RefusedText.{refused_text_line};
 ghost use Rattle.hyd_cli.specs.Words.{usage_line};
+ghost use Rattle.hyd_cli.specs.Answers.{seen, HasCause, OpensCert, AnswersRefused};
 
+use crate::status::{Status, fault_status};
 use hyd_io::{Channel, Desk, OutFault, Pen};
 use hyd_net::Cause;
 use hyd_report::put_refused_text;
@@ -50,4 +52,19 @@ pub(crate) fn print_refusal<D: Desk>(line: u32, cause: Cause, desk: &mut D) -> R
         Err(fault) => return Err(fault),
     }
     pen.flush(desk)
+}
+
+/// Prints the line of a text that is refused.
+pub(crate) fn refuse_text<D: Desk>(line: u32, cause: Cause, desk: &mut D) -> Status
+    ensures cause { HasCause result (D.counts desk.old) (D.counts desk.new) }
+    ensures answers { AnswersRefused line cause result
+        (seen D.files D.written D.printed desk.old) (seen D.files D.written D.printed desk.new) }
+    ensures opens { OpensCert result (D.openings desk.old) (D.openings desk.new) }
+    ensures openings_stay { D.openings desk.new ≡ D.openings desk.old }
+    ensures others { (other : List ℕ) → file_at (D.files desk.new) other ≡ file_at (D.files desk.old) other }
+{
+    match print_refusal(line, cause, desk) {
+        Ok(()) => Status::InputRefused,
+        Err(fault) => fault_status(fault),
+    }
 }

@@ -1,13 +1,11 @@
 //! The program: the words that the system gives, and the desk on its files.
 
-ghost use Rattle.std.specs.Prelude.{◌≡◌, ◌≢◌, ◌⊎◌, ℕ, List, Some, None, IsTrue, IfOk, IsOk, IsErr, map, string_bytes};
-ghost use Rattle.hyd_io.specs.Told.{IsTold};
-ghost use Rattle.hyd_net.specs.declared.cause.Cause.{Cause};
-ghost use Rattle.hyd_spec_input.specs.Faults.{IsFault, HasNoFault};
-ghost use Rattle.hyd_words.specs.Orders.{RunOrder};
-ghost use Rattle.hyd_cli.specs.Words.{command, words_behind_name};
-ghost use Rattle.hyd_cli.specs.Answers.{seen, settings_of, ChangesOnly, HasCause, OpensOnce, Leaves, Holds, AnswersUsage, AnswersRefused, AnswersText};
-ghost use Rattle.hyd_cli.specs.declared.status.Status.TheVariants.{Usage, OutOfMemory};
+ghost use Rattle.std.specs.Prelude.{◌≡◌, ◌≢◌, Some, None, IfOk, IsOk, IsErr, map, string_bytes};
+ghost use Rattle.hyd_words.specs.Orders.{Order, RunOrder, GenOrder, TwoFiles, order_of, run, check, gen};
+ghost use Rattle.hyd_cli.specs.Words.{words_behind_name};
+ghost use Rattle.hyd_cli.specs.Answers.{seen, MayUse, HasCause, Leaves, AnswersUsage};
+ghost use Rattle.hyd_cli.specs.Commands.{DoesRun, DoesCheck, DoesGen};
+ghost use Rattle.hyd_cli.specs.declared.status.Status.TheVariants.{Usage};
 
 use crate::command::tool;
 use crate::messages::say_why;
@@ -34,33 +32,25 @@ pub fn run_program<R: AllocGlobal + Env + Files + Print + Eprint + Drop>(rt: R) 
 /// words behind the program's name. Where the words can't be had as a whole there are none, which is no
 /// command. Want of memory for the words leaves all untouched.
 pub fn start<D: Desk>(alloc: Global, given: io::Result<Args>, desk: &mut D) -> Status
-    requires opens { (order : RunOrder) → command (words_behind_name given) ≡ Some order
-        → IsTrue (D.may_open order.files.net) }
-    requires creates { (order : RunOrder) → command (words_behind_name given) ≡ Some order
-        → IsTrue (D.may_create order.files.cert) }
+    requires names { MayUse D.may_open D.may_create (order_of (words_behind_name given)) }
     ensures cause { HasCause result (D.counts desk.old) (D.counts desk.new) }
-    ensures leaves { Leaves result
+    ensures leaves { Leaves (order_of (words_behind_name given)) result
         (seen D.files D.written D.printed desk.old) (seen D.files D.written D.printed desk.new) }
-    ensures usage { command (words_behind_name given) ≡ None → AnswersUsage result
+    ensures usage { order_of (words_behind_name given) ≡ None → AnswersUsage result
         (seen D.files D.written D.printed desk.old) (seen D.files D.written D.printed desk.new) }
     ensures no_words { IsErr given → AnswersUsage result
         (seen D.files D.written D.printed desk.old) (seen D.files D.written D.printed desk.new) }
-    ensures never_usage { (order : RunOrder) → command (words_behind_name given) ≡ Some order → result ≢ Usage }
-    ensures refused { (order : RunOrder) (text : List ℕ) (line : ℕ) (why : Cause)
-        → command (words_behind_name given) ≡ Some order → IsTold (D.files desk.old) order.files.net text
-        → IsFault text line why → AnswersRefused line why result
-        (seen D.files D.written D.printed desk.old) (seen D.files D.written D.printed desk.new) }
-    ensures run { (order : RunOrder) (text : List ℕ) → command (words_behind_name given) ≡ Some order
-        → IsTold (D.files desk.old) order.files.net text → HasNoFault text → AnswersText text (settings_of order) order.files.cert result
-        (seen D.files D.written D.printed desk.old) (seen D.files D.written D.printed desk.new) }
-    ensures holds { (order : RunOrder) → command (words_behind_name given) ≡ Some order → Holds result order.files.cert
-        (seen D.files D.written D.printed desk.old) (seen D.files D.written D.printed desk.new) }
-    ensures others { (order : RunOrder) → command (words_behind_name given) ≡ Some order
-        → ChangesOnly order.files.cert
-        (seen D.files D.written D.printed desk.old) (seen D.files D.written D.printed desk.new) }
-    ensures once { (order : RunOrder) → command (words_behind_name given) ≡ Some order
-        → OpensOnce result (D.openings desk.old) (D.openings desk.new) }
-    ensures never { command (words_behind_name given) ≡ None → D.openings desk.new ≡ D.openings desk.old }
+    ensures never { order_of (words_behind_name given) ≡ None → D.openings desk.new ≡ D.openings desk.old }
+    ensures never_usage { (order : Order) → order_of (words_behind_name given) ≡ Some order → result ≢ Usage }
+    ensures runs { (order : RunOrder) → order_of (words_behind_name given) ≡ Some (run order) → DoesRun order result
+        (seen D.files D.written D.printed desk.old) (seen D.files D.written D.printed desk.new)
+        (D.openings desk.old) (D.openings desk.new) }
+    ensures checks { (files : TwoFiles) → order_of (words_behind_name given) ≡ Some (check files) → DoesCheck files
+        result (seen D.files D.written D.printed desk.old) (seen D.files D.written D.printed desk.new)
+        (D.openings desk.old) (D.openings desk.new) }
+    ensures generates { (order : GenOrder) → order_of (words_behind_name given) ≡ Some (gen order) → DoesGen order
+        result (seen D.files D.written D.printed desk.old) (seen D.files D.written D.printed desk.new)
+        (D.openings desk.old) (D.openings desk.new) }
 {
     match words_behind(alloc, given) {
         Ok(words) => tool(alloc, &words, desk),

@@ -56,7 +56,7 @@ fn read_text<D: Desk>(alloc: Global, net: &str, desk: &mut D) -> Result<Option<V
 }
 
 /// The network of a text, or why there is none.
-fn network_of(alloc: Global, text: &[u8]) -> Result<Project, Unread>
+pub(crate) fn network_of(alloc: Global, text: &[u8]) -> Result<Project, Unread>
     ensures no_fault { IfOk result (λ _. HasNoFault text.now) }
     ensures project { IfOk result (IsProject (rows_in (items_of text.now))) }
     ensures sound { IfOk result Sound }

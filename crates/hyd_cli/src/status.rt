@@ -11,7 +11,7 @@ use std::process::{ExitCode, Termination};
 /// The answer of a command. Its number is the exit status of the program.
 #[derive(Debug, Clone, Copy, PartialEq, Eq, Drop)]
 pub enum Status {
-    /// The run finished.
+    /// The run finished, or the certificate was accepted.
     Done = 0,
     /// No memory was found; nothing was created, written or printed.
     OutOfMemory = 1,
@@ -29,6 +29,8 @@ pub enum Status {
     RoundsSpent = 7,
     /// The run stopped: a demand is out of range.
     Demand = 8,
+    /// The certificate was refused: its text, a record or its END line.
+    CertificateRefused = 9,
     /// A call of `write` or `print` took nothing of a nonempty piece.
     Stalled = 10,
 }

@@ -4,7 +4,9 @@ use Rattle.hyd_io.specs.Told.{Files, file_at}
 use Rattle.hyd_spec_input.specs.Faults.{IsFault}
 use Rattle.hyd_spec_networks.proofs.OneFault.{one_fault, no_fault_beside}
 use Rattle.hyd_cli.specs.Answers.{seen, AnswersRefused}
-use Rattle.hyd_cli.proofs.AnswerLemmas.{leaves_since, holds_since, run_since, refused_since, refused_leaves_since, refused_holds_since, same_refusal, opens_once, run_never_usage, refusal_never_usage}
+use Rattle.hyd_cli.proofs.AnswerLemmas.{leaves_since, holds_since, run_since, refused_since, refused_leaves_since}
+use Rattle.hyd_cli.proofs.AnswerLemmas.{refused_holds_since, same_refusal, opens_once, run_never_usage}
+use Rattle.hyd_cli.proofs.AnswerLemmas.{refusal_never_usage}
 use Rattle.hyd_cli.proofs.command.run.Goals as goal
 
 -- ---- a network was read
@@ -19,7 +21,8 @@ returns-in-Ok-clause-leaves g c =
 
 pub returns-in-Ok-clause-never_usage : goal.returns-in-Ok-clause-never_usage
 returns-in-Ok-clause-never_usage g c =
-    run_never_usage c.in-Ok.project c.args.settings c.args.cert.now c.run_network.result _ _ c.run_network.ensures.answers
+    run_never_usage c.in-Ok.project c.args.settings c.args.cert.now c.run_network.result _ _
+    c.run_network.ensures.answers
 
 pub returns-in-Ok-clause-refused : goal.returns-in-Ok-clause-refused
 returns-in-Ok-clause-refused g c text line cause told fault =
@@ -73,10 +76,12 @@ returns-in-Err-Fault-clause-refused g c text line cause told fault =
     let found : IsFault text c.in-Err-Fault.fault.line c.in-Err-Fault.fault.cause =
     rw c.in-Err-Fault.field-0-is at (c.in-Err-Fault.ensures.fault text told) in
     let same = one_fault text c.in-Err-Fault.fault.line line c.in-Err-Fault.fault.cause cause found fault in
-    let answered : AnswersRefused c.in-Err-Fault.fault.line c.in-Err-Fault.fault.cause c.refuse_text.result between now =
+    let answered : AnswersRefused c.in-Err-Fault.fault.line c.in-Err-Fault.fault.cause c.refuse_text.result between
+    now =
     rw c.in-Err-Fault.field-0-is at c.refuse_text.ensures.answers in
     same_refusal c.in-Err-Fault.fault.line line c.in-Err-Fault.fault.cause cause c.refuse_text.result before now
-    same.lines same.causes (refused_since c.in-Err-Fault.fault.line c.in-Err-Fault.fault.cause c.refuse_text.result before
+    same.lines same.causes (refused_since c.in-Err-Fault.fault.line c.in-Err-Fault.fault.cause c.refuse_text.result
+    before
     between now c.read_network.ensures.untouched answered)
 
 pub returns-in-Err-Fault-clause-run : goal.returns-in-Err-Fault-clause-run

@@ -5,7 +5,8 @@ use Rattle.hyd_run.specs.Pens.{told, OneRose}
 use Rattle.hyd_run.specs.Runs.{outcome_of}
 use Rattle.hyd_cli.specs.Answers.{seen, AnswersRun, HasCause, OpensCert}
 use Rattle.hyd_cli.specs.declared.status.Status.{Status}
-use Rattle.hyd_cli.proofs.AnswerLemmas.{delivered, cut_short, cause_of_end, cause_of_fault, opens_of_end, opens_of_fault, other_target}
+use Rattle.hyd_cli.proofs.AnswerLemmas.{delivered, cut_short, cause_of_end, cause_of_fault, opens_of_end}
+use Rattle.hyd_cli.proofs.AnswerLemmas.{opens_of_fault, other_target}
 use Rattle.hyd_cli.proofs.network.put_run.Goals as goal
 
 -- ---- the run was put out whole

@@ -7,7 +7,8 @@ use Rattle.hyd_cli.proofs.output.print_refusal.Goals as goal
 
 pub returns-clause-whole : goal.returns-clause-whole
 returns-clause-whole g c =
-    on_ok_weaker c.flush.result (λ w. printed_whole _ _ _ _ _ _ _ _ _ _ _ (ap (λ (p : PenState). p.to) c.new-pen.ensures)
+    on_ok_weaker c.flush.result (λ w. printed_whole _ _ _ _ _ _ _ _ _ _ _ (ap (λ (p : PenState). p.to)
+    c.new-pen.ensures)
     c.in-Ok.ensures.to_stays (ap (λ (p : PenState). p.held) c.new-pen.ensures) c.in-Ok.ensures.moves w)
     c.flush.ensures.whole
 
@@ -27,7 +28,8 @@ returns-clause-steady g c = on_ok_weaker c.flush.result (λ s. s ∙ c.in-Ok.ens
 
 pub returns-clause-files_stay : goal.returns-clause-files_stay
 returns-clause-files_stay g c =
-    on_report _ _ (c.in-Ok.ensures.to_stays ∙ ap (λ (p : PenState). p.to) c.new-pen.ensures) c.flush.ensures.report_files
+    on_report _ _ (c.in-Ok.ensures.to_stays ∙ ap (λ (p : PenState). p.to) c.new-pen.ensures)
+    c.flush.ensures.report_files
     ∙ on_report _ _ (ap (λ (p : PenState). p.to) c.new-pen.ensures) c.in-Ok.ensures.report_files
 
 pub returns-clause-written_stays : goal.returns-clause-written_stays

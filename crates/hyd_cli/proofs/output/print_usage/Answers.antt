@@ -7,7 +7,8 @@ use Rattle.hyd_cli.proofs.output.print_usage.Goals as goal
 
 pub returns-clause-whole : goal.returns-clause-whole
 returns-clause-whole g c =
-    on_ok_weaker c.flush.result (λ w. printed_whole _ _ _ _ _ _ _ _ _ _ _ (ap (λ (p : PenState). p.to) c.new-pen.ensures)
+    on_ok_weaker c.flush.result (λ w. printed_whole _ _ _ _ _ _ _ _ _ _ _ (ap (λ (p : PenState). p.to)
+    c.new-pen.ensures)
     c.put.ensures.to_stays (ap (λ (p : PenState). p.held) c.new-pen.ensures) c.in-Ok.ensures.moves w)
     c.flush.ensures.whole
 

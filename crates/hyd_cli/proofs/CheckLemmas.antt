@@ -1,0 +1,264 @@
+-- How what a check leaves follows from what the calls in it leave.
+use Rattle.std.proofs.Common.{◌≡◌, ◌≢◌, ℕ, List, [], Option, None, Some, ◌⊎◌, inl, inr, ◌∙◌, refl, sym, ap, subst}
+use Rattle.std.proofs.Common.{append-nil}
+use Rattle.std.specs.Prelude.{⊤}
+use Rattle.hyd_io.specs.Told.{append_known}
+use Rattle.hyd_io.specs.Counts.{with_opened}
+use Rattle.hyd_io.specs.declared.desk.Faults.{Faults}
+use Rattle.hyd_io.specs.declared.desk.Openings.{Openings}
+use Rattle.hyd_io.specs.declared.output.OutFault.TheVariants.{Fault, Stalled as Stall}
+use Rattle.hyd_spec_lines.specs.Lines.{items_of, rows_in}
+use Rattle.hyd_net.specs.declared.cause.Cause.{Cause}
+use Rattle.hyd_spec.specs.Types.{Project}
+use Rattle.hyd_spec_input.specs.Project.{IsProject}
+use Rattle.hyd_recheck.specs.Checks.{CheckEnds, CheckBreaksOff}
+use Rattle.hyd_recheck.specs.Printing.{Rose}
+use Rattle.hyd_recheck.specs.Turns.{IsPrinted}
+use Rattle.hyd_recheck.specs.declared.outcome.CheckEnd.{CheckEnd}
+use Rattle.hyd_recheck.specs.declared.outcome.CheckEnd.TheVariants.{Accepted, Refused}
+use Rattle.hyd_recheck.specs.declared.outcome.CheckFault.{CheckFault}
+use Rattle.hyd_recheck.specs.declared.outcome.CheckFault.TheVariants.{Read, Output}
+use Rattle.hyd_spec_checks.proofs.NeverRefused.{never_refused}
+use Rattle.hyd_words.specs.Orders.{TwoFiles, check}
+use Rattle.hyd_cli.specs.Answers.{Seen, IsUntouched, OnlyPrinted, OnlyPrintedFront, OnlyPrintedSome, HasCause, Leaves}
+use Rattle.hyd_cli.specs.Answers.{AnswersRefused}
+use Rattle.hyd_cli.specs.CheckAnswers.{AnswersCert, AnswersCheck, ReadsCert, ReadsBoth, status_of_check}
+use Rattle.hyd_cli.specs.CheckAnswers.{status_of_break}
+use Rattle.hyd_cli.specs.declared.status.Status.{Status}
+use Rattle.hyd_cli.specs.declared.status.Status.TheVariants.{Done, OutOfMemory, Usage, ReadFault, WriteFault}
+use Rattle.hyd_cli.specs.declared.status.Status.TheVariants.{InputRefused, Undecided, RoundsSpent, Demand}
+use Rattle.hyd_cli.specs.declared.status.Status.TheVariants.{CertificateRefused, Stalled}
+use Rattle.hyd_cli.proofs.AnswerLemmas.{since_before}
+
+-- ---- that only something was printed
+
+append_nothing : (printed : Option (List ℕ)) → printed ≡ append_known printed []
+append_nothing None = refl
+append_nothing (Some known) = ap Some (sym (append-nil known))
+
+pub untouched_prints : (before now : Seen) → IsUntouched before now → OnlyPrintedSome before now
+untouched_prints before now u = record {
+  files = u.files;
+  written = u.written;
+  text = [];
+  printed = u.printed ∙ append_nothing before.printed;
+}
+
+-- where nothing was called, nothing was printed
+pub prints_nothing : (same : Seen) → OnlyPrintedSome same same
+prints_nothing same = untouched_prints same same (record { files = refl; written = refl; printed = refl })
+
+line_prints : (line : List ℕ) (before now : Seen) → OnlyPrinted line before now → OnlyPrintedSome before now
+line_prints line before now h = record { files = h.files; written = h.written; text = line; printed = h.printed }
+
+front_prints : (line : List ℕ) (before now : Seen) → OnlyPrintedFront line before now → OnlyPrintedSome before now
+front_prints line before now h = record {
+  files = h.files;
+  written = h.written;
+  text = h.printed.1.front;
+  printed = h.printed.1.out;
+}
+
+pub report_prints : (before now : Seen) → now.files ≡ before.files → now.written ≡ before.written
+    → IsPrinted (λ printed. ⊤) before.printed now.printed → OnlyPrintedSome before now
+report_prints before now f w p = record { files = f; written = w; text = p.report; printed = p.printed }
+
+-- what was printed since a call that left it as it was
+pub printed_since : (P : List ℕ → Type 0) (before between now : Option (List ℕ)) → between ≡ before
+    → IsPrinted P between now → IsPrinted P before now
+printed_since P before between now e p = subst (λ (o : Option (List ℕ)). IsPrinted P o now) e p
+
+-- ---- the end of a check
+
+pub answers_end : (network : Project) (text : List ℕ) (end : CheckEnd) (before now : Seen)
+    → IsPrinted (λ printed. CheckEnds network text printed end) before.printed now.printed
+    → AnswersCert network text (status_of_check end) before now
+answers_end network text Accepted before now h = h
+answers_end network text Refused before now h = (h, λ is. never_refused network text h.report is h.holds)
+
+pub leaves_end : (files : TwoFiles) (end : CheckEnd) (before now : Seen) → OnlyPrintedSome before now
+    → Leaves (Some (check files)) (status_of_check end) before now
+leaves_end files Accepted before now h = h
+leaves_end files Refused before now h = h
+
+pub cause_of_end : (end : CheckEnd) (before now : Faults) → now ≡ before → HasCause (status_of_check end) before now
+cause_of_end Accepted before now e = e
+cause_of_end Refused before now e = e
+
+pub reads_of_end : (end : CheckEnd) (before now : Openings) → now ≡ with_opened before
+    → ReadsCert (status_of_check end) before now
+reads_of_end Accepted before now e = e
+reads_of_end Refused before now e = e
+
+-- ---- a fault that breaks a check off
+
+pub answers_break : (network : Project) (text : List ℕ) (fault : CheckFault) (before now : Seen)
+    → IsPrinted (CheckBreaksOff network text) before.printed now.printed
+    → AnswersCert network text (status_of_break fault) before now
+answers_break network text Read before now h = inr h
+answers_break network text (Output Fault) before now h = h
+answers_break network text (Output Stall) before now h = h
+
+pub leaves_break : (files : TwoFiles) (fault : CheckFault) (before now : Seen) → OnlyPrintedSome before now
+    → Leaves (Some (check files)) (status_of_break fault) before now
+leaves_break files Read before now h = h
+leaves_break files (Output Fault) before now h = h
+leaves_break files (Output Stall) before now h = h
+
+pub cause_of_break : (fault : CheckFault) (before now : Faults) → Rose fault before now
+    → HasCause (status_of_break fault) before now
+cause_of_break Read before now e = e
+cause_of_break (Output Fault) before now e = inr e
+cause_of_break (Output Stall) before now e = e
+
+pub reads_of_break : (fault : CheckFault) (before now : Openings) → now ≡ with_opened before
+    → ReadsCert (status_of_break fault) before now
+reads_of_break Read before now e = e
+reads_of_break (Output Fault) before now e = e
+reads_of_break (Output Stall) before now e = e
+
+-- ---- a network was read, and nothing touched before
+
+pub prints_since : (before between now : Seen) → IsUntouched before between → OnlyPrintedSome between now
+    → OnlyPrintedSome before now
+prints_since before between now u h = since_before (λ b. OnlyPrintedSome b now) before between u h
+
+pub leaves_since : (files : TwoFiles) (status : Status) (before between now : Seen) → IsUntouched before between
+    → Leaves (Some (check files)) status between now → Leaves (Some (check files)) status before now
+leaves_since files status before between now u h =
+    since_before (λ b. Leaves (Some (check files)) status b now) before between u h
+
+-- the answer of the network of a text is one of the text
+text_answers : (text certificate : List ℕ) (network : Project) (status : Status) (before now : Seen)
+    → IsProject (rows_in (items_of text)) network → AnswersCert network certificate status before now
+    → AnswersCheck text certificate status before now
+text_answers text certificate network Done before now p h = record { network = network; is_network = p; holds = h }
+text_answers text certificate network OutOfMemory before now p h = h
+text_answers text certificate network Usage before now p h = absurd h
+text_answers text certificate network ReadFault before now p h =
+    inr (record { network = network; is_network = p; holds = h })
+text_answers text certificate network WriteFault before now p h =
+    record { network = network; is_network = p; holds = h }
+text_answers text certificate network InputRefused before now p h = absurd h
+text_answers text certificate network Undecided before now p h = absurd h
+text_answers text certificate network RoundsSpent before now p h = absurd h
+text_answers text certificate network Demand before now p h = absurd h
+text_answers text certificate network CertificateRefused before now p h =
+    record { network = network; is_network = p; holds = h }
+text_answers text certificate network Stalled before now p h =
+    record { network = network; is_network = p; holds = h }
+
+pub answers_since : (text certificate : List ℕ) (network : Project) (status : Status) (before between now : Seen)
+    → IsUntouched before between → IsProject (rows_in (items_of text)) network
+    → AnswersCert network certificate status between now → AnswersCheck text certificate status before now
+answers_since text certificate network status before between now u p h =
+    text_answers text certificate network status before now p
+    (since_before (λ b. AnswersCert network certificate status b now) before between u h)
+
+-- how often files were opened, where NET was opened before
+pub reads_both : (status : Status) (start opened end : Openings) → opened ≡ with_opened start
+    → ReadsCert status opened end → ReadsBoth status start end
+reads_both Done start opened end o h = h ∙ ap with_opened o
+reads_both OutOfMemory start opened end o h = inr (h ∙ o)
+reads_both Usage start opened end o h = absurd h
+reads_both ReadFault start opened end o h = inr (h ∙ ap with_opened o)
+reads_both WriteFault start opened end o h = inr (h ∙ ap with_opened o)
+reads_both InputRefused start opened end o h = absurd h
+reads_both Undecided start opened end o h = absurd h
+reads_both RoundsSpent start opened end o h = absurd h
+reads_both Demand start opened end o h = absurd h
+reads_both CertificateRefused start opened end o h = h ∙ ap with_opened o
+reads_both Stalled start opened end o h = inr (h ∙ ap with_opened o)
+
+pub check_never_usage : (status : Status) (opened end : Openings) → ReadsCert status opened end → status ≢ Usage
+check_never_usage status opened end h = λ e. subst (λ s. ReadsCert s opened end) e h
+
+pub check_never_refused : (status : Status) (opened end : Openings) → ReadsCert status opened end
+    → status ≢ InputRefused
+check_never_refused status opened end h = λ e. subst (λ s. ReadsCert s opened end) e h
+
+-- ---- the text has a fault
+
+refusal_prints : (line : ℕ) (cause : Cause) (status : Status) (before now : Seen)
+    → AnswersRefused line cause status before now → OnlyPrintedSome before now
+refusal_prints line cause Done before now h = absurd h
+refusal_prints line cause OutOfMemory before now h = untouched_prints before now h
+refusal_prints line cause Usage before now h = absurd h
+refusal_prints line cause ReadFault before now h = untouched_prints before now h
+refusal_prints line cause WriteFault before now h = front_prints _ before now h
+refusal_prints line cause InputRefused before now h = line_prints _ before now h
+refusal_prints line cause Undecided before now h = absurd h
+refusal_prints line cause RoundsSpent before now h = absurd h
+refusal_prints line cause Demand before now h = absurd h
+refusal_prints line cause CertificateRefused before now h = absurd h
+refusal_prints line cause Stalled before now h = front_prints _ before now h
+
+refusal_leaves : (files : TwoFiles) (line : ℕ) (cause : Cause) (status : Status) (before now : Seen)
+    → AnswersRefused line cause status before now → Leaves (Some (check files)) status before now
+refusal_leaves files line cause Done before now h = absurd h
+refusal_leaves files line cause OutOfMemory before now h = h
+refusal_leaves files line cause Usage before now h = absurd h
+refusal_leaves files line cause ReadFault before now h = untouched_prints before now h
+refusal_leaves files line cause WriteFault before now h = front_prints _ before now h
+refusal_leaves files line cause InputRefused before now h = record { line = line; cause = cause; only = h }
+refusal_leaves files line cause Undecided before now h = absurd h
+refusal_leaves files line cause RoundsSpent before now h = absurd h
+refusal_leaves files line cause Demand before now h = absurd h
+refusal_leaves files line cause CertificateRefused before now h = absurd h
+refusal_leaves files line cause Stalled before now h = front_prints _ before now h
+
+pub refused_prints_since : (line : ℕ) (cause : Cause) (status : Status) (before between now : Seen)
+    → IsUntouched before between → AnswersRefused line cause status between now → OnlyPrintedSome before now
+refused_prints_since line cause status before between now u h =
+    prints_since before between now u (refusal_prints line cause status between now h)
+
+pub refused_check_leaves : (files : TwoFiles) (line : ℕ) (cause : Cause) (status : Status) (before between now : Seen)
+    → IsUntouched before between → AnswersRefused line cause status between now
+    → Leaves (Some (check files)) status before now
+refused_check_leaves files line cause status before between now u h =
+    leaves_since files status before between now u (refusal_leaves files line cause status between now h)
+
+pub refusal_reads : (line : ℕ) (cause : Cause) (status : Status) (before now : Seen) (start opened end : Openings)
+    → AnswersRefused line cause status before now → opened ≡ with_opened start → end ≡ opened
+    → ReadsBoth status start end
+refusal_reads line cause Done before now start opened end h o e = absurd h
+refusal_reads line cause OutOfMemory before now start opened end h o e = inr (e ∙ o)
+refusal_reads line cause Usage before now start opened end h o e = absurd h
+refusal_reads line cause ReadFault before now start opened end h o e = inl (e ∙ o)
+refusal_reads line cause WriteFault before now start opened end h o e = inl (e ∙ o)
+refusal_reads line cause InputRefused before now start opened end h o e = e ∙ o
+refusal_reads line cause Undecided before now start opened end h o e = absurd h
+refusal_reads line cause RoundsSpent before now start opened end h o e = absurd h
+refusal_reads line cause Demand before now start opened end h o e = absurd h
+refusal_reads line cause CertificateRefused before now start opened end h o e = absurd h
+refusal_reads line cause Stalled before now start opened end h o e = inl (e ∙ o)
+
+-- ---- the text couldn't be had
+
+module _ (status : Status) (before now : Seen) (u : IsUntouched before now) where
+  pub ended_leaves : (files : TwoFiles) → (status ≡ ReadFault) ⊎ (status ≡ OutOfMemory)
+      → Leaves (Some (check files)) status before now
+  ended_leaves files (inl e) =
+      subst (λ (s : Status). Leaves (Some (check files)) s before now) (sym e) (untouched_prints before now u)
+  ended_leaves files (inr e) = subst (λ (s : Status). Leaves (Some (check files)) s before now) (sym e) u
+
+  pub ended_refused : (line : ℕ) (cause : Cause) → (status ≡ ReadFault) ⊎ (status ≡ OutOfMemory)
+      → AnswersRefused line cause status before now
+  ended_refused line cause (inl e) = subst (λ (s : Status). AnswersRefused line cause s before now) (sym e) u
+  ended_refused line cause (inr e) = subst (λ (s : Status). AnswersRefused line cause s before now) (sym e) u
+
+  pub ended_answers : (text certificate : List ℕ) → (status ≡ ReadFault) ⊎ (status ≡ OutOfMemory)
+      → AnswersCheck text certificate status before now
+  ended_answers text certificate (inl e) =
+      subst (λ (s : Status). AnswersCheck text certificate s before now) (sym e) (inl u)
+  ended_answers text certificate (inr e) =
+      subst (λ (s : Status). AnswersCheck text certificate s before now) (sym e) u
+
+pub ended_reads : (status : Status) (start end : Openings) → (status ≡ ReadFault) ⊎ (status ≡ OutOfMemory)
+    → end ≡ with_opened start → ReadsBoth status start end
+ended_reads status start end (inl e) o = subst (λ (s : Status). ReadsBoth s start end) (sym e) (inl o)
+ended_reads status start end (inr e) o = subst (λ (s : Status). ReadsBoth s start end) (sym e) (inr o)
+
+pub ended_not_refused : (status : Status) → (status ≡ ReadFault) ⊎ (status ≡ OutOfMemory) → status ≢ InputRefused
+ended_not_refused status (inl e) = λ same. let apart : ReadFault ≡ InputRefused = sym e ∙ same in cc
+ended_not_refused status (inr e) = λ same. let apart : OutOfMemory ≡ InputRefused = sym e ∙ same in cc

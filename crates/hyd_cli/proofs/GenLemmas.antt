@@ -1,0 +1,272 @@
+-- How what the command `gen` leaves follows from what the calls in it leave.
+use Rattle.std.proofs.Common.{◌≡◌, ◌≢◌, ℕ, List, [], ◌++◌, Option, None, Some, ◌⊎◌, inl, inr, ◌∙◌, refl, sym, subst}
+use Rattle.std.proofs.Common.{is_some, append-nil}
+use Rattle.std.proofs.lemmas.Bool.{false≢true}
+use Rattle.hyd_io.specs.Told.{where_told, append_known, file_at, content_of, Moves, PutOut}
+use Rattle.hyd_io.specs.Counts.{with_created}
+use Rattle.hyd_io.specs.Output.{by_channel}
+use Rattle.hyd_io.specs.declared.desk.Openings.{Openings}
+use Rattle.hyd_io.specs.declared.output.Channel.{Channel}
+use Rattle.hyd_io.specs.declared.output.Channel.TheVariants.{Cert}
+use Rattle.hyd_io.specs.declared.output.OutFault.{OutFault}
+use Rattle.hyd_io.specs.declared.output.OutFault.TheVariants.{Fault, Stalled as Stall}
+use Rattle.hyd_io.proofs.ToldLemmas.{moves_flush, put_out_flush}
+use Rattle.hyd_spec_lines.specs.Lines.{items_of, rows_in}
+use Rattle.hyd_net.specs.declared.cause.Cause.{Cause}
+use Rattle.hyd_spec.specs.Types.{Project}
+use Rattle.hyd_spec_input.specs.Project.{IsProject}
+use Rattle.hyd_spec_reports.specs.Headline.{Outcome}
+use Rattle.hyd_sim.specs.declared.settings.Settings.{Settings}
+use Rattle.hyd_run.specs.Pens.{Told, LeavesRest}
+use Rattle.hyd_summary.specs.Sums.{IsSummed, IsSumBrokenOff}
+use Rattle.hyd_words.specs.Orders.{TwoFiles}
+use Rattle.hyd_cli.specs.Answers.{Seen, NothingPut, OpensCert, LeavesRun, AnswersRefused, status_of}
+use Rattle.hyd_cli.specs.GenAnswers.{usual_settings, Generated, TextWritten, TextCutShort, GenBreaksOff, nothing}
+use Rattle.hyd_cli.specs.GenAnswers.{in_network, in_run, AnswersGenerated, AnswersGen, CreatesBoth}
+use Rattle.hyd_cli.specs.Statuses.{status_of_outcome}
+use Rattle.hyd_cli.specs.declared.status.Status.{Status}
+use Rattle.hyd_cli.specs.declared.status.Status.TheVariants.{Done, OutOfMemory, Usage, ReadFault, WriteFault}
+use Rattle.hyd_cli.specs.declared.status.Status.TheVariants.{InputRefused, Undecided, RoundsSpent, Demand}
+use Rattle.hyd_cli.specs.declared.status.Status.TheVariants.{CertificateRefused, Stalled}
+use Rattle.hyd_cli.proofs.AnswerLemmas.{new_text, new_file, other_target, number_of_end, by_end, printed_since}
+use Rattle.hyd_cli.proofs.AnswerLemmas.{refused_leaves_since, seen_of}
+
+-- ---- what a new pen on a file puts out in one put and a flush
+
+pub put_whole : (here there : Channel) (w0 p0 w1 p1 w2 p2 : Option (List ℕ)) (before bytes held : List ℕ)
+    → here ≡ Cert → there ≡ here → before ≡ []
+    → Moves (by_channel here w0 p0) (by_channel here w1 p1) (before ++ bytes) held
+    → by_channel there w2 p2 ≡ append_known (by_channel there w1 p1) held → w2 ≡ append_known w0 bytes
+put_whole here there w0 p0 w1 p1 w2 p2 before bytes held h t b m w =
+    let first : Moves w0 w1 bytes held = rw (b, h) at m in
+    let second : w2 ≡ append_known w1 held = rw (t, h) at w in
+    moves_flush w0 w1 w2 bytes held first second
+
+pub put_front : (here there : Channel) (w0 p0 w1 p1 w2 p2 : Option (List ℕ)) (before bytes held : List ℕ)
+    → here ≡ Cert → there ≡ here → before ≡ []
+    → Moves (by_channel here w0 p0) (by_channel here w1 p1) (before ++ bytes) held
+    → PutOut (by_channel there w1 p1) (by_channel there w2 p2) held → PutOut w0 w2 bytes
+put_front here there w0 p0 w1 p1 w2 p2 before bytes held h t b m k =
+    let first : Moves w0 w1 bytes held = rw (b, h) at m in
+    let second : PutOut w1 w2 held = rw (t, h) at k in
+    put_out_flush w0 w1 w2 bytes held first second
+
+-- ---- files that were created
+
+-- What a call says that creates the file of a name.
+pub record Created (name : List ℕ) (before : Seen) (now : Told) : Type 0 where
+  pub begun : now.written ≡ where_told before.files []
+  pub printed : now.printed ≡ before.printed
+  pub target : now.target ≡ where_told before.files name
+  pub still_told : is_some now.files ≡ is_some before.files
+  pub others : (other : List ℕ) → other ≢ name → file_at now.files other ≡ file_at before.files other
+
+-- The file created last holds what was written since.
+holds_written : (name : List ℕ) (before : Seen) (created after : Told) → Created name before created
+    → LeavesRest created after → after.written ≡ content_of after.files after.target
+    → file_at after.files name ≡ after.written
+holds_written name before created after made leaves content =
+    new_file before.files after.files after.target after.written name (leaves.target_stays ∙ made.target)
+    (leaves.still_told ∙ made.still_told) content
+
+-- No other file changed since it was created, nor then.
+others_stay : (name other : List ℕ) (before : Seen) (created after : Told) → Created name before created
+    → LeavesRest created after → other ≢ name → file_at after.files other ≡ file_at before.files other
+others_stay name other before created after made leaves differs =
+    leaves.others other (other_target before.files created.target name other made.target differs)
+    ∙ made.others other differs
+
+-- what is told of both is the same
+told_alike : {A B : Type 0} (here there : Option A) (v : B) → is_some here ≡ is_some there
+    → where_told here v ≡ where_told there v
+told_alike None None v e = refl
+told_alike None (Some there) v e = absurd (false≢true e)
+told_alike (Some here) None v e = absurd (false≢true (sym e))
+told_alike (Some here) (Some there) v e = refl
+
+-- ---- the text
+
+pub text_written : (text net : List ℕ) (before : Seen) (created after : Told) → Created net before created
+    → LeavesRest created after → after.written ≡ content_of after.files after.target
+    → after.printed ≡ created.printed → after.written ≡ append_known created.written text
+    → TextWritten text net before (seen_of after)
+text_written text net before created after made leaves content printed out =
+    let written : after.written ≡ where_told before.files text =
+    new_text before.files created.written after.written text made.begun out in
+    record {
+      written = written;
+      held = holds_written net before created after made leaves content ∙ written;
+      printed = printed ∙ made.printed;
+      still_told = leaves.still_told ∙ made.still_told;
+    }
+
+pub text_cut_short : (text net : List ℕ) (before : Seen) (created after : Told) → Created net before created
+    → LeavesRest created after → after.written ≡ content_of after.files after.target
+    → after.printed ≡ created.printed → PutOut created.written after.written text
+    → TextCutShort text net before (seen_of after)
+text_cut_short text net before created after made leaves content printed out = record {
+  front = out.1.front;
+  unwritten = out.0;
+  is_front = sym out.1.whole;
+  written = new_text before.files created.written after.written out.1.front made.begun out.1.out;
+  held = holds_written net before created after made leaves content;
+  printed = printed ∙ made.printed;
+}
+
+pub text_breaks_off : (network : Project) (text : List ℕ) (names : TwoFiles) (before now : Seen)
+    → NothingPut before now ⊎ TextCutShort text names.net before now → GenBreaksOff network text names before now
+text_breaks_off network text names before now (inl h) = nothing h
+text_breaks_off network text names before now (inr h) = in_network h
+
+-- ---- the run, once the text was written
+
+-- the text that was written is a front of itself, where CERT couldn't be created
+pub no_certificate : (network : Project) (text : List ℕ) (names : TwoFiles) (before between now : Seen)
+    → TextWritten text names.net before between → NothingPut between now
+    → file_at now.files names.net ≡ file_at between.files names.net → GenBreaksOff network text names before now
+no_certificate network text names before between now w put same = in_network (record {
+  front = text;
+  unwritten = [];
+  is_front = append-nil text;
+  written = put.written ∙ w.written;
+  held = same ∙ (w.held ∙ sym (put.written ∙ w.written));
+  printed = put.printed ∙ w.printed;
+})
+
+module _ (network : Project) (settings : Settings) (text : List ℕ) (names : TwoFiles) (before between : Seen)
+    (created after : Told) where
+  pub generated : (outcome : Outcome) → settings ≡ usual_settings → names.net ≢ names.cert
+      → TextWritten text names.net before between → Created names.cert between created → LeavesRest created after
+      → after.written ≡ content_of after.files after.target → IsSummed network settings outcome created after
+      → Generated network text names (status_of_outcome outcome) before (seen_of after)
+  generated outcome usual apart w made leaves content summed =
+      let out : IsSummed network usual_settings outcome created after =
+      subst (λ (s : Settings). IsSummed network s outcome created after) usual summed in
+      record {
+        outcome = outcome;
+        certificate = out.certificate;
+        summary = out.summary;
+        run = out.sums;
+        status_is = number_of_end outcome;
+        written = new_text between.files created.written after.written out.certificate made.begun out.written
+            ∙ told_alike between.files before.files out.certificate w.still_told;
+        printed = printed_since before.printed created.printed after.printed out.summary (made.printed ∙ w.printed)
+            out.printed;
+        held = holds_written names.cert between created after made leaves content;
+        network_held = others_stay names.cert names.net between created after made leaves apart ∙ w.held;
+      }
+
+  pub generated_short : settings ≡ usual_settings → names.net ≢ names.cert → TextWritten text names.net before between
+      → Created names.cert between created → LeavesRest created after
+      → after.written ≡ content_of after.files after.target → IsSumBrokenOff network settings created after
+      → GenBreaksOff network text names before (seen_of after)
+  generated_short usual apart w made leaves content broken_off =
+      let out : IsSumBrokenOff network usual_settings created after =
+      subst (λ (s : Settings). IsSumBrokenOff network s created after) usual broken_off in
+      in_run (record {
+        certificate = out.certificate;
+        summary = out.summary;
+        run = out.breaks_off;
+        written = new_text between.files created.written after.written out.certificate made.begun out.written
+            ∙ told_alike between.files before.files out.certificate w.still_told;
+        printed = printed_since before.printed created.printed after.printed out.summary (made.printed ∙ w.printed)
+            out.printed;
+        held = holds_written names.cert between created after made leaves content;
+        network_held = others_stay names.cert names.net between created after made leaves apart ∙ w.held;
+      })
+
+-- ---- how it ended
+
+pub generated_end : (network : Project) (text : List ℕ) (names : TwoFiles) (outcome : Outcome) (before now : Seen)
+    → Generated network text names (status_of_outcome outcome) before now
+    → AnswersGenerated network text names (status_of_outcome outcome) before now
+generated_end network text names outcome before now h =
+    by_end (λ status. AnswersGenerated network text names status before now) outcome
+    (λ e. subst (λ s. Generated network text names s before now) (sym e) h)
+    (λ e. subst (λ s. Generated network text names s before now) (sym e) h)
+    (λ e. subst (λ s. Generated network text names s before now) (sym e) h)
+    (λ e. subst (λ s. Generated network text names s before now) (sym e) h)
+
+pub creates_of_end : (outcome : Outcome) (before now : Openings) → now ≡ with_created (with_created before)
+    → CreatesBoth (status_of_outcome outcome) before now
+creates_of_end outcome before now e =
+    by_end (λ status. CreatesBoth status before now) outcome (λ d. e) (λ d. e) (λ d. e) (λ d. e)
+
+pub generated_fault : (network : Project) (text : List ℕ) (names : TwoFiles) (fault : OutFault) (before now : Seen)
+    → GenBreaksOff network text names before now → AnswersGenerated network text names (status_of fault) before now
+generated_fault network text names Fault before now h = h
+generated_fault network text names Stall before now h = h
+
+pub creates_of_fault : (fault : OutFault) (before now : Openings)
+    → (now ≡ with_created before) ⊎ (now ≡ with_created (with_created before))
+    → CreatesBoth (status_of fault) before now
+creates_of_fault Fault before now h = inr h
+creates_of_fault Stall before now h = inr h
+
+-- ---- the text that was made
+
+pub generated_leaves : (network : Project) (text : List ℕ) (names : TwoFiles) (status : Status) (before now : Seen)
+    → AnswersGenerated network text names status before now → LeavesRun status before now
+generated_leaves network text names Done before now h = tt
+generated_leaves network text names OutOfMemory before now h = h
+generated_leaves network text names Usage before now h = absurd h
+generated_leaves network text names ReadFault before now h = absurd h
+generated_leaves network text names WriteFault before now h = tt
+generated_leaves network text names InputRefused before now h = absurd h
+generated_leaves network text names Undecided before now h = tt
+generated_leaves network text names RoundsSpent before now h = tt
+generated_leaves network text names Demand before now h = tt
+generated_leaves network text names CertificateRefused before now h = tt
+generated_leaves network text names Stalled before now h = tt
+
+pub generated_never_usage : (network : Project) (text : List ℕ) (names : TwoFiles) (status : Status)
+    (before now : Seen) → AnswersGenerated network text names status before now → status ≢ Usage
+generated_never_usage network text names status before now h =
+    λ e. subst (λ s. AnswersGenerated network text names s before now) e h
+
+-- the answer of the network of a text is one of the text
+pub generated_answers : (text : List ℕ) (network : Project) (names : TwoFiles) (status : Status) (before now : Seen)
+    → IsProject (rows_in (items_of text)) network → AnswersGenerated network text names status before now
+    → AnswersGen text names status before now
+generated_answers text network names Done before now p h = record { network = network; is_network = p; holds = h }
+generated_answers text network names OutOfMemory before now p h = h
+generated_answers text network names Usage before now p h = absurd h
+generated_answers text network names ReadFault before now p h = absurd h
+generated_answers text network names WriteFault before now p h = record { network = network; is_network = p; holds = h }
+generated_answers text network names InputRefused before now p h = absurd h
+generated_answers text network names Undecided before now p h = record { network = network; is_network = p; holds = h }
+generated_answers text network names RoundsSpent before now p h = record {
+  network = network;
+  is_network = p;
+  holds =
+      h;
+}
+generated_answers text network names Demand before now p h = record { network = network; is_network = p; holds = h }
+generated_answers text network names CertificateRefused before now p h = absurd h
+generated_answers text network names Stalled before now p h = record { network = network; is_network = p; holds = h }
+
+-- ---- the text is refused
+
+pub gen_refusal_leaves : (line : ℕ) (cause : Cause) (status : Status) (before now : Seen)
+    → AnswersRefused line cause status before now → LeavesRun status before now
+gen_refusal_leaves line cause status before now h =
+    refused_leaves_since line cause status before before now (record { files = refl; written = refl; printed = refl }) h
+
+one_or_none : (before now : Openings) → (now ≡ before) ⊎ (now ≡ with_created before)
+    → (now ≡ before) ⊎ ((now ≡ with_created before) ⊎ (now ≡ with_created (with_created before)))
+one_or_none before now (inl e) = inl e
+one_or_none before now (inr e) = inr (inl e)
+
+pub refusal_creates : (line : ℕ) (cause : Cause) (status : Status) (before now : Seen) (start end : Openings)
+    → AnswersRefused line cause status before now → OpensCert status start end → CreatesBoth status start end
+refusal_creates line cause Done before now start end h o = absurd h
+refusal_creates line cause OutOfMemory before now start end h o = o
+refusal_creates line cause Usage before now start end h o = absurd h
+refusal_creates line cause ReadFault before now start end h o = absurd o
+refusal_creates line cause WriteFault before now start end h o = one_or_none start end o
+refusal_creates line cause InputRefused before now start end h o = o
+refusal_creates line cause Undecided before now start end h o = absurd h
+refusal_creates line cause RoundsSpent before now start end h o = absurd h
+refusal_creates line cause Demand before now start end h o = absurd h
+refusal_creates line cause CertificateRefused before now start end h o = absurd h
+refusal_creates line cause Stalled before now start end h o = one_or_none start end o

@@ -1,0 +1,65 @@
+-- The text was written, and then a run was put out.
+use Rattle.std.proofs.Common.{rules}
+use Rattle.std.proofs.lemmas.Result.{IfOk-weaker, IfErr-weaker}
+use Rattle.hyd_run.specs.Pens.{told}
+use Rattle.hyd_run.specs.Runs.{outcome_of}
+use Rattle.hyd_words.specs.Seen.{files_seen}
+use Rattle.hyd_cli.specs.Answers.{seen}
+use Rattle.hyd_cli.proofs.GenLemmas.{Created, text_breaks_off, no_certificate, generated, generated_short}
+use Rattle.hyd_cli.proofs.generating.put_generated.Goals as goal
+
+-- ---- NET couldn't be created or written
+
+pub returns-in-Err-clause-broken_off : goal.returns-in-Err-clause-broken_off
+returns-in-Err-clause-broken_off g c =
+    text_breaks_off c.args.sim.now.project c.args.text.now (files_seen c.args.files) _ _ c.in-Err.ensures.cut_short
+
+-- ---- CERT couldn't be created
+
+pub returns-then-is_err-clause-broken_off : goal.returns-then-is_err-clause-broken_off
+returns-then-is_err-clause-broken_off g c =
+    no_certificate c.args.sim.now.project c.args.text.now (files_seen c.args.files) _ _ _ c.in-Ok.ensures.whole
+    (record { written = search rules; printed = c.create.ensures.printed_stays })
+    (c.create.ensures.others c.args.files.net.now c.requires.apart)
+
+-- ---- both were created
+
+pub returns-clause-whole : goal.returns-clause-whole
+returns-clause-whole g c =
+    let before = seen g.D.Desk.files g.D.Desk.written g.D.Desk.printed c.args.desk.now in
+    let between = seen g.D.Desk.files g.D.Desk.written g.D.Desk.printed c.write_text.new.desk in
+    let created = told g.D.Desk.files g.D.Desk.rest g.D.Desk.written g.D.Desk.printed g.D.Desk.target g.D.Desk.ready
+    g.D.Desk.counts g.D.Desk.openings c.create.new.self in
+    let after = told g.D.Desk.files g.D.Desk.rest g.D.Desk.written g.D.Desk.printed g.D.Desk.target g.D.Desk.ready
+    g.D.Desk.counts g.D.Desk.openings c.run_summed.new.desk in
+    let made : Created c.args.files.cert.now between created = record {
+      begun = search rules;
+      printed = c.create.ensures.printed_stays;
+      target = search rules;
+      still_told = c.create.ensures.still_told;
+      others = c.create.ensures.others;
+    } in
+    IfOk-weaker c.run_summed.result _ _ (λ end out. generated c.args.sim.now.project c.args.sim.now.settings
+    c.args.text.now (files_seen c.args.files) before between created after (outcome_of end) c.requires.usual
+    c.requires.apart c.in-Ok.ensures.whole made c.run_summed.ensures.leaves (search rules) out)
+    c.run_summed.ensures.whole
+
+pub returns-clause-broken_off : goal.returns-clause-broken_off
+returns-clause-broken_off g c =
+    let before = seen g.D.Desk.files g.D.Desk.written g.D.Desk.printed c.args.desk.now in
+    let between = seen g.D.Desk.files g.D.Desk.written g.D.Desk.printed c.write_text.new.desk in
+    let created = told g.D.Desk.files g.D.Desk.rest g.D.Desk.written g.D.Desk.printed g.D.Desk.target g.D.Desk.ready
+    g.D.Desk.counts g.D.Desk.openings c.create.new.self in
+    let after = told g.D.Desk.files g.D.Desk.rest g.D.Desk.written g.D.Desk.printed g.D.Desk.target g.D.Desk.ready
+    g.D.Desk.counts g.D.Desk.openings c.run_summed.new.desk in
+    let made : Created c.args.files.cert.now between created = record {
+      begun = search rules;
+      printed = c.create.ensures.printed_stays;
+      target = search rules;
+      still_told = c.create.ensures.still_told;
+      others = c.create.ensures.others;
+    } in
+    IfErr-weaker c.run_summed.result _ _ (λ fault out. generated_short c.args.sim.now.project
+    c.args.sim.now.settings c.args.text.now (files_seen c.args.files) before between created after c.requires.usual
+    c.requires.apart c.in-Ok.ensures.whole made c.run_summed.ensures.leaves (search rules) out)
+    c.run_summed.ensures.broken_off

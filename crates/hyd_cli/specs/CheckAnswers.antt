@@ -1,0 +1,81 @@
+-- What the answers of the command `check` mean.
+-- Source: this program's.
+use Rattle.std.specs.Prelude.{◌≡◌, ℕ, ◌⊎◌, List}
+use Rattle.hyd_io.specs.declared.desk.Openings.{Openings}
+use Rattle.hyd_io.specs.Counts.{with_opened}
+use Rattle.hyd_spec.specs.Types.{Project}
+use Rattle.hyd_spec_reports.specs.Headline.{CheckAccepts}
+use Rattle.hyd_recheck.specs.Checks.{CheckRefusal, CheckBreaksOff}
+use Rattle.hyd_spec_checks.specs.CertificateOfRun.{IsCertificateOfRun}
+use Rattle.hyd_recheck.specs.Turns.{IsPrinted}
+use Rattle.hyd_recheck.specs.declared.outcome.CheckEnd.{CheckEnd}
+use Rattle.hyd_recheck.specs.declared.outcome.CheckEnd.TheVariants.{Accepted, Refused}
+use Rattle.hyd_recheck.specs.declared.outcome.CheckFault.{CheckFault}
+use Rattle.hyd_recheck.specs.declared.outcome.CheckFault.TheVariants.{Read, Output}
+use Rattle.hyd_cli.specs.Answers.{Seen, IsUntouched, OfNetwork, status_of}
+use Rattle.hyd_cli.specs.declared.status.Status.{Status}
+use Rattle.hyd_cli.specs.declared.status.Status.TheVariants.{Done, OutOfMemory, Usage, ReadFault, WriteFault}
+use Rattle.hyd_cli.specs.declared.status.Status.TheVariants.{InputRefused, Undecided, RoundsSpent, Demand}
+use Rattle.hyd_cli.specs.declared.status.Status.TheVariants.{CertificateRefused, Stalled}
+
+-- The answer of a check that came to its end.
+abbrev pub status_of_check : CheckEnd → Status
+status_of_check Accepted = Done
+status_of_check Refused = CertificateRefused
+
+-- The answer of a check that was broken off.
+abbrev pub status_of_break : CheckFault → Status
+status_of_break Read = ReadFault
+status_of_break (Output fault) = status_of fault
+
+-- What an answer says of the text of CERT, which is checked against a network: it was accepted, and its report printed;
+-- or it was refused, the report up to its refusal printed, and it isn't the certificate of a run; or memory ran out
+-- before anything was printed; or a fault broke the check off, and a front of such a report was printed.
+abbrev pub AnswersCert : Project → List ℕ → Status → Seen → Seen → Type 0
+AnswersCert network text Done before now = IsPrinted (CheckAccepts network text) before.printed now.printed
+AnswersCert network text CertificateRefused before now =
+    IsPrinted (CheckRefusal network text) before.printed now.printed × (IsCertificateOfRun network text → ⊥)
+AnswersCert network text OutOfMemory before now = IsUntouched before now
+AnswersCert network text ReadFault before now =
+    IsUntouched before now ⊎ IsPrinted (CheckBreaksOff network text) before.printed now.printed
+AnswersCert network text WriteFault before now = IsPrinted (CheckBreaksOff network text) before.printed now.printed
+AnswersCert network text Stalled before now = IsPrinted (CheckBreaksOff network text) before.printed now.printed
+AnswersCert network text status before now = ⊥
+
+-- What an answer says of a text of NET without a fault and a text of CERT: want of memory and a fault in the reading of
+-- NET leave all untouched.
+abbrev pub AnswersCheck : (text certificate : List ℕ) → Status → Seen → Seen → Type 0
+AnswersCheck text certificate OutOfMemory before now = IsUntouched before now
+AnswersCheck text certificate ReadFault before now = IsUntouched before now
+    ⊎ OfNetwork text (λ network. AnswersCert network certificate ReadFault before now)
+AnswersCheck text certificate status before now =
+    OfNetwork text (λ network. AnswersCert network certificate status before now)
+
+-- How often a check opens CERT once NET was read: once at most, when all memory is taken that the check needs. It
+-- creates nothing.
+abbrev pub ReadsCert : Status → Openings → Openings → Type 0
+ReadsCert Done before now = now ≡ with_opened before
+ReadsCert OutOfMemory before now = now ≡ before
+ReadsCert Usage before now = ⊥
+ReadsCert ReadFault before now = now ≡ with_opened before
+ReadsCert WriteFault before now = now ≡ with_opened before
+ReadsCert InputRefused before now = ⊥
+ReadsCert Undecided before now = ⊥
+ReadsCert RoundsSpent before now = ⊥
+ReadsCert Demand before now = ⊥
+ReadsCert CertificateRefused before now = now ≡ with_opened before
+ReadsCert Stalled before now = now ≡ with_opened before
+
+-- How often a check opens NET and then CERT: each once at most, so what can be read only once is read whole.
+abbrev pub ReadsBoth : Status → Openings → Openings → Type 0
+ReadsBoth Done before now = now ≡ with_opened (with_opened before)
+ReadsBoth OutOfMemory before now = (now ≡ before) ⊎ (now ≡ with_opened before)
+ReadsBoth Usage before now = ⊥
+ReadsBoth ReadFault before now = (now ≡ with_opened before) ⊎ (now ≡ with_opened (with_opened before))
+ReadsBoth WriteFault before now = (now ≡ with_opened before) ⊎ (now ≡ with_opened (with_opened before))
+ReadsBoth InputRefused before now = now ≡ with_opened before
+ReadsBoth Undecided before now = ⊥
+ReadsBoth RoundsSpent before now = ⊥
+ReadsBoth Demand before now = ⊥
+ReadsBoth CertificateRefused before now = now ≡ with_opened (with_opened before)
+ReadsBoth Stalled before now = (now ≡ with_opened before) ⊎ (now ≡ with_opened (with_opened before))

@@ -1,0 +1,45 @@
+-- What each command does, by the name of its answer: what is said of what it was asked, of what the desk told before
+-- and tells now, and of how often files were opened and created.
+-- Source: this program's.
+use Rattle.std.specs.Prelude.{◌≢◌, ℕ, List}
+use Rattle.hyd_io.specs.declared.desk.Openings.{Openings}
+use Rattle.hyd_io.specs.Told.{IsTold}
+use Rattle.hyd_net.specs.declared.cause.Cause.{Cause}
+use Rattle.hyd_spec_input.specs.Faults.{IsFault, HasNoFault}
+use Rattle.hyd_words.specs.Orders.{RunOrder, GenOrder, TwoFiles}
+use Rattle.hyd_cli.specs.Answers.{Seen, OnlyPrintedSome, ChangesOnly, OpensOnce, Holds, settings_of, AnswersRefused}
+use Rattle.hyd_cli.specs.Answers.{AnswersText}
+use Rattle.hyd_cli.specs.CheckAnswers.{AnswersCheck, ReadsBoth}
+use Rattle.hyd_cli.specs.GenAnswers.{text_of, AnswersGen, ChangesBoth, CreatesBoth}
+use Rattle.hyd_cli.specs.declared.status.Status.{Status}
+use Rattle.hyd_cli.specs.declared.status.Status.TheVariants.{InputRefused}
+
+-- `run`: a text with a fault is refused with it, and one without is run; CERT holds what was written, also where the
+-- text isn't told; no other file is changed; NET is opened and CERT created once at most.
+pub record DoesRun (order : RunOrder) (status : Status) (before now : Seen) (opened opens : Openings) : Type 0 where
+  pub refused : (text : List ℕ) (line : ℕ) (why : Cause) → IsTold before.files order.files.net text
+      → IsFault text line why → AnswersRefused line why status before now
+  pub runs : (text : List ℕ) → IsTold before.files order.files.net text → HasNoFault text
+      → AnswersText text (settings_of order) order.files.cert status before now
+  pub holds : Holds status order.files.cert before now
+  pub others : ChangesOnly order.files.cert before now
+  pub once : OpensOnce status opened opens
+
+-- `check`: a text with a fault is refused with it, and no other; by its network the text of CERT is checked; nothing is
+-- created or written; NET and CERT are opened once at most.
+pub record DoesCheck (files : TwoFiles) (status : Status) (before now : Seen) (opened opens : Openings) : Type 0 where
+  pub refused : (text : List ℕ) (line : ℕ) (why : Cause) → IsTold before.files files.net text
+      → IsFault text line why → AnswersRefused line why status before now
+  pub checks : (text certificate : List ℕ) → IsTold before.files files.net text → HasNoFault text
+      → IsTold before.files files.cert certificate → AnswersCheck text certificate status before now
+  pub not_refused : (text : List ℕ) → IsTold before.files files.net text → HasNoFault text → status ≢ InputRefused
+  pub only_prints : OnlyPrintedSome before now
+  pub once : ReadsBoth status opened opens
+
+-- `gen`: where the generated text has a fault it is refused with it, and where it has none it is written and run; no
+-- other files are changed; NET and CERT are created once at most.
+pub record DoesGen (order : GenOrder) (status : Status) (before now : Seen) (opened opens : Openings) : Type 0 where
+  pub refused : (line : ℕ) (why : Cause) → IsFault (text_of order) line why → AnswersRefused line why status before now
+  pub generates : HasNoFault (text_of order) → AnswersGen (text_of order) order.files status before now
+  pub others : ChangesBoth order.files before now
+  pub once : CreatesBoth status opened opens

@@ -1,0 +1,116 @@
+-- What the answers of the command `gen` mean.
+-- Source: this program's.
+use Rattle.std.specs.Prelude.{◌≡◌, ◌≢◌, ℕ, ◌^◌, false, pos, ◌⊎◌, List, ◌++◌, is_some}
+use Rattle.hyd_io.specs.declared.desk.Openings.{Openings}
+use Rattle.hyd_io.specs.Counts.{with_created}
+use Rattle.hyd_io.specs.Told.{where_told, append_known, file_at}
+use Rattle.hyd_spec.specs.Types.{Project}
+use Rattle.hyd_spec_generated.specs.GeneratedText.{generated_text}
+use Rattle.hyd_spec_reports.specs.Headline.{Outcome, outcome_number}
+use Rattle.hyd_spec_summary.specs.Summary.{RunSums, SumsBreakOff}
+use Rattle.hyd_run.specs.Runs.{sharpness_of}
+use Rattle.hyd_sim.specs.declared.settings.Settings.{Settings}
+use Rattle.hyd_words.specs.Orders.{GenOrder, TwoFiles}
+use Rattle.hyd_cli.specs.Answers.{Seen, IsUntouched, NothingPut, OfNetwork}
+use Rattle.hyd_cli.specs.Statuses.{number_of}
+use Rattle.hyd_cli.specs.declared.status.Status.{Status}
+use Rattle.hyd_cli.specs.declared.status.Status.TheVariants.{Done, OutOfMemory, Usage, ReadFault, WriteFault}
+use Rattle.hyd_cli.specs.declared.status.Status.TheVariants.{InputRefused, Undecided, RoundsSpent, Demand}
+use Rattle.hyd_cli.specs.declared.status.Status.TheVariants.{CertificateRefused, Stalled}
+
+-- The text of the network that an order asks for.
+abbrev pub text_of : GenOrder → List ℕ
+text_of order = generated_text order.seed order.junctions
+
+-- What the run of a generated network is asked for: 200 rounds at most, a width of 0.01 m, and no tight vectors.
+abbrev pub usual_settings : Settings
+usual_settings = record { rounds = 200; width = pos (10 ^ 11); tight = false }
+
+-- The text was written to the file NET created in this call, and the certificate of a run of its network to the file
+-- CERT created then, where files are told; the run's summary was printed, and every history agrees with the
+-- certificate. The status says how the run ended.
+pub record Generated (network : Project) (text : List ℕ) (names : TwoFiles) (status : Status) (before now : Seen) :
+    Type 0 where
+  pub outcome : Outcome
+  pub certificate : List ℕ
+  pub summary : List ℕ
+  pub run : RunSums network usual_settings.rounds (sharpness_of usual_settings) outcome certificate summary
+  pub status_is : number_of status ≡ outcome_number outcome
+  pub written : now.written ≡ where_told before.files certificate
+  pub printed : now.printed ≡ append_known before.printed summary
+  pub held : file_at now.files names.cert ≡ now.written
+  pub network_held : file_at now.files names.net ≡ where_told before.files text
+
+-- The text was written to the file NET created in this call, where files are told, and nothing was printed.
+pub record TextWritten (text net : List ℕ) (before now : Seen) : Type 0 where
+  pub written : now.written ≡ where_told before.files text
+  pub held : file_at now.files net ≡ where_told before.files text
+  pub printed : now.printed ≡ before.printed
+  pub still_told : is_some now.files ≡ is_some before.files
+
+-- A fault came before CERT was created: a front of the text was written to the file NET created in this call, where
+-- files are told, and nothing was printed.
+pub record TextCutShort (text net : List ℕ) (before now : Seen) : Type 0 where
+  pub front : List ℕ
+  pub unwritten : List ℕ
+  pub is_front : front ++ unwritten ≡ text
+  pub written : now.written ≡ where_told before.files front
+  pub held : file_at now.files net ≡ now.written
+  pub printed : now.printed ≡ before.printed
+
+-- A fault broke the run off: NET holds the text, what was written to CERT, where files are told, is a front of the
+-- certificate of the run as far as it went, what was printed is a front of its summary where its end is known, and
+-- every history agrees with it.
+pub record GeneratedShort (network : Project) (text : List ℕ) (names : TwoFiles) (before now : Seen) : Type 0 where
+  pub certificate : List ℕ
+  pub summary : List ℕ
+  pub run : SumsBreakOff network usual_settings.rounds (sharpness_of usual_settings) certificate summary
+  pub written : now.written ≡ where_told before.files certificate
+  pub printed : now.printed ≡ append_known before.printed summary
+  pub held : file_at now.files names.cert ≡ now.written
+  pub network_held : file_at now.files names.net ≡ where_told before.files text
+
+-- What a fault of output leaves: NET couldn't be created, or it or CERT is cut short.
+pub data GenBreaksOff (network : Project) (text : List ℕ) (names : TwoFiles) (before now : Seen) : Type 0 where
+  nothing : NothingPut before now → GenBreaksOff network text names before now
+  in_network : TextCutShort text names.net before now → GenBreaksOff network text names before now
+  in_run : GeneratedShort network text names before now → GenBreaksOff network text names before now
+
+-- What an answer says of a generated text and its network.
+abbrev pub AnswersGenerated : Project → List ℕ → TwoFiles → Status → Seen → Seen → Type 0
+AnswersGenerated network text names Done before now = Generated network text names Done before now
+AnswersGenerated network text names Undecided before now = Generated network text names Undecided before now
+AnswersGenerated network text names RoundsSpent before now = Generated network text names RoundsSpent before now
+AnswersGenerated network text names Demand before now = Generated network text names Demand before now
+AnswersGenerated network text names OutOfMemory before now = IsUntouched before now
+AnswersGenerated network text names WriteFault before now = GenBreaksOff network text names before now
+AnswersGenerated network text names Stalled before now = GenBreaksOff network text names before now
+AnswersGenerated network text names status before now = ⊥
+
+-- What an answer says of a generated text without a fault: want of memory leaves all untouched.
+abbrev pub AnswersGen : List ℕ → TwoFiles → Status → Seen → Seen → Type 0
+AnswersGen text names OutOfMemory before now = IsUntouched before now
+AnswersGen text names status before now =
+    OfNetwork text (λ network. AnswersGenerated network text names status before now)
+
+-- How often `gen` creates NET and then CERT: each once at most, when all memory is taken that the run needs. It opens
+-- nothing.
+abbrev pub CreatesBoth : Status → Openings → Openings → Type 0
+CreatesBoth Done before now = now ≡ with_created (with_created before)
+CreatesBoth OutOfMemory before now = now ≡ before
+CreatesBoth Usage before now = ⊥
+CreatesBoth ReadFault before now = ⊥
+CreatesBoth WriteFault before now =
+    (now ≡ before) ⊎ ((now ≡ with_created before) ⊎ (now ≡ with_created (with_created before)))
+CreatesBoth InputRefused before now = now ≡ before
+CreatesBoth Undecided before now = now ≡ with_created (with_created before)
+CreatesBoth RoundsSpent before now = now ≡ with_created (with_created before)
+CreatesBoth Demand before now = now ≡ with_created (with_created before)
+CreatesBoth CertificateRefused before now = ⊥
+CreatesBoth Stalled before now =
+    (now ≡ before) ⊎ ((now ≡ with_created before) ⊎ (now ≡ with_created (with_created before)))
+
+-- No files but those of the two names were changed.
+abbrev pub ChangesBoth : TwoFiles → Seen → Seen → Type 0
+ChangesBoth names before now = (other : List ℕ) → other ≢ names.net → other ≢ names.cert
+    → file_at now.files other ≡ file_at before.files other
