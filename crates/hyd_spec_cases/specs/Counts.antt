@@ -1,9 +1,9 @@
 -- The fault of one row among many, where a limit is one of counts.
-use Rattle.std.specs.Prelude.{ℕ, ◌-◌, List, ◌∷◌, codes, replicate, Option}
+use Rattle.std.specs.Prelude.{ℕ, zero, suc, ◌-◌, List, [], ◌∷◌, ◌+◌, ◌/◌, ◌%◌, codes, replicate, Option}
 use Rattle.hyd_spec_lines.specs.Bytes.{words_in}
 use Rattle.hyd_spec_lines.specs.Lines.{Row}
 use Rattle.hyd_spec_lines.specs.declared.section.Section.{Section}
-use Rattle.hyd_spec_lines.specs.declared.section.Section.TheVariants.{Patterns}
+use Rattle.hyd_spec_lines.specs.declared.section.Section.TheVariants.{Patterns, Curves}
 use Rattle.hyd_spec_input.specs.WithOthers as others
 use Rattle.hyd_net.specs.declared.cause.Cause.{Cause}
 
@@ -22,3 +22,20 @@ long_row = record { number = 1; section = Patterns; words = codes "P" ∷ replic
 -- what is wrong with the last of so many of its rows
 abbrev pub last_of_long : ℕ → Option Cause
 last_of_long count = others.row_fault (replicate count long_row) (count - 1) long_row
+
+-- the curve of a number, of one point, with a name of two letters
+abbrev pub curve_row : ℕ → Row
+curve_row number = record {
+  number = 1;
+  section = Curves;
+  words = ((65 + number / 32) ∷ ((65 + number % 32) ∷ [])) ∷ (codes "1" ∷ (codes "1" ∷ []));
+}
+
+-- the curves of all numbers below this one, the greatest first
+abbrev pub curve_rows : ℕ → List Row
+curve_rows zero = []
+curve_rows (suc count) = curve_row count ∷ curve_rows count
+
+-- what is wrong with the last of so many curves
+abbrev pub last_of_curves : ℕ → Option Cause
+last_of_curves count = others.row_fault (curve_rows count) (count - 1) (curve_row 0)

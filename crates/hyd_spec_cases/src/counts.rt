@@ -4,7 +4,7 @@
 ghost use Rattle.std.specs.Prelude.{◌≡◌, codes, Some, None};
 ghost use Rattle.hyd_spec_lines.specs.declared.section.Section.TheVariants.{Junctions, Reservoirs, Pipes, Demands, Controls, Rules};
 ghost use Rattle.hyd_net.specs.declared.cause.Cause.TheVariants.{DuplicateId, UnknownName, Limit};
-ghost use Rattle.hyd_spec_cases.specs.Counts.{last_of_equal, last_of_long};
+ghost use Rattle.hyd_spec_cases.specs.Counts.{last_of_equal, last_of_long, last_of_curves};
 
 /// Nodes and links. Rows that are equal have one ID.
 pub fn tables()
@@ -36,4 +36,10 @@ pub fn rules()
 pub fn multipliers()
     ensures most { last_of_long 2000 ≡ None }
     ensures more { last_of_long 2001 ≡ Some (Limit 8) }
+{}
+
+/// Curves of different names.
+pub fn curves()
+    ensures most { last_of_curves 1000 ≡ None }
+    ensures more { last_of_curves 1001 ≡ Some (Limit 9) }
 {}

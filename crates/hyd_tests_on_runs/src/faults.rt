@@ -1,6 +1,6 @@
 //! Calls on the desk that fail or take nothing: how a run ends then, and what it leaves.
 
-use crate::given::{WORDS, owned};
+use crate::given::{WORDS, owned, status_on};
 use crate::rows::VALVES;
 use hyd_cli::{Status, tool};
 use hyd_io::{MemDesk, Openings};
@@ -101,7 +101,7 @@ fn a_text_of_64_mib_and_a_byte_is_refused(rt: HostRuntime) -> Result<(), Fail> {
     let text = vec![in alloc; b' '; 64 * 1024 * 1024 + 1]?;
     desk.add("n.inp", text.as_slice())?;
     let words = owned(alloc, &WORDS)?;
-    assert_eq!(rt; tool(alloc, &words, &mut desk), Status::InputRefused);
+    assert_eq!(rt; status_on(alloc, &words, &mut desk), Status::InputRefused);
     assert_eq!(rt;
         desk.printed(),
         b"REFUSED line 0 cause 7 detail 1\n".as_slice()

@@ -91,6 +91,31 @@ impl Finder for Told {
     }
 }
 
+/// Proposes nothing, but names the start all the same, with an order of one junction that there isn't.
+#[derive(Clone, Copy, Drop)]
+struct Astray;
+
+impl Finder for Astray {
+    ghost told = { λ a. None };
+
+    fn propose(&mut self, _net: &Net, _problem: Problem, _side: Side, _out: &mut [i64]) {}
+
+    /// Says that it proposes a start, and leaves the heads as they are.
+    fn start(
+        &mut self,
+        _net: &Net,
+        _problem: Problem,
+        _side: Side,
+        _out: &mut [i64],
+        order: &mut [u32],
+    ) -> bool {
+        for place in 0..order.len() {
+            order[place] = u32::MAX;
+        }
+        true
+    }
+}
+
 /// What is proposed, and the record's heads where tight vectors aren't asked for.
 #[derive(Clone, Copy, Drop)]
 struct Case {
@@ -209,6 +234,19 @@ fn a_list_that_is_told_is_the_record(rt: HostRuntime) -> Result<(), Fail> {
 #[test]
 fn tight_vectors_are_those_of_any_finder(rt: HostRuntime) -> Result<(), Fail> {
     assert_eq!(rt; first_other(rt.alloc(), true)?, "none");
+    Ok(())
+}
+
+#[test]
+fn tight_vectors_are_those_of_a_finder_that_proposes_nothing(rt: HostRuntime) -> Result<(), Fail> {
+    assert_eq!(rt; found(rt.alloc(), &mut Null, true)?, Some(TIGHT));
+    Ok(())
+}
+
+#[test]
+fn tight_vectors_are_those_of_a_finder_that_leads_astray(rt: HostRuntime) -> Result<(), Fail> {
+    assert_eq!(rt; found(rt.alloc(), &mut Astray, true)?, Some(TIGHT));
+    assert_eq!(rt; found(rt.alloc(), &mut Astray, false)?, Some(TIGHT));
     Ok(())
 }
 

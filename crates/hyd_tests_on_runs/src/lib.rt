@@ -2,9 +2,17 @@
 #![tactic(auto)]
 
 #[cfg(test)]
+mod accepts;
+#[cfg(test)]
+mod certificates;
+#[cfg(test)]
+mod checks;
+#[cfg(test)]
 mod faults;
 #[cfg(test)]
 mod finders;
+#[cfg(test)]
+mod generated;
 #[cfg(test)]
 mod given;
 #[cfg(test)]

@@ -11,13 +11,35 @@ const USAGE_LINE: &str =
     "USAGE hyd run NET CERT [--sweeps N] [--width W] [--tight] or check NET CERT or gen SEED JUNCTIONS NET CERT\n";
 
 /// Words that aren't a command.
-const NONE: [&[&str]; 8] = [
+const NONE: &[&[&str]] = &[
     &["run", "a.inp"],
     &["run", "a.inp", "a.inp"],
+    &["run", "a.inp", "a.cert", "b.cert"],
     &["run", "a.inp", "a.cert", "--sweeps", "100001"],
-    &["run", "-a.inp", "a.cert", "--tight"],
-    &["run", "a.inp", "a.cert", "--tight", "--tight"],
+    &["run", "a.inp", "a.cert", "--sweeps", "1", "--sweeps=1"],
     &["run", "a.inp", "a.cert", "--width", "0"],
+    &["run", "a.inp", "a.cert", "--width", "1", "--width", "1"],
+    &["run", "a.inp", "a.cert", "--tight", "--tight"],
+    &["run", "-a.inp", "a.cert", "--tight"],
+    &["check", "a.inp"],
+    &["check", "a.inp", "a.inp"],
+    &["check", "a.inp", "a.cert", "b.cert"],
+    &["check", "a.inp", "a.cert", "--tight"],
+    &["check", "a.inp", "a.cert", "--sweeps", "1"],
+    &["check", "a.inp", "a.cert", "--width=1"],
+    &["check", "-a.inp", "a.cert"],
+    &["gen", "7", "1", "a.inp"],
+    &["gen", "7", "1", "a.inp", "a.inp"],
+    &["gen", "7", "1", "a.inp", "a.cert", "--tight"],
+    &["gen", "7", "1", "a.inp", "a.cert", "--sweeps=1"],
+    &["gen", "2147483648", "1", "a.inp", "a.cert"],
+    &["gen", "00000000007", "1", "a.inp", "a.cert"],
+    &["gen", "-7", "1", "a.inp", "a.cert"],
+    &["gen", "7", "0", "a.inp", "a.cert"],
+    &["gen", "7", "10001", "a.inp", "a.cert"],
+    &["gen", "7", "000001", "a.inp", "a.cert"],
+    &["gen", "x", "1", "a.inp", "a.cert"],
+    &["Check", "a.inp", "a.cert"],
     &["walk"],
     &[],
 ];
@@ -32,8 +54,8 @@ fn are_none(alloc: Global, words: &[&str]) -> Result<bool, AllocError> {
 
 #[test]
 fn other_words_print_the_usage_line(rt: HostRuntime) -> Result<(), Fail> {
-    for words in NONE {
-        assert!(rt; are_none(rt.alloc(), words)?);
+    for (place, words) in NONE.iter().enumerate() {
+        assert!(rt; are_none(rt.alloc(), words)?, "words {place}");
     }
     Ok(())
 }

@@ -15,7 +15,7 @@ const MINUTES: &str = "[OPTIONS]\nUNITS CMD\nHEADLOSS C-M\n\
     [TIMES]\nDURATION 24\nHYDRAULIC TIMESTEP 1 MIN\n";
 
 /// The checksum of Fowler, Noll and Vo of some bytes (FNV-1a of 64 bits).
-fn checksum(bytes: &[u8]) -> u64 {
+pub(crate) fn checksum(bytes: &[u8]) -> u64 {
     let mut sum: u64 = 0xcbf2_9ce4_8422_2325;
     for byte in bytes {
         sum = (sum ^ u64::from(*byte)).wrapping_mul(0x0000_0100_0000_01b3);
@@ -24,7 +24,7 @@ fn checksum(bytes: &[u8]) -> u64 {
 }
 
 /// Whether bytes are those that are wanted.
-fn are(bytes: &[u8], wanted: Bytes) -> bool {
+pub(crate) fn are(bytes: &[u8], wanted: Bytes) -> bool {
     match wanted {
         Bytes::Text(text) => bytes == text.as_bytes(),
         Bytes::Sum(length, sum) => bytes.len() == length && checksum(bytes) == sum,

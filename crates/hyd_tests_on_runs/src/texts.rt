@@ -1,8 +1,7 @@
 //! The top call on a desk in memory: what it answers, prints and writes for whole texts, to the byte.
 
-use crate::given::{WORDS, owned};
+use crate::given::{WORDS, owned, status_on};
 use crate::rows::{OTHERS, PIPES, REFUSALS, Row, VALVES};
-use hyd_cli::tool;
 use hyd_io::MemDesk;
 use std::alloc::{AllocError, Global};
 use std::test::Fail;
@@ -11,7 +10,7 @@ use std::test::Fail;
 fn runs_so(alloc: Global, words: &[String], row: &Row) -> Result<bool, AllocError> {
     let mut desk = MemDesk::new(alloc);
     desk.add("n.inp", row.text.as_bytes())?;
-    let status = tool(alloc, words, &mut desk);
+    let status = status_on(alloc, words, &mut desk);
     let written = row.written.map(|text| text.as_bytes());
     Ok(
         status == row.status
