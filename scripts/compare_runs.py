@@ -34,7 +34,7 @@ from decimal import Decimal
 from pathlib import Path
 
 from compare_input import ROOT, change_numbers
-from unproved import crates_below, links_to_kit
+from unproved import LINKER, crates_below, links_to_kit
 
 SPENT = 7
 MOST_PERIODS = 200
@@ -58,8 +58,8 @@ exec %s/toolchain/bin/clang "${words[@]}"
 
 # ---------------------------------------------------------------- the program
 
-def build(program):
-    """Builds the program `hyd`, and keeps it under this name."""
+def build(program, linker=LINKER):
+    """Builds the program `hyd` with this linker, and keeps it under this name."""
     crates = crates_below(['hyd'])
     with tempfile.TemporaryDirectory() as folder:
         top = Path(folder) / 'copy'
@@ -68,7 +68,7 @@ def build(program):
                             ignore=shutil.ignore_patterns('out', 'proofs', 'must-fail'))
         (top / 'crates.txt').write_text(''.join('%s: %s\n' % (name, ' '.join(uses)) for name, uses in crates.items()))
         subprocess.run(['git', 'init', '-q', str(top)], check=True)
-        rt = links_to_kit(Path(folder) / 'kit', program, CLANG)
+        rt = links_to_kit(Path(folder) / 'kit', program, CLANG, linker)
         done = subprocess.run([str(rt), 'try', '--steps', '1', '--seconds', '600'], cwd=top / 'crates' / 'hyd',
                               input=b'', capture_output=True, env={**os.environ, 'TMPDIR': folder})
         if not program.exists():

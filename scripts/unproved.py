@@ -24,7 +24,7 @@ def crates_below(names):
     return out
 
 
-def links_to_kit(folder, program, clang):
+def links_to_kit(folder, program, clang, linker=LINKER):
     """A folder of links to the kit, but for this clang and a linker that keeps the program."""
     kit = Path(shutil.which('rt')).resolve().parent.parent
     (folder / 'bin').mkdir(parents=True)
@@ -41,7 +41,7 @@ def links_to_kit(folder, program, clang):
     for path in (kit / 'toolchain' / 'bin').iterdir():
         if path.name not in ('clang', 'ld.lld'):
             (folder / 'toolchain' / 'bin' / path.name).symlink_to(path)
-    for name, text in (('clang', clang % kit), ('ld.lld', LINKER % (kit, program))):
+    for name, text in (('clang', clang % kit), ('ld.lld', linker % (kit, program))):
         tool = folder / 'toolchain' / 'bin' / name
         tool.write_text(text)
         tool.chmod(0o755)
