@@ -1,5 +1,6 @@
 -- The flow box of a link, and vectors that end before a node.
-use Rattle.std.proofs.Common.{◌≡◌, ◌≤◌, ℕ, zero, suc, ℤ, pos, ◌+ℤ◌, ◌-ℤ◌, refl, ap, subst, ◌∙◌, arith, List, [], ◌∷◌, length, map}
+use Rattle.std.proofs.Common.{◌≡◌, ◌≤◌, ℕ, zero, suc, ℤ, pos, ◌+ℤ◌, ◌-ℤ◌, refl, ap, subst, ◌∙◌, arith, List, [], ◌∷◌}
+use Rattle.std.proofs.Common.{length, map}
 use Rattle.std.specs.Prelude.{Option, slice_get, slice_set, Some}
 use Rattle.std.specs.Option.{IfSome}
 use Rattle.hyd_num.specs.declared.decimals.Span.{Span}
@@ -22,9 +23,11 @@ pub ends-of : (links : List GridLink) (k : ℕ) (law : LinkLaw) (ends : Ends) (t
     → IfSome (slice_get links k) (HasTheseEnds ends) → HasTheseEnds ends there.link
 ends-of links k law ends there is = subst (λ (o : Option GridLink). IfSome o (HasTheseEnds ends)) there.is_link is
 
-pub flow-box-is : (links : List GridLink) (k : ℕ) (law : LinkLaw) (ends : Ends) (below above : List ℤ) (least greatest : ℤ) (span : Span)
+pub flow-box-is : (links : List GridLink) (k : ℕ) (law : LinkLaw) (ends : Ends) (below above : List ℤ)
+    (least greatest : ℤ) (span : Span)
     → StandsFor links k law → IfSome (slice_get links k) (HasTheseEnds ends)
-    → least ≡ (head_at below ends.from -ℤ head_at above ends.to) → greatest ≡ (head_at above ends.from -ℤ head_at below ends.to)
+    → least ≡ (head_at below ends.from -ℤ head_at above ends.to)
+    → greatest ≡ (head_at above ends.from -ℤ head_at below ends.to)
     → span.lo ≡ (link_low law least -ℤ pos 10) → span.hi ≡ (link_high law greatest +ℤ pos 10)
     → IfSome (slice_get links k) (λ (l : GridLink). IsSpan span (flow_box l below above))
 flow-box-is links k law ends below above least greatest span there ends_are least_is greatest_is lo_is hi_is =
@@ -50,7 +53,8 @@ pub some-same : {X : Type 0} (x y : X) → Some x ≡ Some y → x ≡ y
 some-same x y e = cc
 
 -- the exact law at a number
-pub law-at : (own : List LinkLaw) (k : ℕ) (law : LinkLaw) → slice_get own k ≡ Some law → slice_get (map exact_law own) k ≡ Some (exact_law law)
+pub law-at : (own : List LinkLaw) (k : ℕ) (law : LinkLaw) → slice_get own k ≡ Some law
+    → slice_get (map exact_law own) k ≡ Some (exact_law law)
 law-at [] k law e = cc
 law-at (x ∷ own) zero law e = ap (λ (l : LinkLaw). Some (exact_law l)) (some-same x law e)
 law-at (x ∷ own) (suc k) law e = law-at own k law e

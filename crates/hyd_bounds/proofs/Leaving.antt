@@ -19,14 +19,16 @@ miss emitter = if is_some emitter then pos 20 else pos 10
 
 box-is : (elevation : ℤ) (demand : DemandLaw) (emitter : Option Capacity) (h k m : ℤ) (span : Span) → m ≡ miss emitter
     → let junction : GridJunction = record { elevation = elevation; demand = demand; emitter = emitter } in
-    span.lo ≡ (outflow_low junction h -ℤ m) → span.hi ≡ (outflow_high junction k +ℤ m) → IsSpan span (out_box junction h k)
+    span.lo ≡ (outflow_low junction h -ℤ m) → span.hi ≡ (outflow_high junction k +ℤ m)
+    → IsSpan span (out_box junction h k)
 box-is elevation demand None h k m span is lo hi =
     record { lo_is = omega (arith, ints, is, lo); hi_is = omega (arith, ints, is, hi) }
 box-is elevation demand (Some capacity) h k m span is lo hi =
     record { lo_is = omega (arith, ints, is, lo); hi_is = omega (arith, ints, is, hi) }
 
 -- of the junction at a number
-pub out-box-at : (junctions : List GridJunction) (i : ℕ) (emitter : Option Capacity) (h k m : ℤ) (span : Span) → i < length junctions
+pub out-box-at : (junctions : List GridJunction) (i : ℕ) (emitter : Option Capacity) (h k m : ℤ) (span : Span)
+    → i < length junctions
     → IfSome (slice_get junctions i) (λ (j : GridJunction). j.emitter ≡ emitter) → m ≡ miss emitter
     → ((j : GridJunction) → slice_get junctions i ≡ Some j → span.lo ≡ (outflow_low j h -ℤ m))
     → ((j : GridJunction) → slice_get junctions i ≡ Some j → span.hi ≡ (outflow_high j k +ℤ m))
@@ -34,9 +36,11 @@ pub out-box-at : (junctions : List GridJunction) (i : ℕ) (emitter : Option Cap
 out-box-at junctions i emitter h k m span lt is_emitter is lo hi =
     let at = item-at junctions i lt in
     let junction = at.0 in
-    let e : junction.emitter ≡ emitter = subst (λ (o : Option GridJunction). IfSome o (λ (j : GridJunction). j.emitter ≡ emitter)) at.1 is_emitter in
+    let e : junction.emitter ≡ emitter = subst (λ (o : Option GridJunction). IfSome o (λ (j : GridJunction). j.emitter
+    ≡ emitter)) at.1 is_emitter in
     let m_is : m ≡ miss junction.emitter = rw e is in
-    rw at.1 (box-is junction.elevation junction.demand junction.emitter h k m span m_is (lo junction at.1) (hi junction at.1))
+    rw at.1 (box-is junction.elevation junction.demand junction.emitter h k m span m_is (lo junction at.1)
+    (hi junction at.1))
 
 -- at most as much leaves at the lower head as at the higher one
 pub outflows-in-order : (grid : Grid) → IsSteady grid → (i : ℕ) (h k a b : ℤ) → i < length grid.junctions → h ≤ℤ k

@@ -7,11 +7,13 @@ use Rattle.hyd_net.specs.ListView.{ListView}
 use Rattle.hyd_net.specs.States.{CanHave}
 use Rattle.hyd_net.specs.Curves.{Knot, value_at}
 use Rattle.hyd_net.specs.declared.curves.HeadPoint.{HeadPoint}
-use Rattle.hyd_spec.specs.Types.{LinkKind, PipeLink, CheckPipe, PumpLink, CurvePump, Tcv, Fcv, Gpv, Quadratic, Linear, LinkState, Open, Closed, Speed, Throttle, Limit}
+use Rattle.hyd_spec.specs.Types.{LinkKind, PipeLink, CheckPipe, PumpLink, CurvePump, Tcv, Fcv, Gpv, Quadratic, Linear}
+use Rattle.hyd_spec.specs.Types.{LinkState, Open, Closed, Speed, Throttle, Limit}
 use Rattle.hyd_spec.specs.Law.{Law}
 use Rattle.hyd_spec.specs.LinkLaw.{own_law}
 use Rattle.hyd_spec_certificates.specs.Interval.{Interval}
-use Rattle.hyd_spec_reports.specs.declared.StatusWord.TheVariants.{Open as WordOpen, Closed as WordClosed, Unsure as WordUnsure}
+use Rattle.hyd_spec_reports.specs.declared.StatusWord.TheVariants.{Open as WordOpen, Closed as WordClosed}
+use Rattle.hyd_spec_reports.specs.declared.StatusWord.TheVariants.{Unsure as WordUnsure}
 use Rattle.hyd_spec_reports.specs.Report.{by_drive, by_knots, status_of}
 use Rattle.hyd_num.proofs.Integers.{times_rises}
 use Rattle.hyd_lemmas.proofs.Integers.{ceiling_high, ceiling_least}
@@ -51,7 +53,8 @@ above-same x above = go (int_lt (pos 0) x.num) refl
     go : (b : Bool) → int_lt (pos 0) x.num ≡ b → int_lt (pos 0) (ceiling x) ≡ int_lt (pos 0) x.num
     go true e =
         let num = lt-yes (pos 0) x.num e in
-        let positive : (ceiling x ≤ℤ pos 0) → ⊥ = (λ le. let m = times_rises x.den (ceiling x) (pos 0) le in omega (arith, ints, m, high, num)) in
+        let positive : (ceiling x ≤ℤ pos 0) → ⊥ = (λ le. let m = times_rises x.den (ceiling x) (pos 0) le in
+        omega (arith, ints, m, high, num)) in
         lt-from (pos 0) (ceiling x) (grind (arith, ints, positive)) ∙ sym e
     go false e =
         let num = lt-no (pos 0) x.num e in
@@ -69,7 +72,8 @@ below-same x above = go (int_le x.num (pos 0)) refl
         le-from (ceiling x) (pos 0) (ceiling_least x (pos 0) above (omega (arith, ints, num))) ∙ sym e
     go false e =
         let num = le-no x.num (pos 0) e in
-        let positive : (ceiling x ≤ℤ pos 0) → ⊥ = (λ le. let m = times_rises x.den (ceiling x) (pos 0) le in omega (arith, ints, m, high, num)) in
+        let positive : (ceiling x ≤ℤ pos 0) → ⊥ = (λ le. let m = times_rises x.den (ceiling x) (pos 0) le in
+        omega (arith, ints, m, high, num)) in
         le-not (ceiling x) (pos 0) (grind (arith, ints, positive)) ∙ sym e
 
 -- the word by the ceilings of the values at both ends is that by the values
@@ -78,7 +82,8 @@ pub curve-word : (knots : List Knot) (least greatest : ℤ)
     ≡ by_knots knots (record { lo = least; hi = greatest })
 curve-word knots least greatest =
     ap₂ (λ (a b : Bool). if a then WordOpen else if b then WordClosed else WordUnsure)
-    (above-same (value_at 1 knots least) (value-den 1 knots least)) (below-same (value_at 1 knots greatest) (value-den 1 knots greatest))
+    (above-same (value_at 1 knots least) (value-den 1 knots least))
+    (below-same (value_at 1 knots greatest) (value-den 1 knots greatest))
 
 -- a flow that may not be 0 at one end is something
 pub some-most : (least most : ℤ) → (most ≡ pos 0 → ⊥) → is_nothing least most ≡ false
@@ -89,7 +94,8 @@ some-least least most not = grind (arith, ints, not)
 
 -- ---- states
 
-pub word-is : (us : Bool) (bends : List (ListView HeadPoint)) (kind : LinkKind) (state : LinkState) (d : Interval) → CanHave kind state
+pub word-is : (us : Bool) (bends : List (ListView HeadPoint)) (kind : LinkKind) (state : LinkState) (d : Interval)
+    → CanHave kind state
     → word_of state (own_law us bends kind state) d ≡ status_of us bends kind state d
 word-is us bends (PipeLink capacity) Open d can = refl
 word-is us bends (PipeLink capacity) Closed d can = refl
@@ -129,8 +135,12 @@ word-is us bends (Gpv bend) (Speed speed) d can = absurd can
 word-is us bends (Gpv bend) (Throttle setting law) d can = absurd can
 word-is us bends (Gpv bend) (Limit setting ticks) d can = absurd can
 
-pub status-is : (us : Bool) (bends : List (ListView HeadPoint)) (kind : LinkKind) (state s : LinkState) (law : Law) (lo hi least greatest : ℤ)
+pub status-is : (us : Bool) (bends : List (ListView HeadPoint)) (kind : LinkKind) (state s : LinkState) (law : Law)
+    (lo hi least greatest : ℤ)
     → CanHave kind state → s ≡ state → law ≡ own_law us bends kind state → lo ≡ least → hi ≡ greatest
     → word_of s law (record { lo = lo; hi = hi }) ≡ status_of us bends kind state (record { lo = least; hi = greatest })
 status-is us bends kind state s law lo hi least greatest can is_state is_law is_least is_greatest =
-    rw (is_state, is_law, is_least, is_greatest) (word-is us bends kind state (record { lo = least; hi = greatest }) can)
+    rw (is_state, is_law, is_least, is_greatest) (word-is us bends kind state (record {
+      lo = least;
+      hi = greatest;
+    }) can)

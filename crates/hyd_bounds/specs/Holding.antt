@@ -54,7 +54,8 @@ HoldsInflow grid tank below above span = (network : Project) (S time : ℕ) (int
 abbrev pub HoldsStatus
     : Grid → List ℤ → List ℤ → Bool → List (ListView HeadPoint) → LinkKind → LinkState → GridLink → StatusWord → Type 0
 HoldsStatus grid below above us bends kind state link word = (network : Project) (S time : ℕ)
-    (intervals : List Interval) (levels : List ℤ) (tanks : List TankState) (links : List LinkState) (assignment : Assignment)
+    (intervals : List Interval) (levels : List ℤ) (tanks : List TankState) (links : List LinkState)
+    (assignment : Assignment)
     (unit : FlowUnit) (patterns : List Pattern)
     → IsCompared network S time intervals levels tanks links assignment grid
     → IsCertificate grid Main Lower below → IsCertificate grid Main Upper above

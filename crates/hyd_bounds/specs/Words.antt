@@ -7,7 +7,8 @@ use Rattle.hyd_spec.specs.Law.{Law, ForwardOnly, Lifted, Capped, Held, Bent}
 use Rattle.hyd_spec_certificates.specs.Interval.{Interval}
 use Rattle.hyd_spec_certificates.specs.Enclosing.{low, high}
 use Rattle.hyd_spec_reports.specs.declared.StatusWord.{StatusWord}
-use Rattle.hyd_spec_reports.specs.declared.StatusWord.TheVariants.{Open as WordOpen, Closed as WordClosed, Active as WordActive, Unsure as WordUnsure}
+use Rattle.hyd_spec_reports.specs.declared.StatusWord.TheVariants.{Open as WordOpen, Closed as WordClosed}
+use Rattle.hyd_spec_reports.specs.declared.StatusWord.TheVariants.{Active as WordActive, Unsure as WordUnsure}
 use Rattle.hyd_spec_reports.specs.Report.{by_drive, by_setting, by_knots}
 
 -- an open link that passes forward only has the word of its drive
@@ -17,7 +18,10 @@ open_word law d = WordOpen
 
 -- a running pump has the word of its drive with its lift, or of its curve
 abbrev pub running_word : Law → Interval → StatusWord
-running_word (ForwardOnly (Lifted lift law)) d = by_drive (record { lo = d.lo +ℤ floor lift; hi = d.hi +ℤ ceiling lift })
+running_word (ForwardOnly (Lifted lift law)) d = by_drive (record {
+  lo = d.lo +ℤ floor lift;
+  hi = d.hi +ℤ ceiling lift;
+})
 running_word (Held least greatest (Bent knots)) d = by_knots knots d
 running_word law d = WordUnsure
 

@@ -25,17 +25,18 @@ fn tank_flows(net: &Net, tank: u32, side: Side, u: &[i64], node: u32) -> i128
     requires in_range { tank < length net.now.tanks }
     requires vector { IsVector net.now u.now }
     requires node { node ≡ tank_node_of net.now tank }
-    ensures value { result ≡ flows_out side (all_heads (grid_of net.now) (Pinned tank) side u.now) node (grid_of net.now).links }
+    ensures value { result ≡ flows_out side (all_heads (grid_of net.now) (Pinned tank) side u.now) node
+        (grid_of net.now).links }
     ensures small { unsigned_abs result ≤ 964 * 10 ^ 24 }
 {
     let problem = Problem::Pinned(tank);
     flows_out(net, problem, side, u, node, net.fixed(problem, side, node))
 }
 
-/// What flows into a tank, in flow ticks: from the LOWER vector the flows toward it at least, from the UPPER one at most,
-/// widened by the tolerance for each of its link ends. `low` and `high` are heads of the junctions with that tank pinned,
-/// as certificates of `Problem::Pinned`, which are in order by `pinned_in_order`: of such the span holds the inflow of
-/// every assignment, at every scale.
+/// What flows into a tank, in flow ticks: from the LOWER vector the flows toward it at least, from the UPPER one at
+/// most, widened by the tolerance for each of its link ends. `low` and `high` are heads of the junctions with that tank
+/// pinned, as certificates of `Problem::Pinned`, which are in order by `pinned_in_order`: of such the span holds the
+/// inflow of every assignment, at every scale.
 pub fn tank_inflow(net: &Net, tank: u32, low: &[i64], high: &[i64]) -> Span
     requires in_range { tank < length net.now.tanks }
     requires low { IsVector net.now low.now }

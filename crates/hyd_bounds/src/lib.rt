@@ -1,5 +1,5 @@
-//! Bounds from certificates: what flows in a link, out of a junction and into a tank, at least and at most, and the status
-//! word of a link.
+//! Bounds from certificates: what flows in a link, out of a junction and into a tank, at least and at most, and the
+//! status word of a link.
 #![tactic(auto)]
 
 mod flows;

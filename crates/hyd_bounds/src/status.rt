@@ -1,7 +1,8 @@
 //! Status words of links.
 #![tactic(auto)]
 
-ghost use Rattle.std.specs.Prelude.{◌≡◌, ◌<◌, ◌≤◌, ◌*◌, ◌^◌, ◌+ℤ◌, Bool, List, ℤ, Some, slice_get, length, unsigned_abs};
+ghost use Rattle.std.specs.Prelude.{◌≡◌, ◌<◌, ◌≤◌, ◌*◌, ◌^◌, ◌+ℤ◌, Bool, List, ℤ, Some, slice_get, length};
+ghost use Rattle.std.specs.Prelude.{unsigned_abs};
 ghost use Rattle.hyd_net.specs.ListView.{ListView};
 ghost use Rattle.hyd_net.specs.States.{CanHave};
 ghost use Rattle.hyd_net.specs.declared.curves.HeadPoint.{HeadPoint};
@@ -156,10 +157,10 @@ fn word_of(state: &LinkState, law: &LinkLaw, least: i64, greatest: i64) -> Statu
 }
 
 /// The status of a link as the report prints it, by its state, its own law and the interval of its head difference
-/// (EPANET 2.2 User Manual, status of links): OPEN or CLOSED where that is so for each difference in it, ACTIVE of a valve
-/// that holds its setting, else UNSURE. `low` and `high` are heads of the junctions below and above those of every
-/// assignment, as a LOWER and an UPPER certificate of `Problem::Main`: of such the word holds of the link in every
-/// assignment, at every scale.
+/// (EPANET 2.2 User Manual, status of links): OPEN or CLOSED where that is so for each difference in it, ACTIVE of a
+/// valve that holds its setting, else UNSURE. `low` and `high` are heads of the junctions below and above those of
+/// every assignment, as a LOWER and an UPPER certificate of `Problem::Main`: of such the word holds of the link in
+/// every assignment, at every scale.
 pub fn status_of(net: &Net, link: u32, low: &[i64], high: &[i64]) -> StatusWord
     requires in_range { link < length net.now.ends }
     requires low { IsVector net.now low.now }

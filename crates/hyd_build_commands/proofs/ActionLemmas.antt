@@ -1,5 +1,6 @@
 -- Actions of a file without a fault.
-use Rattle.std.proofs.Common.{◌≡◌, ℕ, Bool, true, false, List, take, slice_get, Option, Some, None, refl, sym, subst, true≢false, inl, inr}
+use Rattle.std.proofs.Common.{◌≡◌, ℕ, Bool, true, false, List, take, slice_get, Option, Some, None, refl, sym, subst}
+use Rattle.std.proofs.Common.{true≢false, inl, inr}
 use Rattle.hyd_spec_lines.specs.Lines.{Row}
 use Rattle.hyd_spec_lines.specs.declared.section.Section.{Section}
 use Rattle.hyd_spec_lines.specs.declared.section.Section.TheVariants.{Rules}

@@ -11,7 +11,8 @@ use Rattle.hyd_opts.specs.declared.rules.Value.{Value as Said}
 use Rattle.hyd_spec_input.specs.Columns.{amount}
 use Rattle.hyd_spec_input.specs.Project.{IsValue}
 use Rattle.hyd_spec_input.specs.declared.Attribute.{Attribute}
-use Rattle.hyd_spec_input.specs.declared.Attribute.TheVariants.{Head, Pressure, Level, Flow, Setting, Status, Time, Clock}
+use Rattle.hyd_spec_input.specs.declared.Attribute.TheVariants.{Head, Pressure, Level, Flow, Setting, Status, Time}
+use Rattle.hyd_spec_input.specs.declared.Attribute.TheVariants.{Clock}
 use Rattle.hyd_build_commands.specs.Clauses.{IsOfAttribute}
 use Rattle.hyd_build_commands.specs.Values.{IsAmountOf}
 

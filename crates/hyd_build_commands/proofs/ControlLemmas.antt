@@ -1,5 +1,6 @@
 -- Controls of a file without a fault.
-use Rattle.std.proofs.Common.{◌≡◌, ◌+◌, ◌++◌, ℕ, Bool, true, false, List, [], ◌∷◌, map, take, drop, slice_get, Option, Some, None, refl, sym, ap, ◌∙◌, subst, true≢false, codes, if◌then◌else◌, inl, inr}
+use Rattle.std.proofs.Common.{◌≡◌, ◌+◌, ◌++◌, ℕ, Bool, true, false, List, [], ◌∷◌, map, take, drop, slice_get, Option}
+use Rattle.std.proofs.Common.{Some, None, refl, sym, ap, ◌∙◌, subst, true≢false, codes, if◌then◌else◌, inl, inr}
 use Rattle.std.specs.Prelude.{◌||◌}
 use Rattle.std.proofs.lemmas.List.{map-append}
 use Rattle.hyd_spec_lines.specs.Bytes.{is_keyword}
@@ -16,7 +17,8 @@ use Rattle.hyd_num.specs.declared.units.FlowUnit.{FlowUnit}
 use Rattle.hyd_spec_input.specs.ByItself as itself
 use Rattle.hyd_spec_input.specs.ByItself.{IsWrongByItself}
 use Rattle.hyd_spec_input.specs.Capacities.{IsRefusedIn, IsRefusedSetting}
-use Rattle.hyd_spec_input.specs.Columns.{unless, id, meant, asked, one_of, needed, word, word_is, is_option_keyword, amount}
+use Rattle.hyd_spec_input.specs.Columns.{unless, id, meant, asked, one_of, needed, word, word_is, is_option_keyword}
+use Rattle.hyd_spec_input.specs.Columns.{amount}
 use Rattle.hyd_spec_input.specs.ControlRows as row_form
 use Rattle.hyd_spec_input.specs.Curves.{is_head}
 use Rattle.hyd_spec_input.specs.Faults.{NoneIs, IsWrongWithOthers}
@@ -24,7 +26,8 @@ use Rattle.hyd_spec_input.specs.InForce as force
 use Rattle.hyd_spec_input.specs.Keywords.{link_word, node_word}
 use Rattle.hyd_spec_input.specs.Network.{tank_ids, number_in}
 use Rattle.hyd_spec_input.specs.Project.{Match, IsControl}
-use Rattle.hyd_spec_input.specs.Tables.{is_of, rows_of, words_of, words_of_row, node_named, link_named, allows_node, allows_link}
+use Rattle.hyd_spec_input.specs.Tables.{is_of, rows_of, words_of, words_of_row, node_named, link_named, allows_node}
+use Rattle.hyd_spec_input.specs.Tables.{allows_link}
 use Rattle.hyd_spec_input.specs.WithOthers as others
 use Rattle.hyd_spec_networks.proofs.Faultless.{or_none, all_none, unless_none, needed_none, section_is}
 use Rattle.hyd_spec_networks.proofs.Points.{is_head_lies}

@@ -1,13 +1,17 @@
 -- Names of a file without a fault have numbers.
-use Rattle.std.proofs.Common.{◌≡◌, ℕ, zero, suc, Bool, true, List, [], ◌∷◌, ◌++◌, map, filter, slice_get, Some, None, ap, ◌∙◌, inl, inr}
+use Rattle.std.proofs.Common.{◌≡◌, ℕ, zero, suc, Bool, true, List, [], ◌∷◌, ◌++◌, map, filter, slice_get, Some, None}
+use Rattle.std.proofs.Common.{ap, ◌∙◌, inl, inr}
 use Rattle.std.specs.Option.{option_map}
 use Rattle.std.proofs.lemmas.Bool.{cases_Bool}
 use Rattle.std.proofs.lemmas.Option.{slice_get-map}
 use Rattle.hyd_spec_lines.specs.Lines.{Row}
-use Rattle.hyd_spec_lines.specs.declared.section.Section.TheVariants.{Junctions, Reservoirs, Tanks, Pipes, Pumps, Valves}
+use Rattle.hyd_spec_lines.specs.declared.section.Section.TheVariants.{Junctions, Reservoirs, Tanks, Pipes, Pumps}
+use Rattle.hyd_spec_lines.specs.declared.section.Section.TheVariants.{Valves}
 use Rattle.hyd_spec_input.specs.Network.{node_ids, tank_ids, link_ids, number_in}
-use Rattle.hyd_spec_input.specs.Tables.{is_of, is_node, is_link, own_id, rows_of, node_rows, link_rows, node_named, link_named}
-use Rattle.hyd_spec_networks.proofs.Names.{First, Second, Third, one_of_three, named_stands, node_ids_are, link_ids_are, tank_ids_are}
+use Rattle.hyd_spec_input.specs.Tables.{is_of, is_node, is_link, own_id, rows_of, node_rows, link_rows, node_named}
+use Rattle.hyd_spec_input.specs.Tables.{link_named}
+use Rattle.hyd_spec_networks.proofs.Names.{First, Second, Third, one_of_three, named_stands, node_ids_are, link_ids_are}
+use Rattle.hyd_spec_networks.proofs.Names.{tank_ids_are}
 use Rattle.hyd_spec_networks.proofs.Occurs.{occurs_at, has_number}
 use Rattle.hyd_spec_networks.proofs.Places.{Stands, kept_stands, kept_passes}
 

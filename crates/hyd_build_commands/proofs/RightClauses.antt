@@ -11,7 +11,8 @@ use Rattle.hyd_spec_input.specs.Tables.{node_named, link_named, allows_node, all
 use Rattle.hyd_spec_input.specs.WithOthers as others
 use Rattle.hyd_spec_input.specs.WithOthers.{can_show}
 use Rattle.hyd_spec_input.specs.declared.Attribute.{Attribute}
-use Rattle.hyd_spec_input.specs.declared.Attribute.TheVariants.{Head, Pressure, Level, Flow, Setting, Status, Time, Clock}
+use Rattle.hyd_spec_input.specs.declared.Attribute.TheVariants.{Head, Pressure, Level, Flow, Setting, Status, Time}
+use Rattle.hyd_spec_input.specs.declared.Attribute.TheVariants.{Clock}
 use Rattle.hyd_spec_input.specs.declared.ObjectWord.{ObjectWord}
 use Rattle.hyd_spec_input.specs.declared.ObjectWord.TheVariants.{System, Node, Link}
 use Rattle.hyd_spec_input.specs.declared.NodeWord.{NodeWord}

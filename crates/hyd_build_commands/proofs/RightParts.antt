@@ -1,5 +1,6 @@
 -- The lines of rules of a file without a fault, at the stage before them.
-use Rattle.std.proofs.Common.{◌≡◌, ◌+◌, ℕ, Bool, true, false, List, ◌∷◌, [], drop, take, slice_get, Option, Some, None, refl, sym, subst, true≢false, inl}
+use Rattle.std.proofs.Common.{◌≡◌, ◌+◌, ℕ, Bool, true, false, List, ◌∷◌, [], drop, take, slice_get, Option, Some, None}
+use Rattle.std.proofs.Common.{refl, sym, subst, true≢false, inl}
 use Rattle.hyd_spec_lines.specs.Lines.{Row}
 use Rattle.hyd_spec_lines.specs.declared.section.Section.{Section}
 use Rattle.hyd_spec_lines.specs.declared.section.Section.TheVariants.{Rules}
@@ -13,7 +14,9 @@ use Rattle.hyd_spec_input.specs.Faults.{NoneIs, IsWrongWithOthers}
 use Rattle.hyd_spec_input.specs.Keywords.{object_word, attribute_word}
 use Rattle.hyd_spec_input.specs.Network.{node_ids, tank_ids, link_ids, is_asking, is_priority}
 use Rattle.hyd_spec_input.specs.RuleRows as form
-use Rattle.hyd_spec_input.specs.RuleRows.{begins_with, stage_by, is_acting, is_rule, in_order, line_words, words_about, gets_then, can_have, attribute_of, attribute, relation, value, attribute_place, comparison, clause_about}
+use Rattle.hyd_spec_input.specs.RuleRows.{begins_with, stage_by, is_acting, is_rule, in_order, line_words, words_about}
+use Rattle.hyd_spec_input.specs.RuleRows.{gets_then, can_have, attribute_of, attribute, relation, value}
+use Rattle.hyd_spec_input.specs.RuleRows.{attribute_place, comparison, clause_about}
 use Rattle.hyd_spec_input.specs.Tables.{is_of, words_of}
 use Rattle.hyd_spec_input.specs.WithOthers as others
 use Rattle.hyd_spec_input.specs.WithOthers.{is_part_word, is_action_word, holds_action}

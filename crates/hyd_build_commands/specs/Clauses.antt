@@ -4,7 +4,8 @@ use Rattle.hyd_net.specs.declared.rules.What.{What}
 use Rattle.hyd_net.specs.declared.rules.What.TheVariants as what
 use Rattle.hyd_spec_input.specs.Network.{number_in}
 use Rattle.hyd_spec_input.specs.declared.Attribute.{Attribute}
-use Rattle.hyd_spec_input.specs.declared.Attribute.TheVariants.{Head, Pressure, Level, Flow, Setting, Status, Time, Clock}
+use Rattle.hyd_spec_input.specs.declared.Attribute.TheVariants.{Head, Pressure, Level, Flow, Setting, Status, Time}
+use Rattle.hyd_spec_input.specs.declared.Attribute.TheVariants.{Clock}
 
 -- a name has a number among the IDs that an attribute asks: those of nodes, of tanks, or of links
 abbrev pub HasNumber : List (List ℕ) → List (List ℕ) → List (List ℕ) → Attribute → List ℕ → Type 0

@@ -1,5 +1,6 @@
 -- Names that have numbers.
-use Rattle.std.proofs.Common.{◌≡◌, ℕ, ◌+◌, ◌≤◌, zero, suc, Bool, true, false, List, [], ◌∷◌, ◌++◌, map, Option, Some, None, slice_get, refl, sym, ap, ◌∙◌, arith, inl, inr, true≢false}
+use Rattle.std.proofs.Common.{◌≡◌, ℕ, ◌+◌, ◌≤◌, zero, suc, Bool, true, false, List, [], ◌∷◌, ◌++◌, map, Option, Some}
+use Rattle.std.proofs.Common.{None, slice_get, refl, sym, ap, ◌∙◌, arith, inl, inr, true≢false}
 use Rattle.std.specs.Prelude.{filter}
 use Rattle.std.specs.List.{flat_map}
 use Rattle.std.specs.Option.{option_map}
@@ -13,10 +14,12 @@ use Rattle.hyd_spec_lines.specs.declared.section.Section.TheVariants.{Junctions,
 use Rattle.hyd_spec_input.specs.NetworkRows.{pump_curve, valve_curve}
 use Rattle.hyd_spec_input.specs.Network.{node_ids, number_in, is_among, as_list, bent_name, bend_names}
 use Rattle.hyd_spec_input.specs.Curves.{is_bent}
-use Rattle.hyd_spec_input.specs.Tables.{is_of, is_node, is_link, rows_of, node_rows, link_rows, node_named, row_with, own_id, curve_named}
+use Rattle.hyd_spec_input.specs.Tables.{is_of, is_node, is_link, rows_of, node_rows, link_rows, node_named, row_with}
+use Rattle.hyd_spec_input.specs.Tables.{own_id, curve_named}
 use Rattle.hyd_spec_input.specs.WithOthers.{known_as, known_node}
 use Rattle.hyd_spec_networks.proofs.Faultless.{AreRight}
-use Rattle.hyd_spec_networks.proofs.Names.{First, Second, Third, one_of_three, node_ids_are, own_ids, row_named, link_new, named_stands}
+use Rattle.hyd_spec_networks.proofs.Names.{First, Second, Third, one_of_three, node_ids_are, own_ids, row_named}
+use Rattle.hyd_spec_networks.proofs.Names.{link_new, named_stands}
 use Rattle.hyd_spec_networks.proofs.Occurs.{itself, occurs, occurs_append, occurs_at, has_number, kept_once}
 use Rattle.hyd_spec_networks.proofs.Places.{kept_stands, kept_passes}
 use Rattle.hyd_tables.specs.Found.{rows_at}

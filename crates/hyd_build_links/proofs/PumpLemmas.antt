@@ -1,5 +1,6 @@
 -- The laws of pumps with curves of one point or three.
-use Rattle.std.proofs.Common.{◌≡◌, ℕ, ◌≤◌, ◌<◌, false, List, Option, Some, [], ◌∷◌, length, get_or, refl, sym, subst, arith, ◌&&◌}
+use Rattle.std.proofs.Common.{◌≡◌, ℕ, ◌≤◌, ◌<◌, false, List, Option, Some, [], ◌∷◌, length, get_or, refl, sym, subst}
+use Rattle.std.proofs.Common.{arith, ◌&&◌}
 use Rattle.std.specs.Prelude.{pos, ◌<ℤ◌, ◌-ℤ◌, ◌*ℤ◌}
 use Rattle.std.specs.Ordering.{int_eq}
 use Rattle.std.proofs.lemmas.Bool.{and_parts}

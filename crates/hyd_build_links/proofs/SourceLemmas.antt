@@ -1,5 +1,6 @@
 -- A row of a source whose rows are right.
-use Rattle.std.proofs.Common.{◌≡◌, ℕ, ◌≤◌, true, List, length, take, Some, slice_get, refl, sym, subst, inl, inr, nat_le}
+use Rattle.std.proofs.Common.{◌≡◌, ℕ, ◌≤◌, true, List, length, take, Some, slice_get, refl, sym, subst, inl, inr}
+use Rattle.std.proofs.Common.{nat_le}
 use Rattle.std.specs.List.{All, slice_split}
 use Rattle.std.proofs.lemmas.Bool.{leb-true}
 use Rattle.std.proofs.lemmas.List.Elements.{filter_passes}

@@ -1,5 +1,6 @@
 -- Junctions of a file without a fault.
-use Rattle.std.proofs.Common.{◌≡◌, ◌+◌, ◌^◌, ◌<◌, ◌≤◌, ◌++◌, ℕ, true, List, [], ◌∷◌, map, length, take, position, Option, Some, None, slice_get, refl, sym, ap, ◌∙◌, subst, arith, get_or}
+use Rattle.std.proofs.Common.{◌≡◌, ◌+◌, ◌^◌, ◌<◌, ◌≤◌, ◌++◌, ℕ, true, List, [], ◌∷◌, map, length, take, position}
+use Rattle.std.proofs.Common.{Option, Some, None, slice_get, refl, sym, ap, ◌∙◌, subst, arith, get_or}
 use Rattle.std.specs.Prelude.{unsigned_abs, pos}
 use Rattle.std.specs.Str.{bytes_eq}
 use Rattle.std.proofs.lemmas.List.{length-map, get_or-map, take_all}
@@ -19,7 +20,8 @@ use Rattle.hyd_rows.specs.declared.nodes.JunctionRow.{JunctionRow}
 use Rattle.hyd_spec_input.specs.Columns.{amount, amount_or, word, or_empty}
 use Rattle.hyd_spec_input.specs.Faults.{NoneIs, IsWrongWithOthers}
 use Rattle.hyd_spec_input.specs.InForce as force
-use Rattle.hyd_spec_input.specs.Network.{pattern_ids, or_own, own_demand, emitter_of, demand_of_row, last_naming, coefficient}
+use Rattle.hyd_spec_input.specs.Network.{pattern_ids, or_own, own_demand, emitter_of, demand_of_row, last_naming}
+use Rattle.hyd_spec_input.specs.Network.{coefficient}
 use Rattle.hyd_spec_input.specs.Project.{Match, IsJunction, IsEmitter}
 use Rattle.hyd_spec_input.specs.Tables.{is_of, is_node, rows_of, rows_with, own_id, node_rows}
 use Rattle.hyd_spec_input.specs.WithOthers as others

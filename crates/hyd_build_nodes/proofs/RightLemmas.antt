@@ -1,5 +1,6 @@
 -- Rows of a file without a fault, and lists that match them, one row further.
-use Rattle.std.proofs.Common.{◌≡◌, ◌+◌, ◌*◌, ◌^◌, ◌≤◌, ◌++◌, ℕ, true, false, List, [], ◌∷◌, take, drop, length, slice_get, Some, None, sym, subst, arith, inl}
+use Rattle.std.proofs.Common.{◌≡◌, ◌+◌, ◌*◌, ◌^◌, ◌≤◌, ◌++◌, ℕ, true, false, List, [], ◌∷◌, take, drop, length}
+use Rattle.std.proofs.Common.{slice_get, Some, None, sym, subst, arith, inl}
 use Rattle.std.specs.Prelude.{ℤ, unsigned_abs}
 use Rattle.std.proofs.lemmas.Int.{ints}
 use Rattle.hyd_spec_lines.specs.Lines.{Row}

@@ -1,5 +1,6 @@
 -- Nodes as their rows make them.
-use Rattle.std.specs.Prelude.{◌≡◌, ℕ, ◌≤◌, ◌*◌, ◌^◌, List, [], ◌∷◌, ◌++◌, Option, Some, None, slice_get, ℤ, pos, ◌≤ℤ◌, unsigned_abs}
+use Rattle.std.specs.Prelude.{◌≡◌, ℕ, ◌≤◌, ◌*◌, ◌^◌, List, [], ◌∷◌, ◌++◌, Option, Some, None, slice_get, ℤ, pos, ◌≤ℤ◌}
+use Rattle.std.specs.Prelude.{unsigned_abs}
 use Rattle.hyd_num.specs.Quantity.{is_us_unit, head_ticks}
 use Rattle.hyd_num.specs.declared.units.FlowUnit.{FlowUnit}
 use Rattle.hyd_net.specs.Made.{IsAreaMade}

@@ -1,7 +1,8 @@
 //! The demands of junctions, gathered.
 #![tactic(auto)]
 
-ghost use Rattle.std.specs.Prelude.{◌≡◌, ◌<◌, ◌≤◌, ◌+◌, ◌^◌, ◌==◌, ◌++◌, [], ◌∷◌, length, slice_index_or, unsigned_abs, IfOk, OnOk};
+ghost use Rattle.std.specs.Prelude.{◌≡◌, ◌<◌, ◌≤◌, ◌+◌, ◌^◌, ◌==◌, ◌++◌, [], ◌∷◌, length, slice_index_or, unsigned_abs};
+ghost use Rattle.std.specs.Prelude.{IfOk, OnOk};
 ghost use Rattle.std.specs.List.{All};
 ghost use Rattle.hyd_num.specs.Quantity as quantity;
 ghost use Rattle.hyd_spec_lines.specs.Lines.{LiesIn};

@@ -1,7 +1,8 @@
 //! Tanks.
 #![tactic(auto)]
 
-ghost use Rattle.std.specs.Prelude.{◌≡◌, ◌<◌, ◌≤◌, ◌+◌, ◌*◌, ◌/◌, ◌^◌, ◌==◌, ◌≤ℤ◌, pos, ◌*ℤ◌, None, length, take, unsigned_abs, IfOk, OnOk};
+ghost use Rattle.std.specs.Prelude.{◌≡◌, ◌<◌, ◌≤◌, ◌+◌, ◌*◌, ◌/◌, ◌^◌, ◌==◌, ◌≤ℤ◌, pos, ◌*ℤ◌, None, length, take};
+ghost use Rattle.std.specs.Prelude.{unsigned_abs, IfOk, OnOk};
 ghost use Rattle.std.specs.List.{All};
 ghost use Rattle.hyd_num.specs.Quantity.{is_us_unit, head_ticks};
 ghost use Rattle.hyd_num.specs.Roots.{IsFloor};

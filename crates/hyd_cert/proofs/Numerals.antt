@@ -1,9 +1,13 @@
 -- Numerals: the spelling of a number, and what a word that spells one is.
-use Rattle.std.proofs.Common.{◌≡◌, ◌≢◌, ℕ, zero, suc, ◌+◌, ◌*◌, ◌-◌, ◌/◌, ◌%◌, ◌<◌, ◌≤◌, ◌==◌, false, Option, Some, None, IfSome, IfNone, ◌^◌, ℤ, pos, negsuc, List, [], ◌∷◌, ◌++◌, length, length-append, take, drop, get_or, refl, sym, ap, ap₂, add-one, ◌∙◌, subst, arith, rules}
+use Rattle.std.proofs.Common.{◌≡◌, ◌≢◌, ℕ, zero, suc, ◌+◌, ◌*◌, ◌-◌, ◌/◌, ◌%◌, ◌<◌, ◌≤◌, ◌==◌, false, Option, Some}
+use Rattle.std.proofs.Common.{None, IfSome, IfNone, ◌^◌, ℤ, pos, negsuc, List, [], ◌∷◌, ◌++◌, length, length-append}
+use Rattle.std.proofs.Common.{take, drop, get_or, refl, sym, ap, ap₂, add-one, ◌∙◌, subst, arith, rules}
 use Rattle.std.specs.Fmt.{decimal, signed_decimal}
 use Rattle.std.specs.Char.{digit_value}
 use Rattle.std.specs.Str.Parse.{AllDigits, digits_value}
-use Rattle.std.proofs.lemmas.Fmt.{decimal_is_IsNumeral, length-decimal-le, decimal_nonempty, first_decimal, decimal_digit, decimal-digits_value, decimal_is_IsNumeral_wide, decimal_by_steps_wide, decimal_step_wide}
+use Rattle.std.proofs.lemmas.Fmt.{decimal_is_IsNumeral, length-decimal-le, decimal_nonempty, first_decimal}
+use Rattle.std.proofs.lemmas.Fmt.{decimal_digit, decimal-digits_value, decimal_is_IsNumeral_wide, decimal_by_steps_wide}
+use Rattle.std.proofs.lemmas.Fmt.{decimal_step_wide}
 use Rattle.std.proofs.lemmas.Int.Digits.{digits_value_more}
 use Rattle.std.proofs.lemmas.Str.Parse.{IsNumeralModel, numerals_by_value, tells_digits, digits_value_short, digit_at}
 use Rattle.std.proofs.lemmas.Int.{ints}
@@ -23,15 +27,18 @@ all_push [] c all digit = (digit, tt)
 all_push (d ∷ ds) c all digit = (all.0, all_push ds c all.1 digit)
 
 -- one digit more
-pub digits_more : (word : List ℕ) (i : ℕ) → i < length word → 48 ≤ get_or word i 0 → get_or word i 0 ≤ 57 → AllDigits 10 (take i word)
+pub digits_more : (word : List ℕ) (i : ℕ) → i < length word → 48 ≤ get_or word i 0 → get_or word i 0 ≤ 57
+    → AllDigits 10 (take i word)
     → AllDigits 10 (take (i + 1) word)
 digits_more word i within low high all =
     let e = value_of_digit (get_or word i 0) low high in
-    subst (AllDigits 10) (sym (take_more word i 0 within)) (all_push (take i word) (get_or word i 0) all (omega (arith, e)))
+    subst (AllDigits 10) (sym (take_more word i 0 within)) (all_push (take i word) (get_or word i 0) all
+    (omega (arith, e)))
 
 pub value_more : (word : List ℕ) (i : ℕ) → i < length word → 48 ≤ get_or word i 0 → get_or word i 0 ≤ 57
     → digits_value 10 (take (i + 1) word) ≡ digits_value 10 (take i word) * 10 + (get_or word i 0 - 48)
-value_more word i within low high = digits_value_more 10 word i within ∙ ap (λ d. digits_value 10 (take i word) * 10 + d) (value_of_digit (get_or word i 0) low high)
+value_more word i within low high = digits_value_more 10 word i within ∙ ap (λ d. digits_value 10 (take i word) * 10
+    + d) (value_of_digit (get_or word i 0) low high)
 
 -- what a numeral below 10^19 is
 pub record IsShort (word : List ℕ) (n : ℕ) : Type 0 where
@@ -55,7 +62,8 @@ short_numeral word n fits e = subst (λ w. IsShort w n) (sym e) (record {
 })
 
 -- and a word that is so spells its value
-pub spells_value : (word : List ℕ) → 0 < length word → length word ≤ 19 → AllDigits 10 word → (get_or word 0 0 ≡ 48 → length word ≡ 1) → word ≡ decimal (digits_value 10 word)
+pub spells_value : (word : List ℕ) → 0 < length word → length word ≤ 19 → AllDigits 10 word
+    → (get_or word 0 0 ≡ 48 → length word ≡ 1) → word ≡ decimal (digits_value 10 word)
 spells_value word some few all no_zero =
     let low = digits_value_short own word 19 all few in
     sym (decimal-digits_value own word all some no_zero (omega (arith, low)))
@@ -64,8 +72,10 @@ pub value_fits : (word : List ℕ) → length word ≤ 19 → AllDigits 10 word 
 value_fits word few all = digits_value_short own word 19 all few
 
 -- before one digit more
-pub front_fits : (word : List ℕ) (i : ℕ) → i < length word → length word ≤ 19 → AllDigits 10 (take i word) → digits_value 10 (take i word) < 10 ^ 18
-front_fits word i within few all = digits_value_short own (take i word) 18 all (let k = length-take-le i word (omega arith) in omega (arith, k))
+pub front_fits : (word : List ℕ) (i : ℕ) → i < length word → length word ≤ 19 → AllDigits 10 (take i word)
+    → digits_value 10 (take i word) < 10 ^ 18
+front_fits word i within few all = digits_value_short own (take i word) 18 all
+    (let k = length-take-le i word (omega arith) in omega (arith, k))
 
 -- ---- numbers of any size
 
@@ -78,7 +88,10 @@ record StartsHigh (n : ℕ) (ds : List ℕ) : Type 0 where
   high : 0 < n → 48 < get_or ds 0 0
 
 starts_high : (n : ℕ) → n < 10 ^ 64 → StartsHigh n (decimal n)
-starts_high n fits = decimal_by_steps_wide StartsHigh (λ m low. record { some = omega arith; high = λ positive. omega (arith, positive) }) longer n fits
+starts_high n fits = decimal_by_steps_wide StartsHigh (λ m low. record {
+  some = omega arith;
+  high = λ positive. omega (arith, positive);
+}) longer n fits
   where
     front_same : (ds : List ℕ) (c : ℕ) → 0 < length ds → get_or (ds ++ (c ∷ [])) 0 0 ≡ get_or ds 0 0
     front_same [] c some = absurd (omega (arith, some))
@@ -87,12 +100,14 @@ starts_high n fits = decimal_by_steps_wide StartsHigh (λ m low. record { some =
     longer : (m : ℕ) (ds : List ℕ) → 10 ≤ m → StartsHigh (m / 10) ds → StartsHigh m (ds ++ ((48 + m % 10) ∷ []))
     longer m ds big so_far = record {
       some = (let l = length-append ds ((48 + m % 10) ∷ []) in omega (arith, l));
-      high = λ positive. (let h = so_far.high (omega (arith, big)) in let same = front_same ds (48 + m % 10) so_far.some in omega (arith, h, same));
+      high = λ positive. (let h = so_far.high (omega (arith, big)) in
+          let same = front_same ds (48 + m % 10) so_far.some in omega (arith, h, same));
     }
 
 wide_leading : (n : ℕ) → n < 10 ^ 64 → get_or (decimal n) 0 0 ≡ 48 → length (decimal n) ≡ 1
 wide_leading zero fits first = ap length (decimal_digit 0 (omega arith))
-wide_leading (suc n) fits first = absurd (let k = (starts_high (suc n) fits).high (omega arith) in omega (arith, k, first))
+wide_leading (suc n) fits first = absurd (let k = (starts_high (suc n) fits).high (omega arith) in
+    omega (arith, k, first))
 
 pub wide_zero : (word : List ℕ) (n : ℕ) → n < 10 ^ 64 → word ≡ decimal n → get_or word 0 0 ≡ 48 → length word ≡ 1
 wide_zero word n fits e first = ap length e ∙ wide_leading n fits (sym (ap (λ w. get_or w 0 0) e) ∙ first)
@@ -108,7 +123,8 @@ all_take zero (d ∷ ds) all = tt
 all_take (suc k) [] all = tt
 all_take (suc k) (d ∷ ds) all = (all.0, all_take k ds all.1)
 
-spelled_more : (word : List ℕ) (n : ℕ) → n < length word → n < 64 → AllDigits 10 word → IsSpelled word n → IsSpelled word (n + 1)
+spelled_more : (word : List ℕ) (n : ℕ) → n < length word → n < 64 → AllDigits 10 word → IsSpelled word n
+    → IsSpelled word (n + 1)
 spelled_more word n within few all so_far =
     let c = digit_at word n all within in
     let value = value_more word n within c.0 c.1 in
@@ -134,26 +150,35 @@ first_spelled (c ∷ word) some all first =
     let high : 48 < c = not_least c d.0 first in
     record {
       some = omega (arith, value, high);
-      spelled = ap (λ x. x ∷ []) (omega (arith, high)) ∙ (sym (decimal_digit (c - 48) (omega (arith, d.1))) ∙ ap decimal (sym value));
+      spelled = ap (λ x. x ∷ []) (omega (arith, high)) ∙ (sym (decimal_digit (c - 48) (omega (arith, d.1)))
+          ∙ ap decimal (sym value));
     }
   where
     not_least : (c : ℕ) → 48 ≤ c → c ≢ 48 → 48 < c
     not_least c low apart = omega (arith, low, apart)
 
-all_spelled : (word : List ℕ) (n : ℕ) → n < length word → n < 64 → AllDigits 10 word → get_or word 0 0 ≢ 48 → IsSpelled word (n + 1)
+all_spelled : (word : List ℕ) (n : ℕ) → n < length word → n < 64 → AllDigits 10 word → get_or word 0 0 ≢ 48
+    → IsSpelled word (n + 1)
 all_spelled word zero within few all first = first_spelled word within all first
 all_spelled word (suc n) within few all first =
-    spelled_more word (suc n) within few all (subst (IsSpelled word) (add-one n) (all_spelled word n (omega arith) (omega arith) all first))
+    spelled_more word (suc n) within few all (subst (IsSpelled word) (add-one n)
+    (all_spelled word n (omega arith) (omega arith) all first))
 
 -- digits that don't begin with 0 spell a number
 pub digits_spell : (word : List ℕ) → 0 < length word → length word ≤ 64 → AllDigits 10 word → get_or word 0 0 ≢ 48
     → (n : ℕ) × ((n < 10 ^ 64) × (word ≡ decimal n))
 digits_spell word some few all first =
     let k = all_spelled word (length word - 1) (omega (arith, some)) (omega (arith, some, few)) all first in
-    let whole : take (length word - 1 + 1) word ≡ word = take_all (length word - 1 + 1) word (omega (arith, some)) in
-    (digits_value 10 word, (digits_value_short own word 64 all few, subst (λ (w : List ℕ). w ≡ decimal (digits_value 10 w)) whole k.spelled))
+    let whole : take (length word - 1 + 1) word ≡ word = take_all (length word - 1 + 1) word (omega (arith, some)) in (
+      digits_value 10 word,
+      (
+        digits_value_short own word 64 all few,
+        subst (λ (w : List ℕ). w ≡ decimal (digits_value 10 w)) whole k.spelled,
+      ),
+    )
 
-pub zero_spells : (word : List ℕ) → get_or word 0 0 ≡ 48 → length word ≡ 1 → (n : ℕ) × ((n < 10 ^ 64) × (word ≡ decimal n))
+pub zero_spells : (word : List ℕ) → get_or word 0 0 ≡ 48 → length word ≡ 1
+    → (n : ℕ) × ((n < 10 ^ 64) × (word ≡ decimal n))
 zero_spells [] first one = absurd (omega (arith, one))
 zero_spells (c ∷ []) first one = (0, (omega arith, ap (λ x. x ∷ []) first ∙ sym (decimal_digit 0 (omega arith))))
 zero_spells (c ∷ d ∷ word) first one = absurd (omega (arith, one))
@@ -176,7 +201,13 @@ first_digit : (n : ℕ) → n < 10 ^ 19 → 48 ≤ get_or (decimal n) 0 0
 first_digit n fits = let k = short_numeral (decimal n) n fits refl in (digit_at (decimal n) 0 k.digits k.some).0
 
 pub plain : (word : List ℕ) (h : ℤ) → IsInBox h → word ≡ signed_decimal h → get_or word 0 0 ≢ 45 → IsPlain word h
-plain word (pos n) box e first = record { magnitude = n; is = refl; fits = let b = box.below_ceiling in omega (arith, ints, b); spelled = e }
+plain word (pos n) box e first = record {
+  magnitude = n;
+  is = refl;
+  fits = let b = box.below_ceiling in
+      omega (arith, ints, b);
+  spelled = e;
+}
 plain word (negsuc n) box e first = absurd (first (ap (λ w. get_or w 0 0) e))
 
 pub negative : (word : List ℕ) (h : ℤ) → IsInBox h → word ≡ signed_decimal h → get_or word 0 0 ≡ 45 → IsNegative word h
@@ -184,7 +215,13 @@ negative word (pos n) box e first =
     let b = box.below_ceiling in
     let low = first_digit n (omega (arith, ints, b)) in
     let same : get_or word 0 0 ≡ get_or (decimal n) 0 0 = ap (λ w. get_or w 0 0) e in absurd (omega (arith, low, same))
-negative word (negsuc n) box e first = record { before = n; is = refl; fits = let b = box.above_floor in omega (arith, ints, b); spelled = e }
+negative word (negsuc n) box e first = record {
+  before = n;
+  is = refl;
+  fits = let b = box.above_floor in
+      omega (arith, ints, b);
+  spelled = e;
+}
 
 -- a head is spelled by some byte
 pub head_some : (word : List ℕ) (h : ℤ) → IsInBox h → word ≡ signed_decimal h → 0 < length word
@@ -192,7 +229,8 @@ head_some word (pos n) box e = let b = box.below_ceiling in (short_numeral word 
 head_some word (negsuc n) box e = subst (λ (w : List ℕ). 0 < length w) (sym e) (omega arith)
 
 -- the digits of a negative head, as the slice behind the sign is seen
-pub after_sign : (word : List ℕ) (before : ℕ) → word ≡ 45 ∷ decimal (suc before) → take (length word - 1) (drop 1 word) ≡ decimal (suc before)
+pub after_sign : (word : List ℕ) (before : ℕ) → word ≡ 45 ∷ decimal (suc before)
+    → take (length word - 1) (drop 1 word) ≡ decimal (suc before)
 after_sign word before e = slice_from word 1 ∙ ap (drop 1) e
 
 -- ---- what the parts of `number` give
@@ -204,27 +242,32 @@ some_length (c ∷ word) e = omega arith
 pub not_one : (n : ℕ) → (n == 1) ≡ false → n ≢ 1
 not_one n other e = let same : (1 == 1) ≡ false = ap (λ k. k == 1) (sym e) ∙ other in absurd (cc)
 
-pub zero_some : (word : List ℕ) (o : Option ℕ) → get_or word 0 0 ≡ 48 → IfSome o (λ n. (n ≡ 0) × (length word ≡ 1)) → IfSome o (λ n. word ≡ decimal n)
+pub zero_some : (word : List ℕ) (o : Option ℕ) → get_or word 0 0 ≡ 48 → IfSome o (λ n. (n ≡ 0) × (length word ≡ 1))
+    → IfSome o (λ n. word ≡ decimal n)
 zero_some [] None first h = tt
 zero_some (c ∷ word) None first h = tt
 zero_some [] (Some n) first h = absurd (omega (arith, h.1))
-zero_some (c ∷ []) (Some n) first h = ap (λ x. x ∷ []) first ∙ (sym (decimal_digit 0 (omega arith)) ∙ ap decimal (sym h.0))
+zero_some (c ∷ []) (Some n) first h = ap (λ x. x ∷ []) first
+    ∙ (sym (decimal_digit 0 (omega arith)) ∙ ap decimal (sym h.0))
 zero_some (c ∷ d ∷ word) (Some n) first h = absurd (omega (arith, h.1))
 
-pub zero_none : (word : List ℕ) (o : Option ℕ) → get_or word 0 0 ≡ 48 → IfNone o (length word ≢ 1) → IfNone o ((n : ℕ) → n < 10 ^ 19 → word ≢ decimal n)
+pub zero_none : (word : List ℕ) (o : Option ℕ) → get_or word 0 0 ≡ 48 → IfNone o (length word ≢ 1)
+    → IfNone o ((n : ℕ) → n < 10 ^ 19 → word ≢ decimal n)
 zero_none word (Some n) first h = tt
 zero_none word None first h = λ n fits e. let k = short_numeral word n fits e in h (k.no_zero first)
 
 pub digits_some : (word : List ℕ) (o : Option ℕ) → 0 < length word → length word ≤ 19 → get_or word 0 0 ≢ 48
     → IfSome o (λ n. AllDigits 10 word × (n ≡ digits_value 10 word)) → IfSome o (λ n. word ≡ decimal n)
 digits_some word None some few first h = tt
-digits_some word (Some n) some few first h = spells_value word some few h.0 (λ e. absurd (first e)) ∙ ap decimal (sym h.1)
+digits_some word (Some n) some few first h = spells_value word some few h.0 (λ e. absurd (first e))
+    ∙ ap decimal (sym h.1)
 
 pub digits_fit : (word : List ℕ) (o : Option ℕ) → length word ≤ 19
     → IfSome o (λ n. AllDigits 10 word × (n ≡ digits_value 10 word)) → IfSome o (λ n. n < 10 ^ 19)
 digits_fit word None few h = tt
 digits_fit word (Some n) few h = let k = value_fits word few h.0 in omega (arith, k, h.1)
 
-pub digits_none : (word : List ℕ) (o : Option ℕ) → IfNone o (¬ (AllDigits 10 word)) → IfNone o ((n : ℕ) → n < 10 ^ 19 → word ≢ decimal n)
+pub digits_none : (word : List ℕ) (o : Option ℕ) → IfNone o (¬ (AllDigits 10 word))
+    → IfNone o ((n : ℕ) → n < 10 ^ 19 → word ≢ decimal n)
 digits_none word (Some n) h = tt
 digits_none word None h = λ n fits e. let k = short_numeral word n fits e in h k.digits

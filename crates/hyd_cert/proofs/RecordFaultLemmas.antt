@@ -1,5 +1,6 @@
 -- A text that goes on with a whole record isn't at fault in the lines of that record.
-use Rattle.std.proofs.Common.{◌≡◌, ℕ, suc, ◌+◌, ◌<◌, ◌≤◌, ◌≢◌, ℤ, List, [], ◌∷◌, ◌++◌, length, All, get_or, Option, Some}
+use Rattle.std.proofs.Common.{◌≡◌, ℕ, suc, ◌+◌, ◌<◌, ◌≤◌, ◌≢◌, ℤ, List, [], ◌∷◌, ◌++◌, length, All, get_or, Option}
+use Rattle.std.proofs.Common.{Some}
 use Rattle.std.proofs.Common.{Result, Ok, Err, IfErr, refl, sym, ap, ◌∙◌, subst, inl, inr, codes, append_assoc, arith}
 use Rattle.std.specs.Fmt.{decimal, signed_decimal}
 use Rattle.std.proofs.lemmas.List.{append_cancel_left}
@@ -122,7 +123,8 @@ record_before header row rest t number is fault told =
     let behind = behind_line header Between Between (place_after heads 0) t number (period_of row) more fault refl
     (inl (is_period header.junctions header.tanks row is, refl))
     (told ∙ ap Some (record_parts header.junctions header.tanks row rest is)) in
-    let after = heads_before header 0 (flat row) rest (Some more) behind.fewer (omega (arith, whole)) by.box behind.fault
+    let after = heads_before header 0 (flat row) rest (Some more) behind.fewer (omega (arith, whole)) by.box
+    behind.fault
     refl in
     let one_more = behind.one_more in
     omega (arith, after, one_more, whole)
@@ -194,7 +196,8 @@ none_behind_header header text rest (Err (Grammar number)) same h = λ row left 
     at.whole)))
 
 -- the same, in other words for its values
-pub none_moved : (header : Header) (at other : Stand) (text told : Option (List ℕ)) (result answer : Result CertNext CertFault)
+pub none_moved : (header : Header) (at other : Stand) (text told : Option (List ℕ))
+    (result answer : Result CertNext CertFault)
     → at ≡ other → text ≡ told → result ≡ answer
     → IfErr result (λ fault. OnGrammar fault (LacksRecord at header text))
     → IfErr answer (λ fault. OnGrammar fault (LacksRecord other header told))

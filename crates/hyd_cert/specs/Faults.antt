@@ -29,8 +29,8 @@ pub record IsFront (front : List ℕ) : Type 0 where
   pub short : length front < 4
   pub one_line : HasNo 10 front
 
--- Of the heads of a record: a read failed, or the line is the first that can't stand where it does, and one of the lines
--- of these heads.
+-- Of the heads of a record: a read failed, or the line is the first that can't stand where it does, and one of the
+-- lines of these heads.
 abbrev pub IsHeadsFault : Header → ℕ → Option (List ℕ) → Faults → Faults → CertFault → Type 0
 IsHeadsFault header line text before now Read = now ≡ with_read_fault before
 IsHeadsFault header line text before now (Grammar number) =

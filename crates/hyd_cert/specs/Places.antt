@@ -1,5 +1,6 @@
 -- Where the lines of a certificate text stand, which line can stand where, and where a text is at fault.
-use Rattle.std.specs.Prelude.{◌≡◌, ◌≢◌, ℕ, suc, ◌+◌, ◌*◌, ◌/◌, ◌%◌, ◌==◌, nat_lt, ℤ, List, [], ◌∷◌, ◌++◌, Option, Some, ◌⊎◌, codes, if◌then◌else◌}
+use Rattle.std.specs.Prelude.{◌≡◌, ◌≢◌, ℕ, suc, ◌+◌, ◌*◌, ◌/◌, ◌%◌, ◌==◌, nat_lt, ℤ, List, [], ◌∷◌, ◌++◌, Option, Some}
+use Rattle.std.specs.Prelude.{◌⊎◌, codes, if◌then◌else◌}
 use Rattle.std.specs.Fmt.{signed_decimal}
 use Rattle.hyd_io.specs.Told.{prepend_known}
 use Rattle.hyd_cert.specs.Lines.{Header, IsHeaderLine, IsPeriodLine, IsHeadLine, IsEndLine}

@@ -21,8 +21,8 @@ pub fn fault_is_first()
         → IsFault header First (Some text) number → IsFirstFault header text number }
 {}
 
-/// There is one such line at most: none in a certificate, and none in a text with a header line of another version or of
-/// other counts.
+/// There is one such line at most: none in a certificate, and none in a text with a header line of another version or
+/// of other counts.
 pub fn first_fault_is_one()
     ensures one { (header : Header) (text : List ℕ) (number other : ℕ) → IsFirstFault header text number
         → IsFirstFault header text other → number ≡ other }

@@ -1,6 +1,7 @@
 //! The lines of a certificate text, each without its line feed.
 
-ghost use Rattle.std.specs.Prelude.{◌≡◌, ◌≢◌, ℕ, ◌<◌, ◌≤◌, ◌^◌, ◌⊎◌, ℤ, Bool, false, IsTrue, List, [], ◌∷◌, ◌++◌, length, IfSome, IfNone, decimal, codes, if◌then◌else◌};
+ghost use Rattle.std.specs.Prelude.{◌≡◌, ◌≢◌, ℕ, ◌<◌, ◌≤◌, ◌^◌, ◌⊎◌, ℤ, Bool, false, IsTrue, List, [], ◌∷◌, ◌++◌};
+ghost use Rattle.std.specs.Prelude.{length, IfSome, IfNone, decimal, codes, if◌then◌else◌};
 ghost use Rattle.std.specs.Fmt.{signed_decimal};
 ghost use Rattle.hyd_spec_certificates.specs.Certificate.{IsInBox};
 ghost use Rattle.hyd_cert.specs.NextLine.{next_text, NextFits, IsPeriodOrEnd};

@@ -1,6 +1,7 @@
 //! Lines from the file that is being read, a block at a time.
 
-ghost use Rattle.std.specs.Prelude.{◌≡◌, ◌≢◌, ℕ, ◌+◌, ◌-◌, ◌<◌, ◌≤◌, List, [], ◌∷◌, ◌++◌, length, take, drop, slice_index, false, IsTrue, Some, IfSome, IfNone, IfOk, OnOk, OnErr};
+ghost use Rattle.std.specs.Prelude.{◌≡◌, ◌≢◌, ℕ, ◌+◌, ◌-◌, ◌<◌, ◌≤◌, List, [], ◌∷◌, ◌++◌, length, take, drop};
+ghost use Rattle.std.specs.Prelude.{slice_index, false, IsTrue, Some, IfSome, IfNone, IfOk, OnOk, OnErr};
 ghost use Rattle.hyd_io.specs.Told.{where_told, prepend_known};
 ghost use Rattle.hyd_io.specs.Counts.{NeverFall, with_read_fault};
 ghost use Rattle.hyd_cert.specs.Cutting.{HasNo, HasNoLine};

@@ -1,6 +1,8 @@
 //! Putting out a certificate text.
 
-ghost use Rattle.std.specs.Prelude.{◌≡◌, ◌≢◌, ℕ, ◌+◌, ◌<◌, ◌≤◌, ◌^◌, Bool, false, List, [], ◌∷◌, ◌++◌, length, take, codes, decimal, Option, Some, None, Err, IfErr, IfSome, IsSome, OnOk, OnErr, IsTrue, is_some};
+ghost use Rattle.std.specs.Prelude.{◌≡◌, ◌≢◌, ℕ, ◌+◌, ◌<◌, ◌≤◌, ◌^◌, Bool, false, List, [], ◌∷◌, ◌++◌, length, take};
+ghost use Rattle.std.specs.Prelude.{codes, decimal, Option, Some, None, Err, IfErr, IfSome, IsSome, OnOk, OnErr};
+ghost use Rattle.std.specs.Prelude.{IsTrue, is_some};
 ghost use Rattle.std.specs.Fmt.{signed_decimal};
 ghost use Rattle.hyd_spec_reports.specs.CertificateText.{period_line, record_text, end_line};
 ghost use Rattle.hyd_cert.specs.Lines.{header_words, header_text, end_word};

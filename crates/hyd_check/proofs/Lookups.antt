@@ -22,7 +22,8 @@ other-head grid problem side u i node h ne lt =
     ∙ get_or-set_other u i node h (pos 0) ne
 
 -- a junction in range is there
-pub junction-there : (xs : List GridJunction) (i : ℕ) → i < length xs → (junction : GridJunction) × (slice_get xs i ≡ Some junction)
+pub junction-there : (xs : List GridJunction) (i : ℕ) → i < length xs
+    → (junction : GridJunction) × (slice_get xs i ≡ Some junction)
 junction-there [] i lt = absurd (omega (arith, lt))
 junction-there (x ∷ xs) zero lt = (x, refl)
 junction-there (x ∷ xs) (suc i) lt = junction-there xs i (omega (arith, lt))

@@ -23,7 +23,8 @@ upper-passes grid problem side u i h q m s is inside flows margin-is beyond = by
     by : (s' : Side) → s' ≡ Upper → IsNetOutflow grid problem s' u i h q → pos 0 ≤ℤ s ↔ PassesWith grid problem s' u i h
     by Upper e are = (
       (λ le junction at. (let f = are junction at in omega (arith, ints, le, f, margin-is, beyond))),
-      (λ passes. (let at = junction-there grid.junctions i inside in let f = are at.0 at.1 in let p = passes at.0 at.1 in
+      (λ passes. (let at = junction-there grid.junctions i inside in let f = are at.0 at.1 in
+          let p = passes at.0 at.1 in
           omega (arith, ints, p, f, margin-is, beyond))),
     )
     by Lower e are = absurd (cc)
@@ -37,7 +38,8 @@ lower-passes grid problem side u i h q m s is inside flows margin-is beyond = by
     by Upper e are = absurd (cc)
     by Lower e are = (
       (λ le junction at. (let f = are junction at in omega (arith, ints, le, f, margin-is, beyond))),
-      (λ passes. (let at = junction-there grid.junctions i inside in let f = are at.0 at.1 in let p = passes at.0 at.1 in
+      (λ passes. (let at = junction-there grid.junctions i inside in let f = are at.0 at.1 in
+          let p = passes at.0 at.1 in
           omega (arith, ints, p, f, margin-is, beyond))),
     )
 

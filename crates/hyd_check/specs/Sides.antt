@@ -1,5 +1,6 @@
 -- Both sides by one word: which enclosing functions a side takes, and when a junction passes with another head.
-use Rattle.std.specs.Prelude.{◌≡◌, ℕ, ◌<◌, ℤ, pos, neg_ℤ, ◌+ℤ◌, ◌-ℤ◌, Bool, true, false, List, length, Some, slice_get, slice_set}
+use Rattle.std.specs.Prelude.{◌≡◌, ℕ, ◌<◌, ℤ, pos, neg_ℤ, ◌+ℤ◌, ◌-ℤ◌, Bool, true, false, List, length, Some, slice_get}
+use Rattle.std.specs.Prelude.{slice_set}
 use Rattle.hyd_spec.specs.Law.{Law}
 use Rattle.hyd_spec.specs.Assignment.{head_at}
 use Rattle.hyd_spec_certificates.specs.declared.Problem.{Problem}

@@ -9,7 +9,8 @@ ghost use Rattle.hyd_spec_certificates.specs.Certificate.{IsInBox, Suits, FailsF
 ghost use Rattle.hyd_graph.specs.GridOf.{grid_of};
 ghost use Rattle.hyd_graph.specs.Nets.{HasProblem};
 ghost use Rattle.hyd_check.specs.Sides.{IsFirstOutside};
-ghost use Rattle.hyd_check.specs.Comparing.{LiesAbove, LiesBelow, LiesAbovePinned, LiesBelowPinned, LiesAboveLower, LiesBelowUpper};
+ghost use Rattle.hyd_check.specs.Comparing.{LiesAbove, LiesBelow, LiesAbovePinned, LiesBelowPinned, LiesAboveLower};
+ghost use Rattle.hyd_check.specs.Comparing.{LiesBelowUpper};
 
 use crate::heads::{head_of, is_in_box};
 use crate::passing::passes;

@@ -1,7 +1,8 @@
 //! Whether a junction passes.
 #![tactic(auto)]
 
-ghost use Rattle.std.specs.Prelude.{◌≡◌, ◌<◌, ◌≤◌, ◌^◌, ◌↔◌, ◌≤ℤ◌, pos, length, unsigned_abs, All, IsTrue, Some, slice_get, slice_set};
+ghost use Rattle.std.specs.Prelude.{◌≡◌, ◌<◌, ◌≤◌, ◌^◌, ◌↔◌, ◌≤ℤ◌, pos, length, unsigned_abs, All, IsTrue, Some};
+ghost use Rattle.std.specs.Prelude.{slice_get, slice_set};
 ghost use Rattle.hyd_spec_certificates.specs.Grid.{GridJunction};
 ghost use Rattle.hyd_spec_certificates.specs.Certificate.{IsInBox};
 ghost use Rattle.hyd_spec_certificates.specs.NetOutflow.{net_low, net_high};

@@ -1,5 +1,6 @@
 -- What certificates tell of a period.
-use Rattle.std.proofs.Common.{◌≡◌, ℕ, zero, suc, ◌+◌, ◌<◌, ℤ, pos, ◌-ℤ◌, ◌≤ℤ◌, List, [], ◌∷◌, ◌++◌, length, map, refl, sym, ap, subst, ◌∙◌, arith}
+use Rattle.std.proofs.Common.{◌≡◌, ℕ, zero, suc, ◌+◌, ◌<◌, ℤ, pos, ◌-ℤ◌, ◌≤ℤ◌, List, [], ◌∷◌, ◌++◌, length, map, refl}
+use Rattle.std.proofs.Common.{sym, ap, subst, ◌∙◌, arith}
 use Rattle.std.specs.Prelude.{Some, slice_get, All}
 use Rattle.std.proofs.lemmas.Int.{ints}
 use Rattle.std.proofs.lemmas.List.{length-map, length-append}
@@ -132,7 +133,8 @@ have-tanks network grid row facts inflows ready are small = record {
   small = small;
 }
 
-pub are-started : (network : Project) (grid : Grid) (standing : Standing) (row : Record) (facts : Facts) (inflows : ListView Span)
+pub are-started : (network : Project) (grid : Grid) (standing : Standing) (row : Record) (facts : Facts)
+    (inflows : ListView Span)
     → map flows_of inflows.list ≡ map_from (λ k tank. inflow_of_tank network grid row k) 0 network.tanks.list
     → AreBegun network standing facts → AreStarted network grid standing row (record facts { inflows = inflows })
 are-started network grid standing row facts inflows are begun = record {

@@ -8,11 +8,13 @@ use Rattle.hyd_spec.specs.declared.Change.{Change}
 use Rattle.hyd_spec_certificates.specs.Interval.{Interval}
 use Rattle.hyd_spec_certificates.specs.Grid.{Grid}
 use Rattle.hyd_spec_certificates.specs.Record.{Record, Standing, Vectors}
-use Rattle.hyd_spec_certificates.specs.Decided.{EndsBy, ByRules, WithoutRules, decided_changes, flow_boxes, inflow_of_tank}
+use Rattle.hyd_spec_certificates.specs.Decided.{EndsBy, ByRules, WithoutRules, decided_changes, flow_boxes}
+use Rattle.hyd_spec_certificates.specs.Decided.{inflow_of_tank}
 use Rattle.hyd_spec_certificates.specs.Valid.{LeavesLinks, levels_next, volumes_next, AreStates, ControlsAreDecided}
 use Rattle.hyd_spec_certificates.specs.declared.LevelSpan.{LevelSpan}
 use Rattle.hyd_spec_reports.specs.declared.Event.{Event}
-use Rattle.hyd_spec_reports.specs.Report.{EndBrings, by_rules as brings_by_rules, by_clock as brings_by_clock, events_of}
+use Rattle.hyd_spec_reports.specs.Report.{EndBrings, by_rules as brings_by_rules, by_clock as brings_by_clock}
+use Rattle.hyd_spec_reports.specs.Report.{events_of}
 use Rattle.hyd_spec_reports.specs.Stops.{open_states}
 use Rattle.hyd_facts.specs.OfPeriod.{levels_of, volumes_of, flows_of}
 use Rattle.hyd_facts.specs.declared.facts.Facts.{Facts}
@@ -155,7 +157,8 @@ module _ (network : Project) (grid : Grid) (standing : Standing) where
       → IsClosed network grid standing row told close
   closed-of row seconds begun looked decided told close long is keep_looked started keep_decided keep_told decides
       events levels volumes states controls = record {
-        leaves = subst (λ (n : ℕ). LeavesLinks network grid standing row n close.commanded.items) (sym long) decides.leaves;
+        leaves = subst (λ (n : ℕ). LeavesLinks network grid standing row n close.commanded.items) (sym long)
+            decides.leaves;
         levels = at_end;
         volumes = volumes ∙ ap (λ (n : ℕ). volumes_next network grid standing row n) (sym long);
         tanks = subst (λ (ls : List Interval). AreStates network ls close.next.tanks.list) at_end states;
@@ -177,7 +180,8 @@ module _ (network : Project) (grid : Grid) (standing : Standing) where
           changes = ap (λ (f : Facts). f.changes.list) keep_told ∙ decides.changes_are
               ∙ ap (λ (cs : List Change). cs ++ decides.by_rules)
               (ap (λ (f : Facts). f.changes.list) keep_looked ∙ is.changes);
-          brings = brings-so network grid standing row seconds decides.by_rules told.events.list long events decides.ends;
+          brings = brings-so network grid standing row seconds decides.by_rules told.events.list long events
+              decides.ends;
         };
       }
     where

@@ -83,13 +83,13 @@ impl Close {
     }
 
     /// Ends a period that begins before the end of the run, by the vectors of its record, which are certificates: puts
-    /// its length into the record, completes the facts by what flows into tanks, its length, and the events and changes of
-    /// its end, and leaves the states that links are commanded to be in, and the stocks and states of tanks with which
-    /// the next period begins. The facts hold what is known at its start. It takes no memory.
+    /// its length into the record, completes the facts by what flows into tanks, its length, and the events and changes
+    /// of its end, and leaves the states that links are commanded to be in, and the stocks and states of tanks with
+    /// which the next period begins. The facts hold what is known at its start. It takes no memory.
     ///
-    /// Fails with [`Open`], the first matter that the vectors leave open: a rule at an instant or the end of the period,
-    /// and where that is decided the state of a tank or a level control there. The record then stays; nothing but
-    /// its room is said of what is left.
+    /// Fails with [`Open`], the first matter that the vectors leave open: a rule at an instant or the end of the
+    /// period, and where that is decided the state of a tank or a level control there. The record then stays; nothing
+    /// but its room is said of what is left.
     pub fn finish(
         &mut self,
         project: &Project,
@@ -111,7 +111,8 @@ impl Close {
         ensures have { OnOk result (HaveTanks project.now facts.new) }
         ensures some { OnOk result (0 < row.new.length) }
         ensures within { OnOk result (facts.old.time + row.new.length ≤ project.now.times.duration) }
-        ensures open { IfErr result (λ found. (standing : Standing) (other : Row) → AreBegun project.now standing facts.old
+        ensures open { IfErr result (λ found. (standing : Standing) (other : Row)
+            → AreBegun project.now standing facts.old
             → SharesVectors other (row_of row.old) → IsOpenAt project.now (grid_of net.now) standing other found) }
         ensures row { row.new ≡ record row.old { length = row.new.length } }
         ensures same { OnErr result (row.new ≡ row.old) }

@@ -8,7 +8,8 @@ ghost use Rattle.hyd_spec.specs.Types.{LinkState};
 ghost use Rattle.hyd_spec.specs.Network.{nodes_before_tanks, tank_count};
 ghost use Rattle.hyd_spec_certificates.specs.Grid.{Grid};
 ghost use Rattle.hyd_spec_certificates.specs.Record.{Record, Standing};
-ghost use Rattle.hyd_spec_certificates.specs.Valid.{LeavesLinks, AreStates, ControlsAreDecided, levels_next, volumes_next};
+ghost use Rattle.hyd_spec_certificates.specs.Valid.{LeavesLinks, AreStates, ControlsAreDecided, levels_next};
+ghost use Rattle.hyd_spec_certificates.specs.Valid.{volumes_next};
 ghost use Rattle.hyd_ctrl.specs.Instants.{IsBounded};
 ghost use Rattle.hyd_facts.specs.OfPeriod.{levels_of, volumes_of};
 ghost use Rattle.hyd_watch.specs.Started.{HaveTanks, AreStarted};
@@ -72,8 +73,8 @@ fn decide(
     }
 }
 
-/// After how many seconds a period ends, by what the rules look at; the links are left as its end commands, and what its
-/// rules change stands behind the changes of its start. Fails with the rule or the end that is open.
+/// After how many seconds a period ends, by what the rules look at; the links are left as its end commands, and what
+/// its rules change stands behind the changes of its start. Fails with the rule or the end that is open.
 pub(crate) fn decide_end(
     project: &Project,
     facts: &mut Facts,

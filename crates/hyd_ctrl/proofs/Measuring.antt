@@ -1,5 +1,7 @@
 -- What clauses measure, from the lists of an instant.
-use Rattle.std.proofs.Common.{◌≡◌, inl, inr, subst, ℕ, zero, suc, ◌+◌, ◌-◌, ◌<◌, ℤ, pos, ◌+ℤ◌, ◌-ℤ◌, ◌*ℤ◌, Bool, true, false, List, [], ◌∷◌, length, map, Option, slice_index_or, nat_le, if◌then◌else◌, refl, ap, sym, ◌∙◌, arith}
+use Rattle.std.proofs.Common.{◌≡◌, inl, inr, subst, ℕ, zero, suc, ◌+◌, ◌-◌, ◌<◌, ℤ, pos, ◌+ℤ◌, ◌-ℤ◌, ◌*ℤ◌, Bool, true}
+use Rattle.std.proofs.Common.{false, List, [], ◌∷◌, length, map, Option, slice_index_or, nat_le, if◌then◌else◌, refl}
+use Rattle.std.proofs.Common.{ap, sym, ◌∙◌, arith}
 use Rattle.std.specs.Option.{option_map_or}
 use Rattle.std.proofs.lemmas.Bool.{le-leb}
 use Rattle.std.proofs.lemmas.Int.{ints}
@@ -10,13 +12,15 @@ use Rattle.hyd_net.specs.Commands.{HasPressure}
 use Rattle.hyd_net.specs.Made.{IsRounded, IsExactly, IsAmount, IsValueMade}
 use Rattle.hyd_spec.specs.Quantity.{is_us, pressure_value}
 use Rattle.hyd_num.specs.Rational.{Rational, whole, total_of}
-use Rattle.hyd_spec.specs.Types.{Project, Tank, Junction, Decimal, Clause, What, Head, Pressure, Level, Flow, Setting, Status, Time, Clock, Relation, Value, Amount}
+use Rattle.hyd_spec.specs.Types.{Project, Tank, Junction, Decimal, Clause, What, Head, Pressure, Level, Flow, Setting}
+use Rattle.hyd_spec.specs.Types.{Status, Time, Clock, Relation, Value, Amount}
 use Rattle.hyd_spec.specs.Scale.{at_scale}
 use Rattle.hyd_spec.specs.Network.{nodes_before_tanks}
 use Rattle.hyd_spec_certificates.specs.Interval.{Interval}
 use Rattle.hyd_spec_certificates.specs.declared.LevelSpan.{LevelSpan}
 use Rattle.hyd_ctrl.specs.Instants.{level_interval, flow_interval, IsMeasured}
-use Rattle.hyd_spec.specs.Rules.{Readings, level_of, bottom_of, elevation_of, in_ticks, measured, compares, holds_on, clause_holds}
+use Rattle.hyd_spec.specs.Rules.{Readings, level_of, bottom_of, elevation_of, in_ticks, measured, compares, holds_on}
+use Rattle.hyd_spec.specs.Rules.{clause_holds}
 
 -- ---- lists
 

@@ -1,5 +1,6 @@
 -- A rule that is open has a clause that is open by itself; and rules of a sound network by their numbers.
-use Rattle.std.proofs.Common.{◌≡◌, ℤ, ℕ, suc, ◌<◌, false, List, [], ◌∷◌, length, map, Option, Some, None, IsSome, slice_get, slice_index_or, position, refl, ap, sym, subst, ◌∙◌, arith}
+use Rattle.std.proofs.Common.{◌≡◌, ℤ, ℕ, suc, ◌<◌, false, List, [], ◌∷◌, length, map, Option, Some, None, IsSome}
+use Rattle.std.proofs.Common.{slice_get, slice_index_or, position, refl, ap, sym, subst, ◌∙◌, arith}
 use Rattle.std.proofs.lemmas.Int.{ints}
 use Rattle.std.proofs.lemmas.List.Quantifiers.{position-Some}
 use Rattle.std.proofs.lemmas.List.Sums.{get_or-le-sum_by}
@@ -9,7 +10,8 @@ use Rattle.hyd_lemmas.proofs.Integers.{floor_low, floor_greatest, ceiling_high, 
 use Rattle.hyd_net.specs.Sound.{Sound, part_count}
 use Rattle.hyd_spec.specs.Types.{Project, Rule, RuleClause, Joined, And, Or, Clause}
 use Rattle.hyd_spec.specs.Rules.{Parts, parts_of, put_before, groups_in}
-use Rattle.hyd_spec_certificates.specs.Verdict.{Verdict, Yes, No, Unknown, is_unknown, either, both, some_holds, all_hold}
+use Rattle.hyd_spec_certificates.specs.Verdict.{Verdict, Yes, No, Unknown, is_unknown, either, both, some_holds}
+use Rattle.hyd_spec_certificates.specs.Verdict.{all_hold}
 use Rattle.hyd_spec_certificates.specs.Decided.{IsOpenClause}
 use Rattle.hyd_ctrl.specs.declared.clauses.Instant.{Instant}
 use Rattle.hyd_ctrl.specs.declared.clauses.Ends.{Ends}

@@ -1,13 +1,18 @@
 -- What rules don't look at: the places of tanks among the heads.
-use Rattle.std.proofs.Common.{◌≡◌, inl, inr, ℕ, zero, suc, ◌+◌, ◌*◌, ◌<◌, ◌≤◌, ℤ, pos, ◌-ℤ◌, ◌*ℤ◌, ◌≤ℤ◌, Bool, false, not, List, [], ◌∷◌, ◌++◌, length, map, Some, None, nat_le, nat_lt, if◌then◌else◌, slice_index_or, position, refl, ap, sym, subst, ◌∙◌, arith}
+use Rattle.std.proofs.Common.{◌≡◌, inl, inr, ℕ, zero, suc, ◌+◌, ◌*◌, ◌<◌, ◌≤◌, ℤ, pos, ◌-ℤ◌, ◌*ℤ◌, ◌≤ℤ◌, Bool, false}
+use Rattle.std.proofs.Common.{not, List, [], ◌∷◌, ◌++◌, length, map, Some, None, nat_le, nat_lt, if◌then◌else◌}
+use Rattle.std.proofs.Common.{slice_index_or, position, refl, ap, sym, subst, ◌∙◌, arith}
 use Rattle.std.specs.List.{position_or_len}
 use Rattle.std.proofs.lemmas.Bool.{cases_Bool}
 use Rattle.hyd_num.specs.Rational.{Rational, whole, total_of, floor, ceiling}
-use Rattle.hyd_spec.specs.Types.{Project, Rule, RuleClause, Clause, What, Head, Pressure, Level, Flow, Setting, Status, Time, Clock, Relation, Value, LinkState}
+use Rattle.hyd_spec.specs.Types.{Project, Rule, RuleClause, Clause, What, Head, Pressure, Level, Flow, Setting, Status}
+use Rattle.hyd_spec.specs.Types.{Time, Clock, Relation, Value, LinkState}
 use Rattle.hyd_spec.specs.Scale.{at_scale}
 use Rattle.hyd_spec.specs.Network.{nodes_before_tanks, is_tank, tank_number}
 use Rattle.hyd_spec.specs.Assignment.{head_at}
-use Rattle.hyd_spec.specs.Rules.{Readings, level_of, bottom_of, elevation_of, in_ticks, measured, amount, compares, status_holds, state_word, state_of_link, setting_of, holds_on, clause_holds, parts_of, groups_in}
+use Rattle.hyd_spec.specs.Rules.{Readings, level_of, bottom_of, elevation_of, in_ticks, measured, amount, compares}
+use Rattle.hyd_spec.specs.Rules.{status_holds, state_word, state_of_link, setting_of, holds_on, clause_holds, parts_of}
+use Rattle.hyd_spec.specs.Rules.{groups_in}
 use Rattle.hyd_spec_certificates.specs.declared.Truth.{Truth}
 use Rattle.hyd_spec_certificates.specs.declared.Truth.TheVariants.{True, False, Open}
 use Rattle.hyd_spec_certificates.specs.Verdict.{Verdict, is_unknown, at_both_ends, either, both, some_holds, all_hold}

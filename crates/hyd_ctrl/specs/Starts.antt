@@ -1,7 +1,9 @@
 -- The start of a period.
 -- Source: EPANET 2.2 User Manual, chapter 3 (controls) and appendix C ([CONTROLS], [PUMPS]).
-use Rattle.std.specs.Prelude.{◌≡◌, ⊤, ℕ, ◌<◌, ℤ, Bool, List, length, map, Option, Some, None, IfSome, slice_get, slice_set, position, fold, if◌then◌else◌}
-use Rattle.hyd_spec.specs.Types.{Project, LinkKind, PipeLink, CheckPipe, PumpLink, CurvePump, Tcv, Fcv, Gpv, LinkState, Control, When, AtLevel, AtTime, AtClock}
+use Rattle.std.specs.Prelude.{◌≡◌, ⊤, ℕ, ◌<◌, ℤ, Bool, List, length, map, Option, Some, None, IfSome, slice_get}
+use Rattle.std.specs.Prelude.{slice_set, position, fold, if◌then◌else◌}
+use Rattle.hyd_spec.specs.Types.{Project, LinkKind, PipeLink, CheckPipe, PumpLink, CurvePump, Tcv, Fcv, Gpv, LinkState}
+use Rattle.hyd_spec.specs.Types.{Control, When, AtLevel, AtTime, AtClock}
 use Rattle.hyd_spec.specs.Start.{control_acts}
 use Rattle.hyd_spec_reports.specs.Stops.{is_open_control}
 use Rattle.hyd_spec_certificates.specs.declared.LevelSpan.{LevelSpan}

@@ -7,10 +7,12 @@ ghost use Rattle.hyd_num.specs.Rational.{Rational, whole};
 ghost use Rattle.hyd_net.specs.Commands.{node_count, HasPressure, SpeaksOf, IsClause};
 ghost use Rattle.hyd_net.specs.Made.{IsRounded, IsValueMade};
 ghost use Rattle.hyd_spec.specs.Network.{nodes_before_tanks};
-ghost use Rattle.hyd_spec.specs.Rules.{setting_of, compares, is_word, status_holds, state_word, seconds_of, time_holds, has_come, has_come_today};
+ghost use Rattle.hyd_spec.specs.Rules.{setting_of, compares, is_word, status_holds, state_word, seconds_of, time_holds};
+ghost use Rattle.hyd_spec.specs.Rules.{has_come, has_come_today};
 ghost use Rattle.hyd_spec_certificates.specs.Decided.{least_magnitude, greatest_magnitude};
 ghost use Rattle.hyd_ctrl.specs.Verdicts.{verdict_of};
-ghost use Rattle.hyd_ctrl.specs.Instants.{flow_interval, IsBounded, IsInstant, AreLevelEnds, AreEnds, IsMeasured, verdict_there};
+ghost use Rattle.hyd_ctrl.specs.Instants.{flow_interval, IsBounded, IsInstant, AreLevelEnds, AreEnds, IsMeasured};
+ghost use Rattle.hyd_ctrl.specs.Instants.{verdict_there};
 
 use crate::clock::{DAY, clock_at};
 use crate::logic::{Verdict, at_both_ends};

@@ -1,10 +1,12 @@
 //! The start of a period: pump patterns and simple controls.
 #![tactic(auto)]
 
-ghost use Rattle.std.specs.Prelude.{◌≡◌, ◌+◌, ◌≤◌, ◌<◌, ℕ, ℤ, List, ◌++◌, length, map, is_some, IfSome, IfErr, OnOk, OnErr};
+ghost use Rattle.std.specs.Prelude.{◌≡◌, ◌+◌, ◌≤◌, ◌<◌, ℕ, ℤ, List, ◌++◌, length, map, is_some, IfSome, IfErr, OnOk};
+ghost use Rattle.std.specs.Prelude.{OnErr};
 ghost use Rattle.hyd_net.specs.Sound.{Sound};
 ghost use Rattle.hyd_spec.specs.Network.{tank_count};
-ghost use Rattle.hyd_spec.specs.Start.{speed_state, is_pattern_boundary, patterned_state, patterned, control_acts, controlled, started, acts_at};
+ghost use Rattle.hyd_spec.specs.Start.{speed_state, is_pattern_boundary, patterned_state, patterned, control_acts};
+ghost use Rattle.hyd_spec.specs.Start.{controlled, started, acts_at};
 ghost use Rattle.hyd_spec_certificates.specs.Decided.{acts_on, control_truth};
 ghost use Rattle.hyd_spec_certificates.specs.Valid.{ControlsAreDecided};
 ghost use Rattle.hyd_spec_reports.specs.Report.{control_changes, start_changes};

@@ -12,7 +12,8 @@ ghost use Rattle.hyd_spec_certificates.specs.Decided.{rule_between, IsTruthBetwe
 ghost use Rattle.hyd_spec_histories.specs.Agreement.{AreBetween};
 ghost use Rattle.hyd_ctrl.specs.Verdicts.{verdict_of};
 ghost use Rattle.hyd_ctrl.specs.Truths.{IsTruthOf, IsKnownAs};
-ghost use Rattle.hyd_ctrl.specs.Instants.{IsInstant, IsBounded, flow_interval, level_interval, lower_readings, upper_readings};
+ghost use Rattle.hyd_ctrl.specs.Instants.{IsInstant, IsBounded, flow_interval, level_interval, lower_readings};
+ghost use Rattle.hyd_ctrl.specs.Instants.{upper_readings};
 ghost use Rattle.hyd_ctrl.specs.Premises.{IsSoundRule, is_open, rule_there, IsTruthThere, premise_of};
 
 use crate::clauses::{Instant, clause_verdict, ends_of};

@@ -1,5 +1,6 @@
 -- Curves by straight lines.
-use Rattle.std.proofs.Common.{◌≡◌, ◌≤◌, ◌++◌, ◌^◌, Bool, true, false, List, [], ◌∷◌, length, nat_le, None, get_or, unsigned_abs, pos, neg_ℤ, ◌<ℤ◌, ◌≤ℤ◌, ◌*ℤ◌, refl, sym, ap, ◌∙◌, arith}
+use Rattle.std.proofs.Common.{◌≡◌, ◌≤◌, ◌++◌, ◌^◌, Bool, true, false, List, [], ◌∷◌, length, nat_le, None, get_or}
+use Rattle.std.proofs.Common.{unsigned_abs, pos, neg_ℤ, ◌<ℤ◌, ◌≤ℤ◌, ◌*ℤ◌, refl, sym, ap, ◌∙◌, arith}
 use Rattle.std.specs.Prelude.{◌&&◌}
 use Rattle.std.specs.List.{list_all}
 use Rattle.std.proofs.lemmas.List.{length-map}
@@ -11,7 +12,8 @@ use Rattle.hyd_num.specs.Rational.{Rational, whole, is_at_most}
 use Rattle.hyd_num.specs.declared.units.FlowUnit.{FlowUnit}
 use Rattle.hyd_net.specs.Curves.{on_line, value_at, head_knots}
 use Rattle.hyd_net.specs.declared.curves.HeadPoint.{HeadPoint}
-use Rattle.hyd_spec_input.specs.Curves.{in_turn, at_start, at_end, has_flow, is_slower, is_faster, is_pump_bend, begins_at_0, head_point, head_points}
+use Rattle.hyd_spec_input.specs.Curves.{in_turn, at_start, at_end, has_flow, is_slower, is_faster, is_pump_bend}
+use Rattle.hyd_spec_input.specs.Curves.{begins_at_0, head_point, head_points}
 use Rattle.hyd_curves.specs.Bends.{IsPumpPoint, begins_and_ends, loss_passes}
 use Rattle.hyd_curves.specs.Asked.{valve_fault}
 use Rattle.hyd_curves.specs.Lines.{knot_of}

@@ -1,5 +1,8 @@
 -- The curves by straight lines that pumps and valves name, one row further.
-use Rattle.std.proofs.Common.{◌≡◌, All, ◌+◌, ◌<◌, ◌≤◌, ◌++◌, ◌^◌, ◌==◌, ℕ, unsigned_abs, Bool, true, false, List, [], ◌∷◌, map, length, take, slice_get, get_or, Option, Some, None, pos, neg_ℤ, ◌≤ℤ◌, ◌<ℤ◌, ◌*ℤ◌, refl, sym, ap, ◌∙◌, subst, arith, true≢false, append-nil, append_assoc, inl, if◌then◌else◌}
+use Rattle.std.proofs.Common.{◌≡◌, All, ◌+◌, ◌<◌, ◌≤◌, ◌++◌, ◌^◌, ◌==◌, ℕ, unsigned_abs, Bool, true, false, List, []}
+use Rattle.std.proofs.Common.{◌∷◌, map, length, take, slice_get, get_or, Option, Some, None, pos, neg_ℤ, ◌≤ℤ◌, ◌<ℤ◌}
+use Rattle.std.proofs.Common.{◌*ℤ◌, refl, sym, ap, ◌∙◌, subst, arith, true≢false, append-nil, append_assoc, inl}
+use Rattle.std.proofs.Common.{if◌then◌else◌}
 use Rattle.std.specs.Prelude.{◌&&◌, nat_le}
 use Rattle.std.specs.List.{flat_map, list_all}
 use Rattle.std.proofs.lemmas.Int.{ints, by_lt_z}
@@ -24,7 +27,9 @@ use Rattle.hyd_net.specs.declared.curves.HeadPoint.{HeadPoint}
 use Rattle.hyd_spec_input.specs.ByItself as itself
 use Rattle.hyd_spec_input.specs.ByItself.{IsWrongByItself}
 use Rattle.hyd_spec_input.specs.Columns.{first, unless, or_empty}
-use Rattle.hyd_spec_input.specs.Curves.{in_turn, at_start, at_end, has_flow, is_head, is_slower, is_faster, is_bent, is_pump_curve, is_pump_bend, begins_at_0, is_valve_bend, head_point, head_points}
+use Rattle.hyd_spec_input.specs.Curves.{in_turn, at_start, at_end, has_flow, is_head, is_slower, is_faster, is_bent}
+use Rattle.hyd_spec_input.specs.Curves.{is_pump_curve, is_pump_bend, begins_at_0, is_valve_bend, head_point}
+use Rattle.hyd_spec_input.specs.Curves.{head_points}
 use Rattle.hyd_spec_input.specs.Faults.{NoneIs, IsWrongWithOthers}
 use Rattle.hyd_spec_input.specs.InForce as force
 use Rattle.hyd_spec_input.specs.Network.{as_list, bent_name, bend_names, new_names, is_among}

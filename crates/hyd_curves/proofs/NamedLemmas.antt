@@ -1,5 +1,6 @@
 -- Names, each where it first stands, one more at a time.
-use Rattle.std.proofs.Common.{◌≡◌, ◌++◌, ℕ, Bool, true, false, List, [], ◌∷◌, refl, sym, ap, ◌∙◌, true≢false, inl, inr, if◌then◌else◌, Contains}
+use Rattle.std.proofs.Common.{◌≡◌, ◌++◌, ℕ, Bool, true, false, List, [], ◌∷◌, refl, sym, ap, ◌∙◌, true≢false, inl, inr}
+use Rattle.std.proofs.Common.{if◌then◌else◌, Contains}
 use Rattle.std.specs.Prelude.{◌||◌, ◌↔◌}
 use Rattle.std.specs.List.{list_any}
 use Rattle.std.specs.Str.{bytes_eq}

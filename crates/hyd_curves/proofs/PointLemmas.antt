@@ -1,10 +1,14 @@
 -- The points of curves, one row further.
-use Rattle.std.proofs.Common.{◌≡◌, All, ◌+◌, ◌<◌, ◌≤◌, ◌++◌, ℕ, Bool, true, false, List, [], ◌∷◌, map, filter, length, take, drop, position, Option, Some, None, slice_get, refl, sym, ap, ◌∙◌, subst, arith, ◌==◌, true≢false, get_or, inl, inr, append-nil, append_assoc, length-append, nat_lt, ltb-true, ltb-false}
+use Rattle.std.proofs.Common.{◌≡◌, All, ◌+◌, ◌<◌, ◌≤◌, ◌++◌, ℕ, Bool, true, false, List, [], ◌∷◌, map, filter, length}
+use Rattle.std.proofs.Common.{take, drop, position, Option, Some, None, slice_get, refl, sym, ap, ◌∙◌, subst, arith}
+use Rattle.std.proofs.Common.{◌==◌, true≢false, get_or, inl, inr, append-nil, append_assoc, length-append, nat_lt}
+use Rattle.std.proofs.Common.{ltb-true, ltb-false}
 use Rattle.std.specs.Prelude.{slice_set}
 use Rattle.std.specs.Str.{bytes_eq}
 use Rattle.std.specs.Cmp.Lexicographic.{bytes_decides}
 use Rattle.std.proofs.lemmas.Bool.{cases_Bool}
-use Rattle.std.proofs.lemmas.List.{map-set, map-append, length-map, get_or-set_same, get_or-set_other, length-set, get_or-map, take-append-drop}
+use Rattle.std.proofs.lemmas.List.{map-set, map-append, length-map, get_or-set_same, get_or-set_other, length-set}
+use Rattle.std.proofs.lemmas.List.{get_or-map, take-append-drop}
 use Rattle.std.proofs.lemmas.List.Elements.{filter-append, All-push}
 use Rattle.std.proofs.Math.ListN.{get_or-eq_default}
 use Rattle.std.proofs.lemmas.List.Quantifiers.{position-Some}
@@ -18,7 +22,8 @@ use Rattle.hyd_spec_input.specs.ByItself.{IsWrongByItself}
 use Rattle.hyd_spec_input.specs.DataRows as row_form
 use Rattle.hyd_spec_input.specs.Faults.{NoneIs}
 use Rattle.hyd_spec_input.specs.Network.{number_in}
-use Rattle.hyd_spec_input.specs.Tables.{Point, place, is_of, rows_of, rows_with, own_id, point_of, curve_named, row_with, has_id}
+use Rattle.hyd_spec_input.specs.Tables.{Point, place, is_of, rows_of, rows_with, own_id, point_of, curve_named}
+use Rattle.hyd_spec_input.specs.Tables.{row_with, has_id}
 use Rattle.hyd_spec_input.specs.Columns.{word, or_empty}
 use Rattle.hyd_rows.specs.Rows.{IsCurveRow}
 use Rattle.hyd_rows.specs.declared.data.CurveRow.{CurveRow}

@@ -1,5 +1,7 @@
 -- The volume curves that tanks name, one row further.
-use Rattle.std.proofs.Common.{◌≡◌, All, ◌+◌, ◌<◌, ◌≤◌, ◌++◌, ◌^◌, ◌==◌, ℕ, Bool, true, false, List, [], ◌∷◌, length, take, slice_get, get_or, Option, Some, None, pos, refl, sym, ap, ◌∙◌, subst, arith, true≢false, append-nil, inl, if◌then◌else◌, ℤ, ◌+ℤ◌, ◌-ℤ◌}
+use Rattle.std.proofs.Common.{◌≡◌, All, ◌+◌, ◌<◌, ◌≤◌, ◌++◌, ◌^◌, ◌==◌, ℕ, Bool, true, false, List, [], ◌∷◌, length}
+use Rattle.std.proofs.Common.{take, slice_get, get_or, Option, Some, None, pos, refl, sym, ap, ◌∙◌, subst, arith}
+use Rattle.std.proofs.Common.{true≢false, append-nil, inl, if◌then◌else◌, ℤ, ◌+ℤ◌, ◌-ℤ◌}
 use Rattle.std.specs.Prelude.{◌&&◌, nat_le}
 use Rattle.std.specs.List.{flat_map, list_all}
 use Rattle.std.proofs.lemmas.Bool.{and_parts}

@@ -1,5 +1,6 @@
 -- Items in turn, one after another, and the items at both ends.
-use Rattle.std.proofs.Common.{◌≡◌, ◌≤◌, ◌++◌, ℕ, nat_le, Bool, true, false, true≢false, inl, inr, List, [], ◌∷◌, map, length, refl, sym, ◌∙◌, arith}
+use Rattle.std.proofs.Common.{◌≡◌, ◌≤◌, ◌++◌, ℕ, nat_le, Bool, true, false, true≢false, inl, inr, List, [], ◌∷◌, map}
+use Rattle.std.proofs.Common.{length, refl, sym, ◌∙◌, arith}
 use Rattle.std.specs.Prelude.{◌&&◌}
 use Rattle.std.proofs.lemmas.Bool.{and_parts, cases_Bool}
 use Rattle.std.specs.List.{list_all}

@@ -4,7 +4,8 @@ use Rattle.hyd_num.specs.Quantity.{is_us_unit, head_ticks}
 use Rattle.hyd_num.specs.declared.units.FlowUnit.{FlowUnit}
 use Rattle.hyd_spec_lines.specs.Lines.{Row}
 use Rattle.hyd_spec_input.specs.Columns.{or_else, unless}
-use Rattle.hyd_spec_input.specs.Curves.{is_volume_curve, volume_points, is_bent, is_pump_curve, are_flows, has_shutoff, is_pump_bend, begins_at_0, is_valve_bend, head_points, drop_of}
+use Rattle.hyd_spec_input.specs.Curves.{is_volume_curve, volume_points, is_bent, is_pump_curve, are_flows, has_shutoff}
+use Rattle.hyd_spec_input.specs.Curves.{is_pump_bend, begins_at_0, is_valve_bend, head_points, drop_of}
 use Rattle.hyd_spec_input.specs.Capacities.{IsRefusedPump}
 use Rattle.hyd_spec_input.specs.Tables.{Point, curve_named}
 use Rattle.hyd_net.specs.declared.cause.Cause.{Cause}

@@ -9,8 +9,8 @@ ghost use Rattle.hyd_spec.specs.Quantity.{multiplier_at};
 
 use hyd_net::Project;
 
-/// The multiplier of a pattern at a time, in billionths: the pattern's steps begin at time 0 less the pattern start, and
-/// it is repeated (EPANET 2.2 User Manual, Time Patterns). Patterns are counted from 0.
+/// The multiplier of a pattern at a time, in billionths: the pattern's steps begin at time 0 less the pattern start,
+/// and it is repeated (EPANET 2.2 User Manual, Time Patterns). Patterns are counted from 0.
 pub fn multiplier_at(project: &Project, pattern: u32, time: u32) -> i64
     requires step { 1 ≤ project.now.times.pattern }
     requires patterns { All IsPattern project.now.patterns.list }

@@ -1,6 +1,6 @@
 //! The desk on real files, tried on the system: which file a name opens, that a file keeps what was
-//! written, that what is printed goes out, and which files are never overwritten. It prints a file that lies in a folder,
-//! and ends with status 0 where all is as it should be.
+//! written, that what is printed goes out, and which files are never overwritten. It prints a file that lies in a
+//! folder, and ends with status 0 where all is as it should be.
 #![tactic(auto)]
 
 use hyd_io::{Call, Channel, Desk, Failed, FileDesk, InFault, OutFault, Pen, read_all};

@@ -10,7 +10,8 @@ use Rattle.hyd_spec.specs.Rules.{acted, rule_changes}
 use Rattle.hyd_spec_certificates.specs.Grid.{Grid}
 use Rattle.hyd_spec_certificates.specs.Record.{Record, Standing}
 use Rattle.hyd_spec_certificates.specs.Verdict.{No, is_yes, is_unknown}
-use Rattle.hyd_spec_certificates.specs.Decided.{links_at, rule_truths, decided_changes, IsTried, RulesMatter, OpenRule, IsOpenRule}
+use Rattle.hyd_spec_certificates.specs.Decided.{links_at, rule_truths, decided_changes, IsTried, RulesMatter, OpenRule}
+use Rattle.hyd_spec_certificates.specs.Decided.{IsOpenRule}
 use Rattle.hyd_spec_nesting.specs.Nesting.{IsWalked}
 use Rattle.hyd_facts.specs.declared.facts.Facts.{Facts}
 use Rattle.hyd_watch.specs.Started.{AreStarted}

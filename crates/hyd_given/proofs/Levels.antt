@@ -23,10 +23,13 @@ in_order [] levels spans n x at = cc
 in_order (t ∷ tanks) [] spans n x at = cc
 in_order (t ∷ tanks) (l ∷ levels) spans zero x at =
     let le : l.lo ≤ℤ l.hi = (spans 0 t l (omega arith)).ordered in
-    subst (λ (y : Interval). y.lo ≤ℤ y.hi) (one Interval (shifted t.bottom (interval_of l)) x at) (omega (arith, ints, le))
-in_order (t ∷ tanks) (l ∷ levels) spans (suc n) x at = in_order tanks levels (λ k tank span lt. spans (suc k) tank span (omega (arith, lt))) n x at
+    subst (λ (y : Interval). y.lo ≤ℤ y.hi) (one Interval (shifted t.bottom (interval_of l)) x at)
+    (omega (arith, ints, le))
+in_order (t ∷ tanks) (l ∷ levels) spans (suc n) x at = in_order tanks levels
+    (λ k tank span lt. spans (suc k) tank span (omega (arith, lt))) n x at
 
-pub tanks_in_order : (grid : Grid) (tanks : List Tank) (levels : List LevelSpan) → grid.tanks ≡ tank_intervals tanks (map interval_of levels)
+pub tanks_in_order : (grid : Grid) (tanks : List Tank) (levels : List LevelSpan)
+    → grid.tanks ≡ tank_intervals tanks (map interval_of levels)
     → AreSpans tanks levels → TanksInOrder grid
 tanks_in_order grid tanks levels e spans k x at =
     in_order tanks levels spans k x (subst (λ (is : List Interval). slice_get is k ≡ Some x) e at)

@@ -8,12 +8,14 @@ use Rattle.hyd_graph.specs.declared.parts.Ends.{Ends}
 use Rattle.hyd_graph.specs.declared.parts.Setting.{Setting}
 use Rattle.hyd_graph.specs.GridOf.{junction_of, junctions_of, link_of, links_of}
 
-pub junctions_count : (junctions : List NetJunction) (demands : List OutLaw) → length demands ≡ length junctions → length (junctions_of junctions demands) ≡ length junctions
+pub junctions_count : (junctions : List NetJunction) (demands : List OutLaw) → length demands ≡ length junctions
+    → length (junctions_of junctions demands) ≡ length junctions
 junctions_count [] demands e = refl
 junctions_count (j ∷ junctions) [] e = absurd (omega arith)
 junctions_count (j ∷ junctions) (d ∷ demands) e = ap suc (junctions_count junctions demands (omega arith))
 
-pub links_count : (ends : List Ends) (settings : List Setting) (own : List LinkLaw) → length settings ≡ length ends → length own ≡ length ends
+pub links_count : (ends : List Ends) (settings : List Setting) (own : List LinkLaw) → length settings ≡ length ends
+    → length own ≡ length ends
     → length (links_of ends settings own) ≡ length ends
 links_count [] settings own e f = refl
 links_count (x ∷ ends) [] own e f = absurd (omega arith)
@@ -22,7 +24,8 @@ links_count (x ∷ ends) (s ∷ settings) (o ∷ own) e f = ap suc (links_count 
 
 -- a junction of the grid is made of a junction and a demand of the net
 pub at_junction : (junctions : List NetJunction) (demands : List OutLaw) (k : ℕ) (P : GridJunction → Type 0)
-    → ((j : NetJunction) (d : OutLaw) → slice_get junctions k ≡ Some j → slice_get demands k ≡ Some d → P (junction_of j d))
+    → ((j : NetJunction) (d : OutLaw) → slice_get junctions k ≡ Some j → slice_get demands k ≡ Some d
+    → P (junction_of j d))
     → IfSome (slice_get (junctions_of junctions demands) k) P
 at_junction [] demands k P all = tt
 at_junction (j ∷ junctions) [] k P all = tt
@@ -31,7 +34,8 @@ at_junction (j ∷ junctions) (d ∷ demands) (suc k) P all = at_junction juncti
 
 -- a link of the grid is made of a link's ends, its setting and its own law
 pub at_link : (ends : List Ends) (settings : List Setting) (own : List LinkLaw) (k : ℕ) (P : GridLink → Type 0)
-    → ((e : Ends) (s : Setting) (o : LinkLaw) → slice_get ends k ≡ Some e → slice_get settings k ≡ Some s → slice_get own k ≡ Some o → P (link_of e s o))
+    → ((e : Ends) (s : Setting) (o : LinkLaw) → slice_get ends k ≡ Some e → slice_get settings k ≡ Some s
+    → slice_get own k ≡ Some o → P (link_of e s o))
     → IfSome (slice_get (links_of ends settings own) k) P
 at_link [] settings own k P all = tt
 at_link (x ∷ ends) [] own k P all = tt

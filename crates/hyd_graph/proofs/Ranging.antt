@@ -8,7 +8,9 @@ use Rattle.hyd_net.specs.declared.patterns.Pattern.{Pattern}
 use Rattle.hyd_net.specs.Sizes.{HasSizes, IsPumpOrigin}
 use Rattle.hyd_net.specs.Ranges.{IsFlow}
 use Rattle.hyd_net.specs.States.{CanHave, IsSpeed}
-use Rattle.hyd_spec.specs.Types.{FlowUnit, Origin, Pipe, Valve, Pump, Emitter, PressureDemand, LinkKind, PipeLink, CheckPipe, PumpLink, CurvePump, Tcv, Fcv, Gpv, Closed, Speed, Limit, ShutoffHead, FourThirds, Given}
+use Rattle.hyd_spec.specs.Types.{FlowUnit, Origin, Pipe, Valve, Pump, Emitter, PressureDemand, LinkKind, PipeLink}
+use Rattle.hyd_spec.specs.Types.{CheckPipe, PumpLink, CurvePump, Tcv, Fcv, Gpv, Closed, Speed, Limit, ShutoffHead}
+use Rattle.hyd_spec.specs.Types.{FourThirds, Given}
 use Rattle.hyd_spec.specs.Law.{Shut}
 use Rattle.hyd_spec.specs.LinkLaw.{own_law}
 use Rattle.hyd_graph.specs.Settings.{IsShutoff, HasShutoff}
@@ -26,7 +28,8 @@ head_from : (us : Bool) (z : ℤ) → pos 1 ≤ℤ z → pos 0 ≤ℤ head_ticks
 head_from true z some = omega (arith, ints, some)
 head_from false z some = omega (arith, ints, some)
 
-shutoff_by : (unit : FlowUnit) (head : ShutoffHead) (o : Origin) → IsPumpOrigin unit head o → IsShutoff (is_us_unit unit) head
+shutoff_by : (unit : FlowUnit) (head : ShutoffHead) (o : Origin) → IsPumpOrigin unit head o
+    → IsShutoff (is_us_unit unit) head
 shutoff_by unit head (Pipe length diameter roughness minor us) is = absurd is
 shutoff_by unit head (Valve diameter k us) is = absurd is
 shutoff_by unit (FourThirds h) (Pump flow drop thirds own) is =
@@ -35,7 +38,8 @@ shutoff_by unit (Given h) (Pump flow drop thirds own) is = omega (arith, ints, i
 shutoff_by unit head (Emitter coefficient own) is = absurd is
 shutoff_by unit head (PressureDemand demand minimum required us) is = absurd is
 
-pub shutoff_of : (unit : FlowUnit) (patterns : List Pattern) (bends : List (ListView HeadPoint)) (kind : LinkKind) → HasSizes unit patterns bends kind → HasShutoff (is_us_unit unit) kind
+pub shutoff_of : (unit : FlowUnit) (patterns : List Pattern) (bends : List (ListView HeadPoint)) (kind : LinkKind)
+    → HasSizes unit patterns bends kind → HasShutoff (is_us_unit unit) kind
 shutoff_of unit patterns bends (PipeLink cap) sizes = tt
 shutoff_of unit patterns bends (CheckPipe cap) sizes = tt
 shutoff_of unit patterns bends (PumpLink cap shutoff head pattern) sizes = shutoff_by unit head cap.origin sizes.0

@@ -11,7 +11,8 @@ use Rattle.hyd_law.specs.declared.link_law.LinkLaw.{LinkLaw}
 use Rattle.hyd_graph.specs.Settings.{HasRoom, HasRoomFor}
 
 -- a law that keeps whatever room another has
-pub room_kept : (bends : List (ListView HeadPoint)) (kind : LinkKind) (law new : LinkLaw) → ((n : ℕ) → HasRoom n law → HasRoom n new) → HasRoomFor bends kind law → HasRoomFor bends kind new
+pub room_kept : (bends : List (ListView HeadPoint)) (kind : LinkKind) (law new : LinkLaw)
+    → ((n : ℕ) → HasRoom n law → HasRoom n new) → HasRoomFor bends kind law → HasRoomFor bends kind new
 room_kept bends (PipeLink cap) law new keeps room = tt
 room_kept bends (CheckPipe cap) law new keeps room = tt
 room_kept bends (PumpLink cap shutoff head pattern) law new keeps room = tt
@@ -21,8 +22,10 @@ room_kept bends (Fcv valve) law new keeps room = tt
 room_kept bends (Gpv bend) law new keeps room = keeps (2 * length (points_of bends bend)) room
 
 -- the points of a curve that is there
-pub bend_points : (P : List HeadPoint → Type 0) (bends : List (ListView HeadPoint)) (bend : ℕ) → HasBend P bends bend → P (points_of bends bend)
+pub bend_points : (P : List HeadPoint → Type 0) (bends : List (ListView HeadPoint)) (bend : ℕ) → HasBend P bends bend
+    → P (points_of bends bend)
 bend_points P bends bend has =
     let none : ListView HeadPoint = record { list = []; spare = 0 } in
-    let there = ap (λ (o : Option (ListView HeadPoint)). option_map_or (λ (b : ListView HeadPoint). b.list) o []) (slice_get-get_or bends bend none has.in_range) in
+    let there = ap (λ (o : Option (ListView HeadPoint)). option_map_or (λ (b : ListView HeadPoint). b.list) o [])
+    (slice_get-get_or bends bend none has.in_range) in
     subst P (sym there) (has.holds none)

@@ -1,5 +1,6 @@
 -- Every law of a net's grid is sound.
-use Rattle.std.proofs.Common.{◌≡◌, suc, ◌<◌, ℤ, Bool, true, false, List, [], ◌∷◌, length, All, Option, Some, None, IfSome, arith, lit<}
+use Rattle.std.proofs.Common.{◌≡◌, suc, ◌<◌, ℤ, Bool, true, false, List, [], ◌∷◌, length, All, Option, Some, None}
+use Rattle.std.proofs.Common.{IfSome, arith, lit<}
 use Rattle.std.specs.List.{AllByRecursion}
 use Rattle.std.specs.Option.{option_map}
 use Rattle.std.proofs.lemmas.Int.{ints}
@@ -13,7 +14,9 @@ use Rattle.hyd_law.specs.Curves.{places}
 use Rattle.hyd_law.specs.LinkLaws.{IsSoundLink}
 use Rattle.hyd_law.specs.declared.kinds.Quad.{Quad as QuadValue}
 use Rattle.hyd_law.specs.declared.link_law.LinkLaw.{LinkLaw}
-use Rattle.hyd_law.specs.declared.link_law.LinkLaw.TheVariants.{Shut, Quad, Linear, QuadOneWay, LinearOneWay, Pump, Limit, LinearLimit, LimitOneWay, LinearLimitOneWay, Bent}
+use Rattle.hyd_law.specs.declared.link_law.LinkLaw.TheVariants.{Shut, Quad, Linear, QuadOneWay, LinearOneWay, Pump}
+use Rattle.hyd_law.specs.declared.link_law.LinkLaw.TheVariants.{Limit, LinearLimit, LimitOneWay, LinearLimitOneWay}
+use Rattle.hyd_law.specs.declared.link_law.LinkLaw.TheVariants.{Bent}
 use Rattle.hyd_law.specs.declared.outflows.OutLaw.{OutLaw}
 use Rattle.hyd_law.specs.declared.outflows.OutLaw.TheVariants.{Fixed, Pda}
 use Rattle.hyd_graph.specs.declared.parts.NetJunction.{NetJunction}
@@ -46,15 +49,18 @@ exact_sound (LinearLimit l) sound = tt
 exact_sound (LimitOneWay l) sound = one_way_sound l.forward _ sound
 exact_sound (LinearLimitOneWay l) sound = one_way_sound l.forward _ tt
 exact_sound (Bent l) sound =
-    cond_both (is_nothing l.least l.most) ShutLaw (HeldLaw l.least l.most (BentLaw (places l.inner.knots.list))) IsSoundLaw (λ e. tt) (λ e. (sound.0, sound.1.ordered))
+    cond_both (is_nothing l.least l.most) ShutLaw (HeldLaw l.least l.most (BentLaw (places l.inner.knots.list)))
+    IsSoundLaw (λ e. tt) (λ e. (sound.0, sound.1.ordered))
 
-restricted_sound : (no_forward no_reverse : Bool) (own : Law) → IsSoundLaw own → IsSoundLaw (restricted no_forward no_reverse own)
+restricted_sound : (no_forward no_reverse : Bool) (own : Law) → IsSoundLaw own
+    → IsSoundLaw (restricted no_forward no_reverse own)
 restricted_sound true true own sound = sound
 restricted_sound true false own sound = sound
 restricted_sound false true own sound = sound
 restricted_sound false false own sound = sound
 
-links_sound : (ends : List Ends) (settings : List Setting) (own laws : List LinkLaw) → length own ≡ length settings → HaveLaws settings own laws
+links_sound : (ends : List Ends) (settings : List Setting) (own laws : List LinkLaw) → length own ≡ length settings
+    → HaveLaws settings own laws
     → AllByRecursion (λ (link : GridLink). IsSoundLaw link.law) (links_of ends settings own)
 links_sound [] settings own laws e all = tt
 links_sound (x ∷ ends) [] own laws e all = tt
@@ -68,7 +74,8 @@ links_sound (x ∷ ends) (s ∷ settings) (o ∷ own) (l ∷ laws) e all = (
   links_sound ends settings own laws (omega arith) (λ k setting a b h. all (suc k) setting a b (omega arith)),
 )
 
-emitter_sound : (e : Option QuadValue) → IfSome e (λ law. IsSoundCapacity (capacity_of law)) → IfSome (option_map capacity_of e) IsSoundCapacity
+emitter_sound : (e : Option QuadValue) → IfSome e (λ law. IsSoundCapacity (capacity_of law))
+    → IfSome (option_map capacity_of e) IsSoundCapacity
 emitter_sound None sound = tt
 emitter_sound (Some law) sound = sound
 
@@ -76,8 +83,11 @@ emitters_sound : (junctions : List NetJunction) (demands : List OutLaw) → All 
     → AllByRecursion (λ (j : GridJunction). IfSome j.emitter IsSoundCapacity) (junctions_of junctions demands)
 emitters_sound [] demands all = tt
 emitters_sound (j ∷ junctions) [] all = tt
-emitters_sound (j ∷ junctions) (d ∷ demands) all =
-    (emitter_sound j.emitter (all 0 j (omega arith)).emitter, emitters_sound junctions demands (λ k x h. all (suc k) x (omega arith)))
+emitters_sound (j ∷ junctions) (d ∷ demands) all = (
+  emitter_sound j.emitter (all 0 j (omega arith)).emitter,
+  emitters_sound junctions demands
+      (λ k x h. all (suc k) x (omega arith)),
+)
 
 pressure_above : (us : Bool) (p : Decimal) → 0 < (pressure_value us p).den
 pressure_above true p = lit< tt
@@ -93,7 +103,11 @@ demands_sound : (junctions : List NetJunction) (demands : List OutLaw) → All I
     → AllByRecursion (λ (j : GridJunction). IsSoundDemandLaw j.demand) (junctions_of junctions demands)
 demands_sound [] demands all = tt
 demands_sound (j ∷ junctions) [] all = tt
-demands_sound (j ∷ junctions) (d ∷ demands) all = (demand_sound d (all 0 d (omega arith)), demands_sound junctions demands (λ k x h. all (suc k) x (omega arith)))
+demands_sound (j ∷ junctions) (d ∷ demands) all = (
+  demand_sound d (all 0 d (omega arith)),
+  demands_sound junctions
+      demands (λ k x h. all (suc k) x (omega arith)),
+)
 
 pub steady : (net : NetView) → IsSoundNet net → IsSteady (grid_of net)
 steady net sound =

@@ -22,8 +22,8 @@ abbrev pub demand_held : OutLaw → ℤ
 demand_held (FixedOut l) = l.demand
 demand_held (PdaOut l) = l.demand
 
--- a law is that of a demand in a project: driven by pressure or fixed, its numbers are sound, and it accepts each pressure of at most
--- 2 * 10^18 head ticks
+-- a law is that of a demand in a project: driven by pressure or fixed, its numbers are sound, and it accepts each
+-- pressure of at most 2 * 10^18 head ticks
 pub record IsOutLawOf (project : Project) (demand : ℤ) (law : OutLaw) : Type 0 where
   pub is_law : IsDemandLaw project demand (demand_of_law law)
   pub sound : IsSoundOut law
@@ -40,7 +40,8 @@ AreHeld project demands = (k : ℕ) (law : OutLaw) → k < length demands → Is
 -- the first n laws are those of the junctions' demands at a time
 abbrev pub AreDemandsAt : Project → ℕ → List OutLaw → ℕ → Type 0
 AreDemandsAt project time demands n = (k : ℕ) (junction : Junction) (law : OutLaw) → k < n
-    → IsOutLawOf project (demand_of project time (slice_index_or project.junctions.list k junction)) (slice_index_or demands k law)
+    → IsOutLawOf project (demand_of project time (slice_index_or project.junctions.list k junction))
+    (slice_index_or demands k law)
 
 -- a junction of the network of a period has its elevation and its emitter
 pub record IsNetJunction (junction : Junction) (here : NetJunction) : Type 0 where

@@ -3,10 +3,13 @@
 use Rattle.std.specs.Prelude.{ℤ, pos, Bool, true, false, ◌&&◌, if◌then◌else◌}
 use Rattle.hyd_spec.specs.Scale.{is_same_number}
 use Rattle.hyd_spec.specs.Quantity.{lift_of}
-use Rattle.hyd_spec.specs.Law.{Law, Shut as ShutLaw, QuadraticLaw, LinearLaw, Lifted, ForwardOnly, ReverseOnly, Capped, Bent as BentLaw, Held}
+use Rattle.hyd_spec.specs.Law.{Law, Shut as ShutLaw, QuadraticLaw, LinearLaw, Lifted, ForwardOnly, ReverseOnly, Capped}
+use Rattle.hyd_spec.specs.Law.{Bent as BentLaw, Held}
 use Rattle.hyd_law.specs.Curves.{places}
 use Rattle.hyd_law.specs.declared.link_law.LinkLaw.{LinkLaw}
-use Rattle.hyd_law.specs.declared.link_law.LinkLaw.TheVariants.{Shut, Quad, Linear, QuadOneWay, LinearOneWay, Pump, Limit, LinearLimit, LimitOneWay, LinearLimitOneWay, Bent}
+use Rattle.hyd_law.specs.declared.link_law.LinkLaw.TheVariants.{Shut, Quad, Linear, QuadOneWay, LinearOneWay, Pump}
+use Rattle.hyd_law.specs.declared.link_law.LinkLaw.TheVariants.{Limit, LinearLimit, LimitOneWay, LinearLimitOneWay}
+use Rattle.hyd_law.specs.declared.link_law.LinkLaw.TheVariants.{Bent}
 
 -- the law that passes one way only
 abbrev pub one_way_law : Bool → Law → Law
@@ -24,9 +27,11 @@ exact_law (Quad l) = QuadraticLaw l.cap
 exact_law (Linear l) = LinearLaw
 exact_law (QuadOneWay l) = one_way_law l.forward (QuadraticLaw l.inner.cap)
 exact_law (LinearOneWay l) = one_way_law l.forward LinearLaw
-exact_law (Pump l) = one_way_law l.forward (Lifted (lift_of l.inner.us l.inner.head l.inner.speed) (QuadraticLaw l.inner.inner.cap))
+exact_law (Pump l) = one_way_law l.forward (Lifted (lift_of l.inner.us l.inner.head l.inner.speed)
+    (QuadraticLaw l.inner.inner.cap))
 exact_law (Limit l) = Capped l.cap (QuadraticLaw l.inner.cap)
 exact_law (LinearLimit l) = Capped l.cap LinearLaw
 exact_law (LimitOneWay l) = one_way_law l.forward (Capped l.inner.cap (QuadraticLaw l.inner.inner.cap))
 exact_law (LinearLimitOneWay l) = one_way_law l.forward (Capped l.inner.cap LinearLaw)
-exact_law (Bent l) = if is_nothing l.least l.most then ShutLaw else Held l.least l.most (BentLaw (places l.inner.knots.list))
+exact_law (Bent l) = if is_nothing l.least l.most then ShutLaw else Held l.least l.most
+    (BentLaw (places l.inner.knots.list))

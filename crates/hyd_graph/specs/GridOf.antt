@@ -26,7 +26,11 @@ capacity_of law = law.cap
 -- a junction with the law of its demand
 abbrev pub junction_of : NetJunction → OutLaw → GridJunction
 junction_of junction demand =
-    record { elevation = junction.elevation; demand = demand_of_law demand; emitter = option_map capacity_of junction.emitter }
+    record {
+      elevation = junction.elevation;
+      demand = demand_of_law demand;
+      emitter = option_map capacity_of junction.emitter;
+    }
 
 -- the junctions with the laws of their demands
 abbrev pub junctions_of : List NetJunction → List OutLaw → List GridJunction

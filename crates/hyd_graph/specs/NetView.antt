@@ -7,8 +7,9 @@ use Rattle.hyd_graph.specs.declared.parts.Setting.{Setting}
 use Rattle.hyd_law.specs.declared.link_law.LinkLaw.{LinkLaw}
 use Rattle.hyd_law.specs.declared.outflows.OutLaw.{OutLaw}
 
--- the junctions with the laws of their demands, the heads of reservoirs and of tanks, and the links: their ends, the states that
--- they are in, and their laws with and without regard to full and empty tanks, each in order of their numbers
+-- the junctions with the laws of their demands, the heads of reservoirs and of tanks, and the links: their ends, the
+-- states that they are in, and their laws with and without regard to full and empty tanks, each in order of their
+-- numbers
 pub record NetView : Type 0 where
   pub junctions : List NetJunction
   pub demands : List OutLaw

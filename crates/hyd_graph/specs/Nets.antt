@@ -1,5 +1,6 @@
 -- What is so of every net.
-use Rattle.std.specs.Prelude.{◌≡◌, ℕ, ◌<◌, ◌≤◌, ◌*◌, ◌^◌, ℤ, List, length, slice_index_or, unsigned_abs, All, Bool, true, false, ⊤}
+use Rattle.std.specs.Prelude.{◌≡◌, ℕ, ◌<◌, ◌≤◌, ◌*◌, ◌^◌, ℤ, List, length, slice_index_or, unsigned_abs, All, Bool}
+use Rattle.std.specs.Prelude.{true, false, ⊤}
 use Rattle.std.specs.Option.{IfSome}
 use Rattle.hyd_net.specs.Ranges.{IsHead}
 use Rattle.hyd_spec_certificates.specs.declared.Problem.{Problem}
@@ -44,8 +45,8 @@ abbrev pub HaveLaws : List Setting → List LinkLaw → List LinkLaw → Type 0
 HaveLaws settings own laws = (k : ℕ) (setting : Setting) (o l : LinkLaw) → k < length settings
     → HasLaws (slice_index_or settings k setting) (slice_index_or own k o) (slice_index_or laws k l)
 
--- a net has a demand for each junction, a setting and two laws for each link, its links go from node to node, all heads are in
--- the file's range, and each law is sound and stands for the one of its grid
+-- a net has a demand for each junction, a setting and two laws for each link, its links go from node to node, all heads
+-- are in the file's range, and each law is sound and stands for the one of its grid
 pub record IsSoundNet (net : NetView) : Type 0 where
   pub each_demand : length net.demands ≡ length net.junctions
   pub each_setting : length net.settings ≡ length net.ends

@@ -28,8 +28,9 @@ use Rattle.hyd_graph.specs.Ties.{ties_from}
 abbrev pub ends_of : Link → Ends
 ends_of link = record { from = link.from; to = link.to }
 
--- what a net of a project is in each of its periods: its junctions and its links are the project's, it has a head for each reservoir
--- and each tank, each demand that it holds has its law, and the two laws of each link are those of its setting
+-- what a net of a project is in each of its periods: its junctions and its links are the project's, it has a head for
+-- each reservoir and each tank, each demand that it holds has its law, and the two laws of each link are those of its
+-- setting
 pub record IsNetOf (project : Project) (net : NetView) : Type 0 where
   pub ends : net.ends ≡ map ends_of project.links.list
   pub junctions : AllZip IsNetJunction project.junctions.list net.junctions
@@ -84,7 +85,8 @@ AreShut project tanks laws = (k : ℕ) (link : Link) (law : LinkLaw) → k < len
 -- ---- two nets of one period
 
 -- a net of a project was set to a period
-pub record IsSetTo (project : Project) (time : ℕ) (levels : List LevelSpan) (tanks : List TankState) (links : List LinkState)
+pub record IsSetTo (project : Project) (time : ℕ) (levels : List LevelSpan) (tanks : List TankState)
+    (links : List LinkState)
     (net : NetView) : Type 0 where
   pub of : IsNetOf project net
   pub grid : IsGrid project time (map interval_of levels) tanks links (grid_of net)
@@ -100,8 +102,8 @@ pub record GiveAlike (a b : OutLaw) : Type 0 where
   pub low : (p : ℤ) → out_low a p ≡ out_low b p
   pub high : (p : ℤ) → out_high a p ≡ out_high b p
 
--- two nets answer alike: their grids, the states and the laws of their links, the laws of their demands, their margins and the
--- link ends at each node are the same
+-- two nets answer alike: their grids, the states and the laws of their links, the laws of their demands, their margins
+-- and the link ends at each node are the same
 pub record AnswerAlike (a b : NetView) : Type 0 where
   pub grid : grid_of a ≡ grid_of b
   pub states : states_of a ≡ states_of b
@@ -109,7 +111,8 @@ pub record AnswerAlike (a b : NetView) : Type 0 where
   pub own : (link : ℕ) (x y : LinkLaw) → slice_get a.own link ≡ Some x → slice_get b.own link ≡ Some y → PassAlike x y
   pub laws : (link : ℕ) (x y : LinkLaw) → slice_get a.laws link ≡ Some x → slice_get b.laws link ≡ Some y
       → PassAlike x y
-  pub demands : (junction : ℕ) (x y : OutLaw) → slice_get a.demands junction ≡ Some x → slice_get b.demands junction ≡ Some y
+  pub demands : (junction : ℕ) (x y : OutLaw) → slice_get a.demands junction ≡ Some x
+      → slice_get b.demands junction ≡ Some y
       → GiveAlike x y
   pub margins : (junction : ℕ) → margin (grid_of a) junction ≡ margin (grid_of b) junction
   pub rows : (node : ℕ) → ties_from node 0 a.ends ≡ ties_from node 0 b.ends

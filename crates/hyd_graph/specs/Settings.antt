@@ -1,5 +1,6 @@
 -- The laws of links in their states, between tanks that may be full or empty.
-use Rattle.std.specs.Prelude.{◌≡◌, ◌↔◌, ◌<◌, ◌≤◌, ◌+◌, ◌*◌, ◌^◌, ℕ, ℤ, Bool, List, unsigned_abs, length, slice_index_or, if◌then◌else◌, ⊤, Option, None, slice_get}
+use Rattle.std.specs.Prelude.{◌≡◌, ◌↔◌, ◌<◌, ◌≤◌, ◌+◌, ◌*◌, ◌^◌, ℕ, ℤ, Bool, List, unsigned_abs, length, slice_index_or}
+use Rattle.std.specs.Prelude.{if◌then◌else◌, ⊤, Option, None, slice_get}
 use Rattle.std.specs.Prelude.{All, true, false}
 use Rattle.hyd_net.specs.ListView.{ListView}
 use Rattle.hyd_net.specs.Made.{IsKindMade, IsStateMade, IsValveMade}
@@ -7,7 +8,8 @@ use Rattle.hyd_num.specs.Chain.{IsMade}
 use Rattle.hyd_net.specs.Sizes.{HasSizes}
 use Rattle.hyd_net.specs.States.{CanHave}
 use Rattle.hyd_net.specs.declared.curves.HeadPoint.{HeadPoint}
-use Rattle.hyd_spec.specs.Types.{Project, Link, LinkKind, PipeLink, CheckPipe, PumpLink, CurvePump, Tcv, Fcv, Gpv, LinkState, Closed, ShutoffHead}
+use Rattle.hyd_spec.specs.Types.{Project, Link, LinkKind, PipeLink, CheckPipe, PumpLink, CurvePump, Tcv, Fcv, Gpv}
+use Rattle.hyd_spec.specs.Types.{LinkState, Closed, ShutoffHead}
 use Rattle.hyd_spec.specs.declared.TankState.{TankState}
 use Rattle.hyd_spec.specs.Network.{is_tank, tank_number}
 use Rattle.hyd_spec.specs.Quantity.{is_us, shutoff_head, points_of}
@@ -20,8 +22,8 @@ use Rattle.hyd_law.specs.declared.link_law.LinkLaw.TheVariants.{Bent}
 use Rattle.hyd_graph.specs.ExactLaw.{exact_law}
 use Rattle.hyd_graph.specs.declared.parts.Setting.{Setting}
 
--- a law of the program stands for an exact law: it says the same of the exact flow, it has its enclosing functions, its numbers
--- are sound, and it accepts each difference of two heads of at most 10^18 head ticks
+-- a law of the program stands for an exact law: it says the same of the exact flow, it has its enclosing functions, its
+-- numbers are sound, and it accepts each difference of two heads of at most 10^18 head ticks
 pub record Stands (law : LinkLaw) (exact : Law) : Type 0 where
   pub at_least_is : (S : ℕ) (x a : ℤ) → link_at_least law S x a ↔ flow_at_least exact S x a
   pub at_most_is : (S : ℕ) (x a : ℤ) → link_at_most law S x a ↔ flow_at_most exact S x a
@@ -48,15 +50,19 @@ tank_state project tanks node = if is_tank project node then slice_get tanks (ta
 -- the setting of a link in its state, between tanks in theirs
 abbrev pub setting_of : Project → List TankState → Link → LinkState → Setting
 setting_of project tanks link state =
-    record { state = state; no_forward = forbids_forward project tanks link; no_reverse = forbids_reverse project tanks link }
+    record {
+      state = state;
+      no_forward = forbids_forward project tanks link;
+      no_reverse = forbids_reverse project tanks link;
+    }
 
 -- a law by straight lines in a list that takes so many knots without memory being taken
 abbrev pub HasRoom : ℕ → LinkLaw → Type 0
 HasRoom n (Bent l) = n ≤ length l.inner.knots.list + l.inner.knots.spare
 HasRoom n _ = ⊥
 
--- the law of a link with a curve by straight lines has room for the knots of its curve, whatever its state: a pump's for one at each
--- point, a general purpose valve's for two
+-- the law of a link with a curve by straight lines has room for the knots of its curve, whatever its state: a pump's
+-- for one at each point, a general purpose valve's for two
 abbrev pub HasRoomFor : List (ListView HeadPoint) → LinkKind → LinkLaw → Type 0
 HasRoomFor bends (CurvePump bend pattern) law = HasRoom (length (points_of bends bend)) law
 HasRoomFor bends (Gpv bend) law = HasRoom (2 * length (points_of bends bend)) law
@@ -67,7 +73,8 @@ abbrev pub IsShutBetween : Setting → LinkLaw → Type 0
 IsShutBetween setting law = setting.no_forward ≡ true → setting.no_reverse ≡ true → exact_law law ≡ Shut
 
 -- the two laws of a link are those of its setting: its own, and the one between its tanks
-pub record AreLawsOf (us : Bool) (bends : List (ListView HeadPoint)) (kind : LinkKind) (setting : Setting) (own law : LinkLaw) : Type 0 where
+pub record AreLawsOf (us : Bool) (bends : List (ListView HeadPoint)) (kind : LinkKind) (setting : Setting)
+    (own law : LinkLaw) : Type 0 where
   pub own_is : Represents own (own_law us bends kind setting.state)
   pub law_is : Stands law (restricted setting.no_forward setting.no_reverse (own_law us bends kind setting.state))
   pub law_shut : IsShutBetween setting law
@@ -77,13 +84,15 @@ pub record AreLawsOf (us : Bool) (bends : List (ListView HeadPoint)) (kind : Lin
 -- so it is for each link of a project
 abbrev pub AreLaws : Project → List Link → List Setting → List LinkLaw → List LinkLaw → Type 0
 AreLaws project links settings own laws = (k : ℕ) (link : Link) (setting : Setting) (o l : LinkLaw) → k < length links
-    → AreLawsOf (is_us project) project.bends.list (slice_index_or links k link).kind (slice_index_or settings k setting)
+    → AreLawsOf (is_us project) project.bends.list (slice_index_or links k link).kind
+    (slice_index_or settings k setting)
     (slice_index_or own k o) (slice_index_or laws k l)
 
 -- the first n links have the settings of their states
 abbrev pub AreSet : Project → List TankState → List Link → List LinkState → List Setting → ℕ → Type 0
 AreSet project tanks links states settings n = (k : ℕ) (link : Link) (state : LinkState) (setting : Setting) → k < n
-    → slice_index_or settings k setting ≡ setting_of project tanks (slice_index_or links k link) (slice_index_or states k state)
+    → slice_index_or settings k setting ≡ setting_of project tanks (slice_index_or links k link)
+    (slice_index_or states k state)
 
 -- what is known of a link of a sound project in a state that it can have
 pub record CanStand (project : Project) (kind : LinkKind) (state : LinkState) : Type 0 where
@@ -95,7 +104,8 @@ pub record CanStand (project : Project) (kind : LinkKind) (state : LinkState) : 
 -- each link can have its state, whose numbers are made of the file's
 pub record AreStates (project : Project) (states : List LinkState) : Type 0 where
   pub each : length states ≡ length project.links.list
-  pub can : (k : ℕ) (link : Link) (state : LinkState) → k < length states → CanHave (slice_index_or project.links.list k link).kind (slice_index_or states k state)
+  pub can : (k : ℕ) (link : Link) (state : LinkState) → k < length states
+      → CanHave (slice_index_or project.links.list k link).kind (slice_index_or states k state)
   pub made : All (IsStateMade project.options.unit) states
 
 -- the setting of a closed link between tanks that are neither full nor empty

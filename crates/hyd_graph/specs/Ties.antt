@@ -1,5 +1,6 @@
 -- Link ends at a node, and sums over them.
-use Rattle.std.specs.Prelude.{◌≡◌, ◌<◌, ◌==◌, ℕ, suc, ℤ, pos, neg_ℤ, ◌+ℤ◌, ◌-ℤ◌, Bool, true, false, List, [], ◌∷◌, ◌++◌, length, slice_get, slice_index_or}
+use Rattle.std.specs.Prelude.{◌≡◌, ◌<◌, ◌==◌, ℕ, suc, ℤ, pos, neg_ℤ, ◌+ℤ◌, ◌-ℤ◌, Bool, true, false, List, [], ◌∷◌, ◌++◌}
+use Rattle.std.specs.Prelude.{length, slice_get, slice_index_or}
 use Rattle.std.specs.Option.{option_map_or}
 use Rattle.smallvec.specs.SmallVec.{SmallVec}
 use Rattle.hyd_spec.specs.Assignment.{head_at}
@@ -51,7 +52,8 @@ pub record IsTie (nodes links : ℕ) (tie : Tie) : Type 0 where
 
 -- ---- sums over link ends
 
--- what a link takes out of a node at its first end, by one function of its law, or less what it brings at its second, by another
+-- what a link takes out of a node at its first end, by one function of its law, or less what it brings at its second,
+-- by another
 abbrev pub share : (Law → ℤ → ℤ) → (Law → ℤ → ℤ) → Law → Bool → ℤ → ℤ → ℤ
 share out into law true here there = out law (here -ℤ there)
 share out into law false here there = neg_ℤ (into law (there -ℤ here))
@@ -59,7 +61,8 @@ share out into law false here there = neg_ℤ (into law (there -ℤ here))
 -- what a link end takes out of a node at a head, among heads of all nodes
 abbrev pub tie_share : (Law → ℤ → ℤ) → (Law → ℤ → ℤ) → List GridLink → List ℤ → ℤ → Tie → ℤ
 tie_share out into links heads here tie =
-    option_map_or (λ (link : GridLink). share out into link.law tie.out here (head_at heads tie.other)) (slice_get links tie.link) (pos 0)
+    option_map_or (λ (link : GridLink). share out into link.law tie.out here (head_at heads tie.other))
+    (slice_get links tie.link) (pos 0)
 
 -- what link ends take out of it together
 abbrev pub ties_share : (Law → ℤ → ℤ) → (Law → ℤ → ℤ) → List GridLink → List ℤ → ℤ → List Tie → ℤ

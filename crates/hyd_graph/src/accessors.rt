@@ -65,7 +65,8 @@ impl Net {
         requires { link < length self.now.ends }
         ensures value { slice_get self.now.ends link ≡ Some result }
         ensures nodes { HasEnds (node_count self.now) result }
-        ensures grid { IfSome (slice_get (grid_of self.now).links link) (λ l. (l.from ≡ result.from) × (l.to ≡ result.to)) }
+        ensures grid { IfSome (slice_get (grid_of self.now).links link) (λ l. (l.from ≡ result.from)
+            × (l.to ≡ result.to)) }
     {
         self.ends[link as usize]
     }
@@ -83,7 +84,8 @@ impl Net {
     pub fn demand_law(&self, junction: u32) -> &OutLaw
         requires { junction < length self.now.junctions }
         ensures value { slice_get self.now.demands junction ≡ Some result.now }
-        ensures grid { IfSome (slice_get (grid_of self.now).junctions junction) (λ j. j.demand ≡ demand_of_law result.now) }
+        ensures grid { IfSome (slice_get (grid_of self.now).junctions junction)
+            (λ j. j.demand ≡ demand_of_law result.now) }
         ensures sound { IsSoundOut result.now }
         ensures accepts { (p : ℤ) → unsigned_abs p ≤ 2 * 10 ^ 18 → OutAccepts result.now p }
         ensures low { (p : ℤ) → out_low result.now p ≡ demand_low (demand_of_law result.now) p }
@@ -95,7 +97,8 @@ impl Net {
     /// The law of a junction's emitter, by its head above the elevation.
     pub fn emitter_law(&self, junction: u32) -> Option<&Quad>
         requires { junction < length self.now.junctions }
-        ensures grid { IfSome (slice_get (grid_of self.now).junctions junction) (λ j. j.emitter ≡ option_map capacity_of (option_copied result)) }
+        ensures grid { IfSome (slice_get (grid_of self.now).junctions junction)
+            (λ j. j.emitter ≡ option_map capacity_of (option_copied result)) }
         ensures sound { IfSome (option_copied result) (λ law. IsSoundCapacity (capacity_of law)) }
     {
         self.junctions[junction as usize].emitter.as_ref()
@@ -134,7 +137,8 @@ impl Net {
         requires fixed { length self.now.junctions ≤ node }
         requires in_range { node < node_count self.now }
         requires pinned { HasProblem self.now problem }
-        ensures value { (u : List ℤ) → length u ≡ length self.now.junctions → result ≡ head_at (all_heads (grid_of self.now) problem side u) node }
+        ensures value { (u : List ℤ) → length u ≡ length self.now.junctions
+            → result ≡ head_at (all_heads (grid_of self.now) problem side u) node }
         ensures small { unsigned_abs result ≤ 10 ^ 18 }
     {
         let before = self.junctions.len();
@@ -151,8 +155,8 @@ impl Net {
         }
     }
 
-    /// The margin of a junction, in flow ticks: ten for each of its link ends, and thirty for its demand, its emitter and
-    /// its balance.
+    /// The margin of a junction, in flow ticks: ten for each of its link ends, and thirty for its demand, its emitter
+    /// and its balance.
     pub fn margin(&self, junction: u32) -> i64
         requires { junction < length self.now.junctions }
         ensures { result ≡ margin (grid_of self.now) junction }
@@ -167,7 +171,9 @@ impl Net {
         ensures ties { All (IsTie (node_count self.now) (length self.now.ends)) result.now }
         ensures few { length result.now ≤ 40000 }
         ensures count { length result.now ≡ link_ends node (grid_of self.now).links }
-        ensures sum { (out into : Law → ℤ → ℤ) (heads : List ℤ) → ties_share out into (grid_of self.now).links heads (head_at heads node) result.now ≡ net out into heads node (grid_of self.now).links }
+        ensures sum { (out into : Law → ℤ → ℤ) (heads : List ℤ)
+            → ties_share out into (grid_of self.now).links heads (head_at heads node) result.now
+            ≡ net out into heads node (grid_of self.now).links }
     {
         self.rows[node as usize].as_slice()
     }

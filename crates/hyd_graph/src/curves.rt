@@ -1,7 +1,9 @@
-//! The laws of links with a curve by straight lines. Their knots are written in the room of a list, so that no memory is taken.
+//! The laws of links with a curve by straight lines. Their knots are written in the room of a list, so that no memory
+//! is taken.
 #![tactic(auto)]
 
-ghost use Rattle.std.specs.Prelude.{◌≡◌, ◌<◌, ◌≤◌, ◌+◌, ◌*◌, ◌^◌, ◌++◌, [], ◌∷◌, ℕ, pos, neg_ℤ, ℤ, List, Bool, length, map, reverse, Option, ◌≤ℤ◌};
+ghost use Rattle.std.specs.Prelude.{◌≡◌, ◌<◌, ◌≤◌, ◌+◌, ◌*◌, ◌^◌, ◌++◌, [], ◌∷◌, ℕ, pos, neg_ℤ, ℤ, List, Bool, length};
+ghost use Rattle.std.specs.Prelude.{map, reverse, Option, ◌≤ℤ◌};
 ghost use Rattle.std.specs.List.{All};
 ghost use Rattle.hyd_net.specs.ListView.{ListView};
 ghost use Rattle.hyd_net.specs.Curves.{IsPumpCurve, IsLossCurve};
@@ -106,7 +108,10 @@ fn add_reverse_knots(points: &[HeadPoint], knots: &mut List<Knot>)
     requires flows { All (λ (p : HeadPoint). IsFlow p.flow) points.now }
     requires room { length points.now ≤ knots.old.spare }
     requires ranges { All IsKnot knots.old.list }
-    ensures added { places knots.new.list ≡ places knots.old.list ++ map (λ (p : HeadPoint). record { place = neg_ℤ p.head; value = neg_ℤ p.flow }) (reverse points.now) }
+    ensures added { places knots.new.list ≡ places knots.old.list ++ map (λ (p : HeadPoint). record {
+      place = neg_ℤ p.head;
+      value = neg_ℤ p.flow;
+    }) (reverse points.now) }
     ensures ranges { All IsKnot knots.new.list }
     ensures room { knots.old.spare ≤ knots.new.spare + length points.now }
 {
@@ -121,7 +126,10 @@ fn add_forward_knots(points: &[HeadPoint], knots: &mut List<Knot>)
     requires flows { All (λ (p : HeadPoint). IsFlow p.flow) points.now }
     requires room { length points.now ≤ knots.old.spare }
     requires ranges { All IsKnot knots.old.list }
-    ensures added { places knots.new.list ≡ places knots.old.list ++ map (λ (p : HeadPoint). record { place = p.head; value = p.flow }) points.now }
+    ensures added { places knots.new.list ≡ places knots.old.list ++ map (λ (p : HeadPoint). record {
+      place = p.head;
+      value = p.flow;
+    }) points.now }
     ensures ranges { All IsKnot knots.new.list }
     ensures room { knots.old.spare ≤ knots.new.spare + length points.now }
 {
@@ -181,7 +189,8 @@ fn running_curve(points: &[HeadPoint], speed: i64, room: List<Knot>) -> LinkLaw
 fn open_curve(points: &[HeadPoint], room: List<Knot>) -> LinkLaw
     requires curve { IsLossCurve points.now }
     requires room { 2 * length points.now ≤ length room.list + room.spare }
-    ensures represents { Represents result (exact.Held (neg_ℤ spec.greatest_flow) spec.greatest_flow (exact.Bent (valve_knots points.now))) }
+    ensures represents { Represents result (exact.Held (neg_ℤ spec.greatest_flow) spec.greatest_flow
+        (exact.Bent (valve_knots points.now))) }
     ensures room { (n : ℕ) → n ≤ length room.list + room.spare → HasRoom n result }
 {
     let mut knots = room;
@@ -199,7 +208,8 @@ pub(crate) fn curve_pump_law(points: &[HeadPoint], state: &LinkState, knots: Lis
     requires speed { (speed : ℤ) → state.now ≡ LinkState.Speed speed → IsSpeed speed }
     requires held { IsCurve knots.list }
     requires room { length points.now ≤ length knots.list + knots.spare }
-    ensures represents { (us : Bool) (bend : ℕ) (pattern : Option ℕ) (project : Project) → points.now ≡ points_of project.bends.list bend
+    ensures represents { (us : Bool) (bend : ℕ) (pattern : Option ℕ) (project : Project)
+        → points.now ≡ points_of project.bends.list bend
         → Represents result (spec.own_law us project.bends.list (CurvePump bend pattern) state.now) }
     ensures room { (n : ℕ) → n ≤ length knots.list + knots.spare → HasRoom n result }
 {

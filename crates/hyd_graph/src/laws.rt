@@ -15,7 +15,8 @@ ghost use Rattle.hyd_spec.specs.Law as exact;
 ghost use Rattle.hyd_spec.specs.LinkLaw as spec;
 ghost use Rattle.hyd_spec.specs.Quantity.{is_us};
 ghost use Rattle.hyd_graph.specs.ExactLaw.{one_way_law};
-ghost use Rattle.hyd_graph.specs.Settings.{Stands, Represents, HasRoom, HasRoomFor, IsPlain, IsLawMade, HasShutoff, CanStand, AreLawsOf, IsShutBetween, restricted};
+ghost use Rattle.hyd_graph.specs.Settings.{Stands, Represents, HasRoom, HasRoomFor, IsPlain, IsLawMade, HasShutoff};
+ghost use Rattle.hyd_graph.specs.Settings.{CanStand, AreLawsOf, IsShutBetween, restricted};
 
 use crate::curves::{closed_curve, curve_pump_law, curve_valve_law, knots_of, points_of};
 use crate::parts::Setting;
@@ -55,7 +56,8 @@ fn limited(ticks: i64, valve: &OpenValve) -> LinkLaw
 fn open_law(kind: &LinkKind) -> LinkLaw
     requires plain { IsPlain kind.now }
     requires made { IsLawMade kind.now }
-    ensures { (us : Bool) (bends : List (ListView HeadPoint)) → Represents result (spec.own_law us bends kind.now Open) }
+    ensures { (us : Bool) (bends : List (ListView HeadPoint))
+        → Represents result (spec.own_law us bends kind.now Open) }
 {
     match kind {
         LinkKind::Pipe(cap) => LinkLaw::Quad(Quad { cap: *cap }),
@@ -93,7 +95,8 @@ fn running_law(us: bool, kind: &LinkKind, speed: i64) -> LinkLaw
 // The law of a link with the law of a throttled valve.
 fn throttled_law(kind: &LinkKind, law: &OpenValve) -> LinkLaw
     requires { IsValveMade law.now }
-    ensures { (us : Bool) (bends : List (ListView HeadPoint)) (nano : ℤ) → Represents result (spec.own_law us bends kind.now (Throttle nano law.now)) }
+    ensures { (us : Bool) (bends : List (ListView HeadPoint)) (nano : ℤ)
+        → Represents result (spec.own_law us bends kind.now (Throttle nano law.now)) }
 {
     match kind {
         LinkKind::Pipe(_) => LinkLaw::Shut(Shut),
@@ -109,7 +112,8 @@ fn throttled_law(kind: &LinkKind, law: &OpenValve) -> LinkLaw
 // The law of a link with a greatest flow.
 fn limited_law(kind: &LinkKind, ticks: i64) -> LinkLaw
     requires { IsLawMade kind.now }
-    ensures { (us : Bool) (bends : List (ListView HeadPoint)) (nano : ℤ) → Represents result (spec.own_law us bends kind.now (Limit nano ticks)) }
+    ensures { (us : Bool) (bends : List (ListView HeadPoint)) (nano : ℤ)
+        → Represents result (spec.own_law us bends kind.now (Limit nano ticks)) }
 {
     match kind {
         LinkKind::Pipe(_) => LinkLaw::Shut(Shut),
@@ -137,7 +141,8 @@ fn plain_law(project: &Project, kind: &LinkKind, state: &LinkState) -> LinkLaw
     }
 }
 
-// The law of a link in a state, without regard to tanks. Straight lines are written in the room of the law that was held.
+// The law of a link in a state, without regard to tanks. Straight lines are written in the room of the law that was
+// held.
 fn own_law(project: &Project, kind: &LinkKind, state: &LinkState, held: LinkLaw) -> LinkLaw
     requires can { CanStand project.now kind.now state.now }
     requires sound { IsSoundLink held }
@@ -272,7 +277,8 @@ fn shut_law(law: LinkLaw) -> LinkLaw
 // The law of a link between tanks that forbid ways. Where both ways are forbidden, the link is shut.
 fn restricted(law: LinkLaw, setting: &Setting) -> LinkLaw
     requires { IsSoundLink law }
-    ensures stands { (of : Law) → Stands law of → Stands result (restricted setting.now.no_forward setting.now.no_reverse of) }
+    ensures stands { (of : Law) → Stands law of → Stands result
+        (restricted setting.now.no_forward setting.now.no_reverse of) }
     ensures shut { IsShutBetween setting.now result }
     ensures room { (n : ℕ) → HasRoom n law → HasRoom n result }
 {

@@ -30,7 +30,26 @@ impl Model for Net {
 
     ghost Value = { NetView };
 
-    ghost view = { λ n. record { junctions = n.junctions.items; demands = n.demands.items; reservoirs = n.reservoirs.items; tanks = n.tanks.items; ends = n.ends.items; settings = n.settings.items; own = n.own.items; laws = n.laws.items } };
+    ghost view = { λ n. record {
+      junctions = n.junctions.items;
+      demands = n.demands.items;
+      reservoirs = n.reservoirs.items;
+      tanks = n.tanks.items;
+      ends = n.ends.items;
+      settings = n.settings.items;
+      own = n.own.items;
+      laws = n.laws.items;
+    } };
 
-    ghost invariant = { λ n. IsSoundNet (record { junctions = n.junctions.items; demands = n.demands.items; reservoirs = n.reservoirs.items; tanks = n.tanks.items; ends = n.ends.items; settings = n.settings.items; own = n.own.items; laws = n.laws.items }) × AreRowsOf (length n.junctions.items + length n.reservoirs.items + length n.tanks.items) n.ends.items n.rows.items };
+    ghost invariant = { λ n. IsSoundNet (record {
+      junctions = n.junctions.items;
+      demands = n.demands.items;
+      reservoirs = n.reservoirs.items;
+      tanks = n.tanks.items;
+      ends = n.ends.items;
+      settings = n.settings.items;
+      own = n.own.items;
+      laws = n.laws.items;
+    }) × AreRowsOf (length n.junctions.items + length n.reservoirs.items
+        + length n.tanks.items) n.ends.items n.rows.items };
 }

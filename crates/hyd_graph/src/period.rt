@@ -61,12 +61,12 @@ impl Net {
         })
     }
 
-    /// Puts the net into the period that begins at a time, in seconds, with the links in these states, the tanks at these
-    /// levels, in head ticks above their bottoms, and in these states. What differs from what the net holds is written,
-    /// and nothing else: a law of a link is made anew only where its setting changed, a capacity only where the demand
-    /// did. No memory is taken. Each list is passed over once; from the first junction whose demand changes on, junctions
-    /// are passed over again, since none is written before all are known to be in range. Fails with the first junction
-    /// whose demand is out of range, and then all is as before.
+    /// Puts the net into the period that begins at a time, in seconds, with the links in these states, the tanks at
+    /// these levels, in head ticks above their bottoms, and in these states. What differs from what the net holds is
+    /// written, and nothing else: a law of a link is made anew only where its setting changed, a capacity only where
+    /// the demand did. No memory is taken. Each list is passed over once; from the first junction whose demand changes
+    /// on, junctions are passed over again, since none is written before all are known to be in range. Fails with the
+    /// first junction whose demand is out of range, and then all is as before.
     pub fn set_period(
         &mut self,
         project: &Project,

@@ -1,5 +1,6 @@
 -- Lists of one item for each item of another, with its number.
-use Rattle.std.proofs.Common.{◌≡◌, ℕ, zero, suc, ◌+◌, ◌<◌, ◌≤◌, List, [], ◌∷◌, ◌++◌, length, take, refl, ap, sym, ◌∙◌, arith}
+use Rattle.std.proofs.Common.{◌≡◌, ℕ, zero, suc, ◌+◌, ◌<◌, ◌≤◌, List, [], ◌∷◌, ◌++◌, length, take, refl, ap, sym, ◌∙◌}
+use Rattle.std.proofs.Common.{arith}
 use Rattle.std.specs.Prelude.{Some, map, slice_get, slice_index_or}
 use Rattle.std.proofs.lemmas.List.{take_more, take_all, map_push}
 use Rattle.hyd_spec.specs.Lists.{map_from}

@@ -1,5 +1,6 @@
 -- A table of the rows of a kind, one row further.
-use Rattle.std.proofs.Common.{◌≡◌, ◌+◌, ◌≤◌, ℕ, Bool, true, false, List, [], ◌∷◌, ◌++◌, filter, take, length, slice_get, Some, sym, subst, arith}
+use Rattle.std.proofs.Common.{◌≡◌, ◌+◌, ◌≤◌, ℕ, Bool, true, false, List, [], ◌∷◌, ◌++◌, filter, take, length, slice_get}
+use Rattle.std.proofs.Common.{Some, sym, subst, arith}
 use Rattle.hyd_spec_lines.specs.Lines.{Row}
 use Rattle.hyd_tables.specs.Tables.{AreFirsts, IsTable}
 use Rattle.hyd_tables.specs.declared.table.Table.{Table}

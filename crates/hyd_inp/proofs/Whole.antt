@@ -1,5 +1,6 @@
 -- The fault of a text from what was found.
-use Rattle.std.proofs.Common.{◌≡◌, ◌≤◌, ◌^◌, ℕ, Bool, true, false, ◌||◌, List, [], ◌∷◌, length, Option, Some, None, refl, sym, ap, ◌∙◌, subst, arith, inl, inr}
+use Rattle.std.proofs.Common.{◌≡◌, ◌≤◌, ◌^◌, ℕ, Bool, true, false, ◌||◌, List, [], ◌∷◌, length, Option, Some, None}
+use Rattle.std.proofs.Common.{refl, sym, ap, ◌∙◌, subst, arith, inl, inr}
 use Rattle.std.specs.Prelude.{IfSome, IfNone}
 use Rattle.std.specs.List.{list_any}
 use Rattle.std.proofs.lemmas.Bool.{cases_Bool, le-leb}
@@ -12,7 +13,8 @@ use Rattle.hyd_spec_lines.specs.declared.section.Section.TheVariants.{Reservoirs
 use Rattle.hyd_net.specs.declared.cause.Cause.{Cause}
 use Rattle.hyd_net.specs.declared.cause.Cause.TheVariants.{Missing}
 use Rattle.hyd_spec_input.specs.ByItself.{IsWrongByItself}
-use Rattle.hyd_spec_input.specs.Faults.{NoneIs, IsFirst, IsFaultOf, HasNoFault, IsWrongWithOthers, IsFault, line_cause, lack, has_some}
+use Rattle.hyd_spec_input.specs.Faults.{NoneIs, IsFirst, IsFaultOf, HasNoFault, IsWrongWithOthers, IsFault, line_cause}
+use Rattle.hyd_spec_input.specs.Faults.{lack, has_some}
 use Rattle.hyd_spec_input.specs.InForce.{names_head_loss}
 use Rattle.hyd_spec_input.specs.Tables.{is_of, rows_of}
 use Rattle.hyd_tables.specs.declared.found.Found.{Found}

@@ -1,7 +1,8 @@
 -- Families of sections whose rows are judged one after another.
 use Rattle.std.specs.Prelude.{Bool, ◌||◌, List, ℕ}
 use Rattle.hyd_spec_lines.specs.Lines.{Row}
-use Rattle.hyd_spec_lines.specs.declared.section.Section.TheVariants.{Demands, Emitters, Curves, Patterns, Status, Controls, Rules, Options}
+use Rattle.hyd_spec_lines.specs.declared.section.Section.TheVariants.{Demands, Emitters, Curves, Patterns, Status}
+use Rattle.hyd_spec_lines.specs.declared.section.Section.TheVariants.{Controls, Rules, Options}
 use Rattle.hyd_net.specs.declared.cause.Cause.{Cause}
 use Rattle.hyd_spec_input.specs.Faults.{IsWrongWithOthers}
 use Rattle.hyd_spec_input.specs.Tables.{is_of, is_node, is_link}

@@ -19,8 +19,8 @@ use std::alloc::Global;
 /// The most bytes of a text.
 pub(crate) const LONGEST: usize = 67_108_864;
 
-/// The fault of a text of at most 64 MiB: its first row that is wrong by itself, the fault that ends its rows, its first
-/// row that is wrong with the others, what it lacks.
+/// The fault of a text of at most 64 MiB: its first row that is wrong by itself, the fault that ends its rows, its
+/// first row that is wrong with the others, what it lacks.
 pub(crate) fn fault_of(
     alloc: Global,
     text: &Lines<'_>,
@@ -59,9 +59,9 @@ pub(crate) fn fault_of(
     }
 }
 
-/// The fault of a text, where it has one: the first in this order: more than 64 MiB (line 0), the first row that is wrong
-/// by itself, the line that breaks a rule of lines, the first row that is wrong with the others, what the whole file lacks
-/// (line 0).
+/// The fault of a text, where it has one: the first in this order: more than 64 MiB (line 0), the first row that is
+/// wrong by itself, the line that breaks a rule of lines, the first row that is wrong with the others, what the whole
+/// file lacks (line 0).
 pub fn find_fault(alloc: Global, text: &[u8]) -> Result<Option<InpFault>, OutOfMemory>
     ensures fault { IfOk result (λ fault. IfSome fault (λ f. IsFault text.now f.line f.cause)) }
     ensures none { IfOk result (λ fault. IfNone fault (HasNoFault text.now)) }

@@ -17,8 +17,8 @@ use hyd_tables::gather;
 use std::alloc::Global;
 
 /// Reads the network of a text of the input grammar. A fault is the first in this order: more than 64 MiB (line 0), the
-/// first row that is wrong by itself, the line that breaks a rule of lines, the first row that is wrong with the others,
-/// what the whole file lacks (line 0).
+/// first row that is wrong by itself, the line that breaks a rule of lines, the first row that is wrong with the
+/// others, what the whole file lacks (line 0).
 pub fn read_project(alloc: Global, text: &[u8]) -> Result<Project, InpRefused>
     ensures fault { IfErr result (λ refused. IfFault refused (λ f. IsFault text.now f.line f.cause)) }
     ensures no_fault { IfOk result (λ _. HasNoFault text.now) }

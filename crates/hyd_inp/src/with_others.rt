@@ -1,5 +1,5 @@
-//! The first row that is wrong with the others: the first of those that the passes over the sections find. Each function
-//! makes one table, and hands it to what is judged against it.
+//! The first row that is wrong with the others: the first of those that the passes over the sections find. Each
+//! function makes one table, and hands it to what is judged against it.
 #![tactic(auto)]
 
 ghost use Rattle.std.specs.Prelude.{◌≡◌, ◌≤◌, ◌^◌, length, IfOk};

@@ -1,5 +1,6 @@
 -- What a desk in memory shows, and what it says of its calls besides the clauses of every desk.
-use Rattle.std.specs.Prelude.{◌≡◌, ℕ, List, [], length, Bool, true, false, if◌then◌else◌, is_none, Option, None, option_map, IfSome, Vec, String, ◌==◌}
+use Rattle.std.specs.Prelude.{◌≡◌, ℕ, List, [], length, Bool, true, false, if◌then◌else◌, is_none, Option, None}
+use Rattle.std.specs.Prelude.{option_map, IfSome, Vec, String, ◌==◌}
 use Rattle.std.specs.List.{list_any}
 use Rattle.std.specs.BTreeMap.{BTreeMap, get_by_text}
 use Rattle.hyd_io.specs.declared.desk.Faults.{Faults}

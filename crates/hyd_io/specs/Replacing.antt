@@ -23,7 +23,8 @@ headings =
 abbrev pub begins_as_network : List ℕ → Bool
 begins_as_network front = list_any (starts_with nat_eq (map to_ascii_uppercase front)) headings
 
--- A file that begins so is emptied where such a content is to be written: a certificate always, a network for a network.
+-- A file that begins so is emptied where such a content is to be written: a certificate always, a network for a
+-- network.
 abbrev pub may_be_emptied : Content → List ℕ → Bool
 may_be_emptied Certificate front = begins_as_certificate front
 may_be_emptied Network front = begins_as_certificate front || begins_as_network front

@@ -4,8 +4,8 @@ use Rattle.std.specs.Io.KnownBytes.{Keeps, Appends, Consumes, IsAtEnd}
 use Rattle.hyd_io.specs.declared.desk.Faults.{Faults}
 use Rattle.hyd_io.specs.declared.desk.Openings.{Openings}
 
--- Whether a file is open to be read, whether a file was created and the last `create` succeeded, the two kinds of counts,
--- and, where the file itself tells them, the bytes that are left in the one and those that the other holds.
+-- Whether a file is open to be read, whether a file was created and the last `create` succeeded, the two kinds of
+-- counts, and, where the file itself tells them, the bytes that are left in the one and those that the other holds.
 pub record Standing : Type 0 where
   pub reading : Bool
   pub ready : Bool

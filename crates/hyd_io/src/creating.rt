@@ -8,8 +8,8 @@ use std::fs::{self, Files, Metadata, OpenFile, OpenOptions};
 use std::io::{self, ErrorKind, Read, Seek, SeekFrom};
 use std::os::unix::fs::MetadataExt;
 
-/// The bytes at the front of a file that are looked at, as many as the longest heading has; zeros stand behind a shorter
-/// file.
+/// The bytes at the front of a file that are looked at, as many as the longest heading has; zeros stand behind a
+/// shorter file.
 type Front = [u8; 13];
 
 const HEADINGS: [&[u8]; 27] = [
@@ -82,8 +82,8 @@ fn may_be_emptied(content: Content, front: &Front) -> bool
     }
 }
 
-// The front of a file that was just opened, by one read: of a file on a disk it gives all that is asked for, and where it
-// gave less the file would rather stay as it is.
+// The front of a file that was just opened, by one read: of a file on a disk it gives all that is asked for, and where
+// it gave less the file would rather stay as it is.
 fn front_of<F: Read>(file: &mut F) -> io::Result<Front> {
     let mut front = [0; 13];
     file.read(&mut front)?;

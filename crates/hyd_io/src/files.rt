@@ -18,10 +18,10 @@ use std::rt::Files;
 /// other. Any name may be opened and created.
 ///
 /// No file is lost by it. It creates neither over the file that it has opened nor over the one that it created last,
-/// whatever names they are given: they are told by device and number there. And of a file that is there and not empty it
-/// looks at the first bytes: it is emptied where they are `HYDCERT`, or, where the desk has neither opened nor created
-/// anything yet and so begins a network, a heading of an input file; else it stays as it is, and `create` fails. A device
-/// or a pipe is never emptied.
+/// whatever names they are given: they are told by device and number there. And of a file that is there and not empty
+/// it looks at the first bytes: it is emptied where they are `HYDCERT`, or, where the desk has neither opened nor
+/// created anything yet and so begins a network, a heading of an input file; else it stays as it is, and `create`
+/// fails. A device or a pipe is never emptied.
 #[derive(Drop)]
 pub struct FileDesk<R: Files + Print + Drop> {
     rt: R,

@@ -1,6 +1,8 @@
 //! A desk in memory, for tests: it tells all, and its calls can be made to fail or to take nothing.
 
-ghost use Rattle.std.specs.Prelude.{◌≡◌, ◌≢◌, ℕ, ◌<◌, ◌≤◌, List, [], ◌∷◌, ◌++◌, length, true, bytes_eq, if◌then◌else◌, Some, None, option_map, option_and_then, IsErr, IfOk, OnOk, OnErr, string_bytes, is_none, refl};
+ghost use Rattle.std.specs.Prelude.{◌≡◌, ◌≢◌, ℕ, ◌<◌, ◌≤◌, List, [], ◌∷◌, ◌++◌, length, true, bytes_eq, if◌then◌else◌};
+ghost use Rattle.std.specs.Prelude.{Some, None, option_map, option_and_then, IsErr, IfOk, OnOk, OnErr, string_bytes};
+ghost use Rattle.std.specs.Prelude.{is_none, refl};
 ghost use Rattle.std.specs.Map.{update};
 ghost use Rattle.hyd_io.specs.Told.{append_known};
 ghost use Rattle.hyd_io.specs.Counts.{next_count};

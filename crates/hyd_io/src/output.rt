@@ -1,6 +1,7 @@
 //! Buffered writing to the file created last or to standard output.
 
-ghost use Rattle.std.specs.Prelude.{◌≡◌, ◌≢◌, ℕ, ◌+◌, ◌-◌, ◌<◌, ◌≤◌, List, [], ◌++◌, length, take, drop, min, Option, Some, None, Err, IsTrue, IfOk, IfErr, IfSome, IsSome, OnOk, OnErr, is_some};
+ghost use Rattle.std.specs.Prelude.{◌≡◌, ◌≢◌, ℕ, ◌+◌, ◌-◌, ◌<◌, ◌≤◌, List, [], ◌++◌, length, take, drop, min, Option};
+ghost use Rattle.std.specs.Prelude.{Some, None, Err, IsTrue, IfOk, IfErr, IfSome, IsSome, OnOk, OnErr, is_some};
 ghost use Rattle.hyd_io.specs.Told.{append_known, file_at, Moves, PutOut};
 ghost use Rattle.hyd_io.specs.Counts.{NeverFall};
 ghost use Rattle.hyd_io.specs.Output.{by_channel, OnCert, OnReport, HasOutCause, PenState};

@@ -1,5 +1,6 @@
 -- Rows of pressures, one row further.
-use Rattle.std.proofs.Common.{◌≡◌, ◌+◌, ℕ, ◌⊎◌, Bool, true, false, List, [], ◌∷◌, take, slice_get, Option, Some, None, refl, sym, ◌∙◌, subst, inl, inr, ◌==◌, true≢false}
+use Rattle.std.proofs.Common.{◌≡◌, ◌+◌, ℕ, ◌⊎◌, Bool, true, false, List, [], ◌∷◌, take, slice_get, Option, Some, None}
+use Rattle.std.proofs.Common.{refl, sym, ◌∙◌, subst, inl, inr, ◌==◌, true≢false}
 use Rattle.std.specs.Prelude.{codes}
 use Rattle.std.proofs.lemmas.Bool.{cases_Bool}
 use Rattle.hyd_num.specs.declared.units.FlowUnit.{FlowUnit}
@@ -11,11 +12,13 @@ use Rattle.hyd_spec_lines.specs.declared.section.Section.TheVariants.{Options}
 use Rattle.hyd_spec_input.specs.ByItself as itself
 use Rattle.hyd_spec_input.specs.ByItself.{IsWrongByItself}
 use Rattle.hyd_spec_input.specs.Capacities.{IsRefusedIn}
-use Rattle.hyd_spec_input.specs.Columns.{first, of_needed, needed, ends, one_of, number, not_negative, word, word_is, is_option_of, is_option_keyword}
+use Rattle.hyd_spec_input.specs.Columns.{first, of_needed, needed, ends, one_of, number, not_negative, word, word_is}
+use Rattle.hyd_spec_input.specs.Columns.{is_option_of, is_option_keyword}
 use Rattle.hyd_spec_input.specs.Faults.{NoneIs}
 use Rattle.hyd_spec_input.specs.InForce as force
 use Rattle.hyd_spec_input.specs.InForce.{begins, option_row}
-use Rattle.hyd_spec_input.specs.Keywords.{option_word, option_words, more_option_words, unused_option, unused_words, more_unused_words, last_unused_words}
+use Rattle.hyd_spec_input.specs.Keywords.{option_word, option_words, more_option_words, unused_option, unused_words}
+use Rattle.hyd_spec_input.specs.Keywords.{more_unused_words, last_unused_words}
 use Rattle.hyd_spec_input.specs.OptionRows as row_form
 use Rattle.hyd_spec_input.specs.OptionRows.{option_about, bound_line}
 use Rattle.hyd_spec_input.specs.declared.OptionWord.{OptionWord}

@@ -1,5 +1,6 @@
 -- The emitters, one row further.
-use Rattle.std.proofs.Common.{◌≡◌, ◌+◌, ℕ, Bool, true, false, List, take, slice_get, Option, Some, None, refl, sym, ◌∙◌, ◌==◌, true≢false}
+use Rattle.std.proofs.Common.{◌≡◌, ◌+◌, ℕ, Bool, true, false, List, take, slice_get, Option, Some, None, refl, sym, ◌∙◌}
+use Rattle.std.proofs.Common.{◌==◌, true≢false}
 use Rattle.hyd_num.specs.declared.units.FlowUnit.{FlowUnit}
 use Rattle.hyd_spec_lines.specs.Lines.{Row}
 use Rattle.hyd_spec_lines.specs.declared.section.Section.{Section}

@@ -1,5 +1,8 @@
 -- The extremes of multipliers, one row further.
-use Rattle.std.proofs.Common.{◌≡◌, ◌+◌, ◌*◌, ◌^◌, ◌<◌, ◌≤◌, ◌++◌, ◌⊎◌, ℕ, Bool, true, false, ◌&&◌, List, [], ◌∷◌, filter, length, take, drop, position, Option, Some, None, slice_get, refl, sym, ap, ◌∙◌, subst, arith, ◌==◌, true≢false, get_or, inl, inr, append-nil, append_assoc, length-append, nat_lt, ltb-true, ltb-false}
+use Rattle.std.proofs.Common.{◌≡◌, ◌+◌, ◌*◌, ◌^◌, ◌<◌, ◌≤◌, ◌++◌, ◌⊎◌, ℕ, Bool, true, false, ◌&&◌, List, [], ◌∷◌}
+use Rattle.std.proofs.Common.{filter, length, take, drop, position, Option, Some, None, slice_get, refl, sym, ap, ◌∙◌}
+use Rattle.std.proofs.Common.{subst, arith, ◌==◌, true≢false, get_or, inl, inr, append-nil, append_assoc, length-append}
+use Rattle.std.proofs.Common.{nat_lt, ltb-true, ltb-false}
 use Rattle.std.specs.Prelude.{slice_set, ℤ, pos, neg_ℤ, ◌≤ℤ◌, ◌*ℤ◌, unsigned_abs, flat_map}
 use Rattle.std.specs.List.{All, list_all}
 use Rattle.std.specs.Str.{bytes_eq}
@@ -11,7 +14,8 @@ use Rattle.std.proofs.Math.Nat.{mul-le-mul_left}
 use Rattle.std.proofs.Math.ListN.{get_or-eq_default}
 use Rattle.std.proofs.lemmas.Option.{get_or_from_slice_get, slice_get-get_or}
 use Rattle.std.proofs.lemmas.List.{get_or-set_same, get_or-set_other, length-set, take-append-drop}
-use Rattle.std.proofs.lemmas.List.Elements.{filter-append, All-push, All-nil, All-contains, Contains-push, Contains-append_left}
+use Rattle.std.proofs.lemmas.List.Elements.{filter-append, All-push, All-nil, All-contains, Contains-push}
+use Rattle.std.proofs.lemmas.List.Elements.{Contains-append_left}
 use Rattle.std.proofs.lemmas.List.Sums.{AllPass-from_list_all, list_all-from_AllPass}
 use Rattle.std.proofs.lemmas.List.Quantifiers.{position-Some}
 use lib.Signed.{le_z, lt_z}
@@ -27,7 +31,8 @@ use Rattle.hyd_spec_input.specs.DataRows as row_form
 use Rattle.hyd_spec_input.specs.DataRows.{multipliers}
 use Rattle.hyd_spec_input.specs.Faults.{NoneIs}
 use Rattle.hyd_spec_input.specs.Network.{number_in}
-use Rattle.hyd_spec_input.specs.Tables.{place, is_of, rows_of, rows_with, own_id, pattern_named, row_multipliers, row_with, has_id}
+use Rattle.hyd_spec_input.specs.Tables.{place, is_of, rows_of, rows_with, own_id, pattern_named, row_multipliers}
+use Rattle.hyd_spec_input.specs.Tables.{row_with, has_id}
 use Rattle.hyd_spec_input.specs.WithOthers.{multipliers_of}
 use Rattle.hyd_spec_networks.proofs.Faultless.{all_none}
 use Rattle.hyd_tables.specs.Tables.{AreFirsts}
@@ -35,7 +40,8 @@ use Rattle.hyd_tables.proofs.FoundLemmas.{filter_more, filter_same}
 use Rattle.hyd_tables.proofs.SectionLemmas.{none_of, all_rows}
 use Rattle.hyd_tables.specs.Found.{rows_at}
 use Rattle.hyd_tables.proofs.TableLemmas.{not_found, has_id-is, even}
-use Rattle.hyd_judge.specs.Extremes.{Bounds, bounds, Enclose, AreExtremes, pass, is_between, widened, all_widened, bounds_of, AreNone, AreWidened}
+use Rattle.hyd_judge.specs.Extremes.{Bounds, bounds, Enclose, AreExtremes, pass, is_between, widened, all_widened}
+use Rattle.hyd_judge.specs.Extremes.{bounds_of, AreNone, AreWidened}
 use Rattle.hyd_judge.specs.Patterns.{ArePatterns}
 use Rattle.hyd_judge.specs.declared.extremes.Extremes.{Extremes}
 use Rattle.hyd_judge.specs.declared.patterns.Patterns.{Patterns}

@@ -1,5 +1,7 @@
 -- The patterns, one row further.
-use Rattle.std.proofs.Common.{◌≡◌, ◌+◌, ◌-◌, ◌≤◌, ◌++◌, ℕ, Bool, true, false, not, List, [], ◌∷◌, take, drop, length, slice_get, Option, Some, if◌then◌else◌, refl, sym, ◌∙◌, subst, arith, ◌==◌, nat_le, true≢false}
+use Rattle.std.proofs.Common.{◌≡◌, ◌+◌, ◌-◌, ◌≤◌, ◌++◌, ℕ, Bool, true, false, not, List, [], ◌∷◌, take, drop, length}
+use Rattle.std.proofs.Common.{slice_get, Option, Some, if◌then◌else◌, refl, sym, ◌∙◌, subst, arith, ◌==◌, nat_le}
+use Rattle.std.proofs.Common.{true≢false}
 use Rattle.std.specs.Prelude.{min}
 use Rattle.std.proofs.lemmas.Bool.Decides.{nat_tests}
 use Rattle.std.proofs.lemmas.List.{length-map, length-drop}

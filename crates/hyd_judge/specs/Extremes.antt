@@ -1,5 +1,6 @@
 -- The least and the greatest of numbers.
-use Rattle.std.specs.Prelude.{◌≡◌, ℕ, Bool, true, ◌&&◌, List, [], ◌∷◌, length, take, Option, Some, None, if◌then◌else◌, slice_index_or, ℤ, ◌≤ℤ◌, Contains}
+use Rattle.std.specs.Prelude.{◌≡◌, ℕ, Bool, true, ◌&&◌, List, [], ◌∷◌, length, take, Option, Some, None, if◌then◌else◌}
+use Rattle.std.specs.Prelude.{slice_index_or, ℤ, ◌≤ℤ◌, Contains}
 use Rattle.std.specs.List.{All}
 use Rattle.std.specs.Option.{option_map}
 use lib.Signed.{le_z, lt_z}

@@ -1,5 +1,6 @@
 -- The pressures that a file has in force, and rows of options among all rows.
-use Rattle.std.specs.Prelude.{◌≡◌, ℕ, ◌*◌, ◌^◌, ◌==◌, ◌&&◌, true, List, [], ◌∷◌, codes, Option, Some, None, if◌then◌else◌, ℤ, pos, ◌+ℤ◌, ⊤}
+use Rattle.std.specs.Prelude.{◌≡◌, ℕ, ◌*◌, ◌^◌, ◌==◌, ◌&&◌, true, List, [], ◌∷◌, codes, Option, Some, None}
+use Rattle.std.specs.Prelude.{if◌then◌else◌, ℤ, pos, ◌+ℤ◌, ⊤}
 use lib.Signed.{le_z}
 use Rattle.hyd_num.specs.Quantity.{is_us_unit, pressure_numerator, pressure_denominator}
 use Rattle.hyd_num.specs.declared.units.FlowUnit.{FlowUnit}

@@ -1,5 +1,6 @@
 -- Controls among all rows, one row further.
-use Rattle.std.proofs.Common.{◌≡◌, ◌+◌, ◌++◌, ℕ, true, false, List, [], ◌∷◌, length, take, drop, slice_get, Option, Some, None, refl, sym, ap, ◌∙◌, subst, arith, length-append}
+use Rattle.std.proofs.Common.{◌≡◌, ◌+◌, ◌++◌, ℕ, true, false, List, [], ◌∷◌, length, take, drop, slice_get, Option}
+use Rattle.std.proofs.Common.{Some, None, refl, sym, ap, ◌∙◌, subst, arith, length-append}
 use Rattle.hyd_spec_lines.specs.Lines.{Row}
 use Rattle.hyd_spec_lines.specs.declared.section.Section.{Section}
 use Rattle.hyd_spec_lines.specs.declared.section.Section.TheVariants.{Rules, Controls as InControls}
@@ -32,12 +33,14 @@ control_is_right rows k row right is member =
 
 -- ---- one control
 
-pub commanded_none : (rows : List Row) (link row : Row) (between : Option Cause) → between ≡ others.control_tank rows row
+pub commanded_none : (rows : List Row) (link row : Row) (between : Option Cause)
+    → between ≡ others.control_tank rows row
     → others.set_link rows (Some link) (word 2 row.words) between ≡ None → others.control_level rows row ≡ None
     → commanded_fault rows link row ≡ None
 commanded_none rows link row between b set level =
     let P : Option Cause → Type 0 = λ o. others.set_link rows (Some link) (word 2 row.words) o ≡ None in
-    let at : others.set_link rows (Some link) (word 2 row.words) (others.control_tank rows row) ≡ None = subst P b set in
+    let at : others.set_link rows (Some link) (word 2 row.words) (others.control_tank rows row)
+    ≡ None = subst P b set in
     rw (at, level) refl
 
 pub link_unknown : (rows : List Row) (count : ℕ) (row : Row) (kind : LinkWord) (name : List ℕ) (cause : Cause)
@@ -86,7 +89,8 @@ verdict_is : (rows : List Row) (k : ℕ) (row : Row) (count : ℕ) (cause : Opti
     → IsControlFault rows count row cause → IsVerdict (IsWrongIn InControls rows k) cause
 verdict_is rows k row count cause is member n then =
     let acting = others.holds_action (take k rows) row in
-    let P : Section → Type 0 = λ s. IsFaultThen (others.section_fault s rows k row) (IsRefusedIn s rows acting row) cause in
+    let P : Section → Type 0 = λ s. IsFaultThen (others.section_fault s rows k row) (IsRefusedIn s rows acting row)
+    cause in
     let all : IsFaultThen (others.control rows k row)
     (IsRefusedSetting rows (link_named rows (word 1 row.words)) (word 2 row.words)) cause =
     subst (λ (m : ℕ). IsControlFault rows m row cause) n then in

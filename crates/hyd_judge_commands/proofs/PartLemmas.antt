@@ -13,7 +13,8 @@ use Rattle.hyd_spec_input.specs.RuleRows.{set_attribute, set_value}
 use Rattle.hyd_spec_input.specs.Tables.{link_named}
 use Rattle.hyd_spec_input.specs.WithOthers as others
 use Rattle.hyd_spec_input.specs.declared.Attribute.{Attribute}
-use Rattle.hyd_spec_input.specs.declared.Attribute.TheVariants.{Head, Pressure, Level, Flow, Setting, Status, Time, Clock}
+use Rattle.hyd_spec_input.specs.declared.Attribute.TheVariants.{Head, Pressure, Level, Flow, Setting, Status, Time}
+use Rattle.hyd_spec_input.specs.declared.Attribute.TheVariants.{Clock}
 use Rattle.hyd_spec_input.specs.declared.LinkWord.{LinkWord}
 use Rattle.hyd_spec_networks.proofs.Faultless.{all_none, needed_none, unless_none}
 use Rattle.hyd_tables.specs.Sections.{IsFaultThen}

@@ -1,5 +1,7 @@
 -- Rules, clauses and actions counted, one row further.
-use Rattle.std.proofs.Common.{◌≡◌, ◌+◌, ◌≤◌, ◌++◌, ◌↔◌, ℕ, Bool, true, false, not, if◌then◌else◌, List, [], ◌∷◌, length, filter, take, slice_get, Option, Some, None, Contains, refl, sym, ap, ◌∙◌, arith, inl, inr, true≢false, length-append, append-nil}
+use Rattle.std.proofs.Common.{◌≡◌, ◌+◌, ◌≤◌, ◌++◌, ◌↔◌, ℕ, Bool, true, false, not, if◌then◌else◌, List, [], ◌∷◌, length}
+use Rattle.std.proofs.Common.{filter, take, slice_get, Option, Some, None, Contains, refl, sym, ap, ◌∙◌, arith, inl}
+use Rattle.std.proofs.Common.{inr, true≢false, length-append, append-nil}
 use Rattle.std.specs.Prelude.{◌||◌}
 use Rattle.std.specs.List.{list_any}
 use Rattle.std.specs.Str.{bytes_eq}

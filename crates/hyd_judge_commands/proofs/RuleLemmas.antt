@@ -1,5 +1,6 @@
 -- Lines of rules among all rows.
-use Rattle.std.proofs.Common.{◌≡◌, ◌+◌, ℕ, Bool, true, false, not, map, List, length, take, drop, slice_get, Option, Some, None, refl, sym, ap, ◌∙◌, subst, true≢false}
+use Rattle.std.proofs.Common.{◌≡◌, ◌+◌, ℕ, Bool, true, false, not, map, List, length, take, drop, slice_get, Option}
+use Rattle.std.proofs.Common.{Some, None, refl, sym, ap, ◌∙◌, subst, true≢false}
 use Rattle.hyd_spec_lines.specs.Lines.{Row}
 use Rattle.hyd_spec_lines.specs.declared.section.Section.{Section}
 use Rattle.hyd_spec_lines.specs.declared.section.Section.TheVariants.{Rules as InRules}
@@ -11,7 +12,8 @@ use Rattle.hyd_spec_input.specs.Capacities.{IsRefusedIn, IsRefusedSetting}
 use Rattle.hyd_spec_input.specs.Columns.{or_else, unless, word}
 use Rattle.hyd_spec_input.specs.Faults.{NoneIs}
 use Rattle.hyd_spec_input.specs.RuleRows as form
-use Rattle.hyd_spec_input.specs.RuleRows.{begins_with, is_rule, is_acting, stage_after, in_order, line_words, words_about, gets_then}
+use Rattle.hyd_spec_input.specs.RuleRows.{begins_with, is_rule, is_acting, stage_after, in_order, line_words}
+use Rattle.hyd_spec_input.specs.RuleRows.{words_about, gets_then}
 use Rattle.hyd_spec_input.specs.Tables.{is_of, words_of, words_of_row, link_named}
 use Rattle.hyd_spec_input.specs.WithOthers as others
 use Rattle.hyd_spec_input.specs.WithOthers.{is_part_word, is_action_word, holds_action, rules_in, parts_in}
@@ -142,7 +144,8 @@ action_fault_is rows k row count next cause rule part acts n then e =
     × IsRefusedSetting rows (link_named rows (word 2 row.words)) (word 5 row.words) in
     let both : IsFaultThen (others.action rows row.words) Refused next =
     with_acting (others.action rows row.words) (holds_action (take k rows) row ≡ true) _ next acts then in
-    let all : IsFaultThen (or_else (others.passes 100000 12 count) (or_else (others.action rows row.words) None)) Refused
+    let all : IsFaultThen (or_else (others.passes 100000 12 count) (or_else (others.action rows row.words) None))
+    Refused
     (or_else (others.passes 100000 12 count) next) =
     then_after (others.passes 100000 12 count) (others.action rows row.words) Refused next both in
     let fault : or_else (others.passes 100000 12 count) (or_else (others.action rows row.words) None)
@@ -161,7 +164,8 @@ pub verdict_is : (rows : List Row) (k : ℕ) (row : Row) (cause : Option Cause) 
     → is_of InRules row ≡ true → IsRuleFault rows k row cause → IsVerdict (IsWrongIn InRules rows k) cause
 verdict_is rows k row cause is member then =
     let acting = holds_action (take k rows) row in
-    let P : Section → Type 0 = λ s. IsFaultThen (others.section_fault s rows k row) (IsRefusedIn s rows acting row) cause in
+    let P : Section → Type 0 = λ s. IsFaultThen (others.section_fault s rows k row) (IsRefusedIn s rows acting row)
+    cause in
     verdict_with_capacity InRules rows k row (others.row_fault rows k row) cause is member refl
     (subst P (sym (section_is InRules row member)) then)
 
@@ -171,8 +175,10 @@ pub rules_elsewhere : (rows : List Row) (k : ℕ) (row : Row) (rules : Rules) �
     → slice_get rows k ≡ Some row → is_of InRules row ≡ false → AreRules rows (k + 1) rules
 rules_elsewhere rows k row rules before is other = record {
   counts = counted_elsewhere rows k row rules.counts before.counts is other;
-  stage = before.stage ∙ sym (ap (λ rs. stage_after (map words_of_row rs)) (filter_same (is_of InRules) rows k row is other));
-  found = found_skip rows (IsWrongIn InRules rows) k rules.found before.found (other_section InRules rows k row is other);
+  stage = before.stage ∙ sym (ap (λ rs. stage_after (map words_of_row rs))
+      (filter_same (is_of InRules) rows k row is other));
+  found = found_skip rows (IsWrongIn InRules rows) k rules.found before.found
+      (other_section InRules rows k row is other);
 }
 
 pub rules_further : (rows : List Row) (k : ℕ) (row : Row) (rules next : Rules) (cause : Option Cause)

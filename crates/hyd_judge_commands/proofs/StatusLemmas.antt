@@ -37,7 +37,8 @@ pub status_verdict : (rows : List Row) (k : ℕ) (row : Row) (name : List ℕ) (
 status_verdict rows k row name cause is member named then =
     let acting = others.holds_action (take k rows) row in
     let first : word 0 row.words ≡ name = ap or_empty named in
-    let P : Section → Type 0 = λ s. IsFaultThen (others.section_fault s rows k row) (IsRefusedIn s rows acting row) cause in
+    let P : Section → Type 0 = λ s. IsFaultThen (others.section_fault s rows k row) (IsRefusedIn s rows acting row)
+    cause in
     let all : IsFaultThen (others.status rows k row)
     (IsRefusedSetting rows (link_named rows (word 0 row.words)) (word 1 row.words)) cause =
     rw (first, last_fault (others.set_link rows (link_named rows name) (word 1 row.words) None)) then in

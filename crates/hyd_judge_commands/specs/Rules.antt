@@ -10,7 +10,8 @@ use Rattle.hyd_spec_input.specs.Capacities.{IsRefusedSetting}
 use Rattle.hyd_spec_input.specs.Columns.{word}
 use Rattle.hyd_spec_input.specs.RuleRows.{begins_with, is_rule, is_acting, stage_after}
 use Rattle.hyd_spec_input.specs.Tables.{is_of, words_of, link_named}
-use Rattle.hyd_spec_input.specs.WithOthers.{is_part_word, is_action_word, holds_action, has_rule, rules_in, parts_in, rule_line}
+use Rattle.hyd_spec_input.specs.WithOthers.{is_part_word, is_action_word, holds_action, has_rule, rules_in, parts_in}
+use Rattle.hyd_spec_input.specs.WithOthers.{rule_line}
 use Rattle.hyd_tables.specs.Found.{HasFound}
 use Rattle.hyd_tables.specs.Sections.{IsWrongIn, IsFaultThen}
 use Rattle.hyd_judge_commands.specs.declared.parts.Part.{Part}

@@ -18,7 +18,8 @@ ghost use Rattle.hyd_states.specs.States.{IsRightLink};
 ghost use Rattle.hyd_tables.specs.Found.{HasFound, rows_at};
 ghost use Rattle.hyd_tables.specs.Sections.{IsWrongIn, IsFaultThen};
 ghost use Rattle.hyd_tables.specs.Tables.{IsTable, IsEven};
-ghost use Rattle.hyd_judge_commands.specs.Controls.{AreControls, IsControlNode, IsControlFault, commanded_fault as fault_of_commanded};
+ghost use Rattle.hyd_judge_commands.specs.Controls.{AreControls, IsControlNode, IsControlFault};
+ghost use Rattle.hyd_judge_commands.specs.Controls.{commanded_fault as fault_of_commanded};
 
 use crate::names::{named_link, named_node};
 use crate::states::capacity_fault;

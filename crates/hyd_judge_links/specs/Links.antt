@@ -17,8 +17,10 @@ use Rattle.hyd_spec_input.specs.Columns.{or_else, first, unless, word, amount}
 use Rattle.hyd_spec_input.specs.InForce as force
 use Rattle.hyd_spec_input.specs.Tables.{node_rows, rows_of}
 use Rattle.hyd_spec_input.specs.NetworkRows as alone
-use Rattle.hyd_spec_input.specs.NetworkRows.{pipe_minor, is_throttle, is_general, valve_curve, valve_minor, pump_curve, pump_pattern}
-use Rattle.hyd_spec_input.specs.WithOthers.{passes, known_node, known_curve, known_pattern, curve_of_pump, each_multiplier, is_speed, curve_of_valve}
+use Rattle.hyd_spec_input.specs.NetworkRows.{pipe_minor, is_throttle, is_general, valve_curve, valve_minor, pump_curve}
+use Rattle.hyd_spec_input.specs.NetworkRows.{pump_pattern}
+use Rattle.hyd_spec_input.specs.WithOthers.{passes, known_node, known_curve, known_pattern, curve_of_pump}
+use Rattle.hyd_spec_input.specs.WithOthers.{each_multiplier, is_speed, curve_of_valve}
 
 -- ---- all links
 

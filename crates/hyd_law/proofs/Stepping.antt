@@ -8,7 +8,8 @@ use Rattle.hyd_law.specs.OutLaws.{stepped}
 not_up_to : (a p : ℤ) → a <ℤ p → int_le p a ≡ false
 not_up_to a p h = grind (arith, ints)
 
-pub between_is : (D m r : ℤ) (f : ℤ → ℤ) (p x : ℤ) → m <ℤ p → p <ℤ r → x ≡ int_min D (f (p -ℤ m)) → x ≡ stepped D m r f p
+pub between_is : (D m r : ℤ) (f : ℤ → ℤ) (p x : ℤ) → m <ℤ p → p <ℤ r → x ≡ int_min D (f (p -ℤ m))
+    → x ≡ stepped D m r f p
 between_is D m r f p x h l e = rw (not_up_to m p h, not_up_to p r l) e
 
 up_to : (a p : ℤ) → p ≤ℤ a → int_le p a ≡ true

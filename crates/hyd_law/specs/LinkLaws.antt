@@ -4,16 +4,20 @@ use Rattle.std.specs.Int.{int_min}
 use Rattle.hyd_num.specs.Rational.{floor, ceiling}
 use Rattle.hyd_net.specs.Curves.{value_at}
 use Rattle.hyd_spec.specs.Quantity.{lift_of}
-use Rattle.hyd_spec.specs.Law.{Relation, Shut as ShutLaw, QuadraticLaw, LinearLaw, Bent as BentLaw, lifted, flow_at_least, flow_at_most}
+use Rattle.hyd_spec.specs.Law.{Relation, Shut as ShutLaw, QuadraticLaw, LinearLaw, Bent as BentLaw, lifted}
+use Rattle.hyd_spec.specs.Law.{flow_at_least, flow_at_most}
 use Rattle.hyd_spec_certificates.specs.Enclosing.{quadratic_low, quadratic_high, linear_flow}
 use Rattle.hyd_spec_laws.specs.Laws.{IsLaw, IsSoundCapacity}
 use Rattle.hyd_spec_laws.proofs.LinkLaws.{IsLaw-shut, IsLaw-capped, IsLaw-held}
 use Rattle.hyd_spec_laws.proofs.EachLaw.{IsLaw-quad, IsLaw-straight, IsLaw-bent}
-use Rattle.hyd_law.specs.Wrapped.{IsDifference, IsLift, directed, directed_at_least, directed_at_most, capped_at_least, capped_at_most, held, held_at_least, held_at_most}
+use Rattle.hyd_law.specs.Wrapped.{IsDifference, IsLift, directed, directed_at_least, directed_at_most, capped_at_least}
+use Rattle.hyd_law.specs.Wrapped.{capped_at_most, held, held_at_least, held_at_most}
 use Rattle.hyd_law.specs.WrappedLaws.{IsLaw-directed, IsLaw-lift}
 use Rattle.hyd_law.specs.Curves.{places, IsCurve}
 use Rattle.hyd_law.specs.declared.link_law.LinkLaw.{LinkLaw}
-use Rattle.hyd_law.specs.declared.link_law.LinkLaw.TheVariants.{Shut, Quad, Linear, QuadOneWay, LinearOneWay, Pump, Limit, LinearLimit, LimitOneWay, LinearLimitOneWay, Bent}
+use Rattle.hyd_law.specs.declared.link_law.LinkLaw.TheVariants.{Shut, Quad, Linear, QuadOneWay, LinearOneWay, Pump}
+use Rattle.hyd_law.specs.declared.link_law.LinkLaw.TheVariants.{Limit, LinearLimit, LimitOneWay, LinearLimitOneWay}
+use Rattle.hyd_law.specs.declared.link_law.LinkLaw.TheVariants.{Bent}
 
 -- ---- the exact flow
 
@@ -24,11 +28,14 @@ link_at_least (Quad l) = flow_at_least (QuadraticLaw l.cap)
 link_at_least (Linear l) = flow_at_least LinearLaw
 link_at_least (QuadOneWay l) = directed_at_least l.forward (flow_at_least (QuadraticLaw l.inner.cap))
 link_at_least (LinearOneWay l) = directed_at_least l.forward (flow_at_least LinearLaw)
-link_at_least (Pump l) = directed_at_least l.forward (lifted (lift_of l.inner.us l.inner.head l.inner.speed) (flow_at_least (QuadraticLaw l.inner.inner.cap)))
+link_at_least (Pump l) = directed_at_least l.forward (lifted (lift_of l.inner.us l.inner.head l.inner.speed)
+    (flow_at_least (QuadraticLaw l.inner.inner.cap)))
 link_at_least (Limit l) = capped_at_least l.cap (flow_at_least (QuadraticLaw l.inner.cap))
 link_at_least (LinearLimit l) = capped_at_least l.cap (flow_at_least LinearLaw)
-link_at_least (LimitOneWay l) = directed_at_least l.forward (capped_at_least l.inner.cap (flow_at_least (QuadraticLaw l.inner.inner.cap)))
-link_at_least (LinearLimitOneWay l) = directed_at_least l.forward (capped_at_least l.inner.cap (flow_at_least LinearLaw))
+link_at_least (LimitOneWay l) = directed_at_least l.forward (capped_at_least l.inner.cap
+    (flow_at_least (QuadraticLaw l.inner.inner.cap)))
+link_at_least (LinearLimitOneWay l) = directed_at_least l.forward
+    (capped_at_least l.inner.cap (flow_at_least LinearLaw))
 link_at_least (Bent l) = held_at_least l.least l.most (flow_at_least (BentLaw (places l.inner.knots.list)))
 
 -- it is at most a number
@@ -38,10 +45,12 @@ link_at_most (Quad l) = flow_at_most (QuadraticLaw l.cap)
 link_at_most (Linear l) = flow_at_most LinearLaw
 link_at_most (QuadOneWay l) = directed_at_most l.forward (flow_at_most (QuadraticLaw l.inner.cap))
 link_at_most (LinearOneWay l) = directed_at_most l.forward (flow_at_most LinearLaw)
-link_at_most (Pump l) = directed_at_most l.forward (lifted (lift_of l.inner.us l.inner.head l.inner.speed) (flow_at_most (QuadraticLaw l.inner.inner.cap)))
+link_at_most (Pump l) = directed_at_most l.forward (lifted (lift_of l.inner.us l.inner.head l.inner.speed)
+    (flow_at_most (QuadraticLaw l.inner.inner.cap)))
 link_at_most (Limit l) = capped_at_most l.cap (flow_at_most (QuadraticLaw l.inner.cap))
 link_at_most (LinearLimit l) = capped_at_most l.cap (flow_at_most LinearLaw)
-link_at_most (LimitOneWay l) = directed_at_most l.forward (capped_at_most l.inner.cap (flow_at_most (QuadraticLaw l.inner.inner.cap)))
+link_at_most (LimitOneWay l) = directed_at_most l.forward (capped_at_most l.inner.cap
+    (flow_at_most (QuadraticLaw l.inner.inner.cap)))
 link_at_most (LinearLimitOneWay l) = directed_at_most l.forward (capped_at_most l.inner.cap (flow_at_most LinearLaw))
 link_at_most (Bent l) = held_at_most l.least l.most (flow_at_most (BentLaw (places l.inner.knots.list)))
 
@@ -84,7 +93,8 @@ IsSoundLink (Quad l) = IsSoundCapacity l.cap
 IsSoundLink (Linear l) = ⊤
 IsSoundLink (QuadOneWay l) = IsSoundCapacity l.inner.cap
 IsSoundLink (LinearOneWay l) = ⊤
-IsSoundLink (Pump l) = IsLift (lift_of l.inner.us l.inner.head l.inner.speed) l.inner.lift × IsSoundCapacity l.inner.inner.cap
+IsSoundLink (Pump l) = IsLift (lift_of l.inner.us l.inner.head l.inner.speed) l.inner.lift
+    × IsSoundCapacity l.inner.inner.cap
 IsSoundLink (Limit l) = IsSoundCapacity l.inner.cap
 IsSoundLink (LinearLimit l) = ⊤
 IsSoundLink (LimitOneWay l) = IsSoundCapacity l.inner.inner.cap
@@ -98,7 +108,8 @@ LinkAccepts (Quad l) d = IsDifference d
 LinkAccepts (Linear l) d = IsDifference d
 LinkAccepts (QuadOneWay l) d = IsDifference d
 LinkAccepts (LinearOneWay l) d = IsDifference d
-LinkAccepts (Pump l) d = (IsDifference (d +ℤ l.inner.lift.lo) × IsDifference (d +ℤ l.inner.lift.lo)) × (IsDifference (d +ℤ l.inner.lift.hi) × IsDifference (d +ℤ l.inner.lift.hi))
+LinkAccepts (Pump l) d = (IsDifference (d +ℤ l.inner.lift.lo) × IsDifference (d +ℤ l.inner.lift.lo))
+    × (IsDifference (d +ℤ l.inner.lift.hi) × IsDifference (d +ℤ l.inner.lift.hi))
 LinkAccepts (Limit l) d = IsDifference d
 LinkAccepts (LinearLimit l) d = IsDifference d
 LinkAccepts (LimitOneWay l) d = IsDifference d
@@ -107,15 +118,20 @@ LinkAccepts (Bent l) d = IsDifference d
 
 -- ---- each of them is a law
 
-pub IsLaw-link : (law : LinkLaw) → IsSoundLink law → IsLaw (link_at_least law) (link_at_most law) (link_low law) (link_high law)
+pub IsLaw-link : (law : LinkLaw) → IsSoundLink law → IsLaw (link_at_least law) (link_at_most law) (link_low law)
+    (link_high law)
 IsLaw-link (Shut l) sound = IsLaw-shut
 IsLaw-link (Quad l) sound = IsLaw-quad l.cap sound
 IsLaw-link (Linear l) sound = IsLaw-straight
 IsLaw-link (QuadOneWay l) sound = IsLaw-directed l.forward _ _ _ _ (IsLaw-quad l.inner.cap sound)
 IsLaw-link (LinearOneWay l) sound = IsLaw-directed l.forward _ _ _ _ IsLaw-straight
-IsLaw-link (Pump l) sound = IsLaw-directed l.forward _ _ _ _ (IsLaw-lift l.inner.us l.inner.head l.inner.speed l.inner.lift _ _ _ _ sound.0 (IsLaw-quad l.inner.inner.cap sound.1))
+IsLaw-link (Pump l) sound = IsLaw-directed l.forward _ _ _ _ (IsLaw-lift l.inner.us l.inner.head l.inner.speed
+    l.inner.lift _ _ _ _ sound.0 (IsLaw-quad l.inner.inner.cap sound.1))
 IsLaw-link (Limit l) sound = IsLaw-capped l.cap _ _ _ _ (IsLaw-quad l.inner.cap sound)
 IsLaw-link (LinearLimit l) sound = IsLaw-capped l.cap _ _ _ _ IsLaw-straight
-IsLaw-link (LimitOneWay l) sound = IsLaw-directed l.forward _ _ _ _ (IsLaw-capped l.inner.cap _ _ _ _ (IsLaw-quad l.inner.inner.cap sound))
-IsLaw-link (LinearLimitOneWay l) sound = IsLaw-directed l.forward _ _ _ _ (IsLaw-capped l.inner.cap _ _ _ _ IsLaw-straight)
-IsLaw-link (Bent l) sound = IsLaw-held l.least l.most _ _ _ _ sound.0 (IsLaw-bent (places l.inner.knots.list) sound.1.ordered)
+IsLaw-link (LimitOneWay l) sound = IsLaw-directed l.forward _ _ _ _
+    (IsLaw-capped l.inner.cap _ _ _ _ (IsLaw-quad l.inner.inner.cap sound))
+IsLaw-link (LinearLimitOneWay l) sound = IsLaw-directed l.forward _ _ _ _
+    (IsLaw-capped l.inner.cap _ _ _ _ IsLaw-straight)
+IsLaw-link (Bent l) sound = IsLaw-held l.least l.most _ _ _ _ sound.0
+    (IsLaw-bent (places l.inner.knots.list) sound.1.ordered)

@@ -64,8 +64,10 @@ moved A B D f g a b c d a' b' c' d' e1 e2 e3 e4 law =
 
 pub IsLaw-pda : (l : Pda) → IsSoundPda l → IsLaw (pda_at_least l) (pda_at_most l) (pda_low l) (pda_high l)
 IsLaw-pda l sound =
-    moved (pda_at_least l) (pda_at_most l) l.demand (quadratic_low l.cap) (quadratic_high l.cap) l.p0.hi l.pf.hi l.p0.lo l.pf.lo
-    (ceiling (pressure_value l.us l.minimum)) (ceiling (pressure_value l.us l.required)) (floor (pressure_value l.us l.minimum)) (floor (pressure_value l.us l.required))
+    moved (pda_at_least l) (pda_at_most l) l.demand (quadratic_low l.cap) (quadratic_high l.cap) l.p0.hi l.pf.hi
+    l.p0.lo l.pf.lo
+    (ceiling (pressure_value l.us l.minimum)) (ceiling (pressure_value l.us l.required))
+    (floor (pressure_value l.us l.minimum)) (floor (pressure_value l.us l.required))
     sound.none.ceiling_is sound.all.ceiling_is sound.none.floor_is sound.all.floor_is
     (IsLaw-driven l.demand l.cap l.minimum l.required l.us sound.demanded sound.origin sound.capacity)
 
@@ -101,6 +103,7 @@ abbrev pub OutAccepts : OutLaw → ℤ → Type 0
 OutAccepts (FixedOut l) p = ⊤
 OutAccepts (PdaOut l) p = AcceptsPressure l p
 
-pub IsLaw-out : (law : OutLaw) → IsSoundOut law → IsLaw (out_at_least law) (out_at_most law) (out_low law) (out_high law)
+pub IsLaw-out : (law : OutLaw) → IsSoundOut law → IsLaw (out_at_least law) (out_at_most law) (out_low law)
+    (out_high law)
 IsLaw-out (FixedOut l) sound = IsLaw-fixed l.demand
 IsLaw-out (PdaOut l) sound = IsLaw-pda l sound

@@ -1,6 +1,6 @@
 -- Laws made of other laws, over their relations and their enclosing functions.
--- Source: EPANET 2.2 User Manual, chapter 3 (check valves, pumps, flow control valves); the bounds between which a flow is
--- held are this program's.
+-- Source: EPANET 2.2 User Manual, chapter 3 (check valves, pumps, flow control valves); the bounds between which a flow
+-- is held are this program's.
 use Rattle.std.specs.Prelude.{◌*◌, ◌^◌, ◌≤◌, ℤ, pos, ◌≤ℤ◌, ◌≡◌, ◌⊎◌, unsigned_abs, Bool, true, false}
 use Rattle.std.specs.Int.{int_max, int_min}
 use Rattle.hyd_num.specs.Rational.{Rational, floor, ceiling}

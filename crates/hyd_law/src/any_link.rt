@@ -2,7 +2,8 @@
 #![tactic(auto)]
 
 ghost use Rattle.std.specs.Prelude.{◌*◌, ◌^◌};
-ghost use Rattle.hyd_law.specs.LinkLaws.{link_at_least, link_at_most, link_low, link_high, IsSoundLink, LinkAccepts, IsLaw-link};
+ghost use Rattle.hyd_law.specs.LinkLaws.{link_at_least, link_at_most, link_low, link_high, IsSoundLink, LinkAccepts};
+ghost use Rattle.hyd_law.specs.LinkLaws.{IsLaw-link};
 
 use crate::law::Law;
 use crate::link_law::LinkLaw;

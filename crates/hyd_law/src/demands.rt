@@ -6,7 +6,9 @@ ghost use Rattle.std.specs.Bool.{OnTrue, OnFalse};
 ghost use Rattle.std.specs.Int.{int_min};
 ghost use Rattle.hyd_spec_laws.proofs.DemandLaws.{IsLaw-fixed};
 ghost use Rattle.hyd_law.specs.Wrapped.{IsDifference};
-ghost use Rattle.hyd_law.specs.OutLaws.{out_at_least, out_at_most, out_low, out_high, IsSoundOut, OutAccepts, IsLaw-out, pda_at_least, pda_at_most, pda_low, pda_high, IsSoundPda, AcceptsPressure, IsLaw-pda};
+ghost use Rattle.hyd_law.specs.OutLaws.{out_at_least, out_at_most, out_low, out_high, IsSoundOut, OutAccepts};
+ghost use Rattle.hyd_law.specs.OutLaws.{IsLaw-out, pda_at_least, pda_at_most, pda_low, pda_high, IsSoundPda};
+ghost use Rattle.hyd_law.specs.OutLaws.{AcceptsPressure, IsLaw-pda};
 
 use crate::law::Law;
 use crate::outflows::{Fixed, OutLaw, Pda};

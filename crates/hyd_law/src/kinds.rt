@@ -63,7 +63,8 @@ pub struct Knot {
 }
 
 /// Straight lines between knots in order of their head differences (EPANET 2.2 User Manual, The Network Model). Before
-/// the first knot and after the last one the lines go on where the first, or last, two knots are apart; else the flow stays.
+/// the first knot and after the last one the lines go on where the first, or last, two knots are apart; else the flow
+/// stays.
 #[derive(Drop)]
 pub struct Bent {
     pub knots: List<Knot>,

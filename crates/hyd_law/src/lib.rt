@@ -1,4 +1,5 @@
-//! Laws of links and of outflows as values: what passes at a head difference, at least and at most, in whole flow ticks.
+//! Laws of links and of outflows as values: what passes at a head difference, at least and at most, in whole flow
+//! ticks.
 #![tactic(auto)]
 
 mod any_link;

@@ -14,7 +14,8 @@ each_two X P x y p q zero z e = let same : x ≡ z = cc in subst (P 0) same p
 each_two X P x y p q (suc zero) z e = let same : y ≡ z = cc in subst (P 1) same q
 each_two X P x y p q (suc (suc k)) z e = absurd (cc)
 
-pub all_by : (X : Type 0) (P : X → Type 0) (test : X → Bool) → ((x : X) → test x ≡ true → P x) → (xs : List X) → list_all test xs ≡ true → All P xs
+pub all_by : (X : Type 0) (P : X → Type 0) (test : X → Bool) → ((x : X) → test x ≡ true → P x) → (xs : List X)
+    → list_all test xs ≡ true → All P xs
 all_by X P test tells [] holds = All-nil P
 all_by X P test tells (x ∷ xs) holds =
     let both = and_parts (test x) (list_all test xs) holds in

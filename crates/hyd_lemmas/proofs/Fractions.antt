@@ -18,16 +18,35 @@ AtMost-along x y z above below over =
 
 pub times-rises : (a b c d : Fraction) → AtMost a b → AtMost c d → AtMost (times a c) (times b d)
 times-rises a b c d p q =
-    record { crossed = omega (arith, mul-le (a.num * b.den) (c.num * d.den) (b.num * a.den) (d.num * c.den) p.crossed q.crossed) }
+    record {
+      crossed = omega (
+        arith,
+        mul-le (a.num * b.den) (c.num * d.den) (b.num * a.den) (d.num * c.den) p.crossed
+            q.crossed,
+      );
+    }
 
 -- a quotient rises with its first part and falls with its second
 pub over-rises : (a b c d : Fraction) → AtMost a b → AtMost d c → AtMost (over a c) (over b d)
 over-rises a b c d p q =
-    record { crossed = omega (arith, mul-le (a.num * b.den) (d.num * c.den) (b.num * a.den) (c.num * d.den) p.crossed q.crossed) }
+    record {
+      crossed = omega (
+        arith,
+        mul-le (a.num * b.den) (d.num * c.den) (b.num * a.den) (c.num * d.den) p.crossed
+            q.crossed,
+      );
+    }
 
 pub plus-rises : (a b c d : Fraction) → AtMost a b → AtMost c d → AtMost (plus a c) (plus b d)
 plus-rises a b c d p q =
-    record { crossed = omega (arith, mul-le-mul_right (c.den * d.den) p.crossed, mul-le-mul_right (a.den * b.den) q.crossed) }
+    record {
+      crossed = omega (
+        arith,
+        mul-le-mul_right (c.den * d.den) p.crossed,
+        mul-le-mul_right (a.den * b.den)
+            q.crossed,
+      );
+    }
 
 pub power-rises : (a b : Fraction) (n : ℕ) → AtMost a b → AtMost (power a n) (power b n)
 power-rises a b n p =

@@ -1,5 +1,6 @@
 -- Integers: floors and ceilings, greatest and least of two, factors.
-use Rattle.std.proofs.Common.{◌≡◌, ℕ, suc, ◌*◌, ◌/◌, ◌%◌, ◌<◌, ◌≤◌, ℤ, pos, negsuc, ◌+ℤ◌, ◌*ℤ◌, ◌≤ℤ◌, ◌<ℤ◌, neg_ℤ, sym, ap, ◌∙◌, subst, arith}
+use Rattle.std.proofs.Common.{◌≡◌, ℕ, suc, ◌*◌, ◌/◌, ◌%◌, ◌<◌, ◌≤◌, ℤ, pos, negsuc, ◌+ℤ◌, ◌*ℤ◌, ◌≤ℤ◌, ◌<ℤ◌, neg_ℤ, sym}
+use Rattle.std.proofs.Common.{ap, ◌∙◌, subst, arith}
 use Rattle.std.proofs.Math.Nat.{mul_comm}
 use Rattle.std.proofs.lemmas.Int.{ints, clamps, by_lt_z}
 use Rattle.std.proofs.lemmas.Nat.{div-add-mod'}
@@ -37,13 +38,15 @@ pub floor_greatest : (x : Rational) (k : ℤ) → 0 < x.den → (pos x.den *ℤ 
 floor_greatest x k above h = by_lt_z (floor x) k
     (λ lt. absurd (
     let l : x.num <ℤ ((pos x.den *ℤ floor x) +ℤ pos x.den) = euclid_high x.num x.den above in
-    let m : (pos x.den *ℤ (floor x +ℤ pos 1)) ≤ℤ (pos x.den *ℤ k) = times_rises x.den (floor x +ℤ pos 1) k (omega (arith, ints)) in
+    let m : (pos x.den *ℤ (floor x +ℤ pos 1)) ≤ℤ (pos x.den *ℤ k) = times_rises x.den (floor x +ℤ pos 1) k
+    (omega (arith, ints)) in
     omega (arith, ints, l, m, h, times_plus x.den (floor x) (pos 1), times_one x.den)))
     (λ ge. ge)
 
 pub ceiling_least : (x : Rational) (k : ℤ) → 0 < x.den → x.num ≤ℤ (pos x.den *ℤ k) → ceiling x ≤ℤ k
 ceiling_least x k above h =
-    let l : neg_ℤ k ≤ℤ floor (negated x) = floor_greatest (negated x) (neg_ℤ k) above (omega (arith, ints, times_neg x.den k, h)) in
+    let l : neg_ℤ k ≤ℤ floor (negated x) = floor_greatest (negated x) (neg_ℤ k) above
+    (omega (arith, ints, times_neg x.den k, h)) in
     omega (arith, ints, l)
 
 pub floor_at_most_ceiling : (x : Rational) → 0 < x.den → floor x ≤ℤ ceiling x

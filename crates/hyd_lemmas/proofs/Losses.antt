@@ -1,7 +1,9 @@
--- From the ends of a capacity to the head that a flow loses. The capacity is the square of the flow that one tick of head drives;
--- the loss comes in larger units, of which `unit` is the capacity of a link that loses one at a flow of one.
+-- From the ends of a capacity to the head that a flow loses. The capacity is the square of the flow that one tick of
+-- head drives; the loss comes in larger units, of which `unit` is the capacity of a link that loses one at a flow of
+-- one.
 use Rattle.std.proofs.Common.{◌≡◌, ℕ, ◌+◌, ◌-◌, ◌*◌, ◌^◌, ◌<◌, ◌≤◌, ap, ◌∙◌, arith, pow-suc}
-use Rattle.std.proofs.Math.Nat.{mul-le-mul_right, le_of_mul-le-mul_right, one-le-pow, pow-le-pow_left, mul-sub, mul_comm}
+use Rattle.std.proofs.Math.Nat.{mul-le-mul_right, le_of_mul-le-mul_right, one-le-pow, pow-le-pow_left, mul-sub}
+use Rattle.std.proofs.Math.Nat.{mul_comm}
 use Rattle.std.proofs.lemmas.Nat.{mul-pow}
 use Rattle.hyd_num.specs.Fraction.{Fraction, fraction, times, plus, minus, over, power, AtMost}
 use Rattle.hyd_lemmas.proofs.Enclosing.{pow_once}
@@ -9,7 +11,8 @@ use Rattle.hyd_lemmas.proofs.Enclosing.{pow_once}
 pub square_is : (x : ℕ) → x ^ 2 ≡ x * x
 square_is x = pow-suc x 1 ∙ ap (λ a. a * x) (pow_once x)
 
--- u / v is the unit's capacity where K large units of flow and T of head are F and 1 ticks, h / g the loss of a flow of one
+-- u / v is the unit's capacity where K large units of flow and T of head are F and 1 ticks, h / g the loss of a flow of
+-- one
 loss_below : (u v F K T g h c d s q y : ℕ) → 0 < v → 0 < d → u * (K * K * T) ≡ F * F * v
     → c * (v * h) ≤ (u * g) * d → q * q * d ≤ c * (s * y)
     → (h * (K * q) ^ 2) * (s * T) ≤ y * (g * (s * F) ^ 2)
@@ -18,9 +21,11 @@ loss_below u v F K T g h c d s q y above some unit end flow =
     let b : c * (v * h) * (s * y) ≤ u * g * d * (s * y) = mul-le-mul_right (s * y) end in
     let both : q * q * (v * h) * d ≤ u * g * (s * y) * d = omega (arith, a, b) in
     let small : q * q * (v * h) ≤ u * g * (s * y) = le_of_mul-le-mul_right both some in
-    let large : q * q * (v * h) * (K * K * s * T) ≤ u * g * (s * y) * (K * K * s * T) = mul-le-mul_right (K * K * s * T) small in
+    let large : q * q * (v * h) * (K * K * s * T) ≤ u * g * (s * y) * (K * K * s * T) = mul-le-mul_right
+    (K * K * s * T) small in
     let equal : u * (K * K * T) * (g * s * s * y) ≡ F * F * v * (g * s * s * y) = ap (λ x. x * (g * s * s * y)) unit in
-    let all : (h * ((K * q) * (K * q))) * (s * T) * v ≤ y * (g * ((s * F) * (s * F))) * v = omega (arith, large, equal) in
+    let all : (h * ((K * q) * (K * q))) * (s * T) * v ≤ y * (g * ((s * F) * (s * F)))
+    * v = omega (arith, large, equal) in
     rw (square_is (K * q), square_is (s * F)) (le_of_mul-le-mul_right all above)
 
 loss_above : (u v F K T g h c d s q y : ℕ) → 0 < v → 0 < d → u * (K * K * T) ≡ F * F * v
@@ -31,9 +36,11 @@ loss_above u v F K T g h c d s q y above some unit end flow =
     let b : u * g * d * (s * y) ≤ c * (v * h) * (s * y) = mul-le-mul_right (s * y) end in
     let both : u * g * (s * y) * d ≤ q * q * (v * h) * d = omega (arith, a, b) in
     let small : u * g * (s * y) ≤ q * q * (v * h) = le_of_mul-le-mul_right both some in
-    let large : u * g * (s * y) * (K * K * s * T) ≤ q * q * (v * h) * (K * K * s * T) = mul-le-mul_right (K * K * s * T) small in
+    let large : u * g * (s * y) * (K * K * s * T) ≤ q * q * (v * h) * (K * K * s * T) = mul-le-mul_right
+    (K * K * s * T) small in
     let equal : u * (K * K * T) * (g * s * s * y) ≡ F * F * v * (g * s * s * y) = ap (λ x. x * (g * s * s * y)) unit in
-    let all : y * (g * ((s * F) * (s * F))) * v ≤ (h * ((K * q) * (K * q))) * (s * T) * v = omega (arith, large, equal) in
+    let all : y * (g * ((s * F) * (s * F))) * v ≤ (h * ((K * q) * (K * q))) * (s * T)
+    * v = omega (arith, large, equal) in
     rw (square_is (K * q), square_is (s * F)) (le_of_mul-le-mul_right all above)
 
 -- the flow and the head at scale s, in the larger units
@@ -43,17 +50,25 @@ flow_at K F s q = fraction (K * q) (s * F)
 abbrev head_at : ℕ → ℕ → ℕ → Fraction
 head_at T s y = fraction y (s * T)
 
-pub at_most_lost : (unit lost end : Fraction) (F K T s q y : ℕ) → 0 < unit.den → 0 < end.den → unit.num * (K * K * T) ≡ F * F * unit.den
+pub at_most_lost : (unit lost end : Fraction) (F K T s q y : ℕ) → 0 < unit.den → 0 < end.den
+    → unit.num * (K * K * T) ≡ F * F * unit.den
     → AtMost end (over unit lost) → q * q * end.den ≤ end.num * (s * y)
     → AtMost (times lost (power (flow_at K F s q) 2)) (head_at T s y)
 at_most_lost unit lost end F K T s q y above some is below flow =
-    record { crossed = loss_below unit.num unit.den F K T lost.den lost.num end.num end.den s q y above some is below.crossed flow }
+    record {
+      crossed = loss_below unit.num unit.den F K T lost.den lost.num end.num end.den s q y above some is
+          below.crossed flow;
+    }
 
-pub at_least_lost : (unit lost end : Fraction) (F K T s q y : ℕ) → 0 < unit.den → 0 < end.den → unit.num * (K * K * T) ≡ F * F * unit.den
+pub at_least_lost : (unit lost end : Fraction) (F K T s q y : ℕ) → 0 < unit.den → 0 < end.den
+    → unit.num * (K * K * T) ≡ F * F * unit.den
     → AtMost (over unit lost) end → end.num * (s * y) ≤ q * q * end.den
     → AtMost (head_at T s y) (times lost (power (flow_at K F s q) 2))
 at_least_lost unit lost end F K T s q y above some is below flow =
-    record { crossed = loss_above unit.num unit.den F K T lost.den lost.num end.num end.den s q y above some is below.crossed flow }
+    record {
+      crossed = loss_above unit.num unit.den F K T lost.den lost.num end.num end.den s q y above some is
+          below.crossed flow;
+    }
 
 -- differences under a factor
 difference_times : (a b k : ℕ) → (a - b) * k ≡ a * k - b * k
@@ -77,14 +92,16 @@ second_at_most r m f h above all =
 pub first_at_most : (r m f h : Fraction) → AtMost (times (plus r m) f) h → AtMost (times r f) (minus h (times m f))
 first_at_most r m f h all =
     record {
-      crossed = less_by ((r.num * f.num) * (h.den * (m.den * f.den))) (h.num * (m.den * f.den)) ((m.num * f.num) * h.den) (r.den * f.den)
+      crossed = less_by ((r.num * f.num) * (h.den * (m.den * f.den))) (h.num * (m.den * f.den))
+          ((m.num * f.num) * h.den) (r.den * f.den)
           (omega (arith, mul-le-mul_right f.den all.crossed));
     }
 
 pub first_at_least : (r m f h : Fraction) → AtMost h (times (plus r m) f) → AtMost (minus h (times m f)) (times r f)
 first_at_least r m f h all =
     record {
-      crossed = more_by ((r.num * f.num) * (h.den * (m.den * f.den))) (h.num * (m.den * f.den)) ((m.num * f.num) * h.den) (r.den * f.den)
+      crossed = more_by ((r.num * f.num) * (h.den * (m.den * f.den))) (h.num * (m.den * f.den))
+          ((m.num * f.num) * h.den) (r.den * f.den)
           (omega (arith, mul-le-mul_right f.den all.crossed));
     }
 
@@ -109,7 +126,8 @@ raised_above a z w t u d e n k b above loss root =
     let all : (z ^ n * d ^ k) * b ^ n * u ^ n ≤ a ^ n * (w ^ n * e ^ k) * u ^ n = omega (arith, p, q) in
     le_of_mul-le-mul_right all (one-le-pow n u above)
 
-pub power_at_most : (g t f z d : Fraction) (n k : ℕ) → 0 < t.den → AtMost (times (over g t) f) z → AtMost (power t n) (power d k)
+pub power_at_most : (g t f z d : Fraction) (n k : ℕ) → 0 < t.den → AtMost (times (over g t) f) z
+    → AtMost (power t n) (power d k)
     → AtMost (power (times g f) n) (times (power z n) (power d k))
 power_at_most g t f z d n k above loss root =
     record {
@@ -117,7 +135,8 @@ power_at_most g t f z d n k above loss root =
           (omega (arith, loss.crossed)) root.crossed;
     }
 
-pub power_at_least : (g t f z d : Fraction) (n k : ℕ) → 0 < t.den → AtMost z (times (over g t) f) → AtMost (power d k) (power t n)
+pub power_at_least : (g t f z d : Fraction) (n k : ℕ) → 0 < t.den → AtMost z (times (over g t) f)
+    → AtMost (power d k) (power t n)
     → AtMost (times (power z n) (power d k)) (power (times g f) n)
 power_at_least g t f z d n k above loss root =
     record {

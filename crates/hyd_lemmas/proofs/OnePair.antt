@@ -6,9 +6,11 @@ use Rattle.hyd_num.specs.declared.pairs.Pair.{Pair}
 use Rattle.hyd_num.specs.declared.decimals.Decimal.{Decimal}
 use Rattle.hyd_num.specs.Fraction.{fraction, AtMost}
 use Rattle.hyd_num.specs.Scaled.{numerator, denominator, as_fraction, IsDown, IsUp}
-use Rattle.hyd_num.specs.Pairs.{IsRatio, IsProduct, IsQuotient, IsSum, IsPower, once, even, odd, IsRootDown, IsRootUp, IsRoot533}
+use Rattle.hyd_num.specs.Pairs.{IsRatio, IsProduct, IsQuotient, IsSum, IsPower, once, even, odd, IsRootDown, IsRootUp}
+use Rattle.hyd_num.specs.Pairs.{IsRoot533}
 use Rattle.hyd_num.specs.Quantity.{billionths}
-use Rattle.hyd_num.specs.Chain.{StandsFor, IsMade, IsMinorPair, IsFrictionPair, IsUnitOver, IsSquareOver, IsPipePairWith}
+use Rattle.hyd_num.specs.Chain.{StandsFor, IsMade, IsMinorPair, IsFrictionPair, IsUnitOver, IsSquareOver}
+use Rattle.hyd_num.specs.Chain.{IsPipePairWith}
 use Rattle.hyd_spec.specs.Types.{Origin, Pipe, Valve, Pump, Emitter, PressureDemand, Capacity}
 use Rattle.hyd_lemmas.proofs.Fractions.{AtMost-itself, AtMost-along, times-rises, over-rises, plus-rises}
 use Rattle.hyd_lemmas.proofs.Enclosing.{numerator_above, denominator_above, down_below, up_above}
@@ -20,12 +22,14 @@ pub record IsBelow (r s : Pair) : Type 0 where
   pub low : AtMost (as_fraction r.lo) (as_fraction s.lo)
   pub high : AtMost (as_fraction r.hi) (as_fraction s.hi)
 
-down-rises : (p q u v : ℕ) (s t : Scaled) → 0 < q → IsDown p q s → IsDown u v t → AtMost (fraction p q) (fraction u v) → AtMost (as_fraction s) (as_fraction t)
+down-rises : (p q u v : ℕ) (s t : Scaled) → 0 < q → IsDown p q s → IsDown u v t → AtMost (fraction p q) (fraction u v)
+    → AtMost (as_fraction s) (as_fraction t)
 down-rises p q u v s t above ds dt le =
     let l : AtMost (as_fraction s) (fraction u v) = down_below p q s (fraction u v) above ds le in
     record { crossed = dt.greatest s l.crossed }
 
-up-rises : (p q u v : ℕ) (s t : Scaled) → 0 < v → IsUp p q s → IsUp u v t → AtMost (fraction p q) (fraction u v) → AtMost (as_fraction s) (as_fraction t)
+up-rises : (p q u v : ℕ) (s t : Scaled) → 0 < v → IsUp p q s → IsUp u v t → AtMost (fraction p q) (fraction u v)
+    → AtMost (as_fraction s) (as_fraction t)
 up-rises p q u v s t above us ut le =
     let l : AtMost (fraction p q) (as_fraction t) = up_above u v t (fraction p q) above ut le in
     record { crossed = us.least t l.crossed }
@@ -77,26 +81,34 @@ power-below x u r s n k same p (even m n' h r' e made square) once = absurd (ome
 power-below x u r s n k same p (even m n' h r' e made square) (even l k' i s' f made' square') =
     let half : IsBelow h i = power-below x u h i m l (omega (arith, same, e, f)) p made made' in
     product-below h h r i i s square square' half half
-power-below x u r s n k same p (even m n' h r' e made square) (odd l k' i j s' f made' square' more) = absurd (omega (arith, same, e, f))
+power-below x u r s n k same p (even m n' h r' e made square) (odd l k' i j s' f made' square' more) =
+    absurd (omega (arith, same, e, f))
 power-below x u r s n k same p (odd m n' h i r' e made square more) once =
     let some : 0 < m = digits_above x h m made in absurd (omega (arith, same, e, some))
-power-below x u r s n k same p (odd m n' h i r' e made square more) (even l k' j s' f made' square') = absurd (omega (arith, same, e, f))
+power-below x u r s n k same p (odd m n' h i r' e made square more) (even l k' j s' f made' square') =
+    absurd (omega (arith, same, e, f))
 power-below x u r s n k same p (odd m n' h i r' e made square more) (odd l k' j g s' f made' square' more') =
     let half : IsBelow h j = power-below x u h j m l (omega (arith, same, e, f)) p made made' in
     product-below i x r g u s more more' (product-below h h i j j g square square' half half) p
 
-root_down-below : (b c s t : Scaled) → AtMost (as_fraction b) (as_fraction c) → IsRootDown b s → IsRootDown c t → AtMost (as_fraction s) (as_fraction t)
+root_down-below : (b c s t : Scaled) → AtMost (as_fraction b) (as_fraction c) → IsRootDown b s → IsRootDown c t
+    → AtMost (as_fraction s) (as_fraction t)
 root_down-below b c s t le ms mt =
     let below = ms.below in
     let end : AtMost (as_fraction below.result.hi) (as_fraction c) =
-    AtMost-along (as_fraction below.result.hi) (as_fraction b) (as_fraction c) (denominator_above b) (record { crossed = below.at_most }) le in
+    AtMost-along (as_fraction below.result.hi) (as_fraction b) (as_fraction c) (denominator_above b) (record {
+      crossed = below.at_most;
+    }) le in
     record { crossed = mt.greatest s (record { result = below.result; made = below.made; at_most = end.crossed }) }
 
-root_up-below : (b c s t : Scaled) → AtMost (as_fraction b) (as_fraction c) → IsRootUp b s → IsRootUp c t → AtMost (as_fraction s) (as_fraction t)
+root_up-below : (b c s t : Scaled) → AtMost (as_fraction b) (as_fraction c) → IsRootUp b s → IsRootUp c t
+    → AtMost (as_fraction s) (as_fraction t)
 root_up-below b c s t le ms mt =
     let over = mt.above in
     let end : AtMost (as_fraction b) (as_fraction over.result.lo) =
-    AtMost-along (as_fraction b) (as_fraction c) (as_fraction over.result.lo) (denominator_above c) le (record { crossed = over.at_least }) in
+    AtMost-along (as_fraction b) (as_fraction c) (as_fraction over.result.lo) (denominator_above c) le (record {
+      crossed = over.at_least;
+    }) in
     record { crossed = ms.least t (record { result = over.result; made = over.made; at_least = end.crossed }) }
 
 root-below : (d e r s : Pair) → IsBelow d e → IsRoot533 d r → IsRoot533 e s → IsBelow r s
@@ -109,37 +121,47 @@ root-below d e r s p mr ms =
 
 -- ---- the chains
 
-minor-below : (diameter k : Decimal) (us : Bool) (r s : Pair) → IsMinorPair diameter k us r → IsMinorPair diameter k us s → IsBelow r s
+minor-below : (diameter k : Decimal) (us : Bool) (r s : Pair) → IsMinorPair diameter k us r
+    → IsMinorPair diameter k us s → IsBelow r s
 minor-below diameter k us r s mr ms =
     quotient-below mr.scaled mr.fourth r ms.scaled ms.fourth s mr.minor_is ms.minor_is
     (product-below mr.factor mr.coefficient mr.scaled ms.factor ms.coefficient ms.scaled mr.scaled_is ms.scaled_is
-    (ratio-below _ _ mr.factor ms.factor mr.factor_is ms.factor_is) (ratio-below _ _ mr.coefficient ms.coefficient mr.coefficient_is ms.coefficient_is))
-    (power-below ms.across mr.across ms.fourth mr.fourth 4 4 refl (ratio-below _ _ ms.across mr.across ms.across_is mr.across_is) ms.fourth_is mr.fourth_is)
+    (ratio-below _ _ mr.factor ms.factor mr.factor_is ms.factor_is) (ratio-below _ _ mr.coefficient ms.coefficient
+    mr.coefficient_is ms.coefficient_is))
+    (power-below ms.across mr.across ms.fourth mr.fourth 4 4 refl (ratio-below _ _ ms.across mr.across ms.across_is
+    mr.across_is) ms.fourth_is mr.fourth_is)
 
-friction-below : (length diameter roughness : Decimal) (us : Bool) (r s : Pair) → IsFrictionPair length diameter roughness us r → IsFrictionPair length diameter roughness us s → IsBelow r s
+friction-below : (length diameter roughness : Decimal) (us : Bool) (r s : Pair)
+    → IsFrictionPair length diameter roughness us r → IsFrictionPair length diameter roughness us s → IsBelow r s
 friction-below length diameter roughness us r s mr ms =
     let rough : IsBelow mr.rough ms.rough = ratio-below _ _ mr.rough ms.rough mr.rough_is ms.rough_is in
     quotient-below mr.along mr.root r ms.along ms.root s mr.friction_is ms.friction_is
     (product-below mr.twice_rough mr.long mr.along ms.twice_rough ms.long ms.along mr.along_is ms.along_is
-    (product-below mr.once_rough mr.rough mr.twice_rough ms.once_rough ms.rough ms.twice_rough mr.twice_rough_is ms.twice_rough_is
+    (product-below mr.once_rough mr.rough mr.twice_rough ms.once_rough ms.rough ms.twice_rough mr.twice_rough_is
+    ms.twice_rough_is
     (product-below mr.factor mr.rough mr.once_rough ms.factor ms.rough ms.once_rough mr.once_rough_is ms.once_rough_is
     (ratio-below _ _ mr.factor ms.factor mr.factor_is ms.factor_is) rough)
     rough)
     (ratio-below _ _ mr.long ms.long mr.long_is ms.long_is))
-    (root-below ms.across mr.across ms.root mr.root (ratio-below _ _ ms.across mr.across ms.across_is mr.across_is) ms.root_is mr.root_is)
+    (root-below ms.across mr.across ms.root mr.root (ratio-below _ _ ms.across mr.across ms.across_is mr.across_is)
+    ms.root_is mr.root_is)
 
 unit-below : (lost other r s : Pair) → IsBelow other lost → IsUnitOver lost r → IsUnitOver other s → IsBelow r s
 unit-below lost other r s p mr ms =
-    quotient-below mr.unit lost r ms.unit other s mr.capacity_is ms.capacity_is (ratio-below _ _ mr.unit ms.unit mr.unit_is ms.unit_is) p
+    quotient-below mr.unit lost r ms.unit other s mr.capacity_is ms.capacity_is
+    (ratio-below _ _ mr.unit ms.unit mr.unit_is ms.unit_is) p
 
 square-below : (f h r g i s : Pair) → IsBelow f g → IsBelow i h → IsSquareOver f h r → IsSquareOver g i s → IsBelow r s
 square-below f h r g i s p q mr ms =
-    quotient-below mr.square h r ms.square i s mr.capacity_is ms.capacity_is (product-below f f mr.square g g ms.square mr.square_is ms.square_is p p) q
+    quotient-below mr.square h r ms.square i s mr.capacity_is ms.capacity_is
+    (product-below f f mr.square g g ms.square mr.square_is ms.square_is p p) q
 
 pipe-below : (v : ℕ) (length diameter roughness minor : Decimal) (us : Bool) (r s : Pair)
-    → IsPipePairWith v length diameter roughness minor us r → IsPipePairWith v length diameter roughness minor us s → IsBelow r s
+    → IsPipePairWith v length diameter roughness minor us r → IsPipePairWith v length diameter roughness minor us s
+    → IsBelow r s
 pipe-below zero length diameter roughness minor us r s mr ms =
-    unit-below mr.friction ms.friction r s (friction-below length diameter roughness us ms.friction mr.friction ms.friction_is mr.friction_is) mr.capacity_is ms.capacity_is
+    unit-below mr.friction ms.friction r s (friction-below length diameter roughness us ms.friction mr.friction
+    ms.friction_is mr.friction_is) mr.capacity_is ms.capacity_is
 pipe-below (suc v) length diameter roughness minor us r s mr ms =
     unit-below mr.lost ms.lost r s
     (sum-below ms.friction ms.fittings ms.lost mr.friction mr.fittings mr.lost ms.lost_is mr.lost_is
@@ -149,9 +171,11 @@ pipe-below (suc v) length diameter roughness minor us r s mr ms =
 
 -- of two pairs that one origin stands for, neither is above the other
 pub StandsFor-below : (origin : Origin) (r s : Pair) → StandsFor origin r → StandsFor origin s → IsBelow r s
-StandsFor-below (Pipe length diameter roughness minor us) r s mr ms = pipe-below (billionths minor) length diameter roughness minor us r s mr ms
+StandsFor-below (Pipe length diameter roughness minor us) r s mr ms = pipe-below (billionths minor) length diameter
+    roughness minor us r s mr ms
 StandsFor-below (Valve diameter k us) r s mr ms =
-    unit-below mr.lost ms.lost r s (minor-below diameter k us ms.lost mr.lost ms.lost_is mr.lost_is) mr.capacity_is ms.capacity_is
+    unit-below mr.lost ms.lost r s (minor-below diameter k us ms.lost mr.lost ms.lost_is mr.lost_is) mr.capacity_is
+    ms.capacity_is
 StandsFor-below (Pump flow drop thirds unit) r s mr ms =
     square-below mr.flows mr.head r ms.flows ms.head s (ratio-below _ _ mr.flows ms.flows mr.flows_is ms.flows_is)
     (ratio-below _ _ ms.head mr.head ms.head_is mr.head_is) mr.capacity_is ms.capacity_is

@@ -1,5 +1,6 @@
 -- Each product of pairs is a pair, and so is each power.
-use Rattle.std.proofs.Common.{◌≡◌, ℕ, ◌+◌, ◌*◌, ◌/◌, ◌%◌, ◌^◌, ◌<◌, ◌≤◌, ℤ, pos, ◌+ℤ◌, Bool, true, false, nat_eq, refl, arith, mul-pos, inl, inr, div-lt_iff_lt-mul, le-div_iff_mul-le}
+use Rattle.std.proofs.Common.{◌≡◌, ℕ, ◌+◌, ◌*◌, ◌/◌, ◌%◌, ◌^◌, ◌<◌, ◌≤◌, ℤ, pos, ◌+ℤ◌, Bool, true, false, nat_eq, refl}
+use Rattle.std.proofs.Common.{arith, mul-pos, inl, inr, div-lt_iff_lt-mul, le-div_iff_mul-le}
 use Rattle.std.proofs.lemmas.Nat.{pow_pos, mul-le, mul-lt}
 use Rattle.std.proofs.lemmas.Bool.{cases_lt}
 use Rattle.std.proofs.lemmas.Int.{ints}
@@ -23,8 +24,17 @@ cut_at : (k : ℕ) (e : ℤ) (a b : Scaled) → 2 ^ 62 * 2 ^ k ≤ a.mant * b.ma
     → up e + down a.exp + down b.exp ≡ k + down e + up a.exp + up b.exp → ProductCut a b
 cut_at k e a b least most balance =
     let some : 0 < 2 ^ k = pow_pos k in
-    let s : Scaled = record { mant = a.mant * b.mant / 2 ^ k; exp = e; normal = (le-div_iff_mul-le some).1 least; short = (div-lt_iff_lt-mul some).1 most } in
-    record { number = s; exact = nat_eq (a.mant * b.mant % 2 ^ k) 0; cut = IsCut-product k a b s (nat_eq (a.mant * b.mant % 2 ^ k) 0) refl refl balance }
+    let s : Scaled = record {
+      mant = a.mant * b.mant / 2 ^ k;
+      exp = e;
+      normal = (le-div_iff_mul-le some).1 least;
+      short = (div-lt_iff_lt-mul some).1 most;
+    } in
+    record {
+      number = s;
+      exact = nat_eq (a.mant * b.mant % 2 ^ k) 0;
+      cut = IsCut-product k a b s (nat_eq (a.mant * b.mant % 2 ^ k) 0) refl refl balance;
+    }
 
 product_cut : (a b : Scaled) → ProductCut a b
 product_cut a b =
@@ -43,7 +53,12 @@ pub raised : (p q : ℕ) (s : Scaled) (exact : Bool) → 0 < q → IsCut p q s e
 raised p q s true above cut = record { number = s; up = IsUp-exact p q s above (cut.whole refl) }
 raised p q s false above cut =
     let next = above_of s in
-    record { number = next.number; up = IsUp-next p q s next.number above (cut.lost refl) cut.below (record { one_more = next.one_more }) }
+    record {
+      number = next.number;
+      up = IsUp-next p q s next.number above (cut.lost refl) cut.below (record {
+        one_more = next.one_more;
+      });
+    }
 
 pub record Product (x y : Pair) : Type 0 where
   pub pair : Pair
@@ -53,11 +68,16 @@ pub product_of : (x y : Pair) → Product x y
 product_of x y =
     let low = product_cut x.lo y.lo in
     let high = product_cut x.hi y.hi in
-    let down : IsDown (numerator x.lo * numerator y.lo) (denominator x.lo * denominator y.lo) low.number = IsDown-from_cut _ _ low.number low.exact low.cut in
+    let down : IsDown (numerator x.lo * numerator y.lo) (denominator x.lo * denominator y.lo) low.number =
+    IsDown-from_cut _ _ low.number low.exact low.cut in
     let over = raised (numerator x.hi * numerator y.hi) (denominator x.hi * denominator y.hi) high.number high.exact
     (mul-pos (denominator_above x.hi) (denominator_above y.hi)) high.cut in
     record {
-      pair = record { lo = low.number; hi = over.number; ordered = products_ordered x y low.number over.number down over.up };
+      pair = record {
+        lo = low.number;
+        hi = over.number;
+        ordered = products_ordered x y low.number over.number down over.up;
+      };
       made = record { low = down; high = over.up };
     }
 

@@ -1,5 +1,6 @@
 -- Each fraction above 0 has a pair, and so has each quotient of pairs.
-use Rattle.std.proofs.Common.{◌≡◌, ℕ, zero, suc, ◌+◌, ◌*◌, ◌/◌, ◌%◌, ◌^◌, ◌<◌, ◌≤◌, ℤ, pos, ◌-ℤ◌, Bool, nat_eq, refl, ap, arith, mul-pos, inl, inr, div-lt_iff_lt-mul, le-div_iff_mul-le, mod-lt, div-add-mod'}
+use Rattle.std.proofs.Common.{◌≡◌, ℕ, zero, suc, ◌+◌, ◌*◌, ◌/◌, ◌%◌, ◌^◌, ◌<◌, ◌≤◌, ℤ, pos, ◌-ℤ◌, Bool, nat_eq, refl}
+use Rattle.std.proofs.Common.{ap, arith, mul-pos, inl, inr, div-lt_iff_lt-mul, le-div_iff_mul-le, mod-lt, div-add-mod'}
 use Rattle.std.proofs.Math.Nat.{mul-le-mul_left, mul-le-mul_right, two-pow-succ}
 use Rattle.std.proofs.lemmas.Nat.{pow_pos, pow-add}
 use Rattle.std.proofs.lemmas.Bool.{cases_lt}

@@ -11,7 +11,8 @@ use Rattle.hyd_lemmas.proofs.Enclosing.{own-encloses, denominator_above, pow_onc
 use Rattle.hyd_lemmas.proofs.Losses.{square_is}
 use Rattle.hyd_lemmas.proofs.Grains.{grain, above_of, below_of}
 use Rattle.hyd_lemmas.proofs.Widths.{IsNear, above, power-near}
-use Rattle.hyd_lemmas.proofs.Factors.{IsWithin, within-none, within-along, within-power, within-root, within-wider, ends-within, near-within}
+use Rattle.hyd_lemmas.proofs.Factors.{IsWithin, within-none, within-along, within-power, within-root, within-wider}
+use Rattle.hyd_lemmas.proofs.Factors.{ends-within, near-within}
 use Rattle.hyd_lemmas.proofs.Products.{own_power}
 
 -- one factor
@@ -33,15 +34,23 @@ root-low-within bound s root =
     let t = next.number in
     let own = own_power t in
     let r = own.pair in
-    let passes : AtMost (as_fraction bound) (as_fraction r.hi) = elim (cases_lt (numerator bound * denominator r.hi) (numerator r.hi * denominator bound)) [
+    let passes : AtMost (as_fraction bound) (as_fraction r.hi) =
+    elim (cases_lt (numerator bound * denominator r.hi) (numerator r.hi * denominator bound)) [
       | inl l ↦ record { crossed = omega (arith, l) }
-      | inr g ↦ (let below : numerator t * denominator s ≤ numerator s * denominator t = root.greatest t (record { result = r; made = own.made; at_most = g }) in
+      | inr g ↦ (let below : numerator t * denominator s ≤ numerator s * denominator t = root.greatest t (record {
+        result = r;
+        made = own.made;
+        at_most = g;
+      }) in
           absurd (omega (arith, below, next.passes)))
     ] in
     let near : IsWithin 1 (as_fraction t) (as_fraction s) = record { crossed = one_factor _ _ grain above next.near } in
-    within-along (as_fraction bound) (as_fraction r.hi) (power (as_fraction s) 100) 0 300 (denominator_above r.hi) (within-none _ _ passes)
-    (within-along (as_fraction r.hi) (as_fraction r.lo) (power (as_fraction s) 100) 200 100 (denominator_above r.lo) (own-within t r own.made)
-    (within-along (as_fraction r.lo) (power (as_fraction t) 100) (power (as_fraction s) 100) 0 100 (one-le-pow 100 _ (denominator_above t))
+    within-along (as_fraction bound) (as_fraction r.hi) (power (as_fraction s) 100) 0 300 (denominator_above r.hi)
+    (within-none _ _ passes)
+    (within-along (as_fraction r.hi) (as_fraction r.lo) (power (as_fraction s) 100) 200 100 (denominator_above r.lo)
+    (own-within t r own.made)
+    (within-along (as_fraction r.lo) (power (as_fraction t) 100) (power (as_fraction s) 100) 0 100
+    (one-le-pow 100 _ (denominator_above t))
     (within-none _ _ (own-encloses t 100 r own.made).low)
     (within-power (as_fraction t) (as_fraction s) 1 100 near)))
 
@@ -52,25 +61,35 @@ root-high-within bound s root =
     let t = next.number in
     let own = own_power t in
     let r = own.pair in
-    let passes : AtMost (as_fraction r.lo) (as_fraction bound) = elim (cases_lt (numerator r.lo * denominator bound) (numerator bound * denominator r.lo)) [
+    let passes : AtMost (as_fraction r.lo) (as_fraction bound) =
+    elim (cases_lt (numerator r.lo * denominator bound) (numerator bound * denominator r.lo)) [
       | inl l ↦ record { crossed = omega (arith, l) }
-      | inr g ↦ (let over : numerator s * denominator t ≤ numerator t * denominator s = root.least t (record { result = r; made = own.made; at_least = g }) in
+      | inr g ↦ (let over : numerator s * denominator t ≤ numerator t * denominator s = root.least t (record {
+        result = r;
+        made = own.made;
+        at_least = g;
+      }) in
           absurd (omega (arith, over, next.passes)))
     ] in
     let near : IsWithin 1 (as_fraction s) (as_fraction t) = record { crossed = one_factor _ _ grain above next.near } in
-    within-along (power (as_fraction s) 100) (power (as_fraction t) 100) (as_fraction bound) 100 200 (one-le-pow 100 _ (denominator_above t))
+    within-along (power (as_fraction s) 100) (power (as_fraction t) 100) (as_fraction bound) 100 200
+    (one-le-pow 100 _ (denominator_above t))
     (within-power (as_fraction s) (as_fraction t) 1 100 near)
     (within-along (power (as_fraction t) 100) (as_fraction r.hi) (as_fraction bound) 0 200 (denominator_above r.hi)
     (within-none _ _ (own-encloses t 100 r own.made).high)
-    (within-along (as_fraction r.hi) (as_fraction r.lo) (as_fraction bound) 200 0 (denominator_above r.lo) (own-within t r own.made)
+    (within-along (as_fraction r.hi) (as_fraction r.lo) (as_fraction bound) 200 0 (denominator_above r.lo)
+    (own-within t r own.made)
     (within-none _ _ passes)))
 
 pub root-near : (d r : Pair) → IsNear 4 d → IsRoot533 d r → IsNear 30 r
 root-near d r near root =
-    let raised : IsWithin 2132 (as_fraction root.raised.hi) (as_fraction root.raised.lo) = ends-within 2132 root.raised (power-near d root.raised 533 4 near root.made) in
+    let raised : IsWithin 2132 (as_fraction root.raised.hi) (as_fraction root.raised.lo) = ends-within 2132
+    root.raised (power-near d root.raised 533 4 near root.made) in
     let all : IsWithin 2732 (power (as_fraction r.hi) 100) (power (as_fraction r.lo) 100) =
-    within-along (power (as_fraction r.hi) 100) (as_fraction root.raised.hi) (power (as_fraction r.lo) 100) 300 2432 (denominator_above root.raised.hi)
+    within-along (power (as_fraction r.hi) 100) (as_fraction root.raised.hi) (power (as_fraction r.lo) 100) 300 2432
+    (denominator_above root.raised.hi)
     (root-high-within root.raised.hi r.hi root.high)
-    (within-along (as_fraction root.raised.hi) (as_fraction root.raised.lo) (power (as_fraction r.lo) 100) 2132 300 (denominator_above root.raised.lo) raised
+    (within-along (as_fraction root.raised.hi) (as_fraction root.raised.lo) (power (as_fraction r.lo) 100) 2132 300
+    (denominator_above root.raised.lo) raised
     (root-low-within root.raised.lo r.lo root.low)) in
     near-within 28 r (within-root (as_fraction r.hi) (as_fraction r.lo) 28 100 (lit< tt) (within-wider _ _ 2732 68 all))

@@ -1,5 +1,6 @@
 -- Facts that are tried by computing: tests of whole numbers, of lists, and of all numbers below one.
-use Rattle.std.proofs.Common.{◌≡◌, ℕ, zero, suc, ◌+◌, ◌<◌, ◌≤◌, ℤ, ◌≤ℤ◌, Bool, true, false, ◌&&◌, ◌||◌, not, if◌then◌else◌, inl, inr, List, [], ◌∷◌, length, int_le, refl, subst, arith}
+use Rattle.std.proofs.Common.{◌≡◌, ℕ, zero, suc, ◌+◌, ◌<◌, ◌≤◌, ℤ, ◌≤ℤ◌, Bool, true, false, ◌&&◌, ◌||◌, not}
+use Rattle.std.proofs.Common.{if◌then◌else◌, inl, inr, List, [], ◌∷◌, length, int_le, refl, subst, arith}
 use Rattle.std.specs.Prelude.{slice_get, slice_index_or, Some, Contains}
 use Rattle.std.specs.List.{list_any}
 use Rattle.std.proofs.lemmas.Int.{ints}
@@ -51,17 +52,23 @@ pub each_passes : (X : Type 0) (test : ℕ → X → Bool) (k : ℕ) (xs : List 
 each_passes X test k [] e j x at = absurd (cc)
 each_passes X test k (y ∷ ys) e zero x at =
     let same : y ≡ x = cc in let number : k ≡ k + 0 = omega arith in
-    subst (λ (n : ℕ). test n x ≡ true) number (subst (λ (z : X). test k z ≡ true) same (both-first (test k y) (all_pass test (suc k) ys) e))
+    subst (λ (n : ℕ). test n x ≡ true) number (subst (λ (z : X). test k z ≡ true) same
+    (both-first (test k y) (all_pass test (suc k) ys) e))
 each_passes X test k (y ∷ ys) e (suc j) x at =
     let number : suc k + j ≡ k + suc j = omega arith in
-    subst (λ (n : ℕ). test n x ≡ true) number (each_passes X test (suc k) ys (both-second (test k y) (all_pass test (suc k) ys) e) j x at)
+    subst (λ (n : ℕ). test n x ≡ true) number (each_passes X test (suc k) ys
+    (both-second (test k y) (all_pass test (suc k) ys) e) j x at)
 
-any_at : (X : Type 0) (test : X → Bool) (xs : List X) (k : ℕ) (x : X) → k < length xs → slice_index_or xs k x ≡ x → test x ≡ true → list_any test xs ≡ true
+any_at : (X : Type 0) (test : X → Bool) (xs : List X) (k : ℕ) (x : X) → k < length xs → slice_index_or xs k x ≡ x
+    → test x ≡ true → list_any test xs ≡ true
 any_at X test [] k x le at e = absurd (omega (arith, le))
-any_at X test (y ∷ ys) zero x le at e = or-left (test y) (list_any test ys) (subst (λ (z : X). test z ≡ true) (let same : x ≡ y = cc in same) e)
-any_at X test (y ∷ ys) (suc k) x le at e = or-right (test y) (list_any test ys) (any_at X test ys k x (omega (arith, le)) at e)
+any_at X test (y ∷ ys) zero x le at e = or-left (test y) (list_any test ys)
+    (subst (λ (z : X). test z ≡ true) (let same : x ≡ y = cc in same) e)
+any_at X test (y ∷ ys) (suc k) x le at e = or-right (test y) (list_any test ys)
+    (any_at X test ys k x (omega (arith, le)) at e)
 
-pub any_of : (X : Type 0) (test : X → Bool) (xs : List X) (x : X) → Contains xs x → test x ≡ true → list_any test xs ≡ true
+pub any_of : (X : Type 0) (test : X → Bool) (xs : List X) (x : X) → Contains xs x → test x ≡ true
+    → list_any test xs ≡ true
 any_of X test xs x is e = any_at X test xs is.0 x is.1 is.2 e
 
 -- ---- numbers below one

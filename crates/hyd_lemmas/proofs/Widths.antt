@@ -1,7 +1,10 @@
--- How wide pairs become. One rounding moves an end by one part in a grain, a factor of (grain + 1) / grain: here widths are counted in
--- such factors. Two of them are counted in advance, for the roundings of the two ends of the next product or quotient.
-use Rattle.std.proofs.Common.{◌≡◌, ℕ, zero, suc, ◌+◌, ◌-◌, ◌*◌, ◌^◌, ◌<◌, ◌≤◌, refl, sym, ap, subst, ◌∙◌, arith, mul-pos, pow-suc}
-use Rattle.std.proofs.Math.Nat.{mul-le-mul_right, mul-le-mul_left, le_of_mul-le-mul_right, one-le-pow, pow-le-pow_left, pow-zero}
+-- How wide pairs become. One rounding moves an end by one part in a grain, a factor of (grain + 1) / grain: here widths
+-- are counted in such factors. Two of them are counted in advance, for the roundings of the two ends of the next
+-- product or quotient.
+use Rattle.std.proofs.Common.{◌≡◌, ℕ, zero, suc, ◌+◌, ◌-◌, ◌*◌, ◌^◌, ◌<◌, ◌≤◌, refl, sym, ap, subst, ◌∙◌, arith}
+use Rattle.std.proofs.Common.{mul-pos, pow-suc}
+use Rattle.std.proofs.Math.Nat.{mul-le-mul_right, mul-le-mul_left, le_of_mul-le-mul_right, one-le-pow, pow-le-pow_left}
+use Rattle.std.proofs.Math.Nat.{pow-zero}
 use Rattle.std.proofs.lemmas.Nat.{mul-le, pow-add}
 use Rattle.hyd_num.specs.declared.pairs.Pair.{Pair}
 use Rattle.hyd_num.specs.Scaled.{numerator, denominator, IsDown, IsUp}
@@ -27,29 +30,39 @@ low_above : (x : Pair) → 0 < low x
 low_above x = mul-pos (numerator_above x.lo) (denominator_above x.hi)
 
 -- what rounding adds to two widths
-combined : (h l h1 l1 h2 l2 g u a1 b1 a2 b2 : ℕ) → 0 < l1 * l2 * (g * g) → h * (l1 * l2) * (g * g) ≤ l * (h1 * h2) * (u * u)
-    → h1 * (u * u * a1) ≤ l1 * (g * g * b1) → h2 * (u * u * a2) ≤ l2 * (g * g * b2) → h * (u * u * (a1 * a2)) ≤ l * (g * g * (b1 * b2))
+combined : (h l h1 l1 h2 l2 g u a1 b1 a2 b2 : ℕ) → 0 < l1 * l2 * (g * g) → h * (l1 * l2) * (g * g) ≤ l * (h1 * h2)
+    * (u * u)
+    → h1 * (u * u * a1) ≤ l1 * (g * g * b1) → h2 * (u * u * a2) ≤ l2 * (g * g * b2)
+    → h * (u * u * (a1 * a2)) ≤ l * (g * g * (b1 * b2))
 combined h l h1 l1 h2 l2 g u a1 b1 a2 b2 some rounding first second =
-    let both : h1 * (u * u * a1) * (h2 * (u * u * a2)) ≤ l1 * (g * g * b1) * (l2 * (g * g * b2)) = mul-le _ _ _ _ first second in
-    let p : h * (l1 * l2) * (g * g) * (u * u * (a1 * a2)) ≤ l * (h1 * h2) * (u * u) * (u * u * (a1 * a2)) = mul-le-mul_right (u * u * (a1 * a2)) rounding in
-    let q : l * (h1 * (u * u * a1) * (h2 * (u * u * a2))) ≤ l * (l1 * (g * g * b1) * (l2 * (g * g * b2))) = mul-le-mul_left l both in
-    let all : h * (u * u * (a1 * a2)) * (l1 * l2 * (g * g)) ≤ l * (g * g * (b1 * b2)) * (l1 * l2 * (g * g)) = omega (arith, p, q) in
+    let both : h1 * (u * u * a1) * (h2 * (u * u * a2)) ≤ l1 * (g * g * b1) * (l2 * (g * g * b2)) = mul-le _ _ _ _
+    first second in
+    let p : h * (l1 * l2) * (g * g) * (u * u * (a1 * a2)) ≤ l * (h1 * h2) * (u * u) * (u * u * (a1 * a2)) =
+    mul-le-mul_right (u * u * (a1 * a2)) rounding in
+    let q : l * (h1 * (u * u * a1) * (h2 * (u * u * a2))) ≤ l * (l1 * (g * g * b1) * (l2 * (g * g * b2))) =
+    mul-le-mul_left l both in
+    let all : h * (u * u * (a1 * a2)) * (l1 * l2 * (g * g)) ≤ l * (g * g * (b1 * b2)) * (l1 * l2 * (g * g)) =
+    omega (arith, p, q) in
     le_of_mul-le-mul_right all some
 
-added : (x y r : Pair) (v w : ℕ) → high r * (low x * low y) * (grain * grain) ≤ low r * (high x * high y) * (above * above)
+added : (x y r : Pair) (v w : ℕ) → high r * (low x * low y) * (grain * grain) ≤ low r * (high x * high y)
+    * (above * above)
     → IsNear v x → IsNear w y → IsNear (v + w) r
 added x y r v w rounding nx ny =
     record {
       within = rw (pow-add grain v w, pow-add above v w)
-          (combined (high r) (low r) (high x) (low x) (high y) (low y) grain above (grain ^ v) (above ^ v) (grain ^ w) (above ^ w)
-          (mul-pos (mul-pos (low_above x) (low_above y)) (mul-pos grain_above grain_above)) rounding nx.within ny.within);
+          (combined (high r) (low r) (high x) (low x) (high y) (low y) grain above (grain ^ v) (above ^ v) (grain ^ w)
+          (above ^ w)
+          (mul-pos (mul-pos (low_above x) (low_above y)) (mul-pos grain_above grain_above)) rounding nx.within
+          ny.within);
     }
 
 -- the two roundings of a pair at once: the lower end of a / b, the upper end of c / d
 rounded : (a b c d : ℕ) (r : Pair) → IsDown a b r.lo → IsUp c d r.hi
     → high r * (a * d) * (grain * grain) ≤ low r * (c * b) * (above * above)
 rounded a b c d r down up =
-    let both : a * denominator r.lo * grain * (numerator r.hi * d * grain) ≤ numerator r.lo * b * above * (c * denominator r.hi * above)
+    let both : a * denominator r.lo * grain * (numerator r.hi * d * grain) ≤ numerator r.lo * b * above
+    * (c * denominator r.hi * above)
     = mul-le _ _ _ _ (down-near a b r.lo down) (up-near c d r.hi up) in
     omega (arith, both)
 
@@ -65,7 +78,8 @@ powers_above : (w : ℕ) → 0 < grain ^ w
 powers_above w = one-le-pow w grain grain_above
 
 -- the width of a fraction: two roundings, and two in advance
-fraction_near : (h l pq g u : ℕ) → 0 < pq → h * pq * (g * g) ≤ l * pq * (u * u) → h * (u * u * (g * g * (g * g))) ≤ l * (g * g * (u * u * (u * u)))
+fraction_near : (h l pq g u : ℕ) → 0 < pq → h * pq * (g * g) ≤ l * pq * (u * u) → h * (u * u * (g * g * (g * g))) ≤ l
+    * (g * g * (u * u * (u * u)))
 fraction_near h l pq g u some rounding =
     let one : h * (g * g) ≤ l * (u * u) = le_of_mul-le-mul_right (omega (arith, rounding)) some in
     omega (arith, mul-le-mul_right (u * u * (g * g)) one)
@@ -77,7 +91,8 @@ pub ratio-near : (p q : ℕ) (r : Pair) → 0 < p → 0 < q → IsRatio p q r �
 ratio-near p q r some more made =
     record {
       within = rw (fourth grain, fourth above)
-          (fraction_near (high r) (low r) (p * q) grain above (mul-pos some more) (rounded _ _ _ _ r made.low made.high));
+          (fraction_near (high r) (low r) (p * q) grain above (mul-pos some more)
+          (rounded _ _ _ _ r made.low made.high));
     }
 
 -- more factors than needed
@@ -85,20 +100,24 @@ pub wider : (v w : ℕ) (x : Pair) → IsNear v x → IsNear (v + w) x
 wider v w x near =
     record {
       within =
-          let a : high x * (above * above * grain ^ v) * grain ^ w ≤ low x * (grain * grain * above ^ v) * grain ^ w = mul-le-mul_right (grain ^ w) near.within in
+          let a : high x * (above * above * grain ^ v) * grain ^ w ≤ low x * (grain * grain * above ^ v) * grain ^ w =
+          mul-le-mul_right (grain ^ w) near.within in
           let b : low x * (grain * grain * above ^ v) * grain ^ w ≤ low x * (grain * grain * above ^ v) * above ^ w
           = mul-le-mul_left (low x * (grain * grain * above ^ v)) (pow-le-pow_left (omega arith) w) in
           rw (pow-add grain v w, pow-add above v w) (omega (arith, a, b));
     }
 
 -- the two ends of an exact sum are no wider than those of its parts
-sum_width : (h l h1 l1 e1 h2 l2 e2 g u a b : ℕ) → 0 < (l1 * e2 + l2 * e1) * (g * g) → h * (l1 * e2 + l2 * e1) * (g * g) ≤ l * (h1 * e2 + h2 * e1) * (u * u)
+sum_width : (h l h1 l1 e1 h2 l2 e2 g u a b : ℕ) → 0 < (l1 * e2 + l2 * e1) * (g * g)
+    → h * (l1 * e2 + l2 * e1) * (g * g) ≤ l * (h1 * e2 + h2 * e1) * (u * u)
     → h1 * (u * u * a) ≤ l1 * (g * g * b) → h2 * (u * u * a) ≤ l2 * (g * g * b) → h * a ≤ l * b
 sum_width h l h1 l1 e1 h2 l2 e2 g u a b some rounding first second =
-    let p : h * (l1 * e2 + l2 * e1) * (g * g) * a ≤ l * (h1 * e2 + h2 * e1) * (u * u) * a = mul-le-mul_right a rounding in
+    let p : h * (l1 * e2 + l2 * e1) * (g * g) * a ≤ l * (h1 * e2 + h2 * e1) * (u * u) * a = mul-le-mul_right a
+    rounding in
     let q : h1 * (u * u * a) * (l * e2) ≤ l1 * (g * g * b) * (l * e2) = mul-le-mul_right (l * e2) first in
     let r : h2 * (u * u * a) * (l * e1) ≤ l2 * (g * g * b) * (l * e1) = mul-le-mul_right (l * e1) second in
-    let all : h * a * ((l1 * e2 + l2 * e1) * (g * g)) ≤ l * b * ((l1 * e2 + l2 * e1) * (g * g)) = omega (arith, p, q, r) in
+    let all : h * a * ((l1 * e2 + l2 * e1) * (g * g)) ≤ l * b * ((l1 * e2 + l2 * e1) * (g * g)) =
+    omega (arith, p, q, r) in
     le_of_mul-le-mul_right all some
 
 pub sum-near : (x y r : Pair) (w : ℕ) → IsSum x y r → IsNear w x → IsNear w y → IsNear (w + 2) r
@@ -106,12 +125,20 @@ sum-near x y r w made nx ny =
     let ex = denominator x.lo * denominator x.hi in
     let ey = denominator y.lo * denominator y.hi in
     let first : 0 < low x * ey = mul-pos (low_above x) (mul-pos (denominator_above y.lo) (denominator_above y.hi)) in
-    let some : 0 < (low x * ey + low y * ex) * (grain * grain) = mul-pos (omega (arith, first)) (mul-pos grain_above grain_above) in
+    let some : 0 < (low x * ey + low y * ex) * (grain * grain) = mul-pos (omega (arith, first))
+    (mul-pos grain_above grain_above) in
     let l : high r * grain ^ w ≤ low r * above ^ w =
     sum_width (high r) (low r) (high x) (low x) ex (high y) (low y) ey grain above (grain ^ w) (above ^ w) some
     (omega (arith, rounded _ _ _ _ r made.low made.high)) nx.within ny.within in
     record {
-      within = rw (pow-add grain w 2, pow-add above w 2, ← twice_power grain 1 2 refl, ← twice_power above 1 2 refl, pow_once grain, pow_once above)
+      within = rw (
+        pow-add grain w 2,
+        pow-add above w 2,
+        ← twice_power grain 1 2 refl,
+        ← twice_power above 1 2 refl,
+        pow_once grain,
+        pow_once above,
+      )
           (omega (arith, mul-le-mul_right (above * above * (grain * grain)) l));
     }
 
@@ -122,7 +149,8 @@ power-near x r k w near (even n k' s r' e made square) =
     subst (λ (v : ℕ). IsNear v r) (omega (arith, ap (λ i. i * w) e)) (product-near s s r _ _ square half half)
 power-near x r k w near (odd n k' h s r' e made square more) =
     let half : IsNear (n * w) h = power-near x h n w near made in
-    subst (λ (v : ℕ). IsNear v r) (omega (arith, ap (λ i. i * w) e)) (product-near s x r _ _ more (product-near h h s _ _ square half half) near)
+    subst (λ (v : ℕ). IsNear v r) (omega (arith, ap (λ i. i * w) e))
+    (product-near s x r _ _ more (product-near h h s _ _ square half half) near)
 
 -- ---- from factors to a part of the lower end
 
@@ -132,7 +160,8 @@ bernoulli zero d g u one all = omega (arith, all, ap (λ x. x * d) (pow-zero u),
 bernoulli (suc w) d g u one all =
     let before : u ^ w * (d + 1) ≤ g ^ w * u = bernoulli w (d + 1) g u one (omega (arith, all)) in
     let a : u ^ w * (d + 1) * g ≤ g ^ w * u * g = mul-le-mul_right g before in
-    let b : u ^ w * (u * d) ≤ u ^ w * ((d + 1) * g) = mul-le-mul_left (u ^ w) (by_one d g u one (omega (arith, one, all))) in
+    let b : u ^ w * (u * d) ≤ u ^ w * ((d + 1) * g) = mul-le-mul_left (u ^ w)
+    (by_one d g u one (omega (arith, one, all))) in
     rw (pow-suc u w, pow-suc g w) (omega (arith, a, b))
   where
     by_one : (d g u : ℕ) → u ≡ g + 1 → d ≤ g → u * d ≤ (d + 1) * g
@@ -163,5 +192,6 @@ few_parts w few = omega (arith, few, grain_is)
 -- at most two to the power 21 factors leave the ends within the 2^40th part of the lower one
 pub near-sharp : (w : ℕ) (x : Pair) → w ≤ 2 ^ 21 → IsNear w x → high x * 2 ^ 40 ≤ low x * (2 ^ 40 + 1)
 near-sharp w x few near =
-    part (high x) (low x) grain above w (above - w) (2 ^ 40) (grain ^ w) (above ^ w) grain_above (powers_above w) refl (few_fit w few) (few_parts w few)
+    part (high x) (low x) grain above w (above - w) (2 ^ 40) (grain ^ w) (above ^ w) grain_above (powers_above w) refl
+    (few_fit w few) (few_parts w few)
     (bernoulli w (above - w) grain above refl (few_fit w few)) near.within

@@ -1,5 +1,6 @@
 -- The first line of a text.
-use Rattle.std.proofs.Common.{◌≡◌, ℕ, suc, ◌+◌, ◌==◌, ◌<◌, Bool, false, List, [], ◌∷◌, length, take, drop, map, refl, ap, ◌∙◌, arith, inl, inr}
+use Rattle.std.proofs.Common.{◌≡◌, ℕ, suc, ◌+◌, ◌==◌, ◌<◌, Bool, false, List, [], ◌∷◌, length, take, drop, map, refl}
+use Rattle.std.proofs.Common.{ap, ◌∙◌, arith, inl, inr}
 use Rattle.std.specs.List.{position_or_len, before_first, after_first, slice_split, onto_first}
 use Rattle.std.specs.Str.Lines.{strip_carriage_return}
 use Rattle.std.proofs.Math.Seq.{drop-length}

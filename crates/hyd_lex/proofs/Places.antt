@@ -1,5 +1,6 @@
 -- Places of bytes in texts, and fronts of texts.
-use Rattle.std.proofs.Common.{◌≡◌, ℕ, ◌-◌, ◌==◌, ◌≤◌, Bool, List, length, take, nat_lt, refl, sym, ap, ◌∙◌, arith, unwrap_or, position, ltb-false, le_antisymm, inl, inr, not, slice_index}
+use Rattle.std.proofs.Common.{◌≡◌, ℕ, ◌-◌, ◌==◌, ◌≤◌, Bool, List, length, take, nat_lt, refl, sym, ap, ◌∙◌, arith}
+use Rattle.std.proofs.Common.{unwrap_or, position, ltb-false, le_antisymm, inl, inr, not, slice_index}
 use Rattle.std.specs.List.{position_or_len}
 use Rattle.std.specs.Str.Lines.{strip_carriage_return}
 use Rattle.std.proofs.Math.Seq.{take-length}

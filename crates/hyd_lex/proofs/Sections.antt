@@ -1,11 +1,15 @@
 -- The reader's walk gives what the definition of a text's rows says.
-use Rattle.std.proofs.Common.{◌≡◌, ◌⊎◌, ℕ, ◌+◌, ◌==◌, Bool, true, false, nat_le, codes, Option, Some, None, if◌then◌else◌, Result, List, [], ◌∷◌, ◌++◌, length, slice_index, refl, sym, ap, ◌∙◌, inl, inr, one-add}
+use Rattle.std.proofs.Common.{◌≡◌, ◌⊎◌, ℕ, ◌+◌, ◌==◌, Bool, true, false, nat_le, codes, Option, Some, None}
+use Rattle.std.proofs.Common.{if◌then◌else◌, Result, List, [], ◌∷◌, ◌++◌, length, slice_index, refl, sym, ap, ◌∙◌, inl}
+use Rattle.std.proofs.Common.{inr, one-add}
 use Rattle.std.specs.Prelude.{⊤}
 use Rattle.std.specs.List.{list_all, before_first}
 use Rattle.std.proofs.lemmas.Bool.{cases_Bool}
 use Rattle.hyd_spec_lines.specs.Bytes.{text_lines, body, words_in, is_plain, is_keyword}
 use Rattle.hyd_spec_lines.specs.Headings.{heading_kind, kind_by_section, read_section, unread_kind, is_passed_over}
-use Rattle.hyd_spec_lines.specs.Lines.{Row, items_of, kind_of, line_kind, body_kind, row_kind, only_kind, given, begin_heading, is_heading, heading, ends_text, is_end, given_under, section_of, sections_of, through_fault}
+use Rattle.hyd_spec_lines.specs.Lines.{Row, items_of, kind_of, line_kind, body_kind, row_kind, only_kind, given}
+use Rattle.hyd_spec_lines.specs.Lines.{begin_heading, is_heading, heading, ends_text, is_end, given_under, section_of}
+use Rattle.hyd_spec_lines.specs.Lines.{sections_of, through_fault}
 use Rattle.hyd_lex.specs.Walk.{items, region_after}
 use Rattle.hyd_spec_lines.specs.declared.section.Section.{Section}
 use Rattle.hyd_spec_lines.specs.declared.fault.LexFault.{LexFault}

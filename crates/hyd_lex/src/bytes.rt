@@ -1,7 +1,8 @@
 //! Bytes of lines and words. Each function goes over its bytes once.
 #![tactic(auto)]
 
-ghost use Rattle.std.specs.Prelude.{not, [], ◌≡◌, ◌+◌, ◌-◌, ◌<◌, ◌≤◌, length, take, drop, ◌∷◌, filter, nat_le, slice_get, slice_index, position, unwrap_or, IfSome, IfNone};
+ghost use Rattle.std.specs.Prelude.{not, [], ◌≡◌, ◌+◌, ◌-◌, ◌<◌, ◌≤◌, length, take, drop, ◌∷◌, filter, nat_le};
+ghost use Rattle.std.specs.Prelude.{slice_get, slice_index, position, unwrap_or, IfSome, IfNone};
 ghost use Rattle.std.specs.List.{before_first, list_all, slice_split, position_or_len};
 ghost use Rattle.std.specs.Str.Lines.{strip_carriage_return};
 ghost use Rattle.hyd_spec_lines.specs.Bytes as form;

@@ -1,5 +1,7 @@
 -- Look-ups in a table of IDs, by the list of the IDs' bytes.
-use Rattle.std.proofs.Common.{◌≡◌, ◌+◌, ◌^◌, ◌<◌, ◌≤◌, ◌++◌, ℕ, Bool, true, false, cond, not, ◌||◌, List, [], ◌∷◌, map, length, slice_get, position, Option, Some, Contains, refl, sym, ap, ap₂, ◌∙◌, true≢false, arith, if◌then◌else◌, length-append}
+use Rattle.std.proofs.Common.{◌≡◌, ◌+◌, ◌^◌, ◌<◌, ◌≤◌, ◌++◌, ℕ, Bool, true, false, cond, not, ◌||◌, List, [], ◌∷◌, map}
+use Rattle.std.proofs.Common.{length, slice_get, position, Option, Some, Contains, refl, sym, ap, ap₂, ◌∙◌, true≢false}
+use Rattle.std.proofs.Common.{arith, if◌then◌else◌, length-append}
 use Rattle.std.specs.Prelude.{◌↔◌}
 use Rattle.std.specs.List.{list_any, position_or_len, AllByRecursion, IsDistinct}
 use Rattle.std.specs.Str.{bytes_eq}
@@ -14,7 +16,8 @@ use Rattle.hyd_net.specs.Ids.{AreDistinct}
 -- ---- the IDs of a list of keys
 
 module _ {K : Type 0} (f : K → List ℕ) where
-  position_or_len-map : (t : List ℕ → Bool) (keys : List K) → position_or_len (λ k. t (f k)) keys ≡ position_or_len t (map f keys)
+  position_or_len-map : (t : List ℕ → Bool) (keys : List K) → position_or_len (λ k. t (f k)) keys
+      ≡ position_or_len t (map f keys)
   position_or_len-map t [] = refl
   position_or_len-map t (k ∷ ks) = ap (λ n. cond (not (t (f k))) (1 + n) 0) (position_or_len-map t ks)
 
@@ -25,7 +28,8 @@ module _ {K : Type 0} (f : K → List ℕ) where
   list_any-map t [] = refl
   list_any-map t (k ∷ ks) = ap (λ b. t (f k) || b) (list_any-map t ks)
 
-  apart-map : (id : List ℕ) (keys : List K) → AllByRecursion (λ k. bytes_eq id (f k) ≡ false) keys → AllByRecursion (λ other. bytes_eq id other ≡ false) (map f keys)
+  apart-map : (id : List ℕ) (keys : List K) → AllByRecursion (λ k. bytes_eq id (f k) ≡ false) keys
+      → AllByRecursion (λ other. bytes_eq id other ≡ false) (map f keys)
   apart-map id [] h = h
   apart-map id (k ∷ ks) h = (h.0, apart-map id ks h.1)
 
@@ -37,7 +41,8 @@ module _ {K : Type 0} (f : K → List ℕ) where
   -- keys without two equal ones have distinct IDs
   pub AreDistinct-map : (keys : List K) → IsDistinct (λ k l. bytes_eq (f k) (f l)) keys → AreDistinct (map f keys)
   AreDistinct-map keys h i j d lt within same =
-      true≢false (sym ((bytes_decides _ _).1 same) ∙ apart_from_distinct bytes_eq (map f keys) i j d (IsDistinct-map keys h) lt within)
+      true≢false (sym ((bytes_decides _ _).1 same) ∙ apart_from_distinct bytes_eq (map f keys) i j d
+      (IsDistinct-map keys h) lt within)
 
 -- ---- an ID in a list of IDs
 
@@ -48,14 +53,16 @@ pub found-from_Contains : (id : List ℕ) (ids : List (List ℕ)) → Contains i
 found-from_Contains id ids h = list_any-from_Contains nat_list_eq_equiv id ids h
 
 -- the ID at the position that is found is the one that was looked for
-pub place_of_id : (id : List ℕ) (ids : List (List ℕ)) (n : ℕ) → position (bytes_eq id) ids ≡ Some n → slice_get ids n ≡ Some id
+pub place_of_id : (id : List ℕ) (ids : List (List ℕ)) (n : ℕ) → position (bytes_eq id) ids ≡ Some n
+    → slice_get ids n ≡ Some id
 place_of_id id ids n h =
     let found = position-Some (bytes_eq id) ids n [] h in
     slice_get-get_or ids n [] found.0 ∙ ap Some (sym ((bytes_decides _ _).0 found.1))
 
 -- ---- what a look-up among the keys says of their IDs
 
-module _ {K : Type 0} (f : K → List ℕ) (keys : List K) (ids : List (List ℕ)) (view_is : map f keys ≡ ids) (id : List ℕ) where
+module _ {K : Type 0} (f : K → List ℕ) (keys : List K) (ids : List (List ℕ)) (view_is : map f keys ≡ ids)
+    (id : List ℕ) where
   pub number_is : (r : Option ℕ) → r ≡ position (λ k. bytes_eq id (f k)) keys → r ≡ position (bytes_eq id) ids
   number_is r h = h ∙ position-map f (bytes_eq id) keys ∙ ap (position (bytes_eq id)) view_is
 
@@ -64,18 +71,26 @@ module _ {K : Type 0} (f : K → List ℕ) (keys : List K) (ids : List (List ℕ
 
   -- the look-up finds a key exactly where the ID is there
   pub found_iff : (b : Bool) → b ≡ list_any (λ k. bytes_eq id (f k)) keys → (b ≡ true) ↔ Contains ids id
-  found_iff b h = (λ t. Contains-from_found id ids (any_is b h ∙ t), λ m. sym (any_is b h) ∙ found-from_Contains id ids m)
+  found_iff b h = (
+    λ t. Contains-from_found id ids (any_is b h ∙ t),
+    λ m. sym (any_is b h) ∙ found-from_Contains id
+        ids m,
+  )
 
   -- it finds none only where the ID isn't there
   pub absent_from : list_any (λ k. bytes_eq id (f k)) keys ≡ false → ¬ Contains ids id
   absent_from h m = true≢false (sym ((found_iff false (sym h)).1 m))
 
   -- the IDs after a key with a new ID is put last
-  pub map-insert_key : (owned : K) (new : List K) → f owned ≡ id → list_any (λ k. bytes_eq id (f k)) keys ≡ false → new ≡ (if list_any (λ k. bytes_eq (f owned) (f k)) keys then keys else keys ++ owned ∷ []) → map f new ≡ ids ++ id ∷ []
+  pub map-insert_key : (owned : K) (new : List K) → f owned ≡ id → list_any (λ k. bytes_eq id (f k)) keys ≡ false
+      → new ≡ (if list_any (λ k. bytes_eq (f owned) (f k)) keys then keys else keys ++ owned ∷ [])
+      → map f new ≡ ids ++ id ∷ []
   map-insert_key owned new is absent e =
-      let last : new ≡ keys ++ owned ∷ [] = e ∙ ap (λ i. if list_any (λ k. bytes_eq i (f k)) keys then keys else keys ++ owned ∷ []) is ∙ ap (λ b. if b then keys else keys ++ owned ∷ []) absent in
+      let last : new ≡ keys ++ owned ∷ [] = e ∙ ap (λ i. if list_any (λ k. bytes_eq i (f k)) keys then keys else keys
+      ++ owned ∷ []) is ∙ ap (λ b. if b then keys else keys ++ owned ∷ []) absent in
       ap (map f) last ∙ map-append f keys (owned ∷ []) ∙ ap₂ (λ xs i. xs ++ i ∷ []) view_is is
 
 -- one more ID keeps the table small enough
-pub few_after_push : (ids new : List (List ℕ)) (id : List ℕ) → length ids < 2 ^ 31 → new ≡ ids ++ id ∷ [] → length new ≤ 2 ^ 31
+pub few_after_push : (ids new : List (List ℕ)) (id : List ℕ) → length ids < 2 ^ 31 → new ≡ ids ++ id ∷ []
+    → length new ≤ 2 ^ 31
 few_after_push ids new id h e = rw e (omega (arith, length-append ids (id ∷ []), h))

@@ -1,7 +1,8 @@
 -- Curves by straight lines between their points, and what is asked of the points of each kind of curve.
--- Source: EPANET 2.2 User Manual, chapter 3 (curves) and appendix C ([CURVES]); the lines before the first and after the last point,
--- and the ranges, are this program's.
-use Rattle.std.specs.Prelude.{◌≡◌, ℕ, ◌*◌, ◌^◌, ◌≤◌, List, [], ◌∷◌, length, map, All, AllPairs, HoldsAt, IsTrue, ℤ, pos, ◌+ℤ◌, ◌-ℤ◌, ◌*ℤ◌, ◌≤ℤ◌, ◌<ℤ◌, int_lt, unsigned_abs, if◌then◌else◌}
+-- Source: EPANET 2.2 User Manual, chapter 3 (curves) and appendix C ([CURVES]); the lines before the first and after
+-- the last point, and the ranges, are this program's.
+use Rattle.std.specs.Prelude.{◌≡◌, ℕ, ◌*◌, ◌^◌, ◌≤◌, List, [], ◌∷◌, length, map, All, AllPairs, HoldsAt, IsTrue, ℤ, pos}
+use Rattle.std.specs.Prelude.{◌+ℤ◌, ◌-ℤ◌, ◌*ℤ◌, ◌≤ℤ◌, ◌<ℤ◌, int_lt, unsigned_abs, if◌then◌else◌}
 use Rattle.hyd_num.specs.Rational.{Rational, whole, is_at_most, floor}
 use Rattle.hyd_net.specs.Ranges.{Lies, IsHead, IsFlow}
 use Rattle.hyd_net.specs.declared.curves.VolumePoint.{VolumePoint}
@@ -14,7 +15,8 @@ pub record Knot : Type 0 where
   pub place : ℤ
   pub value : ℤ
 
--- what the line through two knots has at x, the second knot's place being the greater; x and the result are S-th parts of ticks
+-- what the line through two knots has at x, the second knot's place being the greater; x and the result are S-th parts
+-- of ticks
 abbrev pub on_line : ℕ → Knot → Knot → ℤ → Rational
 on_line S first second x =
     let width = unsigned_abs (second.place -ℤ first.place) in
@@ -23,7 +25,8 @@ on_line S first second x =
       den = width;
     }
 
--- what two neighbours have at x: where their places are one, the first knot's value before it and the second's from it on
+-- what two neighbours have at x: where their places are one, the first knot's value before it and the second's from it
+-- on
 abbrev pub between : ℕ → Knot → Knot → ℤ → Rational
 between S first second x =
     if int_lt first.place second.place then on_line S first second x
@@ -36,8 +39,9 @@ value_from S knot (next ∷ []) x = between S knot next x
 value_from S knot (next ∷ (later ∷ rest)) x =
     if int_lt x (pos S *ℤ next.place) then between S knot next x else value_from S next (later ∷ rest) x
 
--- the value at x: on the straight line between the last knot at x or before it and the next one; before the first knot and after the
--- last one on the line of the first two, or the last two, where their places differ, else that knot's value. Places don't fall.
+-- the value at x: on the straight line between the last knot at x or before it and the next one; before the first knot
+-- and after the last one on the line of the first two, or the last two, where their places differ, else that knot's
+-- value. Places don't fall.
 abbrev pub value_at : ℕ → List Knot → ℤ → Rational
 value_at S [] x = whole (pos 0)
 value_at S (knot ∷ rest) x = value_from S knot rest x
@@ -74,8 +78,8 @@ pub record IsVolumeCurve (shape : List VolumePoint) : Type 0 where
 abbrev pub head_knots : List HeadPoint → List Knot
 head_knots bend = map (λ (p : HeadPoint). record { place = p.flow; value = p.head }) bend
 
--- a pump's curve by straight lines: at least four points; flows are at least 0 and rise, heads fall to no less than 0, and at flow 0
--- the line of the first two points gives at most 10^16 ticks (1,000 m)
+-- a pump's curve by straight lines: at least four points; flows are at least 0 and rise, heads fall to no less than 0,
+-- and at flow 0 the line of the first two points gives at most 10^16 ticks (1,000 m)
 pub record IsPumpCurve (bend : List HeadPoint) : Type 0 where
   pub four : 4 ≤ length bend
   pub flows : All (λ (p : HeadPoint). IsFlow p.flow) bend

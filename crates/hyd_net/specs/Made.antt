@@ -43,10 +43,12 @@ pub record IsSeconds (nano : ℤ) (span : Span) : Type 0 where
   pub whole : nano ≡ (pos (10 ^ 9) *ℤ span.lo)
   pub high : span.hi ≡ span.lo
 
--- the amount of a clause: heads and levels are exact, pressures rounded both ways, flows cut, settings in billionths, times in seconds
+-- the amount of a clause: heads and levels are exact, pressures rounded both ways, flows cut, settings in billionths,
+-- times in seconds
 abbrev pub IsAmount : FlowUnit → What → ℤ → Span → Type 0
 IsAmount unit (Head node) nano span = IsExactly (head_ticks (is_us_unit unit) nano) span
-IsAmount unit (Pressure node) nano span = IsRounded (pressure_numerator (is_us_unit unit) nano) (pressure_denominator (is_us_unit unit)) span
+IsAmount unit (Pressure node) nano span = IsRounded (pressure_numerator (is_us_unit unit) nano)
+    (pressure_denominator (is_us_unit unit)) span
 IsAmount unit (Level tank) nano span = IsExactly (head_ticks (is_us_unit unit) nano) span
 IsAmount unit (Flow link) nano span = IsExactly (flow_ticks unit nano) span
 IsAmount unit (Setting link) nano span = IsExactly nano span
@@ -79,7 +81,8 @@ abbrev pub IsValveMade : OpenValve → Type 0
 IsValveMade (Quadratic cap) = IsMade cap
 IsValveMade Linear = ⊤
 
--- what a link is, is made of its numbers; the points of a curve by straight lines are ticks, and nothing is rounded beside them
+-- what a link is, is made of its numbers; the points of a curve by straight lines are ticks, and nothing is rounded
+-- beside them
 abbrev pub IsKindMade : FlowUnit → LinkKind → Type 0
 IsKindMade unit (Pipe cap) = IsMade cap
 IsKindMade unit (CheckPipe cap) = IsMade cap
@@ -94,7 +97,8 @@ abbrev pub HasCoefficient : ℤ → Origin → Type 0
 HasCoefficient nano (ValveOrigin diameter k us) = k.nano ≡ nano
 HasCoefficient nano _ = ⊥
 
--- the law of an open valve with this loss coefficient: linear only at 0 (a quadratic one's coefficient is above 0 by its range)
+-- the law of an open valve with this loss coefficient: linear only at 0 (a quadratic one's coefficient is above 0 by
+-- its range)
 abbrev pub HasLaw : ℤ → OpenValve → Type 0
 HasLaw nano (Quadratic cap) = HasCoefficient nano cap.origin
 HasLaw nano Linear = nano ≡ pos 0

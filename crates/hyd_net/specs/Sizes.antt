@@ -1,12 +1,14 @@
 -- The ranges of a network's quantities, in ticks or in the file's units.
 -- Source: EPANET 2.2 User Manual, appendix C; the ranges are this program's.
-use Rattle.std.specs.Prelude.{◌≡◌, ℕ, ◌-◌, ◌*◌, ◌^◌, Bool, true, List, length, Option, is_some, IfSome, ℤ, pos, ◌+ℤ◌, ◌-ℤ◌, ◌*ℤ◌, ◌≤ℤ◌, ⊤, if◌then◌else◌}
+use Rattle.std.specs.Prelude.{◌≡◌, ℕ, ◌-◌, ◌*◌, ◌^◌, Bool, true, List, length, Option, is_some, IfSome, ℤ, pos, ◌+ℤ◌}
+use Rattle.std.specs.Prelude.{◌-ℤ◌, ◌*ℤ◌, ◌≤ℤ◌, ⊤, if◌then◌else◌}
 use Rattle.std.specs.List.{All, HoldsAt}
 use Rattle.hyd_num.specs.Quantity.{is_us_unit, head_ticks, flow_ticks, pressure_numerator, pressure_denominator}
 use Rattle.hyd_num.specs.declared.units.FlowUnit.{FlowUnit}
 use Rattle.hyd_num.specs.declared.decimals.Decimal.{Decimal}
 use Rattle.hyd_num.specs.declared.capacities.Origin.{Origin}
-use Rattle.hyd_num.specs.declared.capacities.Origin.TheVariants.{Pipe as PipeOrigin, Valve as ValveOrigin, Pump as PumpOrigin, Emitter as EmitterOrigin}
+use Rattle.hyd_num.specs.declared.capacities.Origin.TheVariants.{Pipe as PipeOrigin, Valve as ValveOrigin}
+use Rattle.hyd_num.specs.declared.capacities.Origin.TheVariants.{Pump as PumpOrigin, Emitter as EmitterOrigin}
 use Rattle.hyd_net.specs.Ranges.{Lies, LiesWithin, IsHead, IsFlow, IsUpTo, IsNumberUpTo, IsPositiveUpTo, Numbers}
 use Rattle.hyd_net.specs.ListView.{ListView}
 use Rattle.hyd_net.specs.Curves.{volume_at, IsVolumeCurve, IsPumpCurve, IsLossCurve}
@@ -35,7 +37,8 @@ HasPattern P patterns named = IfSome named (Numbers (λ (p : Pattern). All P p.m
 -- a pressure: at least 0, and at most 10^17 head ticks as a height of water
 pub record IsPressure (unit : FlowUnit) (pressure : Decimal) : Type 0 where
   pub not_negative : pos 0 ≤ℤ pressure.nano
-  pub at_most : pressure_numerator (is_us_unit unit) pressure.nano ≤ℤ pos (10 ^ 17 * pressure_denominator (is_us_unit unit))
+  pub at_most : pressure_numerator (is_us_unit unit) pressure.nano
+      ≤ℤ pos (10 ^ 17 * pressure_denominator (is_us_unit unit))
 
 -- the numbers of the options are in range
 pub record HasOptions (options : Options) (patterns : List Pattern) : Type 0 where
@@ -72,18 +75,20 @@ pub record IsJunction (unit : FlowUnit) (patterns : List Pattern) (junction : Ju
 -- a reservoir's head is one, also times each multiplier of its pattern, before that is cut
 pub record IsReservoir (patterns : List Pattern) (reservoir : Reservoir) : Type 0 where
   pub head : IsHead reservoir.head
-  pub pattern : HasPattern (λ multiplier. LiesWithin (10 ^ 17 * 10 ^ 9) (reservoir.head *ℤ multiplier)) patterns reservoir.pattern
+  pub pattern : HasPattern (λ multiplier. LiesWithin (10 ^ 17 * 10 ^ 9) (reservoir.head *ℤ multiplier)) patterns
+      reservoir.pattern
 
--- a tank's volume curve goes from its minimum or below to its maximum or above; from the minimum to the maximum it holds at
--- least 10^6 volume ticks (a litre)
+-- a tank's volume curve goes from its minimum or below to its maximum or above; from the minimum to the maximum it
+-- holds at least 10^6 volume ticks (a litre)
 pub record IsShapeOf (tank : Tank) (shape : List VolumePoint) : Type 0 where
   pub curve : IsVolumeCurve shape
   pub from_minimum : HoldsAt (λ (p : VolumePoint). p.level ≤ℤ tank.minimum) shape 0
   pub to_maximum : HoldsAt (λ (p : VolumePoint). tank.maximum ≤ℤ p.level) shape (length shape - 1)
   pub apart : pos (10 ^ 6) ≤ℤ (volume_at shape tank.maximum -ℤ volume_at shape tank.minimum)
 
--- levels are at least 0 and in order, the least and the greatest at least 0.01 foot apart; the bottom is a head, and so is the greatest
--- level above it; the diameter is 0.1 to 1,000 feet or metres, or 0 to 1,000 where there is a volume curve
+-- levels are at least 0 and in order, the least and the greatest at least 0.01 foot apart; the bottom is a head, and so
+-- is the greatest level above it; the diameter is 0.1 to 1,000 feet or metres, or 0 to 1,000 where there is a volume
+-- curve
 pub record IsTank (shapes : List (ListView VolumePoint)) (tank : Tank) : Type 0 where
   pub bottom : IsHead tank.bottom
   pub lowest : pos 0 ≤ℤ tank.minimum
@@ -131,7 +136,8 @@ pub record IsPumpNumbers (unit : FlowUnit) (flow drop : Decimal) (own : FlowUnit
   pub drops : pos 1 ≤ℤ drop.nano
   pub same_unit : own ≡ unit
 
--- a curve of one point: a third of its head, which is above 0, is lost at its flow; four thirds of it are at most 10^16 ticks
+-- a curve of one point: a third of its head, which is above 0, is lost at its flow; four thirds of it are at most 10^16
+-- ticks
 pub record IsOnePoint (unit : FlowUnit) (head drop : Decimal) (thirds : ℕ) : Type 0 where
   pub above : pos 1 ≤ℤ head.nano
   pub lost : drop.nano ≡ head.nano
@@ -150,7 +156,8 @@ IsCurve unit (Given head) drop thirds = IsThreePoints unit head thirds
 
 -- the numbers of a pump are in range
 abbrev pub IsPumpOrigin : FlowUnit → ShutoffHead → Origin → Type 0
-IsPumpOrigin unit head (PumpOrigin flow drop thirds own) = IsPumpNumbers unit flow drop own × IsCurve unit head drop thirds
+IsPumpOrigin unit head (PumpOrigin flow drop thirds own) = IsPumpNumbers unit flow drop own × IsCurve unit head drop
+    thirds
 IsPumpOrigin unit head _ = ⊥
 
 -- the curve by straight lines of this number is there and has this property
@@ -161,8 +168,10 @@ HasBend P bends bend = Numbers (λ (b : ListView HeadPoint). P b.list) bends ben
 abbrev pub HasSizes : FlowUnit → List Pattern → List (ListView HeadPoint) → LinkKind → Type 0
 HasSizes unit patterns bends (Pipe cap) = IsPipe unit cap.origin
 HasSizes unit patterns bends (CheckPipe cap) = IsPipe unit cap.origin
-HasSizes unit patterns bends (Pump cap shutoff head pattern) = IsPumpOrigin unit head cap.origin × HasPattern (IsUpTo 10) patterns pattern
-HasSizes unit patterns bends (CurvePump bend pattern) = HasBend IsPumpCurve bends bend × HasPattern (IsUpTo 10) patterns pattern
+HasSizes unit patterns bends (Pump cap shutoff head pattern) = IsPumpOrigin unit head cap.origin
+    × HasPattern (IsUpTo 10) patterns pattern
+HasSizes unit patterns bends (CurvePump bend pattern) = HasBend IsPumpCurve bends bend × HasPattern (IsUpTo 10)
+    patterns pattern
 HasSizes unit patterns bends (Tcv valve) = IsValve unit valve
 HasSizes unit patterns bends (Fcv valve) = IsValve unit valve
 HasSizes unit patterns bends (Gpv bend) = HasBend IsLossCurve bends bend

@@ -1,5 +1,6 @@
 -- What is asked of the project of an input file: its ids, counts, numbers and quantities are in range, and each rounded
--- form is the one that the numbers beside it make. (EPANET 2.2 User Manual, Input File Format, for what the sections hold.)
+-- form is the one that the numbers beside it make. (EPANET 2.2 User Manual, Input File Format, for what the sections
+-- hold.)
 use Rattle.std.specs.Prelude.{◌≡◌, ◌≢◌, ℕ, ◌+◌, ◌*◌, ◌^◌, ◌<◌, ◌≤◌, length, sum_by, nat_lt, if◌then◌else◌}
 use Rattle.std.specs.List.{All}
 use Rattle.hyd_net.specs.Ids.{AreDistinct, IsId}
@@ -73,8 +74,8 @@ pub record IsPattern (p : Pattern) : Type 0 where
 
 -- ---- times
 
--- times are at most 10^8 seconds, steps at least one; the hydraulic step is at most the pattern step and the report step, the rule step
--- at most the hydraulic one; the clock's start is a time of day
+-- times are at most 10^8 seconds, steps at least one; the hydraulic step is at most the pattern step and the report
+-- step, the rule step at most the hydraulic one; the clock's start is a time of day
 pub record AreTimes (t : Times) : Type 0 where
   pub duration : t.duration ≤ 10 ^ 8
   pub hydraulic : 1 ≤ t.hydraulic

@@ -16,8 +16,8 @@ pub record IsFlowSetting (nano ticks : ℤ) : Type 0 where
   pub not_negative : pos 0 ≤ℤ nano
   pub flow : IsFlow ticks
 
--- a pipe is open or closed, with a check valve or without; a pump is closed or runs at a speed; a valve is open, closed, or has a
--- setting of its own kind, which a general purpose valve doesn't have
+-- a pipe is open or closed, with a check valve or without; a pump is closed or runs at a speed; a valve is open,
+-- closed, or has a setting of its own kind, which a general purpose valve doesn't have
 abbrev pub CanHave : LinkKind → LinkState → Type 0
 CanHave (Pipe cap) Open = ⊤
 CanHave (Pipe cap) Closed = ⊤

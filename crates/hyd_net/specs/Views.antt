@@ -1,5 +1,5 @@
--- A project without what the comparison of two projects leaves aside: the numbers of the file that are kept beside a rounded form,
--- and the spare of its lists. Each such number is put to 0 here, and each spare too.
+-- A project without what the comparison of two projects leaves aside: the numbers of the file that are kept beside a
+-- rounded form, and the spare of its lists. Each such number is put to 0 here, and each spare too.
 use Rattle.std.specs.Prelude.{map, pos}
 use Rattle.std.specs.Option.{option_map}
 use Rattle.std.proofs.Common.{lit≤}

@@ -1,5 +1,6 @@
 //! `Names`, the table of the IDs of nodes or of links.
-ghost use Rattle.std.specs.Prelude.{◌≡◌, ◌+◌, ◌^◌, ◌<◌, ◌↔◌, [], ◌∷◌, ◌++◌, length, position, slice_get, if◌then◌else◌, Contains, IsSome, IfSome, IfOk, OnErr, IsTrue, false};
+ghost use Rattle.std.specs.Prelude.{◌≡◌, ◌+◌, ◌^◌, ◌<◌, ◌↔◌, [], ◌∷◌, ◌++◌, length, position, slice_get, if◌then◌else◌};
+ghost use Rattle.std.specs.Prelude.{Contains, IsSome, IfSome, IfOk, OnErr, IsTrue, false};
 ghost use Rattle.std.specs.Str.{bytes_eq};
 ghost use Rattle.hyd_net.specs.Ids.{AreDistinct};
 

@@ -6,7 +6,8 @@ use Rattle.hyd_spec_certificates.specs.declared.Side.{Side}
 use Rattle.hyd_spec_certificates.specs.declared.Side.TheVariants.{Upper, Lower}
 use Rattle.hyd_graph.specs.NetView.{NetView}
 
--- the place of a problem and side among the vectors: MAIN UPPER, MAIN LOWER, then PINNED UPPER and PINNED LOWER of each tank
+-- the place of a problem and side among the vectors: MAIN UPPER, MAIN LOWER, then PINNED UPPER and PINNED LOWER of each
+-- tank
 abbrev pub place : Problem → Side → ℕ
 place Main Upper = 0
 place Main Lower = 1

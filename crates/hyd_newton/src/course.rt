@@ -165,8 +165,8 @@ impl Course {
         copy(&self.trial, &mut self.heads);
     }
 
-    /// Whether a few raises from the heads lead to where none of the junctions falls short of a certificate, which is put
-    /// as the proposal then. Fails where one of these junctions has no value.
+    /// Whether a few raises from the heads lead to where none of the junctions falls short of a certificate, which is
+    /// put as the proposal then. Fails where one of these junctions has no value.
     pub(crate) fn mended(
         &mut self,
         net: &Net,

@@ -39,8 +39,9 @@ fn holds(net: &Net, side: Side, heads: &[i64], junction: u32) -> bool {
     is_in_box(head) && over(net, side, heads, junction, head) >= 0
 }
 
-// Whether it changes by how much a junction passes when its set comes nearer: a link leads out of the set, or what leaves
-// the junction beside its links depends on its head. Within a set that comes nearer as a whole, flows stay as they are.
+// Whether it changes by how much a junction passes when its set comes nearer: a link leads out of the set, or what
+// leaves the junction beside its links depends on its head. Within a set that comes nearer as a whole, flows stay as
+// they are.
 fn lies_on_rim(net: &Net, heads: &[i64], trial: &[i64], junction: u32) -> bool {
     if junction >= net.junctions() || !is_flat(net, junction) {
         return true;
@@ -124,8 +125,8 @@ impl Descent {
         copy(nodes, &mut self.trial);
     }
 
-    // Whether the certificate is the tight vector, in which each junction has its turn. The others stand one tick nearer
-    // in the trial then.
+    // Whether the certificate is the tight vector, in which each junction has its turn. The others stand one tick
+    // nearer in the trial then.
     fn is_tight(&mut self, net: &Net, side: Side) -> bool {
         let count = self.turns.take_all(net, side, &self.heads, &mut self.trial);
         count >= net.junctions()

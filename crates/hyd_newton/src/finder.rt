@@ -14,8 +14,8 @@ pub trait Finder {
     /// The list that the finder tells, if it tells one.
     ghost told: { Self → Option (List ℤ) };
 
-    /// Leaves heads in `out`, one for each junction, for a certificate of a problem and side. A finder that tells a list
-    /// of the net's size leaves that list's vector; any other may leave what it likes.
+    /// Leaves heads in `out`, one for each junction, for a certificate of a problem and side. A finder that tells a
+    /// list of the net's size leaves that list's vector; any other may leave what it likes.
     fn propose(&mut self, net: &Net, problem: Problem, side: Side, out: &mut [i64])
         requires one_each { length out.old ≡ length net.now.junctions }
         requires pinned { HasProblem net.now problem }

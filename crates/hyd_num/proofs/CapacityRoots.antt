@@ -1,5 +1,7 @@
 -- A capacity times a whole number, rounded to whole numbers, and the roots of it.
-use Rattle.std.proofs.Common.{◌≡◌, ℕ, ◌+◌, ◌-◌, ◌*◌, ◌/◌, ◌^◌, ◌<◌, ◌≤◌, ◌⊎◌, inl, inr, ℤ, pos, negsuc, ◌≤ℤ◌, ◌<ℤ◌, unsigned_abs, refl, ap, arith, mul-le-mul, mul-le-mul_right, lt_of_mul-lt-mul_right, div-mul-le_self}
+use Rattle.std.proofs.Common.{◌≡◌, ℕ, ◌+◌, ◌-◌, ◌*◌, ◌/◌, ◌^◌, ◌<◌, ◌≤◌, ◌⊎◌, inl, inr, ℤ, pos, negsuc, ◌≤ℤ◌, ◌<ℤ◌}
+use Rattle.std.proofs.Common.{unsigned_abs, refl, ap, arith, mul-le-mul, mul-le-mul_right, lt_of_mul-lt-mul_right}
+use Rattle.std.proofs.Common.{div-mul-le_self}
 use Rattle.std.proofs.lemmas.Nat.{pow_pos}
 use Rattle.std.proofs.lemmas.Int.{ints}
 use Rattle.std.proofs.lemmas.Bool.{cases_lt}
@@ -39,7 +41,8 @@ low_exponent c least = elim (parts c.exp) [
 pub whole_product : (m d u k e : ℕ) → k ≡ u → e ≡ 0 → m * d * 2 ^ k * 2 ^ e ≡ m * 2 ^ u * d
 whole_product m d u k e same z = rw (same, z) (omega arith)
 
-pub whole_product_fits : (m d u k e : ℕ) → k ≡ u → e ≡ 0 → m * 2 ^ u < 2 ^ 66 * 2 ^ e → d ≤ 3 * 10 ^ 18 → m * d * 2 ^ k < 2 ^ 66 * 3 * 10 ^ 18 + 1
+pub whole_product_fits : (m d u k e : ℕ) → k ≡ u → e ≡ 0 → m * 2 ^ u < 2 ^ 66 * 2 ^ e → d ≤ 3 * 10 ^ 18
+    → m * d * 2 ^ k < 2 ^ 66 * 3 * 10 ^ 18 + 1
 whole_product_fits m d u k e same z greatest small =
     let a : m * 2 ^ u ≤ 2 ^ 66 = omega (arith, ap (λ x. 2 ^ x) z) in
     let b : m * 2 ^ u * d ≤ 2 ^ 66 * (3 * 10 ^ 18) = mul-le-mul a small in
@@ -56,15 +59,21 @@ pub raised_at_least : (m d u k e : ℕ) → k ≡ e → u ≡ 0 → m * 2 ^ u * 
 raised_at_least m d u k e same z = let p : 0 < 2 ^ k = pow_pos k in rw (← same, z) (omega arith)
 
 pub raised_below : (m d u k e : ℕ) → k ≡ e → u ≡ 0 → (m * d + (2 ^ k - 1)) / 2 ^ k * 2 ^ e < m * 2 ^ u * d + 2 ^ e
-raised_below m d u k e same z = let p : 0 < 2 ^ k = pow_pos k in rw (← same, z) (omega (arith, div-mul-le_self (m * d + (2 ^ k - 1)) (2 ^ k)))
+raised_below m d u k e same z = let p : 0 < 2 ^ k = pow_pos k in
+    rw (← same, z) (omega (arith, div-mul-le_self (m * d + (2 ^ k - 1)) (2 ^ k)))
 
 -- the root of a number that was cut to a whole one
-pub root_of_cut : (n q p r : ℕ) → p * q ≤ n → n < (p + 1) * q → r * r ≤ p → p < (r + 1) * (r + 1) → IsSquareRootDown n q r
+pub root_of_cut : (n q p r : ℕ) → p * q ≤ n → n < (p + 1) * q → r * r ≤ p → p < (r + 1) * (r + 1)
+    → IsSquareRootDown n q r
 root_of_cut n q p r low high square next = record {
   at_most = let a : r * r * q ≤ p * q = mul-le-mul_right q square in omega arith;
   greatest = λ k h.
       let a : k * k < p + 1 = lt_of_mul-lt-mul_right q (omega arith) in
-      elim (cases_lt r k) [ inl l ↦ (let b : (r + 1) * (r + 1) ≤ k * k = mul-le-mul (omega arith) (omega arith) in absurd (omega arith)) | inr g ↦ g ];
+      elim (cases_lt r k) [
+        | inl l ↦ (let b : (r + 1) * (r + 1) ≤ k * k = mul-le-mul (omega arith) (omega arith) in
+            absurd (omega arith))
+        | inr g ↦ g
+      ];
 }
 
 pub root_of_raised : (n q p r : ℕ) → n ≤ p * q → p * q < n + q → IsSquareRootUp p 1 r → IsSquareRootUp n q r

@@ -1,5 +1,9 @@
 -- Rows of decimal digits: capped sums, fronts, and sizes.
-use Rattle.std.proofs.Common.{◌≡◌, ℕ, suc, ◌+◌, ◌-◌, ◌*◌, ◌/◌, ◌^◌, ◌<◌, ◌≤◌, inl, inr, Bool, true, false, nat_le, min, List, [], ◌∷◌, ◌++◌, length, take, drop, fold, refl, ap, sym, ◌∙◌, arith, lit≤, lit<, pow-suc, mul-le-mul_right, mul-le-mul_left, le_of_lt, lt_of_lt_of_le, length-drop, div-one, mul-one, ℤ, add-one, leb-true, not, nat_lt, unwrap_or, position, ltb-false, le_antisymm, drop_of_length-le, one-add}
+use Rattle.std.proofs.Common.{◌≡◌, ℕ, suc, ◌+◌, ◌-◌, ◌*◌, ◌/◌, ◌^◌, ◌<◌, ◌≤◌, inl, inr, Bool, true, false, nat_le, min}
+use Rattle.std.proofs.Common.{List, [], ◌∷◌, ◌++◌, length, take, drop, fold, refl, ap, sym, ◌∙◌, arith, lit≤, lit<}
+use Rattle.std.proofs.Common.{pow-suc, mul-le-mul_right, mul-le-mul_left, le_of_lt, lt_of_lt_of_le, length-drop}
+use Rattle.std.proofs.Common.{div-one, mul-one, ℤ, add-one, leb-true, not, nat_lt, unwrap_or, position, ltb-false}
+use Rattle.std.proofs.Common.{le_antisymm, drop_of_length-le, one-add}
 use Rattle.std.specs.List.{list_all, list_any, position_or_len, after_first}
 use Rattle.std.proofs.lemmas.Nat.{div-mul-add}
 use Rattle.std.proofs.Math.Nat.{pow-le-pow_right, one-le-pow, div-eq_of_lt}
@@ -42,10 +46,13 @@ capped_tenfold b n k = rw (add-one, pow-suc 10 k) (omega arith)
 fold_from : (a : ℕ) (ds : List ℕ) → fold step a ds ≡ a * 10 ^ length ds + fold step 0 ds
 fold_from a [] = omega arith
 fold_from a (d ∷ ds) =
-    let e : fold step (10 * a + (d - 48)) ds ≡ (10 * a + (d - 48)) * 10 ^ length ds + fold step 0 ds = fold_from (10 * a + (d - 48)) ds in
-    let f : fold step (10 * 0 + (d - 48)) ds ≡ (10 * 0 + (d - 48)) * 10 ^ length ds + fold step 0 ds = fold_from (10 * 0 + (d - 48)) ds in
+    let e : fold step (10 * a + (d - 48)) ds ≡ (10 * a + (d - 48)) * 10 ^ length ds + fold step 0 ds = fold_from
+    (10 * a + (d - 48)) ds in
+    let f : fold step (10 * 0 + (d - 48)) ds ≡ (10 * 0 + (d - 48)) * 10 ^ length ds + fold step 0 ds = fold_from
+    (10 * 0 + (d - 48)) ds in
     let g : 10 ^ suc (length ds) ≡ 10 ^ length ds * 10 = pow-suc 10 (length ds) in
-    let r : fold step (10 * a + (d - 48)) ds ≡ a * 10 ^ suc (length ds) + fold step (10 * 0 + (d - 48)) ds = omega (arith, e, f, ap (λ x. a * x) g) in r
+    let r : fold step (10 * a + (d - 48)) ds ≡ a * 10 ^ suc (length ds) + fold step (10 * 0 + (d - 48)) ds =
+    omega (arith, e, f, ap (λ x. a * x) g) in r
 
 -- n digits write a number below the n-th power of ten
 pub below_power : (ds : List ℕ) → list_all is_digit ds ≡ true → number ds < 10 ^ length ds
@@ -55,25 +62,32 @@ below_power (d ∷ ds) h =
     let q : (nat_le 48 d ≡ true) × (nat_le d 57 ≡ true) = and_parts (nat_le 48 d) (nat_le d 57) p.0 in
     let small : d - 48 ≤ 9 = omega (arith, leb-true d 57 q.1) in
     let m : (d - 48) * 10 ^ length ds ≤ 9 * 10 ^ length ds = mul-le-mul_right (10 ^ length ds) small in
-    let f : fold step (10 * 0 + (d - 48)) ds ≡ (10 * 0 + (d - 48)) * 10 ^ length ds + fold step 0 ds = fold_from (10 * 0 + (d - 48)) ds in
-    let r : fold step (10 * 0 + (d - 48)) ds < 10 ^ suc (length ds) = omega (arith, f, below_power ds p.1, m, pow-suc 10 (length ds)) in r
+    let f : fold step (10 * 0 + (d - 48)) ds ≡ (10 * 0 + (d - 48)) * 10 ^ length ds + fold step 0 ds = fold_from
+    (10 * 0 + (d - 48)) ds in
+    let r : fold step (10 * 0 + (d - 48)) ds < 10 ^ suc (length ds) =
+    omega (arith, f, below_power ds p.1, m, pow-suc 10 (length ds)) in r
 
 -- the number of a row without its last digits
 row_divided : (xs ys : List ℕ) → list_all is_digit (xs ++ ys) ≡ true → number (xs ++ ys) / 10 ^ length ys ≡ number xs
 row_divided xs ys h =
-    let p : (list_all is_digit xs ≡ true) × (list_all is_digit ys ≡ true) = and_parts (list_all is_digit xs) (list_all is_digit ys) (sym (list_all-append is_digit xs ys) ∙ h) in
-    let e : number (xs ++ ys) ≡ number xs * 10 ^ length ys + number ys = fold-append step 0 xs ys ∙ fold_from (fold step 0 xs) ys in
+    let p : (list_all is_digit xs ≡ true) × (list_all is_digit ys ≡ true) = and_parts (list_all is_digit xs)
+    (list_all is_digit ys) (sym (list_all-append is_digit xs ys) ∙ h) in
+    let e : number (xs ++ ys) ≡ number xs * 10 ^ length ys + number ys = fold-append step 0 xs ys
+    ∙ fold_from (fold step 0 xs) ys in
     ap (λ x. x / 10 ^ length ys) e ∙ div-mul-add (number xs) (10 ^ length ys) (number ys) (below_power ys p.1)
 
 -- the front of a row is its number divided by a power of ten
-pub front_row : (k : ℕ) (ds : List ℕ) → list_all is_digit ds ≡ true → number ds / 10 ^ k ≡ number (take (length ds - k) ds)
+pub front_row : (k : ℕ) (ds : List ℕ) → list_all is_digit ds ≡ true
+    → number ds / 10 ^ k ≡ number (take (length ds - k) ds)
 front_row k ds h = elim (cases_lt (length ds) k) [
   | inl l ↦ (let z : length ds - k ≡ 0 = omega arith in
       let m : 10 ^ length ds ≤ 10 ^ k = pow-le-pow_right {n = 10} (lit≤ tt) (le_of_lt l) in
       rw z (div-eq_of_lt (lt_of_lt_of_le (below_power ds h) m)))
   | inr g ↦ (let e : take (length ds - k) ds ++ drop (length ds - k) ds ≡ ds = take-append-drop (length ds - k) ds in
-      let n : length (drop (length ds - k) ds) ≡ k = length-drop (length ds - k) ds ∙ (let o : length ds - (length ds - k) ≡ k = omega arith in o) in
-      let a : list_all is_digit (take (length ds - k) ds ++ drop (length ds - k) ds) ≡ true = ap (λ x. list_all is_digit x) e ∙ h in
+      let n : length (drop (length ds - k) ds) ≡ k = length-drop (length ds - k) ds
+      ∙ (let o : length ds - (length ds - k) ≡ k = omega arith in o) in
+      let a : list_all is_digit (take (length ds - k) ds ++ drop (length ds - k) ds)
+      ≡ true = ap (λ x. list_all is_digit x) e ∙ h in
       ap (λ x. number x / 10 ^ k) (sym e)
       ∙ ap (λ x. number (take (length ds - k) ds ++ drop (length ds - k) ds) / 10 ^ x) (sym n)
       ∙ row_divided (take (length ds - k) ds) (drop (length ds - k) ds) a)

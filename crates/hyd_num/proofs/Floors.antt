@@ -1,5 +1,6 @@
 -- Euclid's quotient is the floor, and the negated floor of the negated number the ceiling.
-use Rattle.std.proofs.Common.{◌≡◌, ℕ, suc, ◌*◌, ◌<◌, ◌≤◌, ℤ, pos, negsuc, ◌+ℤ◌, ◌-ℤ◌, ◌*ℤ◌, ◌≤ℤ◌, ◌<ℤ◌, neg_ℤ, ◌^◌, unsigned_abs, FitsSigned, le-mul_of_pos_right, ◌-◌, ap, ◌∙◌, arith}
+use Rattle.std.proofs.Common.{◌≡◌, ℕ, suc, ◌*◌, ◌<◌, ◌≤◌, ℤ, pos, negsuc, ◌+ℤ◌, ◌-ℤ◌, ◌*ℤ◌, ◌≤ℤ◌, ◌<ℤ◌, neg_ℤ, ◌^◌}
+use Rattle.std.proofs.Common.{unsigned_abs, FitsSigned, le-mul_of_pos_right, ◌-◌, ap, ◌∙◌, arith}
 use mir.Syntax.{w128}
 use Rattle.std.proofs.Math.IntN.{*ℤ_comm}
 use Rattle.std.proofs.lemmas.Int.{ints, by_lt_z}
@@ -54,7 +55,8 @@ floor_from m d n q above h f =
     let more : suc m ≤ suc m * d = le-mul_of_pos_right (suc m) above in
     f.greatest (negsuc m) (omega (arith, ints, more))
 
-pub fits_back : (n c q : ℤ) → pos 0 <ℤ c → unsigned_abs n < 2 ^ 127 → IsFloor n c q → FitsSigned w128 q → FitsSigned w128 (pos 0 -ℤ q)
+pub fits_back : (n c q : ℤ) → pos 0 <ℤ c → unsigned_abs n < 2 ^ 127 → IsFloor n c q → FitsSigned w128 q
+    → FitsSigned w128 (pos 0 -ℤ q)
 fits_back n (pos d) q above h f g =
     let low : negsuc (2 ^ 127 - 2) ≤ℤ q = floor_from (2 ^ 127 - 2) d n q (omega (arith, ints)) (omega arith) f in
     omega (arith, ints, low, g)

@@ -1,5 +1,7 @@
--- Ring laws of the integers under a natural factor, for scales. `omega (arith, ints)` takes the products in them as atoms.
-use Rattle.std.proofs.Common.{◌≡◌, ℕ, zero, suc, ◌+◌, ◌*◌, ◌<◌, ℤ, pos, ◌+ℤ◌, ◌-ℤ◌, ◌*ℤ◌, ◌≤ℤ◌, neg_ℤ, refl, arith, suc-mul, zero-add, zero-mul, suc-add}
+-- Ring laws of the integers under a natural factor, for scales. `omega (arith, ints)` takes the products in them as
+-- atoms.
+use Rattle.std.proofs.Common.{◌≡◌, ℕ, zero, suc, ◌+◌, ◌*◌, ◌<◌, ℤ, pos, ◌+ℤ◌, ◌-ℤ◌, ◌*ℤ◌, ◌≤ℤ◌, neg_ℤ, refl, arith}
+use Rattle.std.proofs.Common.{suc-mul, zero-add, zero-mul, suc-add}
 use Rattle.std.proofs.Math.IntN.{suc_ℤ-*ℤ, zero-*ℤ}
 use Rattle.std.proofs.lemmas.Int.{ints, by_lt_z}
 
@@ -8,11 +10,25 @@ times_one_more s z = suc_ℤ-*ℤ (pos s) z
 
 pub times_plus : (s : ℕ) (a b : ℤ) → pos s *ℤ (a +ℤ b) ≡ (pos s *ℤ a) +ℤ (pos s *ℤ b)
 times_plus zero a b = omega (arith, ints, zero-*ℤ a, zero-*ℤ b, zero-*ℤ (a +ℤ b))
-times_plus (suc s) a b = omega (arith, ints, times_one_more s a, times_one_more s b, times_one_more s (a +ℤ b), times_plus s a b)
+times_plus (suc s) a b = omega (
+  arith,
+  ints,
+  times_one_more s a,
+  times_one_more s b,
+  times_one_more s (a +ℤ b),
+  times_plus s a b,
+)
 
 pub times_minus : (s : ℕ) (a b : ℤ) → pos s *ℤ (a -ℤ b) ≡ (pos s *ℤ a) -ℤ (pos s *ℤ b)
 times_minus zero a b = omega (arith, ints, zero-*ℤ a, zero-*ℤ b, zero-*ℤ (a -ℤ b))
-times_minus (suc s) a b = omega (arith, ints, times_one_more s a, times_one_more s b, times_one_more s (a -ℤ b), times_minus s a b)
+times_minus (suc s) a b = omega (
+  arith,
+  ints,
+  times_one_more s a,
+  times_one_more s b,
+  times_one_more s (a -ℤ b),
+  times_minus s a b,
+)
 
 pub times_neg : (s : ℕ) (z : ℤ) → pos s *ℤ neg_ℤ z ≡ neg_ℤ (pos s *ℤ z)
 times_neg zero z = omega (arith, ints, zero-*ℤ z, zero-*ℤ (neg_ℤ z))
@@ -41,4 +57,11 @@ times_sum (suc a) b z = rw suc-add (omega (arith, ints, times_one_more (a + b) z
 
 pub times_times : (a b : ℕ) (z : ℤ) → pos a *ℤ (pos b *ℤ z) ≡ pos (a * b) *ℤ z
 times_times zero b z = rw zero-mul (omega (arith, ints, zero-*ℤ z, zero-*ℤ (pos b *ℤ z)))
-times_times (suc a) b z = rw suc-mul (omega (arith, ints, times_one_more a (pos b *ℤ z), times_times a b z, times_sum (a * b) b z))
+times_times (suc a) b z = rw suc-mul (omega (
+  arith,
+  ints,
+  times_one_more a (pos b *ℤ z),
+  times_times a b z,
+  times_sum
+      (a * b) b z,
+))

@@ -1,5 +1,6 @@
 -- How often a divisor is doubled, and how many digits a long division has.
-use Rattle.std.proofs.Common.{◌≡◌, ℕ, ◌+◌, ◌*◌, ◌/◌, ◌^◌, ◌-◌, ◌<◌, ◌≤◌, arith, mul-le-mul_right, le-div_iff_mul-le, pow-suc, add-one, pow_pos}
+use Rattle.std.proofs.Common.{◌≡◌, ℕ, ◌+◌, ◌*◌, ◌/◌, ◌^◌, ◌-◌, ◌<◌, ◌≤◌, arith, mul-le-mul_right, le-div_iff_mul-le}
+use Rattle.std.proofs.Common.{pow-suc, add-one, pow_pos}
 use Rattle.hyd_num.proofs.Rounding.{power_below}
 
 -- twice a power of two, times a factor
@@ -23,7 +24,8 @@ few_digits p d m r k split small short fits positive =
     omega arith
 
 -- the division is nearer its end with a digit more
-pub nearer : (p d m r k n s : ℕ) → m * d + r ≡ p * 2 ^ k → 1 ≤ p → m < 2 ^ 62 → r < d → n * d + s ≡ 2 * (m * d + r) → 2 ^ 62 * d - (n * d + s) < 2 ^ 62 * d - (m * d + r)
+pub nearer : (p d m r k n s : ℕ) → m * d + r ≡ p * 2 ^ k → 1 ≤ p → m < 2 ^ 62 → r < d → n * d + s ≡ 2 * (m * d + r)
+    → 2 ^ 62 * d - (n * d + s) < 2 ^ 62 * d - (m * d + r)
 nearer p d m r k n s split positive short small twice =
     let a : 1 * 2 ^ k ≤ p * 2 ^ k = mul-le-mul_right (2 ^ k) positive in
     let b : (m + 1) * d ≤ 2 ^ 62 * d = mul-le-mul_right d (omega arith) in

@@ -1,5 +1,7 @@
 -- The ends of powers: they rise with the number, enclose its exact power, and powers of two stay within powers of two.
-use Rattle.std.proofs.Common.{◌≡◌, ℕ, ◌+◌, ◌*◌, ◌^◌, ◌<◌, ◌≤◌, ℤ, pos, ◌-ℤ◌, refl, ap, subst, ◌∙◌, arith, lit≤, lit<, mul-le-mul, mul-le-mul_right, mul-pos, le_of_mul-le-mul_right, pow-suc, one-mul, add-one, le_refl}
+use Rattle.std.proofs.Common.{◌≡◌, ℕ, ◌+◌, ◌*◌, ◌^◌, ◌<◌, ◌≤◌, ℤ, pos, ◌-ℤ◌, refl, ap, subst, ◌∙◌, arith, lit≤, lit<}
+use Rattle.std.proofs.Common.{mul-le-mul, mul-le-mul_right, mul-pos, le_of_mul-le-mul_right, pow-suc, one-mul, add-one}
+use Rattle.std.proofs.Common.{le_refl}
 use Rattle.std.proofs.lemmas.Nat.{pow_pos, pow-add}
 use Rattle.std.proofs.Math.Nat.{pow-zero}
 use Rattle.std.proofs.lemmas.Int.{ints}
@@ -24,10 +26,13 @@ up_rises p q u v s t v_above le a b = record {
       le_of_mul-le-mul_right l v_above);
 }
 
-high_product : (x y r u v s : Pair) → Below x.hi u.hi → Below y.hi v.hi → IsProduct x y r → IsProduct u v s → Below r.hi s.hi
+high_product : (x y r u v s : Pair) → Below x.hi u.hi → Below y.hi v.hi → IsProduct x y r → IsProduct u v s
+    → Below r.hi s.hi
 high_product x y r u v s a b p q =
-    let m : numerator x.hi * denominator u.hi * (numerator y.hi * denominator v.hi) ≤ numerator u.hi * denominator x.hi * (numerator v.hi * denominator y.hi) = mul-le-mul a.crossed b.crossed in
-    up_rises (numerator x.hi * numerator y.hi) (denominator x.hi * denominator y.hi) (numerator u.hi * numerator v.hi) (denominator u.hi * denominator v.hi) r.hi s.hi
+    let m : numerator x.hi * denominator u.hi * (numerator y.hi * denominator v.hi) ≤ numerator u.hi
+    * denominator x.hi * (numerator v.hi * denominator y.hi) = mul-le-mul a.crossed b.crossed in
+    up_rises (numerator x.hi * numerator y.hi) (denominator x.hi * denominator y.hi) (numerator u.hi * numerator v.hi)
+    (denominator u.hi * denominator v.hi) r.hi s.hi
     (mul-pos (denominator_positive u.hi) (denominator_positive v.hi)) (omega (arith, m)) p.high q.high
 
 pow_one : (a : ℕ) → a ^ 1 ≡ a
@@ -67,25 +72,46 @@ two_scaled u d =
     let e : up z + 62 + d ≡ u + down z = omega (arith, ints) in
     let a : 2 ^ (up z + 62 + d) ≡ 2 ^ (up z + 62) * 2 ^ d = pow-add 2 (up z + 62) d in
     let b : 2 ^ (up z + 62) ≡ 2 ^ up z * 2 ^ 62 = pow-add 2 (up z) 62 in
-    let c : 2 ^ (u + down z) ≡ 2 ^ u * 2 ^ down z = pow-add 2 u (down z) in
-    (record { mant = 2 ^ 62; exp = z; normal = lit≤ tt; short = lit< tt }, omega (arith, a, ap (λ x. x * 2 ^ d) b, c, ap (λ x. 2 ^ x) e))
+    let c : 2 ^ (u + down z) ≡ 2 ^ u * 2 ^ down z = pow-add 2 u (down z) in (
+      record {
+        mant = 2 ^ 62;
+        exp = z;
+        normal = lit≤ tt;
+        short = lit< tt;
+      },
+      omega (arith, a, ap (λ x. x * 2 ^ d) b, c, ap (λ x. 2 ^ x) e),
+    )
 
-high_two : (a b c d u v : ℕ) (x y r : Pair) → numerator x.hi * 2 ^ b ≤ 2 ^ a * denominator x.hi → numerator y.hi * 2 ^ d ≤ 2 ^ c * denominator y.hi
+high_two : (a b c d u v : ℕ) (x y r : Pair) → numerator x.hi * 2 ^ b ≤ 2 ^ a * denominator x.hi
+    → numerator y.hi * 2 ^ d ≤ 2 ^ c * denominator y.hi
     → u ≡ a + c → v ≡ b + d → IsProduct x y r → numerator r.hi * 2 ^ v ≤ 2 ^ u * denominator r.hi
 high_two a b c d u v x y r h g up_is down_is p =
     let t = two_scaled u v in
-    let m : numerator x.hi * 2 ^ b * (numerator y.hi * 2 ^ d) ≤ 2 ^ a * denominator x.hi * (2 ^ c * denominator y.hi) = mul-le-mul h g in
+    let m : numerator x.hi * 2 ^ b * (numerator y.hi * 2 ^ d) ≤ 2 ^ a * denominator x.hi
+    * (2 ^ c * denominator y.hi) = mul-le-mul h g in
     let i : 2 ^ u ≡ 2 ^ a * 2 ^ c = rw up_is (pow-add 2 a c) in
     let j : 2 ^ v ≡ 2 ^ b * 2 ^ d = rw down_is (pow-add 2 b d) in
     let n : numerator x.hi * numerator y.hi * 2 ^ v ≤ 2 ^ u * (denominator x.hi * denominator y.hi) =
-    omega (arith, m, ap (λ w. numerator x.hi * numerator y.hi * w) j, ap (λ w. w * (denominator x.hi * denominator y.hi)) i) in
-    let k : numerator x.hi * numerator y.hi * 2 ^ v * denominator t.0 ≤ 2 ^ u * (denominator x.hi * denominator y.hi) * denominator t.0 = mul-le-mul_right (denominator t.0) n in
-    let o : numerator t.0 * 2 ^ v * (denominator x.hi * denominator y.hi) ≡ 2 ^ u * denominator t.0 * (denominator x.hi * denominator y.hi) = ap (λ w. w * (denominator x.hi * denominator y.hi)) t.1 in
-    let l : numerator x.hi * numerator y.hi * denominator t.0 * 2 ^ v ≤ numerator t.0 * (denominator x.hi * denominator y.hi) * 2 ^ v = omega (arith, k, o) in
-    let q : numerator r.hi * denominator t.0 ≤ numerator t.0 * denominator r.hi = p.high.least t.0 (le_of_mul-le-mul_right l (pow_pos v)) in
-    let w : numerator r.hi * denominator t.0 * 2 ^ v ≤ numerator t.0 * denominator r.hi * 2 ^ v = mul-le-mul_right (2 ^ v) q in
-    let z : numerator t.0 * 2 ^ v * denominator r.hi ≡ 2 ^ u * denominator t.0 * denominator r.hi = ap (λ x. x * denominator r.hi) t.1 in
-    let f : numerator r.hi * 2 ^ v * denominator t.0 ≤ 2 ^ u * denominator r.hi * denominator t.0 = omega (arith, w, z) in
+    omega (
+      arith,
+      m,
+      ap (λ w. numerator x.hi * numerator y.hi * w) j,
+      ap (λ w. w * (denominator x.hi * denominator y.hi)) i,
+    ) in
+    let k : numerator x.hi * numerator y.hi * 2 ^ v * denominator t.0 ≤ 2 ^ u * (denominator x.hi * denominator y.hi)
+    * denominator t.0 = mul-le-mul_right (denominator t.0) n in
+    let o : numerator t.0 * 2 ^ v * (denominator x.hi * denominator y.hi) ≡ 2 ^ u * denominator t.0
+    * (denominator x.hi * denominator y.hi) = ap (λ w. w * (denominator x.hi * denominator y.hi)) t.1 in
+    let l : numerator x.hi * numerator y.hi * denominator t.0 * 2 ^ v ≤ numerator t.0
+    * (denominator x.hi * denominator y.hi) * 2 ^ v = omega (arith, k, o) in
+    let q : numerator r.hi * denominator t.0 ≤ numerator t.0 * denominator r.hi = p.high.least t.0
+    (le_of_mul-le-mul_right l (pow_pos v)) in
+    let w : numerator r.hi * denominator t.0 * 2 ^ v ≤ numerator t.0 * denominator r.hi * 2 ^ v = mul-le-mul_right
+    (2 ^ v) q in
+    let z : numerator t.0 * 2 ^ v * denominator r.hi ≡ 2 ^ u * denominator t.0 * denominator r.hi =
+    ap (λ x. x * denominator r.hi) t.1 in
+    let f : numerator r.hi * 2 ^ v * denominator t.0 ≤ 2 ^ u * denominator r.hi * denominator t.0 =
+    omega (arith, w, z) in
     le_of_mul-le-mul_right f (denominator_positive t.0)
 
 -- the upper end of a power rises with the upper end of the number
@@ -107,28 +133,37 @@ high_rises x y _ _ _ h (odd n k r s t e p q o) (odd n' k' r' s' t' e' p' q' o') 
     high_product s x t s' y t' (high_product r r s r' r' s' a a q q') h o o'
 
 -- the upper end is at least the exact power of the number's upper end
-pub high_encloses : (x : Pair) (n : ℕ) (r : Pair) → IsPower x n r → numerator x.hi ^ n * denominator r.hi ≤ numerator r.hi * denominator x.hi ^ n
+pub high_encloses : (x : Pair) (n : ℕ) (r : Pair) → IsPower x n r → numerator x.hi ^ n * denominator r.hi
+    ≤ numerator r.hi * denominator x.hi ^ n
 high_encloses x _ _ once = rw (pow_one (numerator x.hi), pow_one (denominator x.hi)) (le_refl _)
 high_encloses x _ _ (even n k r s e p q) =
     let h : numerator x.hi ^ n * denominator r.hi ≤ numerator r.hi * denominator x.hi ^ n = high_encloses x n r p in
     rw (e, pow_twice (numerator x.hi) n, pow_twice (denominator x.hi) n)
-    (squares (numerator x.hi ^ n) (denominator x.hi ^ n) (numerator r.hi) (denominator r.hi) (numerator s.hi) (denominator s.hi) (denominator_positive r.hi) h q.high.at_least)
+    (squares (numerator x.hi ^ n) (denominator x.hi ^ n) (numerator r.hi) (denominator r.hi) (numerator s.hi)
+    (denominator s.hi) (denominator_positive r.hi) h q.high.at_least)
 high_encloses x _ _ (odd n k r s t e p q o) =
     let h : numerator x.hi ^ n * denominator r.hi ≤ numerator r.hi * denominator x.hi ^ n = high_encloses x n r p in
-    let g : numerator x.hi ^ n * numerator x.hi ^ n * denominator s.hi ≤ numerator s.hi * (denominator x.hi ^ n * denominator x.hi ^ n) =
-    squares (numerator x.hi ^ n) (denominator x.hi ^ n) (numerator r.hi) (denominator r.hi) (numerator s.hi) (denominator s.hi) (denominator_positive r.hi) h q.high.at_least in
+    let g : numerator x.hi ^ n * numerator x.hi ^ n * denominator s.hi ≤ numerator s.hi
+    * (denominator x.hi ^ n * denominator x.hi ^ n) =
+    squares (numerator x.hi ^ n) (denominator x.hi ^ n) (numerator r.hi) (denominator r.hi) (numerator s.hi)
+    (denominator s.hi) (denominator_positive r.hi) h q.high.at_least in
     rw (e, pow_twice_more (numerator x.hi) n, pow_twice_more (denominator x.hi) n)
-    (once_more (numerator x.hi ^ n * numerator x.hi ^ n) (denominator x.hi ^ n * denominator x.hi ^ n) (numerator x.hi) (denominator x.hi) (numerator s.hi) (denominator s.hi) (numerator t.hi) (denominator t.hi) (denominator_positive s.hi) g o.high.at_least)
+    (once_more (numerator x.hi ^ n * numerator x.hi ^ n) (denominator x.hi ^ n * denominator x.hi ^ n)
+    (numerator x.hi) (denominator x.hi) (numerator s.hi) (denominator s.hi) (numerator t.hi) (denominator t.hi)
+    (denominator_positive s.hi) g o.high.at_least)
 
 -- a power of two stays at most the power's power of two
-pub high_of_two : (x : Pair) (u d n : ℕ) (r : Pair) → numerator x.hi * 2 ^ d ≤ 2 ^ u * denominator x.hi → IsPower x n r → numerator r.hi * 2 ^ (n * d) ≤ 2 ^ (n * u) * denominator r.hi
+pub high_of_two : (x : Pair) (u d n : ℕ) (r : Pair) → numerator x.hi * 2 ^ d ≤ 2 ^ u * denominator x.hi
+    → IsPower x n r → numerator r.hi * 2 ^ (n * d) ≤ 2 ^ (n * u) * denominator r.hi
 high_of_two x u d _ _ h once = rw (one-mul d, one-mul u) h
 high_of_two x u d _ _ h (even n k r s e p q) =
-    high_two (n * u) (n * d) (n * u) (n * d) (k * u) (k * d) r r s (high_of_two x u d n r h p) (high_of_two x u d n r h p)
+    high_two (n * u) (n * d) (n * u) (n * d) (k * u) (k * d) r r s (high_of_two x u d n r h p)
+    (high_of_two x u d n r h p)
     (omega (arith, ap (λ m. m * u) e)) (omega (arith, ap (λ m. m * d) e)) q
 high_of_two x u d _ _ h (odd n k r s t e p q o) =
     high_two (n * u + n * u) (n * d + n * d) u d (k * u) (k * d) s x t
-    (high_two (n * u) (n * d) (n * u) (n * d) (n * u + n * u) (n * d + n * d) r r s (high_of_two x u d n r h p) (high_of_two x u d n r h p) refl refl q) h
+    (high_two (n * u) (n * d) (n * u) (n * d) (n * u + n * u) (n * d + n * d) r r s (high_of_two x u d n r h p)
+    (high_of_two x u d n r h p) refl refl q) h
     (omega (arith, ap (λ m. m * u) e)) (omega (arith, ap (λ m. m * d) e)) o
 
 -- the same for lower ends
@@ -141,10 +176,13 @@ down_rises p q u v s t q_above le a b = record {
       le_of_mul-le-mul_right l q_above);
 }
 
-low_product : (x y r u v s : Pair) → Below x.lo u.lo → Below y.lo v.lo → IsProduct x y r → IsProduct u v s → Below r.lo s.lo
+low_product : (x y r u v s : Pair) → Below x.lo u.lo → Below y.lo v.lo → IsProduct x y r → IsProduct u v s
+    → Below r.lo s.lo
 low_product x y r u v s a b p q =
-    let m : numerator x.lo * denominator u.lo * (numerator y.lo * denominator v.lo) ≤ numerator u.lo * denominator x.lo * (numerator v.lo * denominator y.lo) = mul-le-mul a.crossed b.crossed in
-    down_rises (numerator x.lo * numerator y.lo) (denominator x.lo * denominator y.lo) (numerator u.lo * numerator v.lo) (denominator u.lo * denominator v.lo) r.lo s.lo
+    let m : numerator x.lo * denominator u.lo * (numerator y.lo * denominator v.lo) ≤ numerator u.lo
+    * denominator x.lo * (numerator v.lo * denominator y.lo) = mul-le-mul a.crossed b.crossed in
+    down_rises (numerator x.lo * numerator y.lo) (denominator x.lo * denominator y.lo)
+    (numerator u.lo * numerator v.lo) (denominator u.lo * denominator v.lo) r.lo s.lo
     (mul-pos (denominator_positive x.lo) (denominator_positive y.lo)) (omega (arith, m)) p.low q.low
 
 squares_below : (a b r d s f : ℕ) → 0 < d → r * b ≤ a * d → s * (d * d) ≤ r * r * f → s * (b * b) ≤ a * a * f
@@ -161,22 +199,36 @@ once_more_below a b c e s f t g above h k =
     let l : t * (b * e) * f ≤ a * c * g * f = omega (arith, m, n) in
     le_of_mul-le-mul_right l above
 
-low_two : (a b c d u v : ℕ) (x y r : Pair) → 2 ^ a * denominator x.lo ≤ numerator x.lo * 2 ^ b → 2 ^ c * denominator y.lo ≤ numerator y.lo * 2 ^ d
+low_two : (a b c d u v : ℕ) (x y r : Pair) → 2 ^ a * denominator x.lo ≤ numerator x.lo * 2 ^ b
+    → 2 ^ c * denominator y.lo ≤ numerator y.lo * 2 ^ d
     → u ≡ a + c → v ≡ b + d → IsProduct x y r → 2 ^ u * denominator r.lo ≤ numerator r.lo * 2 ^ v
 low_two a b c d u v x y r h g up_is down_is p =
     let t = two_scaled u v in
-    let m : 2 ^ a * denominator x.lo * (2 ^ c * denominator y.lo) ≤ numerator x.lo * 2 ^ b * (numerator y.lo * 2 ^ d) = mul-le-mul h g in
+    let m : 2 ^ a * denominator x.lo * (2 ^ c * denominator y.lo) ≤ numerator x.lo * 2 ^ b
+    * (numerator y.lo * 2 ^ d) = mul-le-mul h g in
     let i : 2 ^ u ≡ 2 ^ a * 2 ^ c = rw up_is (pow-add 2 a c) in
     let j : 2 ^ v ≡ 2 ^ b * 2 ^ d = rw down_is (pow-add 2 b d) in
     let n : 2 ^ u * (denominator x.lo * denominator y.lo) ≤ numerator x.lo * numerator y.lo * 2 ^ v =
-    omega (arith, m, ap (λ w. numerator x.lo * numerator y.lo * w) j, ap (λ w. w * (denominator x.lo * denominator y.lo)) i) in
-    let k : 2 ^ u * (denominator x.lo * denominator y.lo) * denominator t.0 ≤ numerator x.lo * numerator y.lo * 2 ^ v * denominator t.0 = mul-le-mul_right (denominator t.0) n in
-    let o : numerator t.0 * 2 ^ v * (denominator x.lo * denominator y.lo) ≡ 2 ^ u * denominator t.0 * (denominator x.lo * denominator y.lo) = ap (λ w. w * (denominator x.lo * denominator y.lo)) t.1 in
-    let l : numerator t.0 * (denominator x.lo * denominator y.lo) * 2 ^ v ≤ numerator x.lo * numerator y.lo * denominator t.0 * 2 ^ v = omega (arith, k, o) in
-    let q : numerator t.0 * denominator r.lo ≤ numerator r.lo * denominator t.0 = p.low.greatest t.0 (le_of_mul-le-mul_right l (pow_pos v)) in
-    let w : numerator t.0 * denominator r.lo * 2 ^ v ≤ numerator r.lo * denominator t.0 * 2 ^ v = mul-le-mul_right (2 ^ v) q in
-    let z : numerator t.0 * 2 ^ v * denominator r.lo ≡ 2 ^ u * denominator t.0 * denominator r.lo = ap (λ x. x * denominator r.lo) t.1 in
-    let f : 2 ^ u * denominator r.lo * denominator t.0 ≤ numerator r.lo * 2 ^ v * denominator t.0 = omega (arith, w, z) in
+    omega (
+      arith,
+      m,
+      ap (λ w. numerator x.lo * numerator y.lo * w) j,
+      ap (λ w. w * (denominator x.lo * denominator y.lo)) i,
+    ) in
+    let k : 2 ^ u * (denominator x.lo * denominator y.lo) * denominator t.0 ≤ numerator x.lo * numerator y.lo * 2 ^ v
+    * denominator t.0 = mul-le-mul_right (denominator t.0) n in
+    let o : numerator t.0 * 2 ^ v * (denominator x.lo * denominator y.lo) ≡ 2 ^ u * denominator t.0
+    * (denominator x.lo * denominator y.lo) = ap (λ w. w * (denominator x.lo * denominator y.lo)) t.1 in
+    let l : numerator t.0 * (denominator x.lo * denominator y.lo) * 2 ^ v ≤ numerator x.lo * numerator y.lo
+    * denominator t.0 * 2 ^ v = omega (arith, k, o) in
+    let q : numerator t.0 * denominator r.lo ≤ numerator r.lo * denominator t.0 = p.low.greatest t.0
+    (le_of_mul-le-mul_right l (pow_pos v)) in
+    let w : numerator t.0 * denominator r.lo * 2 ^ v ≤ numerator r.lo * denominator t.0 * 2 ^ v = mul-le-mul_right
+    (2 ^ v) q in
+    let z : numerator t.0 * 2 ^ v * denominator r.lo ≡ 2 ^ u * denominator t.0 * denominator r.lo =
+    ap (λ x. x * denominator r.lo) t.1 in
+    let f : 2 ^ u * denominator r.lo * denominator t.0 ≤ numerator r.lo * 2 ^ v * denominator t.0 =
+    omega (arith, w, z) in
     le_of_mul-le-mul_right f (denominator_positive t.0)
 
 -- the lower end of a power rises with the lower end of the number
@@ -198,26 +250,34 @@ low_rises x y _ _ _ h (odd n k r s t e p q o) (odd n' k' r' s' t' e' p' q' o') =
     low_product s x t s' y t' (low_product r r s r' r' s' a a q q') h o o'
 
 -- the lower end is at most the exact power of the number's lower end
-pub low_encloses : (x : Pair) (n : ℕ) (r : Pair) → IsPower x n r → numerator r.lo * denominator x.lo ^ n ≤ numerator x.lo ^ n * denominator r.lo
+pub low_encloses : (x : Pair) (n : ℕ) (r : Pair) → IsPower x n r → numerator r.lo * denominator x.lo ^ n
+    ≤ numerator x.lo ^ n * denominator r.lo
 low_encloses x _ _ once = rw (pow_one (numerator x.lo), pow_one (denominator x.lo)) (le_refl _)
 low_encloses x _ _ (even n k r s e p q) =
     let h : numerator r.lo * denominator x.lo ^ n ≤ numerator x.lo ^ n * denominator r.lo = low_encloses x n r p in
     rw (e, pow_twice (numerator x.lo) n, pow_twice (denominator x.lo) n)
-    (squares_below (numerator x.lo ^ n) (denominator x.lo ^ n) (numerator r.lo) (denominator r.lo) (numerator s.lo) (denominator s.lo) (denominator_positive r.lo) h q.low.at_most)
+    (squares_below (numerator x.lo ^ n) (denominator x.lo ^ n) (numerator r.lo) (denominator r.lo) (numerator s.lo)
+    (denominator s.lo) (denominator_positive r.lo) h q.low.at_most)
 low_encloses x _ _ (odd n k r s t e p q o) =
     let h : numerator r.lo * denominator x.lo ^ n ≤ numerator x.lo ^ n * denominator r.lo = low_encloses x n r p in
-    let g : numerator s.lo * (denominator x.lo ^ n * denominator x.lo ^ n) ≤ numerator x.lo ^ n * numerator x.lo ^ n * denominator s.lo =
-    squares_below (numerator x.lo ^ n) (denominator x.lo ^ n) (numerator r.lo) (denominator r.lo) (numerator s.lo) (denominator s.lo) (denominator_positive r.lo) h q.low.at_most in
+    let g : numerator s.lo * (denominator x.lo ^ n * denominator x.lo ^ n) ≤ numerator x.lo ^ n * numerator x.lo ^ n
+    * denominator s.lo =
+    squares_below (numerator x.lo ^ n) (denominator x.lo ^ n) (numerator r.lo) (denominator r.lo) (numerator s.lo)
+    (denominator s.lo) (denominator_positive r.lo) h q.low.at_most in
     rw (e, pow_twice_more (numerator x.lo) n, pow_twice_more (denominator x.lo) n)
-    (once_more_below (numerator x.lo ^ n * numerator x.lo ^ n) (denominator x.lo ^ n * denominator x.lo ^ n) (numerator x.lo) (denominator x.lo) (numerator s.lo) (denominator s.lo) (numerator t.lo) (denominator t.lo) (denominator_positive s.lo) g o.low.at_most)
+    (once_more_below (numerator x.lo ^ n * numerator x.lo ^ n) (denominator x.lo ^ n * denominator x.lo ^ n)
+    (numerator x.lo) (denominator x.lo) (numerator s.lo) (denominator s.lo) (numerator t.lo) (denominator t.lo)
+    (denominator_positive s.lo) g o.low.at_most)
 
 -- a power of two stays at least the power's power of two
-pub low_of_two : (x : Pair) (u d n : ℕ) (r : Pair) → 2 ^ u * denominator x.lo ≤ numerator x.lo * 2 ^ d → IsPower x n r → 2 ^ (n * u) * denominator r.lo ≤ numerator r.lo * 2 ^ (n * d)
+pub low_of_two : (x : Pair) (u d n : ℕ) (r : Pair) → 2 ^ u * denominator x.lo ≤ numerator x.lo * 2 ^ d → IsPower x n r
+    → 2 ^ (n * u) * denominator r.lo ≤ numerator r.lo * 2 ^ (n * d)
 low_of_two x u d _ _ h once = rw (one-mul d, one-mul u) h
 low_of_two x u d _ _ h (even n k r s e p q) =
     low_two (n * u) (n * d) (n * u) (n * d) (k * u) (k * d) r r s (low_of_two x u d n r h p) (low_of_two x u d n r h p)
     (omega (arith, ap (λ m. m * u) e)) (omega (arith, ap (λ m. m * d) e)) q
 low_of_two x u d _ _ h (odd n k r s t e p q o) =
     low_two (n * u + n * u) (n * d + n * d) u d (k * u) (k * d) s x t
-    (low_two (n * u) (n * d) (n * u) (n * d) (n * u + n * u) (n * d + n * d) r r s (low_of_two x u d n r h p) (low_of_two x u d n r h p) refl refl q) h
+    (low_two (n * u) (n * d) (n * u) (n * d) (n * u + n * u) (n * d + n * d) r r s (low_of_two x u d n r h p)
+    (low_of_two x u d n r h p) refl refl q) h
     (omega (arith, ap (λ m. m * u) e)) (omega (arith, ap (λ m. m * d) e)) o

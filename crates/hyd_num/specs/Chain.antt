@@ -1,7 +1,9 @@
--- Which pair each kind of capacity is, step by step, from the numbers of a file. A capacity is the square of the flow in ticks
--- that one head tick drives. Head losses are Manning's, with Chezy's form of the friction (EPANET 2.2 User Manual, Analysis
--- Algorithms): in feet and cubic feet a second, 4.66 n^2 L d^-5.33 q^2 for friction and 0.02517 K d^-4 q^2 for minor losses.
---     A number that is negative counts as 0. No pair encloses 0, so a number that counts as 0 stands for none; a pipe's minor
+-- Which pair each kind of capacity is, step by step, from the numbers of a file. A capacity is the square of the flow
+-- in ticks that one head tick drives. Head losses are Manning's, with Chezy's form of the friction (EPANET 2.2 User
+-- Manual, Analysis Algorithms): in feet and cubic feet a second, 4.66 n^2 L d^-5.33 q^2 for friction and 0.02517 K d^-4
+-- q^2 for minor losses.
+-- A number that is negative counts as 0. No pair encloses 0, so a number that counts as 0 stands for none; a pipe's
+-- minor
 --     coefficient of 0 is left out.
 use Rattle.std.specs.Prelude.{◌≡◌, ℕ, zero, suc, ◌*◌, ◌^◌, Bool, ℤ, ◌-ℤ◌}
 use borrow.Author.Differences.{up}
@@ -13,7 +15,8 @@ use Rattle.hyd_num.specs.declared.capacities.Origin.{Origin}
 use Rattle.hyd_num.specs.declared.capacities.Origin.TheVariants.{Pipe, Valve, Pump, Emitter, PressureDemand}
 use Rattle.hyd_num.specs.Fraction.{Fraction}
 use Rattle.hyd_num.specs.Pairs.{IsRatio, IsProduct, IsQuotient, IsSum, IsPower, IsRoot533}
-use Rattle.hyd_num.specs.Quantity.{billionths, ordinary, feet, feet_across, flow_fraction, pressure_fraction, head_ticks, is_us_unit}
+use Rattle.hyd_num.specs.Quantity.{billionths, ordinary, feet, feet_across, flow_fraction, pressure_fraction}
+use Rattle.hyd_num.specs.Quantity.{head_ticks, is_us_unit}
 
 -- r encloses x as tightly as can be
 abbrev pub IsPairOf : Fraction → Pair → Type 0
@@ -23,8 +26,8 @@ IsPairOf x r = IsRatio x.num x.den r
 abbrev pub IsUnitPair : Pair → Type 0
 IsUnitPair r = IsRatio (86400 ^ 2 * 3048 ^ 5 * 10) (10 ^ 20) r
 
--- the feet lost to friction at one cubic foot a second: 4.66 times the roughness, times the roughness, times the length,
--- divided by the diameter to the power 5.33
+-- the feet lost to friction at one cubic foot a second: 4.66 times the roughness, times the roughness, times the
+-- length, divided by the diameter to the power 5.33
 pub record IsFrictionPair (length diameter roughness : Decimal) (us : Bool) (r : Pair) : Type 0 where
   pub factor : Pair
   pub factor_is : IsRatio 466 100 factor
@@ -44,7 +47,8 @@ pub record IsFrictionPair (length diameter roughness : Decimal) (us : Bool) (r :
   pub along_is : IsProduct twice_rough long along
   pub friction_is : IsQuotient along root r
 
--- the feet lost to a minor loss at one cubic foot a second: 0.02517 times its coefficient, divided by the diameter to the power 4
+-- the feet lost to a minor loss at one cubic foot a second: 0.02517 times its coefficient, divided by the diameter to
+-- the power 4
 pub record IsMinorPair (diameter k : Decimal) (us : Bool) (r : Pair) : Type 0 where
   pub factor : Pair
   pub factor_is : IsRatio 2517 100000 factor

@@ -1,7 +1,8 @@
 -- Printed decimals: the quantity of a number of ticks in the file's units, what makes a number of ten-thousandths that
 -- quantity rounded down or up, and the text of such a number.
 -- Source: EPANET 2.2 User Manual, appendix A (units of measurement); the rounding is this program's.
-use Rattle.std.specs.Prelude.{ℕ, zero, suc, ◌+◌, ◌*◌, ◌/◌, ◌%◌, ◌^◌, Bool, true, false, List, [], ◌∷◌, ◌++◌, ℤ, pos, ◌*ℤ◌, unsigned_abs, codes}
+use Rattle.std.specs.Prelude.{ℕ, zero, suc, ◌+◌, ◌*◌, ◌/◌, ◌%◌, ◌^◌, Bool, true, false, List, [], ◌∷◌, ◌++◌, ℤ, pos}
+use Rattle.std.specs.Prelude.{◌*ℤ◌, unsigned_abs, codes}
 use Rattle.std.specs.Int.{is_negative}
 use Rattle.std.specs.Fmt.{decimal, sign_text}
 use Rattle.hyd_num.specs.Quantity.{flow_factor}

@@ -1,4 +1,5 @@
--- Fractions of naturals, a numerator over a denominator above 0. They are compared by cross products, and none is reduced.
+-- Fractions of naturals, a numerator over a denominator above 0. They are compared by cross products, and none is
+-- reduced.
 use Rattle.std.specs.Prelude.{ℕ, ◌+◌, ◌-◌, ◌*◌, ◌^◌, ◌≤◌}
 
 -- num over den

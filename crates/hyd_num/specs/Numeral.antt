@@ -1,9 +1,12 @@
 -- The texts that are numbers, and their values in billionths.
---     A number is an optional sign, decimal digits with at most one point and at least one digit, then optionally an exponent:
---     `e` or `E`, an optional sign and one to three digits. Its value is the text with the exponent applied, cut toward zero
+-- A number is an optional sign, decimal digits with at most one point and at least one digit, then optionally an
+-- exponent:
+-- `e` or `E`, an optional sign and one to three digits. Its value is the text with the exponent applied, cut toward
+-- zero
 --     after nine decimals.
 --     Source: EPANET 2.2 User Manual, appendix C (numbers of an input file); the cut is this program's.
-use Rattle.std.specs.Prelude.{ℕ, ◌+◌, ◌-◌, ◌*◌, ◌/◌, ◌^◌, Bool, true, false, ◌==◌, ◌&&◌, ◌||◌, nat_le, if◌then◌else◌, List, [], ◌∷◌, ◌++◌, length, fold, ℤ, pos, ◌+ℤ◌, ◌-ℤ◌, neg_ℤ}
+use Rattle.std.specs.Prelude.{ℕ, ◌+◌, ◌-◌, ◌*◌, ◌/◌, ◌^◌, Bool, true, false, ◌==◌, ◌&&◌, ◌||◌, nat_le, if◌then◌else◌}
+use Rattle.std.specs.Prelude.{List, [], ◌∷◌, ◌++◌, length, fold, ℤ, pos, ◌+ℤ◌, ◌-ℤ◌, neg_ℤ}
 use Rattle.std.specs.List.{before_first, after_first, list_all, list_any}
 use borrow.Author.Differences.{up, down}
 
@@ -63,7 +66,8 @@ exponent_text text = after_first is_exponent_mark (behind_sign text)
 
 -- an optional sign and one to three digits
 abbrev pub is_exponent : List ℕ → Bool
-is_exponent text = list_all is_digit (behind_sign text) && (nat_le 1 (length (behind_sign text)) && nat_le (length (behind_sign text)) 3)
+is_exponent text = list_all is_digit (behind_sign text) && (nat_le 1 (length (behind_sign text))
+    && nat_le (length (behind_sign text)) 3)
 
 -- the mantissa has digits before and after its point alone, and one at least
 abbrev pub has_digits : List ℕ → Bool

@@ -1,5 +1,6 @@
--- Pairs of binary numbers that enclose a real number, and what their operations give: each lower end is the greatest binary
--- number at most the exact result of the ends that make it least, each upper end the least one at least the exact greatest.
+-- Pairs of binary numbers that enclose a real number, and what their operations give: each lower end is the greatest
+-- binary number at most the exact result of the ends that make it least, each upper end the least one at least the
+-- exact greatest.
 use Rattle.std.specs.Prelude.{◌≡◌, ℕ, ◌+◌, ◌*◌, ◌^◌, ◌≤◌}
 use Rattle.hyd_num.specs.declared.binary.Scaled.{Scaled}
 use Rattle.hyd_num.specs.declared.pairs.Pair.{Pair}
@@ -28,8 +29,10 @@ pub record IsQuotient (x y r : Pair) : Type 0 where
 
 -- each end is the sum of the two ends of its kind, rounded outward
 pub record IsSum (x y r : Pair) : Type 0 where
-  pub low : IsDown (numerator x.lo * denominator y.lo + numerator y.lo * denominator x.lo) (denominator x.lo * denominator y.lo) r.lo
-  pub high : IsUp (numerator x.hi * denominator y.hi + numerator y.hi * denominator x.hi) (denominator x.hi * denominator y.hi) r.hi
+  pub low : IsDown (numerator x.lo * denominator y.lo + numerator y.lo * denominator x.lo)
+      (denominator x.lo * denominator y.lo) r.lo
+  pub high : IsUp (numerator x.hi * denominator y.hi + numerator y.hi * denominator x.hi)
+      (denominator x.hi * denominator y.hi) r.hi
 
 -- how far from 1 a pair can lie
 abbrev pub pair_reach : Pair → ℕ

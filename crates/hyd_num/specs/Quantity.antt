@@ -1,7 +1,7 @@
 -- Exact quantities that numbers of a file stand for. A number comes as its billionths.
---     A head tick is 10^-13 m, a flow tick 10^-7 m^3 a day. One foot is 0.3048 m, one inch 25.4 mm, and one foot of water
+-- A head tick is 10^-13 m, a flow tick 10^-7 m^3 a day. One foot is 0.3048 m, one inch 25.4 mm, and one foot of water
 --     0.4333 pounds a square inch.
---     Source: EPANET 2.2 User Manual, appendix A (units of measurement); 0.4333 and the cut of flows are this program's.
+-- Source: EPANET 2.2 User Manual, appendix A (units of measurement); 0.4333 and the cut of flows are this program's.
 use Rattle.std.specs.Prelude.{ℕ, ◌*◌, ◌^◌, Bool, true, false, ℤ, pos, ◌*ℤ◌, int_div}
 use borrow.Author.Differences.{up}
 use Rattle.hyd_num.specs.Fraction.{Fraction, fraction}
@@ -56,7 +56,8 @@ flow_fraction unit v = fraction (v * (flow_factor unit).num) (100 * (flow_factor
 abbrev pub flow_ticks : FlowUnit → ℤ → ℤ
 flow_ticks unit v = int_div (v *ℤ pos (flow_factor unit).num) (pos (100 * (flow_factor unit).den))
 
--- a pressure of v billionths of a pound a square inch or a metre, in head ticks: the numerator, and the denominator below it
+-- a pressure of v billionths of a pound a square inch or a metre, in head ticks: the numerator, and the denominator
+-- below it
 abbrev pub pressure_numerator : Bool → ℤ → ℤ
 pressure_numerator true v = pos 30480000 *ℤ v
 pressure_numerator false v = pos 10000 *ℤ v

@@ -20,12 +20,14 @@ as_fraction s = fraction (numerator s) (denominator s)
 -- s is the greatest such number that is at most p / q
 pub record IsDown (p q : ℕ) (s : Scaled) : Type 0 where
   pub at_most : numerator s * q ≤ p * denominator s
-  pub greatest : (t : Scaled) → numerator t * q ≤ p * denominator t → numerator t * denominator s ≤ numerator s * denominator t
+  pub greatest : (t : Scaled) → numerator t * q ≤ p * denominator t → numerator t * denominator s ≤ numerator s
+      * denominator t
 
 -- s is the least such number that is at least p / q
 pub record IsUp (p q : ℕ) (s : Scaled) : Type 0 where
   pub at_least : p * denominator s ≤ numerator s * q
-  pub least : (t : Scaled) → p * denominator t ≤ numerator t * q → numerator s * denominator t ≤ numerator t * denominator s
+  pub least : (t : Scaled) → p * denominator t ≤ numerator t * q → numerator s * denominator t ≤ numerator t
+      * denominator s
 
 -- how far from 1 a number can lie: the magnitude of its exponent, and 64 for its mantissa and a rounding
 abbrev pub reach : Scaled → ℕ

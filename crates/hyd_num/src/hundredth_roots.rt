@@ -1,7 +1,8 @@
 //! The power 5.33 of a pair, by way of its 533rd power and 100th roots of that.
 #![tactic(auto)]
 
-ghost use Rattle.std.specs.Prelude.{◌≡◌, ℕ, ◌+◌, ◌*◌, ◌^◌, ◌<◌, ◌≤◌, true, false, pos, ◌+ℤ◌, ◌*ℤ◌, ◌≤ℤ◌, ◌<ℤ◌, unsigned_abs};
+ghost use Rattle.std.specs.Prelude.{◌≡◌, ℕ, ◌+◌, ◌*◌, ◌^◌, ◌<◌, ◌≤◌, true, false, pos, ◌+ℤ◌, ◌*ℤ◌, ◌≤ℤ◌, ◌<ℤ◌};
+ghost use Rattle.std.specs.Prelude.{unsigned_abs};
 ghost use Rattle.hyd_num.specs.Scaled.{numerator, denominator, reach};
 ghost use Rattle.hyd_num.specs.Pairs.{IsOwnPower, RootsBelow, RootsAbove, IsRootDown, IsRootUp, IsRoot533, pair_reach};
 ghost use Rattle.hyd_num.specs.Cut.{RootsOver, RootsUnder};

@@ -1,11 +1,14 @@
 //! Reading of numbers.
 #![tactic(auto)]
 
-ghost use Rattle.std.specs.Prelude.{◌≡◌, ℕ, ◌+◌, ◌-◌, ◌*◌, ◌/◌, ◌^◌, ◌<◌, ◌≤◌, ◌↔◌, ◌++◌, true, false, ◌&&◌, nat_le, if◌then◌else◌, [], min, length, fold, take, drop, IfOk, unwrap_or, position, pos, ◌+ℤ◌, ◌-ℤ◌, ◌≤ℤ◌, unsigned_abs};
+ghost use Rattle.std.specs.Prelude.{◌≡◌, ℕ, ◌+◌, ◌-◌, ◌*◌, ◌/◌, ◌^◌, ◌<◌, ◌≤◌, ◌↔◌, ◌++◌, true, false, ◌&&◌, nat_le};
+ghost use Rattle.std.specs.Prelude.{if◌then◌else◌, [], min, length, fold, take, drop, IfOk, unwrap_or, position, pos};
+ghost use Rattle.std.specs.Prelude.{◌+ℤ◌, ◌-ℤ◌, ◌≤ℤ◌, unsigned_abs};
 ghost use Rattle.std.specs.List.{before_first, after_first, list_all, list_any};
 ghost use borrow.Author.Differences.{up, down};
 ghost use Rattle.hyd_num.specs.Numeral as numeral;
-ghost use Rattle.hyd_num.specs.Numeral.{is_digit, is_point, is_exponent_mark, is_numeral, magnitude_of, nano_of, number, shifted, signed};
+ghost use Rattle.hyd_num.specs.Numeral.{is_digit, is_point, is_exponent_mark, is_numeral, magnitude_of, nano_of};
+ghost use Rattle.hyd_num.specs.Numeral.{number, shifted, signed};
 
 use crate::decimals::{Decimal, NumFault};
 
@@ -26,7 +29,8 @@ const BEYOND: u128 = LIMIT + 1;
 /// value is above 10^12.
 pub fn read_decimal(text: &[u8]) -> Result<Decimal, NumFault>
     ensures not_a_number { (result ≡ Err NumFault.NotANumber) ↔ (is_numeral text.now ≡ false) }
-    ensures too_large { (result ≡ Err NumFault.TooLarge) ↔ ((is_numeral text.now ≡ true) × (10 ^ 21 < magnitude_of text.now)) }
+    ensures too_large { (result ≡ Err NumFault.TooLarge) ↔ ((is_numeral text.now ≡ true)
+        × (10 ^ 21 < magnitude_of text.now)) }
     ensures numeral { IfOk result (λ d. is_numeral text.now ≡ true) }
     ensures value { IfOk result (λ d. d.nano ≡ nano_of text.now) }
 {
@@ -47,14 +51,17 @@ pub fn read_decimal(text: &[u8]) -> Result<Decimal, NumFault>
 
 fn is_numeral(whole: &[u8], decimals: &[u8], exponent: &[u8], marked: bool) -> bool
     requires { marked ≡ false → exponent.now ≡ [] }
-    ensures { result ≡ (((list_all is_digit whole.now && list_all is_digit decimals.now) && nat_le 1 (length whole.now + length decimals.now)) && (if marked then numeral.is_exponent exponent.now else true)) }
+    ensures { result ≡ (((list_all is_digit whole.now && list_all is_digit decimals.now)
+        && nat_le 1 (length whole.now + length decimals.now)) && (if marked then numeral.is_exponent exponent.now
+        else true)) }
 {
     is_mantissa(whole, decimals) && is_exponent(exponent, marked)
 }
 
 // Digits before and after the point, at least one in all.
 fn is_mantissa(whole: &[u8], decimals: &[u8]) -> bool
-    ensures { result ≡ ((list_all is_digit whole.now && list_all is_digit decimals.now) && nat_le 1 (length whole.now + length decimals.now)) }
+    ensures { result ≡ ((list_all is_digit whole.now && list_all is_digit decimals.now)
+        && nat_le 1 (length whole.now + length decimals.now)) }
 {
     are_digits(whole) && are_digits(decimals) && whole.len() + decimals.len() >= 1
 }
@@ -182,7 +189,8 @@ fn times_ten(first: u128, places: u32) -> u128
 
 // The number of the first digits of two rows, `lost` of them left out, and no more than `BEYOND`.
 fn front(whole: &[u8], decimals: &[u8], lost: u128) -> u128
-    ensures { result ≡ min (number (take (length whole.now + length decimals.now - lost) (whole.now ++ decimals.now))) BEYOND }
+    ensures { result ≡ min (number (take (length whole.now + length decimals.now - lost) (whole.now ++ decimals.now)))
+        BEYOND }
 {
     let total = whole.len() as u128 + decimals.len() as u128;
     let kept = total.saturating_sub(lost) as usize;
@@ -197,7 +205,8 @@ fn magnitude(whole: &[u8], decimals: &[u8], exponent: i32) -> u128
     requires whole_digits { list_all is_digit whole.now ≡ true }
     requires decimal_digits { list_all is_digit decimals.now ≡ true }
     requires short { unsigned_abs exponent ≤ 999 }
-    ensures { result ≡ min (shifted (number (whole.now ++ decimals.now)) ((exponent +ℤ pos 9) -ℤ pos (length decimals.now))) BEYOND }
+    ensures { result ≡ min (shifted (number (whole.now ++ decimals.now))
+        ((exponent +ℤ pos 9) -ℤ pos (length decimals.now))) BEYOND }
 {
     let (more, lost) = places(exponent, decimals.len());
     if lost == 0 {

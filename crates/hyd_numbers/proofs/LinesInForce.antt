@@ -8,15 +8,18 @@ use Rattle.hyd_spec_lines.specs.Lines.{Row, row_of}
 use Rattle.hyd_spec_lines.specs.declared.line.Line.{Line}
 use Rattle.hyd_spec_lines.specs.declared.section.Section.{Section}
 use Rattle.hyd_spec_lines.specs.declared.section.Section.TheVariants.{Options as OptionsSection, Times as TimesSection}
-use Rattle.hyd_spec_input.specs.Columns.{Column, or_else, needed, number, ends, one_of, optional, not_negative, up_to, word, word_is}
+use Rattle.hyd_spec_input.specs.Columns.{Column, or_else, needed, number, ends, one_of, optional, not_negative, up_to}
+use Rattle.hyd_spec_input.specs.Columns.{word, word_is}
 use Rattle.hyd_spec_input.specs.InForce.{begins, begins_both, last_where}
-use Rattle.hyd_spec_input.specs.Keywords.{option_word, option_words, more_option_words, unused_option, unused_words, more_unused_words, last_unused_words, time_word, time_words, more_time_words}
+use Rattle.hyd_spec_input.specs.Keywords.{option_word, option_words, more_option_words, unused_option, unused_words}
+use Rattle.hyd_spec_input.specs.Keywords.{more_unused_words, last_unused_words, time_word, time_words, more_time_words}
 use Rattle.hyd_spec_input.specs.declared.OptionWord.{OptionWord}
 use Rattle.hyd_spec_input.specs.declared.OptionWord.TheVariants as at
 use Rattle.hyd_spec_input.specs.declared.TimeWord.{TimeWord}
 use Rattle.hyd_spec_input.specs.declared.TimeWord.TheVariants as moment
 use Rattle.hyd_spec_input.specs.Moments.{moment_word, unit_word, time_nano, time_range, time, clock, whole_seconds}
-use Rattle.hyd_spec_input.specs.OptionRows.{demand_words, demand_value, demand_line, bound_line, option_about, option, step_line, step_or_start_line, start_line, time_about, time_line}
+use Rattle.hyd_spec_input.specs.OptionRows.{demand_words, demand_value, demand_line, bound_line, option_about, option}
+use Rattle.hyd_spec_input.specs.OptionRows.{step_line, step_or_start_line, start_line, time_about, time_line}
 use Rattle.hyd_spec_input.specs.Tables.{rows_of}
 use Rattle.hyd_tables.specs.Found.{rows_at}
 use Rattle.hyd_spec_networks.proofs.Faultless.{AreRight, right_alone, or_none, all_none, unless_none, needed_none}

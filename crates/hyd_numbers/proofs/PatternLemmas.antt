@@ -1,5 +1,8 @@
 -- The multipliers of patterns, one row more.
-use Rattle.std.proofs.Common.{◌≡◌, ◌+◌, ◌<◌, ◌≤◌, ℕ, zero, suc, one-add, true, false, ◌==◌, nat_lt, List, [], ◌∷◌, ◌++◌, map, length, take, drop, slice_get, slice_set, slice_index_or, get_or, position, Option, Some, None, refl, sym, ap, ◌∙◌, subst, arith, inl, inr, true≢false, append-nil, append_assoc}
+use Rattle.std.proofs.Common.{◌≡◌, ◌+◌, ◌<◌, ◌≤◌, ℕ, zero, suc, one-add, true, false, ◌==◌, nat_lt, List, [], ◌∷◌, ◌++◌}
+use Rattle.std.proofs.Common.{map, length, take, drop, slice_get, slice_set, slice_index_or, get_or, position, Option}
+use Rattle.std.proofs.Common.{Some, None, refl, sym, ap, ◌∙◌, subst, arith, inl, inr, true≢false, append-nil}
+use Rattle.std.proofs.Common.{append_assoc}
 use Rattle.std.specs.Prelude.{if◌then◌else◌, ℤ}
 use Rattle.std.specs.List.{flat_map, position_or_len}
 use Rattle.std.specs.Str.{bytes_eq}
@@ -20,7 +23,8 @@ use Rattle.hyd_spec_input.specs.Project.{Match, IsPattern}
 use Rattle.hyd_spec_input.specs.Tables.{is_of, own_id, rows_of, rows_with, row_multipliers, pattern_named, words_of}
 use Rattle.hyd_spec_networks.proofs.Faultless.{section_is}
 use Rattle.hyd_tables.proofs.FoundLemmas.{filter_more, filter_same}
-use Rattle.hyd_spec_networks.proofs.Occurs.{same_name, itself, other_name, when, occurs, Once, occurs_at, names_once, has_number}
+use Rattle.hyd_spec_networks.proofs.Occurs.{same_name, itself, other_name, when, occurs, Once, occurs_at, names_once}
+use Rattle.hyd_spec_networks.proofs.Occurs.{has_number}
 use Rattle.hyd_spec_networks.proofs.Places.{split_at}
 use Rattle.hyd_numbers.specs.Filled.{each, ids_of, given, all_given, AreFilled, opened}
 use Rattle.hyd_numbers.proofs.NameLemmas.{with_name, one_more}

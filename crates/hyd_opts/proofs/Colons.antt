@@ -1,5 +1,7 @@
 -- A word cut at its colons.
-use Rattle.std.proofs.Common.{◌≡◌, ℕ, ◌+◌, ◌-◌, ◌<◌, ◌≤◌, Bool, true, false, List, [], ◌∷◌, length, take, drop, nat_lt, position, refl, sym, ap, arith, Some, None, inl, inr, ltb-true, ltb-false, le_antisymm, not, true≢false}
+use Rattle.std.proofs.Common.{◌≡◌, ℕ, ◌+◌, ◌-◌, ◌<◌, ◌≤◌, Bool, true, false, List, [], ◌∷◌, length, take, drop, nat_lt}
+use Rattle.std.proofs.Common.{position, refl, sym, ap, arith, Some, None, inl, inr, ltb-true, ltb-false, le_antisymm}
+use Rattle.std.proofs.Common.{not, true≢false}
 use Rattle.std.specs.List.{slice_split, onto_first, list_any, position_or_len}
 use Rattle.std.proofs.lemmas.Bool.{cases_Bool, or_parts}
 use Rattle.std.proofs.lemmas.List.{take_rest}

@@ -1,11 +1,13 @@
 -- What the lines of options, times, controls and rules say, as the results of their readers.
-use Rattle.std.specs.Prelude.{◌≡◌, ℕ, ◌+◌, Bool, true, false, List, codes, Option, Some, None, unwrap_or, if◌then◌else◌, ℤ}
+use Rattle.std.specs.Prelude.{◌≡◌, ℕ, ◌+◌, Bool, true, false, List, codes, Option, Some, None, unwrap_or, if◌then◌else◌}
+use Rattle.std.specs.Prelude.{ℤ}
 use Rattle.hyd_num.specs.Numeral.{nano_of}
 use Rattle.hyd_num.specs.declared.units.FlowUnit.TheVariants.{Gpm}
 use Rattle.hyd_spec_lines.specs.Bytes.{is_keyword}
 use Rattle.hyd_spec_lines.specs.Headings.{is_one_of}
 use Rattle.hyd_spec_input.specs.Columns.{word, amount, word_is, status_words}
-use Rattle.hyd_spec_input.specs.Keywords.{flow_unit, option_word, time_word, link_word, node_word, object_word, attribute_word, relation_word}
+use Rattle.hyd_spec_input.specs.Keywords.{flow_unit, option_word, time_word, link_word, node_word, object_word}
+use Rattle.hyd_spec_input.specs.Keywords.{attribute_word, relation_word}
 use Rattle.hyd_spec_input.specs.Moments.{time_seconds, clock_seconds}
 use Rattle.hyd_spec_input.specs.RuleRows.{begins_with, attribute_place}
 use Rattle.hyd_spec_input.specs.declared.OptionWord.{OptionWord}
@@ -18,7 +20,8 @@ use Rattle.hyd_spec_input.specs.declared.Attribute.{Attribute}
 use Rattle.hyd_spec_input.specs.declared.Attribute.TheVariants as attribute
 use Rattle.hyd_spec_input.specs.declared.RuleWord.TheVariants as rule
 use Rattle.hyd_opts.specs.declared.options.OptionSet.{OptionSet}
-use Rattle.hyd_opts.specs.declared.options.OptionSet.TheVariants.{Unit as UnitSet, ChezyManning, Pattern, Multiplier, Pda, MinimumPressure, RequiredPressure, Unused}
+use Rattle.hyd_opts.specs.declared.options.OptionSet.TheVariants.{Unit as UnitSet, ChezyManning, Pattern, Multiplier}
+use Rattle.hyd_opts.specs.declared.options.OptionSet.TheVariants.{Pda, MinimumPressure, RequiredPressure, Unused}
 use Rattle.hyd_opts.specs.declared.times.TimeSet.{TimeSet}
 use Rattle.hyd_opts.specs.declared.times.TimeSet.TheVariants as set
 use Rattle.hyd_opts.specs.declared.controls.Asked.{Asked}

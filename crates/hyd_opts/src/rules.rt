@@ -8,7 +8,8 @@ ghost use Rattle.hyd_spec_input.specs.Keywords as keyword_form;
 ghost use Rattle.hyd_spec_input.specs.RuleRows as form;
 ghost use Rattle.hyd_opts.specs.Judged.{Judged, words_at};
 ghost use Rattle.hyd_opts.specs.Meanings as meaning;
-ghost use Rattle.hyd_opts.specs.Meanings.{IsValue, IsComparison, IsClauseLine, IsSet, IsActionLine, IsRuleLine, status_value};
+ghost use Rattle.hyd_opts.specs.Meanings.{IsValue, IsComparison, IsClauseLine, IsSet, IsActionLine, IsRuleLine};
+ghost use Rattle.hyd_opts.specs.Meanings.{status_value};
 
 use crate::columns::{either_keyword, ends, id, needed, number, or_empty};
 use crate::controls::{Asked, link_kind};

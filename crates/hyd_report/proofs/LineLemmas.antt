@@ -1,5 +1,6 @@
 -- Lines one after another, and what is put of one.
-use Rattle.std.proofs.Common.{◌≡◌, ℕ, zero, suc, ◌+◌, ◌<◌, ℤ, pos, ◌-ℤ◌, List, [], ◌∷◌, ◌++◌, length, map, take, get_or, Option, Some, None, refl, sym, ap, subst, ◌∙◌, append_assoc, append-nil, arith}
+use Rattle.std.proofs.Common.{◌≡◌, ℕ, zero, suc, ◌+◌, ◌<◌, ℤ, pos, ◌-ℤ◌, List, [], ◌∷◌, ◌++◌, length, map, take, get_or}
+use Rattle.std.proofs.Common.{Option, Some, None, refl, sym, ap, subst, ◌∙◌, append_assoc, append-nil, arith}
 use Rattle.std.specs.Prelude.{slice_get, slice_index_or, IfSome}
 use Rattle.std.proofs.lemmas.Int.{ints}
 use Rattle.std.proofs.lemmas.Option.{slice_get-get_or, get_or_from_slice_get}
@@ -24,7 +25,8 @@ use Rattle.hyd_spec_reports.specs.declared.StatusWord.{StatusWord}
 use Rattle.hyd_facts.specs.OfPeriod.{levels_of, flows_of}
 use Rattle.hyd_bounds.specs.Bounds.{IsSpan, AreInOrder}
 use Rattle.hyd_report.specs.Printing.{printed, quantity_in, ArePrinted}
-use Rattle.hyd_report.specs.Lines.{texts, junction_between, junction_line, reservoir_line, tank_at, tank_line, no_link, link_line}
+use Rattle.hyd_report.specs.Lines.{texts, junction_between, junction_line, reservoir_line, tank_at, tank_line, no_link}
+use Rattle.hyd_report.specs.Lines.{link_line}
 use Rattle.hyd_report.proofs.Joining.{map-append, joined-append}
 use Rattle.hyd_report.specs.declared.printed.Ends.{Ends}
 use Rattle.hyd_report.specs.declared.printed.Quantity.TheVariants.{Head, Pressure, Flow}

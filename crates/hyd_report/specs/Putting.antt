@@ -1,7 +1,8 @@
 -- What a call says that puts a text in at a pen: what went out, what the pen answers from then on, and what of the
 -- desk stays as
 -- it was.
-use Rattle.std.specs.Prelude.{◌≡◌, ◌≢◌, ℕ, Bool, List, ◌++◌, Option, Some, None, IfSome, IsSome, is_some, Result, Err, IfErr, OnOk, OnErr}
+use Rattle.std.specs.Prelude.{◌≡◌, ◌≢◌, ℕ, Bool, List, ◌++◌, Option, Some, None, IfSome, IsSome, is_some, Result, Err}
+use Rattle.std.specs.Prelude.{IfErr, OnOk, OnErr}
 use Rattle.hyd_io.specs.declared.desk.Faults.{Faults}
 use Rattle.hyd_io.specs.declared.desk.Openings.{Openings}
 use Rattle.hyd_io.specs.declared.output.OutFault.{OutFault}

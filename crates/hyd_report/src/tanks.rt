@@ -1,6 +1,7 @@
 //! The lines of tanks.
 
-ghost use Rattle.std.specs.Prelude.{◌≡◌, ◌<◌, ◌≤◌, ◌^◌, ◌++◌, codes, length, slice_get, unsigned_abs, All, IsTrue, IfSome, None};
+ghost use Rattle.std.specs.Prelude.{◌≡◌, ◌<◌, ◌≤◌, ◌^◌, ◌++◌, codes, length, slice_get, unsigned_abs, All, IsTrue};
+ghost use Rattle.std.specs.Prelude.{IfSome, None};
 ghost use Rattle.hyd_io.specs.Output.{OnCert};
 ghost use Rattle.hyd_net.specs.Sound.{Sound};
 ghost use Rattle.hyd_spec.specs.Lists.{map_from};

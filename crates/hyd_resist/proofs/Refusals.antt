@@ -23,13 +23,18 @@ too_small n d m e some le small above least =
     omega (arith, a, b, le)
 
 -- the numbers of a capacity are never refused
-pub not_refused : (origin : Origin) (r : Pair) → StandsFor origin r → denominator r.lo ≤ numerator r.lo * 2 ^ 61 → numerator r.hi < 2 ^ 66 * denominator r.hi
+pub not_refused : (origin : Origin) (r : Pair) → StandsFor origin r → denominator r.lo ≤ numerator r.lo * 2 ^ 61
+    → numerator r.hi < 2 ^ 66 * denominator r.hi
     → IsRefused origin → ⊥
 not_refused origin r made least greatest refused =
     let s = refused.pair in
     elim refused.outside [
-      | inl great ↦ (let le : AtMost (as_fraction s.hi) (as_fraction r.hi) = (StandsFor-below origin s r refused.made made).high in
-          too_great (numerator s.hi) (denominator s.hi) (numerator r.hi) (denominator r.hi) (denominator_above r.hi) le.crossed great (denominator_above s.hi) greatest)
-      | inr small ↦ (let le : AtMost (as_fraction r.lo) (as_fraction s.lo) = (StandsFor-below origin r s made refused.made).low in
-          too_small (numerator s.lo) (denominator s.lo) (numerator r.lo) (denominator r.lo) (denominator_above s.lo) le.crossed small (denominator_above r.lo) least)
+      | inl great ↦ (let le : AtMost (as_fraction s.hi) (as_fraction r.hi) =
+          (StandsFor-below origin s r refused.made made).high in
+          too_great (numerator s.hi) (denominator s.hi) (numerator r.hi) (denominator r.hi) (denominator_above r.hi)
+          le.crossed great (denominator_above s.hi) greatest)
+      | inr small ↦ (let le : AtMost (as_fraction r.lo) (as_fraction s.lo) =
+          (StandsFor-below origin r s made refused.made).low in
+          too_small (numerator s.lo) (denominator s.lo) (numerator r.lo) (denominator r.lo) (denominator_above s.lo)
+          le.crossed small (denominator_above r.lo) least)
     ]

@@ -8,7 +8,8 @@ use Rattle.hyd_num.specs.declared.decimals.Decimal.{Decimal}
 use Rattle.hyd_spec_lines.specs.Bytes.{is_keyword}
 use Rattle.hyd_opts.specs.Judged.{Judged}
 use Rattle.hyd_spec_input.specs.Columns.{number, or_else, unless, up_to, units}
-use Rattle.hyd_spec_input.specs.NetworkRows.{pump_key, pump_value, pump_pairs, none_earlier, and_key, pair_value, speed_of}
+use Rattle.hyd_spec_input.specs.NetworkRows.{pump_key, pump_value, pump_pairs, none_earlier, and_key, pair_value}
+use Rattle.hyd_spec_input.specs.NetworkRows.{speed_of}
 use Rattle.hyd_spec_input.specs.declared.EarlierKeys.{EarlierKeys}
 use Rattle.hyd_net.specs.declared.cause.Cause.{Cause}
 use Rattle.hyd_net.specs.declared.cause.Cause.TheVariants.{Range}

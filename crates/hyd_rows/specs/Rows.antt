@@ -3,7 +3,8 @@ use Rattle.std.specs.Prelude.{◌≡◌, ℕ, true, false, List, drop, Some, sli
 use Rattle.hyd_spec_lines.specs.Bytes.{text_of, words_in}
 use Rattle.hyd_opts.specs.Meanings.{IsAsked}
 use Rattle.hyd_spec_input.specs.Columns.{word, amount, amount_or}
-use Rattle.hyd_spec_input.specs.NetworkRows.{tank_curve, tank_overflows, has_check_valve, is_closed_pipe, pipe_minor, pump_curve, pump_pattern, pump_speed, is_throttle, is_general, valve_minor}
+use Rattle.hyd_spec_input.specs.NetworkRows.{tank_curve, tank_overflows, has_check_valve, is_closed_pipe, pipe_minor}
+use Rattle.hyd_spec_input.specs.NetworkRows.{pump_curve, pump_pattern, pump_speed, is_throttle, is_general, valve_minor}
 use Rattle.hyd_rows.specs.declared.nodes.JunctionRow.{JunctionRow}
 use Rattle.hyd_rows.specs.declared.nodes.ReservoirRow.{ReservoirRow}
 use Rattle.hyd_rows.specs.declared.tanks.TankRow.{TankRow}

@@ -1,5 +1,6 @@
 -- Rules that are known, one after another.
-use Rattle.std.proofs.Common.{◌≡◌, inl, inr, ℕ, zero, suc, ◌+◌, ◌<◌, ◌≤◌, ◌||◌, Bool, true, false, List, [], ◌∷◌, length, refl, ap, sym, ◌∙◌, subst, arith}
+use Rattle.std.proofs.Common.{◌≡◌, inl, inr, ℕ, zero, suc, ◌+◌, ◌<◌, ◌≤◌, ◌||◌, Bool, true, false, List, [], ◌∷◌}
+use Rattle.std.proofs.Common.{length, refl, ap, sym, ◌∙◌, subst, arith}
 use Rattle.std.specs.Prelude.{Some, map, slice_get, slice_index_or, slice_set}
 use Rattle.std.specs.List.{list_any}
 use Rattle.std.proofs.lemmas.Bool.{cases_lt}
@@ -104,7 +105,8 @@ module _ (network : Project) (time : ℕ) (below above : Readings) where
   first_open i values found within before opens =
       let there = item_there network.rules.list i within in
       let is = opens there.0 there.1 in
-      let size : length (map truth network.rules.list) ≡ length network.rules.list = length-map network.rules.list truth in
+      let size : length (map truth network.rules.list) ≡ length network.rules.list = length-map network.rules.list
+      truth in
       let first = first_is is_unknown (map truth network.rules.list) i Yes (omega (arith, within, size))
       (λ k less.
       let each = item_there network.rules.list k (omega (arith, less, within)) in

@@ -1,5 +1,6 @@
 -- How a period ends by the vectors that were found for it.
-use Rattle.std.proofs.Common.{◌≡◌, ◌≢◌, ℕ, suc, ◌+◌, ◌<◌, ◌≤◌, ℤ, Bool, true, false, List, [], ◌∷◌, ◌++◌, length, map, refl, sym, ap, subst, ◌∙◌, arith, ◌⊎◌, inl, inr}
+use Rattle.std.proofs.Common.{◌≡◌, ◌≢◌, ℕ, suc, ◌+◌, ◌<◌, ◌≤◌, ℤ, Bool, true, false, List, [], ◌∷◌, ◌++◌, length, map}
+use Rattle.std.proofs.Common.{refl, sym, ap, subst, ◌∙◌, arith, ◌⊎◌, inl, inr}
 use Rattle.std.specs.Prelude.{Option, All}
 use Rattle.std.proofs.lemmas.Bool.{cases_lt}
 use Rattle.hyd_spec.specs.Types.{Project, Tank, LinkState}
@@ -13,7 +14,8 @@ use Rattle.hyd_spec_certificates.specs.Interval.{Interval}
 use Rattle.hyd_spec_certificates.specs.Grid.{Grid}
 use Rattle.hyd_spec_certificates.specs.Record.{vector_of}
 use Rattle.hyd_spec_certificates.specs.Decided.{inflow_of_tank}
-use Rattle.hyd_spec_certificates.specs.Valid.{AreCertificates, AreStates, ControlsAreDecided, IsProblem, LeadsOn, continues, finishes}
+use Rattle.hyd_spec_certificates.specs.Valid.{AreCertificates, AreStates, ControlsAreDecided, IsProblem, LeadsOn}
+use Rattle.hyd_spec_certificates.specs.Valid.{continues, finishes}
 use Rattle.hyd_spec_reports.specs.declared.Event.{Event}
 use Rattle.hyd_spec_reports.specs.Report.{EndBrings, at_end, changes_at}
 use Rattle.hyd_spec_certificates.specs.Certificate.{IsCertificate}
@@ -138,7 +140,8 @@ module _ (row now : Row) (same : now ≡ record row { length = now.length }) whe
 
   pub each-again : (P : Problem → Side → List ℤ → Type 0) (tanks : ℕ) → OfEach P tanks (row_of row)
       → OfEach P tanks (row_of now)
-  each-again P tanks all = subst (λ (r : Row). OfEach P tanks (row_of r)) (sym same) (λ problem side is. by problem side is)
+  each-again P tanks all = subst (λ (r : Row). OfEach P tanks (row_of r)) (sym same)
+      (λ problem side is. by problem side is)
     where
       by : (problem : Problem) (side : Side) → IsProblemOf tanks problem
           → P problem side (vector_of (row_of (record row { length = now.length })) problem side)
@@ -146,7 +149,8 @@ module _ (row now : Row) (same : now ≡ record row { length = now.length }) whe
       by (Pinned tank) side is = all (Pinned tank) side is
 
 -- a period that was started and is over by certificates
-pub made-of : (network : Project) (here : Here) (net : NetView) (started row : Row) (begun facts : Facts) (close : Close)
+pub made-of : (network : Project) (here : Here) (net : NetView) (started row : Row) (begun facts : Facts)
+    (close : Close)
     → IsStarted network here net started begun → here.finished ≡ false → row.number ≡ started.number
     → row.time ≡ started.time → facts.links ≡ begun.links → AreCertificates network (grid_of net) (row_of row)
     → IsOver network here (grid_of net) row facts close → IsMade network here net row facts close

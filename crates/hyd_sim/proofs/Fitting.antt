@@ -1,5 +1,6 @@
 -- Whether the vectors of a period do.
-use Rattle.std.proofs.Common.{◌≡◌, ◌≢◌, ℕ, suc, ◌+◌, ◌<◌, ℤ, pos, ◌+ℤ◌, ◌-ℤ◌, ◌*ℤ◌, ◌≤ℤ◌, Bool, true, false, List, length, map, refl, sym, ap, subst, ◌∙◌, arith, ◌⊎◌, inl, inr}
+use Rattle.std.proofs.Common.{◌≡◌, ◌≢◌, ℕ, suc, ◌+◌, ◌<◌, ℤ, pos, ◌+ℤ◌, ◌-ℤ◌, ◌*ℤ◌, ◌≤ℤ◌, Bool, true, false, List}
+use Rattle.std.proofs.Common.{length, map, refl, sym, ap, subst, ◌∙◌, arith, ◌⊎◌, inl, inr}
 use Rattle.std.specs.Prelude.{Option, Result, Ok, Err, OnOk, MatchBool}
 use Rattle.std.proofs.lemmas.List.{length-map}
 use Rattle.hyd_spec.specs.Types.{Project, Tank, LinkState}
@@ -13,7 +14,8 @@ use Rattle.hyd_spec_certificates.specs.Grid.{Grid}
 use Rattle.hyd_spec_certificates.specs.Narrow.{IsNarrow}
 use Rattle.hyd_spec_certificates.specs.Record.{Record, Standing}
 use Rattle.hyd_spec_certificates.specs.Decided.{links_at}
-use Rattle.hyd_spec_certificates.specs.Valid.{AreCertificates, IsGridAt, IsValid, LeadsOn, continues, finishes, stocks_next}
+use Rattle.hyd_spec_certificates.specs.Valid.{AreCertificates, IsGridAt, IsValid, LeadsOn, continues, finishes}
+use Rattle.hyd_spec_certificates.specs.Valid.{stocks_next}
 use Rattle.hyd_spec_reports.specs.Stops.{Stops}
 use Rattle.hyd_spec_reports.specs.declared.StopCause.{StopCause}
 use Rattle.hyd_spec_laws.proofs.OneRun.{one_grid}
@@ -126,7 +128,8 @@ module _ (network : Project) (standing : Standing) (grid : Grid) (is : IsGridAt 
     shares-here = shares (tank_count network) row w pinned valid-here.certificates.pinned_each same-here
 
     -- they leave no matter open
-    pub nothing-open : (found : _) → ((other : Record) → SharesVectors other row → IsOpenAt network grid standing other found)
+    pub nothing-open : (found : _) → ((other : Record) → SharesVectors other row
+        → IsOpenAt network grid standing other found)
         → ⊥
     nothing-open found all = none-open-at network standing grid w p.next valid-here found (all w shares-here)
 
@@ -183,7 +186,10 @@ pub done-narrow : (network : Project) (settings : Settings) (here : Here) (net :
     (close : Close) → settings.tight ≡ false → IsMade network here net row facts close
     → IsNarrow settings.width (standing_for here) (row_of row) (next_standing network here row.length close)
     → IsDone network settings here net row facts close
-done-narrow network settings here net row facts close asks made narrow = record { made = made; sharp = by settings.tight asks }
+done-narrow network settings here net row facts close asks made narrow = record {
+  made = made;
+  sharp = by settings.tight asks;
+}
   where
     by : (asked : Bool) → asked ≡ false → MatchBool asked (AreTight network (grid_of net) (row_of row))
         (AreTight network (grid_of net) (row_of row) ⊎ IsNarrow settings.width (standing_for here) (row_of row)

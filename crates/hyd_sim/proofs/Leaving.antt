@@ -39,7 +39,8 @@ module _ (network : Project) (standing : Standing) (rounds : ℕ) (grid : Grid) 
     }
 
     pub tank-stops : (tank : ℕ) (lo hi : ℤ)
-        → position (λ is_open. is_open) (open_states network (levels_next network grid standing row seconds)) ≡ Some tank
+        → position (λ is_open. is_open) (open_states network (levels_next network grid standing row seconds))
+        ≡ Some tank
         → slice_get (levels_next network grid standing row seconds) tank ≡ Some (record { lo = lo; hi = hi })
         → Stops network standing rounds (TankOpen standing.number tank lo hi)
     tank-stops tank lo hi first level = record {

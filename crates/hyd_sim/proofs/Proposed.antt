@@ -1,5 +1,6 @@
 -- A record that a finder tells is what a period gets, where it is valid and narrow.
-use Rattle.std.proofs.Common.{◌≡◌, ◌≢◌, ℕ, zero, suc, ◌+◌, ◌<◌, ℤ, pos, Bool, true, false, List, [], ◌∷◌, length, map, refl, sym, ap, subst, ◌∙◌, arith}
+use Rattle.std.proofs.Common.{◌≡◌, ◌≢◌, ℕ, zero, suc, ◌+◌, ◌<◌, ℤ, pos, Bool, true, false, List, [], ◌∷◌, length, map}
+use Rattle.std.proofs.Common.{refl, sym, ap, subst, ◌∙◌, arith}
 use Rattle.std.specs.Prelude.{slice_index_or}
 use Rattle.hyd_spec.specs.Types.{Project, LinkState}
 use Rattle.hyd_spec.specs.Network.{tank_count}
@@ -21,7 +22,8 @@ use Rattle.hyd_close.specs.declared.open.Open.TheVariants.{Rule, Event, Tank, Co
 use Rattle.hyd_next.specs.Next.{IsFirstOpen}
 use Rattle.hyd_trial.specs.Trial.{open_rule}
 use Rattle.hyd_vectors.specs.Vectors.{HaveSame}
-use Rattle.hyd_sim.proofs.Proposing.{not-last, not-last-left, not-open-by-rule, not-open-by-event, same-seconds, no-open-tank, no-open-control}
+use Rattle.hyd_sim.proofs.Proposing.{not-last, not-last-left, not-open-by-rule, not-open-by-event, same-seconds}
+use Rattle.hyd_sim.proofs.Proposing.{no-open-tank, no-open-control}
 
 -- ---- the same vectors
 
@@ -45,7 +47,8 @@ shares tanks row w own other same = record {
   main = both-sides w.main row.main (sym (same Main Upper tt)) (sym (same Main Lower tt));
   pinned = same-pinned w.pinned row.pinned (other ∙ sym own)
       (λ k less. both-sides (slice_index_or w.pinned k no_vectors) (slice_index_or row.pinned k no_vectors)
-      (sym (same (Pinned k) Upper (omega (arith, less, other)))) (sym (same (Pinned k) Lower (omega (arith, less, other)))));
+      (sym (same (Pinned k) Upper (omega (arith, less, other))))
+      (sym (same (Pinned k) Lower (omega (arith, less, other)))));
 }
 
 -- and are the same where their numbers, times and lengths are
@@ -93,7 +96,10 @@ module _ (network : Project) (standing : Standing) (grid : Grid) (w : Record) (n
   module _ (row : Record) (other : Standing) (share : SharesVectors w row) (number : w.number ≡ row.number)
       (time : w.time ≡ row.time) (leads : LeadsOn network grid standing row other) where
     again-is : (record w { length = row.length }) ≡ row
-    again-is = same-record row (record w { length = row.length }) (record { main = share.main; pinned = share.pinned }) number time refl
+    again-is = same-record row (record w { length = row.length }) (record {
+      main = share.main;
+      pinned = share.pinned;
+    }) number time refl
 
     pub same-row : w ≡ row
     same-row = same-record row w share number time

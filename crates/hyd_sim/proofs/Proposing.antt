@@ -1,5 +1,6 @@
 -- What a valid record decides no record with its vectors leaves open.
-use Rattle.std.proofs.Common.{◌≡◌, ◌≢◌, ℕ, zero, suc, ◌<◌, ℤ, Bool, true, false, List, [], ◌∷◌, length, map, refl, sym, ap, subst, ◌∙◌, arith}
+use Rattle.std.proofs.Common.{◌≡◌, ◌≢◌, ℕ, zero, suc, ◌<◌, ℤ, Bool, true, false, List, [], ◌∷◌, length, map, refl, sym}
+use Rattle.std.proofs.Common.{ap, subst, ◌∙◌, arith}
 use Rattle.std.specs.Prelude.{Option, Some, None, position, slice_get, slice_index_or, is_none}
 use Rattle.std.proofs.lemmas.List.Quantifiers.{position-Some}
 use Rattle.std.proofs.lemmas.Option.{slice_get_within, get_or_from_slice_get}
@@ -11,8 +12,11 @@ use Rattle.hyd_spec_certificates.specs.Stocks.{state_of}
 use Rattle.hyd_spec_certificates.specs.Verdict.{is_unknown}
 use Rattle.hyd_spec_certificates.specs.Grid.{Grid}
 use Rattle.hyd_spec_certificates.specs.Record.{Record, Standing}
-use Rattle.hyd_spec_certificates.specs.Decided.{OpenRule, End, ByRules, WithoutRules, EndsBy, RuleIsOpen, EventIsOpen, nowhere, control_truth, by_rules as decided_by_rules, rule_is_open, by_clock as decided_by_clock, event_is_open}
-use Rattle.hyd_spec_certificates.specs.Valid.{LeavesLinks, by_rules, by_clock, levels_next, AreStates, ControlsAreDecided, Continues, LeadsOn, continues, finishes}
+use Rattle.hyd_spec_certificates.specs.Decided.{OpenRule, End, ByRules, WithoutRules, EndsBy, RuleIsOpen, EventIsOpen}
+use Rattle.hyd_spec_certificates.specs.Decided.{nowhere, control_truth, by_rules as decided_by_rules, rule_is_open}
+use Rattle.hyd_spec_certificates.specs.Decided.{by_clock as decided_by_clock, event_is_open}
+use Rattle.hyd_spec_certificates.specs.Valid.{LeavesLinks, by_rules, by_clock, levels_next, AreStates}
+use Rattle.hyd_spec_certificates.specs.Valid.{ControlsAreDecided, Continues, LeadsOn, continues, finishes}
 use Rattle.hyd_spec_reports.specs.Stops.{open_states, is_open_control}
 use Rattle.hyd_spec_laws.proofs.OneAnswer.{one_end}
 
@@ -35,7 +39,8 @@ none-open network levels = over (λ k tank. state_of tank (slice_index_or levels
         over f (suc from) tanks states others k (omega (arith, lt))
 
 -- where each tank's state is decided none is the first that is open
-pub no-open-tank : (network : Project) (levels : List Interval) (states : List TankState) → AreStates network levels states
+pub no-open-tank : (network : Project) (levels : List Interval) (states : List TankState)
+    → AreStates network levels states
     → (tank : ℕ) → position (λ is_open. is_open) (open_states network levels) ≡ Some tank → ⊥
 no-open-tank network levels states are tank first =
     let p = position-Some (λ is_open. is_open) (open_states network levels) tank false first in

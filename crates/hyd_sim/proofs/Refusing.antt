@@ -11,9 +11,11 @@ use Rattle.hyd_spec_certificates.specs.Grid.{Grid}
 use Rattle.hyd_spec_certificates.specs.Certificate.{IsCertificate}
 use Rattle.hyd_spec_certificates.specs.Record.{Record, Standing, Vectors, vector_of, vector_on, no_vectors}
 use Rattle.hyd_spec_certificates.specs.Decided.{ByRules, WithoutRules, RuleIsOpen, EventIsOpen}
-use Rattle.hyd_spec_certificates.specs.Valid.{IsProblem, AreCertificates, LeavesLinks, by_rules, by_clock, LeadsOn, continues, finishes, IsValid, DemandsAreInRange}
+use Rattle.hyd_spec_certificates.specs.Valid.{IsProblem, AreCertificates, LeavesLinks, by_rules, by_clock, LeadsOn}
+use Rattle.hyd_spec_certificates.specs.Valid.{continues, finishes, IsValid, DemandsAreInRange}
 use Rattle.hyd_spec_reports.specs.declared.CertRefused.TheVariants.{Demand, Fails, Open as MatterOpen, Length}
-use Rattle.hyd_spec_reports.specs.Refusals.{IsRefused, IsInPlace, HasItsGrid, LeavesOpen, rule, event, tank, control, HasOtherLength, at_end, before_end}
+use Rattle.hyd_spec_reports.specs.Refusals.{IsRefused, IsInPlace, HasItsGrid, LeavesOpen, rule, event, tank, control}
+use Rattle.hyd_spec_reports.specs.Refusals.{HasOtherLength, at_end, before_end}
 use Rattle.hyd_spec_laws.proofs.OneLength.{ends_again}
 use Rattle.hyd_spec_laws.proofs.OneRefusal.{refused_invalid}
 use Rattle.hyd_cert.specs.RecordView.{row_of, IsProblemOf}
@@ -21,7 +23,8 @@ use Rattle.hyd_cert.specs.Vectors.{two_vectors, behind_two, problems_in}
 use Rattle.hyd_cert.specs.declared.record.Record.{Record as Row}
 use Rattle.hyd_close.specs.Opens.{SharesVectors, IsOpenAt}
 use Rattle.hyd_close.specs.declared.open.Open.{Open}
-use Rattle.hyd_close.specs.declared.open.Open.TheVariants.{Rule as RuleIsFound, Event as EventIsFound, Tank as TankIsFound, Control as ControlIsFound}
+use Rattle.hyd_close.specs.declared.open.Open.TheVariants.{Rule as RuleIsFound, Event as EventIsFound}
+use Rattle.hyd_close.specs.declared.open.Open.TheVariants.{Tank as TankIsFound, Control as ControlIsFound}
 use Rattle.hyd_trial.specs.Trial.{open_rule}
 use Rattle.hyd_close.specs.declared.close.Close.{Close}
 use Rattle.hyd_facts.specs.declared.facts.Facts.{Facts}
@@ -229,7 +232,8 @@ demand-refused network standing row (Err fault) e started place = record {
 
 -- the period of a record that was made, and the standing behind it
 pub taken-of : (network : Project) (here : Here) (net : NetView) (row : Row) (facts : Facts) (close : Close)
-    (now : Here) → standing_for now ≡ next_standing network here row.length close → IsMade network here net row facts close
+    (now : Here) → standing_for now ≡ next_standing network here row.length close
+    → IsMade network here net row facts close
     → IsTaken network (standing_for here) net row facts (standing_for now)
 taken-of network here net row facts close now same made =
     subst (IsTaken network (standing_for here) net row facts) (sym same) (record {

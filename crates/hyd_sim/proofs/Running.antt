@@ -1,5 +1,6 @@
 -- The periods of a run.
-use Rattle.std.proofs.Common.{◌≡◌, ℕ, zero, suc, ◌+◌, ◌<◌, ◌≤◌, ℤ, pos, ◌+ℤ◌, ◌-ℤ◌, ◌*ℤ◌, ◌≤ℤ◌, Bool, true, false, List, [], ◌∷◌, ◌++◌, length, map, refl, sym, ap, subst, ◌∙◌, arith, ◌⊎◌, inl, inr}
+use Rattle.std.proofs.Common.{◌≡◌, ℕ, zero, suc, ◌+◌, ◌<◌, ◌≤◌, ℤ, pos, ◌+ℤ◌, ◌-ℤ◌, ◌*ℤ◌, ◌≤ℤ◌, Bool, true, false, List}
+use Rattle.std.proofs.Common.{[], ◌∷◌, ◌++◌, length, map, refl, sym, ap, subst, ◌∙◌, arith, ◌⊎◌, inl, inr}
 use Rattle.std.specs.Prelude.{unsigned_abs, if◌then◌else◌}
 use Rattle.std.proofs.Common.{◌≢◌, eq-eqb}
 use Rattle.std.proofs.lemmas.Bool.{ne_eqb}
@@ -17,7 +18,8 @@ use Rattle.hyd_spec_certificates.specs.Grid.{Grid}
 use Rattle.hyd_spec_certificates.specs.Certificate.{IsCertificate, IsTight}
 use Rattle.hyd_spec_certificates.specs.Record.{Record, Standing, Vectors, vector_of}
 use Rattle.hyd_spec_certificates.specs.Valid.{IsProblem, IsGridAt, DemandsAreInRange, AreCertificates, demand_limit}
-use Rattle.hyd_spec_reports.specs.Stops.{Stops, IsFirstDemand, IsTightRow, EarlierHaveCertificates, HasNoCertificate, SpendsRounds}
+use Rattle.hyd_spec_reports.specs.Stops.{Stops, IsFirstDemand, IsTightRow, EarlierHaveCertificates, HasNoCertificate}
+use Rattle.hyd_spec_reports.specs.Stops.{SpendsRounds}
 use Rattle.hyd_cert.specs.RecordView.{IsProblemOf}
 use Rattle.hyd_cert.specs.Vectors.{problems_in, behind_two}
 use Rattle.hyd_graph.proofs.Sounding.{long_zipped}
@@ -26,11 +28,13 @@ use Rattle.hyd_graph.specs.NetView.{NetView}
 use Rattle.hyd_graph.specs.Periods.{IsNetOf}
 use Rattle.hyd_vectors.specs.Vectors.{OfEach, Lacks, HasNone, AreSpent}
 use Rattle.hyd_vectors.specs.declared.lack.Lack.{Lack}
-use Rattle.hyd_vectors.specs.declared.lack.Lack.TheVariants.{NoCertificate as LacksCertificate, RoundsSpent as SpentRounds}
+use Rattle.hyd_vectors.specs.declared.lack.Lack.TheVariants.{NoCertificate as LacksCertificate}
+use Rattle.hyd_vectors.specs.declared.lack.Lack.TheVariants.{RoundsSpent as SpentRounds}
 use Rattle.hyd_close.specs.Opens.{IsOpenAt}
 use Rattle.hyd_close.specs.declared.close.Close.{Close}
 use Rattle.hyd_close.specs.declared.open.Open.{Open}
-use Rattle.hyd_close.specs.declared.open.Open.TheVariants.{Rule as RuleIsFound, Event as EventIsFound, Tank as TankIsFound, Control as ControlIsFound}
+use Rattle.hyd_close.specs.declared.open.Open.TheVariants.{Rule as RuleIsFound, Event as EventIsFound}
+use Rattle.hyd_close.specs.declared.open.Open.TheVariants.{Tank as TankIsFound, Control as ControlIsFound}
 use Rattle.hyd_sim.specs.Sharp.{LacksOne, stop_of, open_stop_of}
 use Rattle.hyd_sim.specs.Attempts.{next_standing, last_standing, later_standing}
 use Rattle.hyd_sim.specs.Steps.{AreTight}

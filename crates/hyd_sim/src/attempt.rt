@@ -95,8 +95,8 @@ pub(crate) fn end_period(
     close.finish(project, net, row, facts)
 }
 
-/// Does a period that was started: finds the vectors of its record, the tight ones or others, and ends it by them. Fails
-/// with the first problem and side that lacks a vector, or with the first matter that the vectors leave open.
+/// Does a period that was started: finds the vectors of its record, the tight ones or others, and ends it by them.
+/// Fails with the first problem and side that lacks a vector, or with the first matter that the vectors leave open.
 pub(crate) fn try_period<F: Finder>(
     project: &Project,
     standing: &Standing,

@@ -175,7 +175,8 @@ fn does<F: Finder>(
         (row_of row.new) (next_standing project.now standing.now row.new.length close.new)) }
     ensures stops { IfErr result (Stops project.now (standing_for standing.now) settings.rounds) }
     ensures certain { IfErr result SaysNone }
-    ensures proposal { (w : Row) → IsProposal (F.told finder.old) project.now settings.width (standing_for standing.now) w
+    ensures proposal { (w : Row) → IsProposal (F.told finder.old) project.now settings.width
+        (standing_for standing.now) w
         → (result ≡ Ok true) × HaveSame (tank_count project.now) (row_of row.new) w }
     ensures header { header_of row.new ≡ header_of row.old }
     ensures number { row.new.number ≡ row.old.number }
@@ -265,8 +266,8 @@ fn do_period<F: Finder>(
     )
 }
 
-/// Does the period that is due at a standing, and moves on behind it. Fails with the cause that stops the run there; the
-/// standing then stays.
+/// Does the period that is due at a standing, and moves on behind it. Fails with the cause that stops the run there;
+/// the standing then stays.
 pub(crate) fn advance<F: Finder>(
     project: &Project,
     settings: Settings,

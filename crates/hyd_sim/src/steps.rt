@@ -58,8 +58,8 @@ impl Sim {
 
     /// Does the period that is due, with vectors that the finder proposes or that rounds of raises find; where these
     /// leave a matter open or their record isn't narrow, and where tight vectors are asked for, with the tight ones. It
-    /// takes no memory. Stops with the cause that holds at the standing, which then stays; after that it answers the same
-    /// cause again. Finished comes exactly where the period at the end of the run is over.
+    /// takes no memory. Stops with the cause that holds at the standing, which then stays; after that it answers the
+    /// same cause again. Finished comes exactly where the period at the end of the run is over.
     pub fn step<F: Finder>(&mut self, finder: &mut F) -> Step
         ensures gives { StepGives self.old self.new result }
         ensures again { (cause : StopCause) → self.old.stopped ≡ Some cause

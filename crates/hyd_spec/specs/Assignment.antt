@@ -1,7 +1,8 @@
 -- The hydraulic state of a period: a head at each junction and a flow in each link that obey the
 -- laws and balance at each junction. Heads are S-th parts of a head tick, flows of a flow tick.
 -- Source: EPANET 2.2 User Manual, chapter 3 (hydraulic simulation model).
-use Rattle.std.specs.Prelude.{◌≡◌, ℕ, ◌≤◌, ℤ, pos, ◌+ℤ◌, ◌-ℤ◌, Bool, true, false, List, [], ◌∷◌, ◌++◌, length, map, slice_index_or, ◌==◌}
+use Rattle.std.specs.Prelude.{◌≡◌, ℕ, ◌≤◌, ℤ, pos, ◌+ℤ◌, ◌-ℤ◌, Bool, true, false, List, [], ◌∷◌, ◌++◌, length, map}
+use Rattle.std.specs.Prelude.{slice_index_or, ◌==◌}
 use Rattle.hyd_spec.specs.Types.{Project, Junction, Link, LinkState, Tank, TankState}
 use Rattle.hyd_spec.specs.Scale.{at_scale}
 use Rattle.hyd_spec.specs.Quantity.{reservoir_head}
@@ -63,7 +64,8 @@ IsBalanced S outflow demand emitter = IsWithinTolerance S (pos 0) ((outflow +ℤ
 
 -- Each link's flow and the head difference between its ends follow its law, in its state and between
 -- its tanks.
-pub data LinksFollow (network : Project) (tanks : List TankState) (S : ℕ) (heads : List ℤ) : List Link → List LinkState → List ℤ → Type 0 where
+pub data LinksFollow (network : Project) (tanks : List TankState) (S : ℕ) (heads : List ℤ) : List Link
+    → List LinkState → List ℤ → Type 0 where
   none : LinksFollow network tanks S heads [] [] []
   more : {link : Link} {links : List Link} {state : LinkState} {states : List LinkState} {q : ℤ} {flows : List ℤ}
       → Follows (law_of network tanks link state) S (head_at heads link.from -ℤ head_at heads link.to) q
@@ -71,7 +73,8 @@ pub data LinksFollow (network : Project) (tanks : List TankState) (S : ℕ) (hea
       → LinksFollow network tanks S heads (link ∷ links) (state ∷ states) (q ∷ flows)
 
 -- Junction number j: its demand and its emitter follow its pressure, and it balances.
-pub record JunctionObeys (network : Project) (time S : ℕ) (assignment : Assignment) (j : ℕ) (junction : Junction) : Type 0 where
+pub record JunctionObeys (network : Project) (time S : ℕ) (assignment : Assignment) (j : ℕ)
+    (junction : Junction) : Type 0 where
   pub demand : FollowsDemand network time junction S
       (head_at assignment.heads j -ℤ at_scale S junction.elevation) (flow_at assignment.demands j)
   pub emitter : FollowsEmitter junction S

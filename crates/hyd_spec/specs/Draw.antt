@@ -7,7 +7,8 @@ use Rattle.hyd_spec.specs.Lists.{Each}
 use Rattle.hyd_spec.specs.Scale.{at_scale}
 use Rattle.hyd_spec.specs.Network.{junction_count, tank_count}
 use Rattle.hyd_spec.specs.Outflow.{FollowsDemand, FollowsEmitter}
-use Rattle.hyd_spec.specs.Assignment.{Assignment, LinksFollow, IsBalanced, node_heads, head_at, flow_at, where_so, net_outflow}
+use Rattle.hyd_spec.specs.Assignment.{Assignment, LinksFollow, IsBalanced, node_heads, head_at, flow_at, where_so}
+use Rattle.hyd_spec.specs.Assignment.{net_outflow}
 
 -- Junction number j, at which q is drawn: its demand and its emitter follow its pressure, and it balances with q
 -- besides.

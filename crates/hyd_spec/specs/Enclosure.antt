@@ -6,8 +6,8 @@ use Rattle.hyd_num.specs.Scaled.{numerator, denominator}
 use Rattle.hyd_spec.specs.Types.{Capacity}
 use Rattle.hyd_spec.specs.Law.{loss_at_most, loss_at_least}
 
--- At every scale S (and also at 0, which is none), a flow q whose square is at most the lower end times the head y loses
--- at most y, and one whose square is at least the upper end times y loses at least y.
+-- At every scale S (and also at 0, which is none), a flow q whose square is at most the lower end times the head y
+-- loses at most y, and one whose square is at least the upper end times y loses at least y.
 pub record IsEnclosure (capacity : Capacity) : Type 0 where
   pub at_most : (S q y : ℕ) → (q * q) * denominator capacity.lo ≤ numerator capacity.lo * (S * y)
       → loss_at_most capacity.origin S q y

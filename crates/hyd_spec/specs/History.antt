@@ -1,6 +1,7 @@
 -- Histories: what may happen in the network, period by period, from the start of the run.
 -- Source: EPANET 2.2 User Manual, chapter 3 (extended period simulation).
-use Rattle.std.specs.Prelude.{◌≡◌, ◌≢◌, ℕ, ◌+◌, ◌%◌, ℤ, pos, List, [], ◌∷◌, length, map, ⊤, slice_index_or, if◌then◌else◌, ◌==◌}
+use Rattle.std.specs.Prelude.{◌≡◌, ◌≢◌, ℕ, ◌+◌, ◌%◌, ℤ, pos, List, [], ◌∷◌, length, map, ⊤, slice_index_or}
+use Rattle.std.specs.Prelude.{if◌then◌else◌, ◌==◌}
 use Rattle.hyd_spec.specs.Types.{Project, Tank, TankState, LinkState}
 use Rattle.hyd_spec.specs.Lists.{Each}
 use Rattle.hyd_spec.specs.Scale.{at_scale}

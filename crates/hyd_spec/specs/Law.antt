@@ -2,14 +2,16 @@
 -- roots as two relations: the exact flow is at least a, the exact flow is at most a.
 -- Source: EPANET 2.2 User Manual, chapter 3 (pipes, pumps, valves, emitters); the linear law of a valve without loss
 -- coefficient, and the bounds between which a flow is held, are this program's.
-use Rattle.std.specs.Prelude.{ℕ, ◌*◌, ◌^◌, ℤ, pos, negsuc, neg_ℤ, unsigned_abs, ◌*ℤ◌, ◌+ℤ◌, ◌-ℤ◌, ◌≤ℤ◌, ◌⊎◌, suc, ⊤, Bool, List}
+use Rattle.std.specs.Prelude.{ℕ, ◌*◌, ◌^◌, ℤ, pos, negsuc, neg_ℤ, unsigned_abs, ◌*ℤ◌, ◌+ℤ◌, ◌-ℤ◌, ◌≤ℤ◌, ◌⊎◌, suc, ⊤}
+use Rattle.std.specs.Prelude.{Bool, List}
 use Rattle.hyd_num.specs.Fraction.{Fraction, fraction, over, power}
 use Rattle.hyd_num.specs.Quantity.{is_us_unit, billionths, head_ticks, flow_fraction, pressure_fraction}
 use Rattle.hyd_spec.specs.Types.{Decimal, FlowUnit, Origin, Pipe, Valve, Pump, Emitter, PressureDemand, Capacity}
 use Rattle.hyd_num.specs.Rational.{Rational}
 use Rattle.hyd_net.specs.Curves.{Knot, value_at}
 use Rattle.hyd_spec.specs.Scale.{at_scale, tolerance}
-use Rattle.hyd_spec.specs.Loss.{PipeLossAtMost, PipeLossAtLeast, ValveLossAtMost, ValveLossAtLeast, SquareLossAtMost, SquareLossAtLeast}
+use Rattle.hyd_spec.specs.Loss.{PipeLossAtMost, PipeLossAtLeast, ValveLossAtMost, ValveLossAtLeast, SquareLossAtMost}
+use Rattle.hyd_spec.specs.Loss.{SquareLossAtLeast}
 
 -- At scale S, head difference x and flow a (S-th parts of ticks): one half of a law.
 abbrev pub Relation : Type 1
@@ -68,7 +70,8 @@ loss_at_most (Pipe length diameter roughness minor us) = PipeLossAtMost us lengt
 loss_at_most (Valve diameter k us) = ValveLossAtMost us diameter k
 loss_at_most (Pump flow drop thirds unit) = SquareLossAtMost (pump_resistance flow drop thirds unit)
 loss_at_most (Emitter coefficient unit) = SquareLossAtMost (emitter_resistance coefficient unit)
-loss_at_most (PressureDemand demand minimum required us) = SquareLossAtMost (pressure_resistance demand minimum required us)
+loss_at_most (PressureDemand demand minimum required us) = SquareLossAtMost
+    (pressure_resistance demand minimum required us)
 
 -- The relation "loses at least" of what a capacity was made of.
 abbrev pub loss_at_least : Origin → Loss
@@ -76,14 +79,15 @@ loss_at_least (Pipe length diameter roughness minor us) = PipeLossAtLeast us len
 loss_at_least (Valve diameter k us) = ValveLossAtLeast us diameter k
 loss_at_least (Pump flow drop thirds unit) = SquareLossAtLeast (pump_resistance flow drop thirds unit)
 loss_at_least (Emitter coefficient unit) = SquareLossAtLeast (emitter_resistance coefficient unit)
-loss_at_least (PressureDemand demand minimum required us) = SquareLossAtLeast (pressure_resistance demand minimum required us)
+loss_at_least (PressureDemand demand minimum required us) = SquareLossAtLeast
+    (pressure_resistance demand minimum required us)
 
 -- ---- laws
 
 -- The law of a link: closed; a loss of the kind that a capacity's numbers give; the valve without
 -- loss coefficient, which loses 10^-6 feet for a cubic foot a second; a law lifted by a pump's head;
--- a law that passes one way only; a law held at or below a setting (flow ticks); the straight lines between knots, the flow
--- (flow ticks) by the head difference (head ticks); a law held between a least and a greatest flow (flow ticks).
+-- a law that passes one way only; a law held at or below a setting (flow ticks); the straight lines between knots, the
+-- flow (flow ticks) by the head difference (head ticks); a law held between a least and a greatest flow (flow ticks).
 pub data Law : Type 0 where
   Shut : Law
   QuadraticLaw : Capacity → Law
@@ -103,30 +107,34 @@ lifted lift R S x a =
 
 -- The exact flow at head difference x is at least a.
 -- Forward only: it is the greater of 0 and the inner flow. Reverse only: the lesser. Capped: the
--- lesser of the setting and the inner flow. Held: the inner flow, but the least flow where the inner one is less, and the greatest
--- where the inner one is more.
+-- lesser of the setting and the inner flow. Held: the inner flow, but the least flow where the inner one is less, and
+-- the greatest where the inner one is more.
 abbrev pub flow_at_least : Law → Relation
 flow_at_least Shut S x a = a ≤ℤ pos 0
-flow_at_least (QuadraticLaw capacity) S x a = odd_at_least (loss_at_most capacity.origin) (loss_at_least capacity.origin) S x a
+flow_at_least (QuadraticLaw capacity) S x a = odd_at_least (loss_at_most capacity.origin)
+    (loss_at_least capacity.origin) S x a
 flow_at_least LinearLaw S x a = (pos (10 ^ 6) *ℤ a) ≤ℤ (pos 8026822656 *ℤ x)
 flow_at_least (Lifted lift law) S x a = lifted lift (flow_at_least law) S x a
 flow_at_least (ForwardOnly law) S x a = (a ≤ℤ pos 0) ⊎ flow_at_least law S x a
 flow_at_least (ReverseOnly law) S x a = (a ≤ℤ pos 0) × flow_at_least law S x a
 flow_at_least (Capped setting law) S x a = (a ≤ℤ at_scale S setting) × flow_at_least law S x a
 flow_at_least (Bent knots) S x a = (pos (value_at S knots x).den *ℤ a) ≤ℤ (value_at S knots x).num
-flow_at_least (Held least greatest law) S x a = (a ≤ℤ at_scale S least) ⊎ ((a ≤ℤ at_scale S greatest) × flow_at_least law S x a)
+flow_at_least (Held least greatest law) S x a = (a ≤ℤ at_scale S least)
+    ⊎ ((a ≤ℤ at_scale S greatest) × flow_at_least law S x a)
 
 -- The exact flow at head difference x is at most a.
 abbrev pub flow_at_most : Law → Relation
 flow_at_most Shut S x a = pos 0 ≤ℤ a
-flow_at_most (QuadraticLaw capacity) S x a = odd_at_most (loss_at_most capacity.origin) (loss_at_least capacity.origin) S x a
+flow_at_most (QuadraticLaw capacity) S x a = odd_at_most (loss_at_most capacity.origin)
+    (loss_at_least capacity.origin) S x a
 flow_at_most LinearLaw S x a = (pos 8026822656 *ℤ x) ≤ℤ (pos (10 ^ 6) *ℤ a)
 flow_at_most (Lifted lift law) S x a = lifted lift (flow_at_most law) S x a
 flow_at_most (ForwardOnly law) S x a = (pos 0 ≤ℤ a) × flow_at_most law S x a
 flow_at_most (ReverseOnly law) S x a = (pos 0 ≤ℤ a) ⊎ flow_at_most law S x a
 flow_at_most (Capped setting law) S x a = (at_scale S setting ≤ℤ a) ⊎ flow_at_most law S x a
 flow_at_most (Bent knots) S x a = (value_at S knots x).num ≤ℤ (pos (value_at S knots x).den *ℤ a)
-flow_at_most (Held least greatest law) S x a = (at_scale S greatest ≤ℤ a) ⊎ ((at_scale S least ≤ℤ a) × flow_at_most law S x a)
+flow_at_most (Held least greatest law) S x a = (at_scale S greatest ≤ℤ a)
+    ⊎ ((at_scale S least ≤ℤ a) × flow_at_most law S x a)
 
 -- A head difference and a flow follow a law: the law's exact flow is within the tolerance of the flow,
 -- that is, at least the flow less the tolerance and at most the flow plus it.

@@ -1,16 +1,18 @@
 -- How long a period of a history lasts.
 -- Source: EPANET 2.2 User Manual, chapter 3 (extended period simulation: when the next hydraulic time step ends).
-use Rattle.std.specs.Prelude.{◌≡◌, ◌≢◌, ℕ, ◌+◌, ◌-◌, ◌%◌, ◌<◌, ◌≤◌, ℤ, pos, IsTrue, IsFalse, List, [], Some, slice_get, slice_index_or, map, Contains, unsigned_abs, Bool}
+use Rattle.std.specs.Prelude.{◌≡◌, ◌≢◌, ℕ, ◌+◌, ◌-◌, ◌%◌, ◌<◌, ◌≤◌, ℤ, pos, IsTrue, IsFalse, List, [], Some, slice_get}
+use Rattle.std.specs.Prelude.{slice_index_or, map, Contains, unsigned_abs, Bool}
 use Rattle.hyd_spec.specs.Types.{Project, Tank, TankState, Full, Empty, Control, AtLevel, AtTime, AtClock, LinkState}
 use Rattle.hyd_spec.specs.Lists.{map_from}
 use Rattle.hyd_num.specs.Rational.{Rational, whole}
 use Rattle.hyd_spec.specs.Assignment.{Assignment, node_heads}
-use Rattle.hyd_spec.specs.Tank.{Stock, walls_of, content_bounds, exact_content, carried_level, watched_level, has_reached, reaches, is_at_maximum, is_at_minimum, tank_inflow}
+use Rattle.hyd_spec.specs.Tank.{Stock, walls_of, content_bounds, exact_content, carried_level, watched_level}
+use Rattle.hyd_spec.specs.Tank.{has_reached, reaches, is_at_maximum, is_at_minimum, tank_inflow}
 use Rattle.hyd_spec.specs.Start.{clock_at}
 use Rattle.hyd_spec.specs.Rules.{Readings, rule_values, rule_changes}
 
--- A period of a history: when it begins, how long it lasts (seconds), and what holds throughout it. Levels and volumes are
--- those of its beginning, in S-th parts of a head tick and of a volume tick, for each tank.
+-- A period of a history: when it begins, how long it lasts (seconds), and what holds throughout it. Levels and volumes
+-- are those of its beginning, in S-th parts of a head tick and of a volume tick, for each tank.
 pub record Period : Type 0 where
   pub time : ℕ
   pub length : ℕ
@@ -27,8 +29,9 @@ pub record IsLeast (P : ℕ → Type 0) (e : ℕ) : Type 0 where
 
 -- ---- by the clock
 
--- The clock ends a period that begins at `time` at e or before; e is one of these instants after its start: a hydraulic step
--- later, the end of the run, where a step of the patterns begins, a report time, or where a control acts by time or clock.
+-- The clock ends a period that begins at `time` at e or before; e is one of these instants after its start: a hydraulic
+-- step later, the end of the run, where a step of the patterns begins, a report time, or where a control acts by time
+-- or clock.
 pub data EndsByClock (network : Project) (time e : ℕ) : Type 0 where
   step : time < e → e ≡ time + network.times.hydraulic → EndsByClock network time e
   duration : time < e → e ≡ network.times.duration → EndsByClock network time e
@@ -53,17 +56,20 @@ stock_at_start period k = record { level = level_at_start period k; volume = sli
 -- Its exact content some seconds after the start, by the period's flows.
 abbrev pub exact_after : Project → Period → ℕ → Tank → ℕ → Rational
 exact_after network period k tank seconds =
-    exact_content (walls_of network tank) (stock_at_start period k) (tank_inflow network k period.assignment.flows) seconds
+    exact_content (walls_of network tank) (stock_at_start period k) (tank_inflow network k period.assignment.flows)
+    seconds
 
 -- Its carried level then (S-th parts of a head tick).
 abbrev pub carried_after : Project → ℕ → Period → ℕ → Tank → ℕ → Rational
 carried_after network S period k tank seconds =
-    carried_level S (walls_of network tank) tank (stock_at_start period k) (tank_inflow network k period.assignment.flows) seconds
+    carried_level S (walls_of network tank) tank (stock_at_start period k)
+    (tank_inflow network k period.assignment.flows) seconds
 
 -- The level then that the levels of controls are compared with (S-th parts of a head tick).
 abbrev pub watched_after : Project → ℕ → Period → ℕ → Tank → ℕ → Rational
 watched_after network S period k tank seconds =
-    watched_level S (walls_of network tank) tank (stock_at_start period k) (tank_inflow network k period.assignment.flows) seconds
+    watched_level S (walls_of network tank) tank (stock_at_start period k)
+    (tank_inflow network k period.assignment.flows) seconds
 
 -- It has reached a target level (head ticks) then, from below or from above.
 abbrev pub reached_after : Project → ℕ → Period → ℕ → Tank → Bool → ℤ → ℕ → Bool
@@ -71,14 +77,17 @@ reached_after network S period k tank above target seconds =
     has_reached S (walls_of network tank) tank (stock_at_start period k) (tank_inflow network k period.assignment.flows)
     above target seconds
 
--- The period may end `seconds` after its start: the exact content of a tank that wasn't full reaches that of its maximum, of one
--- that wasn't empty that of its minimum, or the level of a control that didn't hold at the start is reached.
+-- The period may end `seconds` after its start: the exact content of a tank that wasn't full reaches that of its
+-- maximum, of one that wasn't empty that of its minimum, or the level of a control that didn't hold at the start is
+-- reached.
 pub data EndsByLevel (network : Project) (S : ℕ) (period : Period) (seconds : ℕ) : Type 0 where
   full : (k : ℕ) (tank : Tank) → slice_get network.tanks.list k ≡ Some tank → slice_get period.tanks k ≢ Some Full
-      → IsTrue (is_at_maximum S (content_bounds (walls_of network tank) tank) (exact_after network period k tank seconds))
+      → IsTrue (is_at_maximum S (content_bounds (walls_of network tank) tank)
+      (exact_after network period k tank seconds))
       → EndsByLevel network S period seconds
   empty : (k : ℕ) (tank : Tank) → slice_get network.tanks.list k ≡ Some tank → slice_get period.tanks k ≢ Some Empty
-      → IsTrue (is_at_minimum S (content_bounds (walls_of network tank) tank) (exact_after network period k tank seconds))
+      → IsTrue (is_at_minimum S (content_bounds (walls_of network tank) tank)
+      (exact_after network period k tank seconds))
       → EndsByLevel network S period seconds
   control : (control : Control) (k : ℕ) (above : Bool) (ticks : ℤ) (tank : Tank)
       → Contains network.controls.list control → control.when ≡ AtLevel k above ticks

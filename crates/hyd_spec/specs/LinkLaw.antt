@@ -1,10 +1,12 @@
 -- The exact law of a link in its state, between tanks that may be full or empty.
--- Source: EPANET 2.2 User Manual, chapter 3 (pipes, pumps, valves; tanks) and appendix C ([TANKS], overflow); the reverse flow
--- of a flow-control valve, and the greatest flow by a curve of straight lines, are this program's.
+-- Source: EPANET 2.2 User Manual, chapter 3 (pipes, pumps, valves; tanks) and appendix C ([TANKS], overflow); the
+-- reverse flow of a flow-control valve, and the greatest flow by a curve of straight lines, are this program's.
 use Rattle.std.specs.Prelude.{ℕ, ◌^◌, ℤ, pos, neg_ℤ, Bool, true, false, ◌&&◌, ◌||◌, not, List, slice_get, if◌then◌else◌}
 use Rattle.std.specs.Option.{option_map_or}
 use Rattle.hyd_net.specs.ListView.{ListView}
-use Rattle.hyd_spec.specs.Types.{Project, Tank, Link, HeadPoint, LinkKind, PipeLink, CheckPipe, PumpLink, CurvePump, Tcv, Fcv, Gpv, OpenValve, Quadratic, Linear, LinkState, Open, Closed, Speed, Throttle, Limit, TankState, Full, Empty, Between}
+use Rattle.hyd_spec.specs.Types.{Project, Tank, Link, HeadPoint, LinkKind, PipeLink, CheckPipe, PumpLink, CurvePump}
+use Rattle.hyd_spec.specs.Types.{Tcv, Fcv, Gpv, OpenValve, Quadratic, Linear, LinkState, Open, Closed, Speed, Throttle}
+use Rattle.hyd_spec.specs.Types.{Limit, TankState, Full, Empty, Between}
 use Rattle.hyd_spec.specs.Network.{is_tank, tank_number}
 use Rattle.hyd_spec.specs.Quantity.{is_us, lift_of, points_of, pump_knots, valve_knots}
 use Rattle.hyd_spec.specs.Law.{Law, Shut, QuadraticLaw, LinearLaw, Lifted, ForwardOnly, ReverseOnly, Capped, Bent, Held}
@@ -14,16 +16,16 @@ abbrev pub valve_law : OpenValve → Law
 valve_law (Quadratic capacity) = QuadraticLaw capacity
 valve_law Linear = LinearLaw
 
--- What a curve by straight lines passes at most (flow ticks), a general purpose valve's also in reverse: 10^10 cubic metres a
--- day.
+-- What a curve by straight lines passes at most (flow ticks), a general purpose valve's also in reverse: 10^10 cubic
+-- metres a day.
 abbrev pub greatest_flow : ℤ
 greatest_flow = pos (10 ^ 17)
 
 -- The law of a link of this kind in this state, whatever the tanks at its ends allow.
--- A running pump passes forward only, what its curve gives at the head difference plus its lift, or what the straight lines
--- between its points give at its speed; a throttled valve is a valve whose coefficient is the setting; a flow-control valve
--- passes at most its setting; an open general purpose valve follows its curve. Curves pass no more than the greatest flow. A kind and a state that don't go together
--- have the law of a closed link.
+-- A running pump passes forward only, what its curve gives at the head difference plus its lift, or what the straight
+-- lines between its points give at its speed; a throttled valve is a valve whose coefficient is the setting; a
+-- flow-control valve passes at most its setting; an open general purpose valve follows its curve. Curves pass no more
+-- than the greatest flow. A kind and a state that don't go together have the law of a closed link.
 abbrev pub own_law : Bool → List (ListView HeadPoint) → LinkKind → LinkState → Law
 own_law us bends (PipeLink capacity) Open = QuadraticLaw capacity
 own_law us bends (PipeLink capacity) Closed = Shut
@@ -31,10 +33,12 @@ own_law us bends (PipeLink capacity) other = Shut
 own_law us bends (CheckPipe capacity) Open = ForwardOnly (QuadraticLaw capacity)
 own_law us bends (CheckPipe capacity) Closed = Shut
 own_law us bends (CheckPipe capacity) other = Shut
-own_law us bends (PumpLink capacity shutoff head pattern) (Speed speed) = ForwardOnly (Lifted (lift_of us head speed) (QuadraticLaw capacity))
+own_law us bends (PumpLink capacity shutoff head pattern) (Speed speed) = ForwardOnly
+    (Lifted (lift_of us head speed) (QuadraticLaw capacity))
 own_law us bends (PumpLink capacity shutoff head pattern) Closed = Shut
 own_law us bends (PumpLink capacity shutoff head pattern) other = Shut
-own_law us bends (CurvePump bend pattern) (Speed speed) = Held (pos 0) greatest_flow (Bent (pump_knots (points_of bends bend) speed))
+own_law us bends (CurvePump bend pattern) (Speed speed) = Held (pos 0) greatest_flow
+    (Bent (pump_knots (points_of bends bend) speed))
 own_law us bends (CurvePump bend pattern) Closed = Shut
 own_law us bends (CurvePump bend pattern) other = Shut
 own_law us bends (Tcv valve) Open = valve_law valve
@@ -83,8 +87,8 @@ overflows network node =
 abbrev pub takes_nothing : Project → List TankState → ℕ → Bool
 takes_nothing network tanks node = is_full_tank network tanks node && not (overflows network node)
 
--- Nothing flows from the first node of the link to the second: into a full tank that doesn't overflow, or out of an empty
--- one.
+-- Nothing flows from the first node of the link to the second: into a full tank that doesn't overflow, or out of an
+-- empty one.
 abbrev pub forbids_forward : Project → List TankState → Link → Bool
 forbids_forward network tanks link =
     takes_nothing network tanks link.to || is_empty_tank network tanks link.from

@@ -28,12 +28,14 @@ flow_in_cfs S q = record { num = 1000 * q; den = S * 24465755455488 }
 -- The feet that one cubic foot a second loses by friction, times d^5.33: 4.66 n^2 L.
 abbrev pub friction : Bool → Decimal → Decimal → Fraction
 friction us length roughness =
-    times (times (record { num = 466; den = 100 }) (power (ordinary (billionths roughness)) 2)) (feet us (billionths length))
+    times (times (record { num = 466; den = 100 }) (power (ordinary (billionths roughness)) 2))
+    (feet us (billionths length))
 
 -- The feet that one cubic foot a second loses by a minor coefficient K: 0.02517 K d^-4.
 abbrev pub minor_loss : Bool → Decimal → Decimal → Fraction
 minor_loss us diameter k =
-    over (times (record { num = 2517; den = 100000 }) (ordinary (billionths k))) (power (feet_across us (billionths diameter)) 4)
+    over (times (record { num = 2517; den = 100000 }) (ordinary (billionths k)))
+    (power (feet_across us (billionths diameter)) 4)
 
 -- ---- pipes
 

@@ -2,7 +2,8 @@
 -- (head above the elevation, S-th parts of a head tick). Flows are S-th parts of a flow tick.
 -- Source: EPANET 2.2 User Manual, chapter 3 (demands, pressure-driven demand, emitters); a demand of 0 or less under
 -- pressure-driven analysis and an emitter at a negative pressure are this program's.
-use Rattle.std.specs.Prelude.{◌≡◌, ℕ, ℤ, pos, ◌+ℤ◌, ◌-ℤ◌, ◌≤ℤ◌, Bool, false, int_le, if◌then◌else◌, MatchBool, MatchOption}
+use Rattle.std.specs.Prelude.{◌≡◌, ℕ, ℤ, pos, ◌+ℤ◌, ◌-ℤ◌, ◌≤ℤ◌, Bool, false, int_le, if◌then◌else◌, MatchBool}
+use Rattle.std.specs.Prelude.{MatchOption}
 use Rattle.hyd_spec.specs.Types.{Project, Junction}
 use Rattle.hyd_num.specs.Rational.{Rational, negated, is_at_most}
 use Rattle.hyd_spec.specs.Scale.{at_scale, tolerance}
@@ -23,8 +24,8 @@ pressure_at S p = record { num = p; den = S }
 abbrev pub is_pressure_driven : Project → ℤ → Bool
 is_pressure_driven network demand = if int_le demand (pos 0) then false else network.options.pda
 
--- The flow between the two pressures is at least a number: of a demand D it is v with v^2 (Pf - P0) = D^2 (p - P0), v at
--- least 0, the square root law of the pressure above the minimum.
+-- The flow between the two pressures is at least a number: of a demand D it is v with v^2 (Pf - P0) = D^2 (p - P0), v
+-- at least 0, the square root law of the pressure above the minimum.
 abbrev pub part_at_least : Project → ℤ → Relation
 part_at_least network demand =
     let resistance = pressure_resistance demand network.options.p0 network.options.pf (is_us network) in
@@ -43,8 +44,8 @@ pub record FollowsPart (network : Project) (demand : ℤ) (S : ℕ) (p q : ℤ) 
   pub at_least : part_at_least network demand S p (q -ℤ tolerance S)
   pub at_most : part_at_most network demand S p (q +ℤ tolerance S)
 
--- The flow q (S-th parts) of a pressure-driven demand (whole flow ticks) at pressure p: within the tolerance of nothing up
--- to the minimum pressure, of the whole demand from the required one on, of the square root law between.
+-- The flow q (S-th parts) of a pressure-driven demand (whole flow ticks) at pressure p: within the tolerance of nothing
+-- up to the minimum pressure, of the whole demand from the required one on, of the square root law between.
 abbrev pub FollowsPressure : Project → ℤ → ℕ → ℤ → ℤ → Type 0
 FollowsPressure network demand S p q =
     MatchBool (is_at_most (pressure_at S p) (minimum_pressure network)) (IsWithinTolerance S q (pos 0))

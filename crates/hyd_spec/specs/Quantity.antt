@@ -2,14 +2,16 @@
 -- A head tick is 10^-13 m, a flow tick 10^-7 cubic metres a day; `nano` counts
 -- billionths of the file's unit, or of a plain number.
 -- Source: EPANET 2.2 User Manual, chapter 3 (the network model) and appendix C (sections [DEMANDS],
--- [PATTERNS], [RESERVOIRS], [CURVES], [TIMES]); that a pump's knots are cut to whole ticks, and the reverse of a general
--- purpose valve's curve, are this program's.
-use Rattle.std.specs.Prelude.{ℕ, ◌+◌, ◌*◌, ◌/◌, ◌%◌, ◌^◌, ℤ, pos, neg_ℤ, unsigned_abs, ◌*ℤ◌, Bool, List, [], ◌++◌, length, map, reverse, slice_get, slice_index_or}
+-- [PATTERNS], [RESERVOIRS], [CURVES], [TIMES]); that a pump's knots are cut to whole ticks, and the reverse of a
+-- general purpose valve's curve, are this program's.
+use Rattle.std.specs.Prelude.{ℕ, ◌+◌, ◌*◌, ◌/◌, ◌%◌, ◌^◌, ℤ, pos, neg_ℤ, unsigned_abs, ◌*ℤ◌, Bool, List, [], ◌++◌}
+use Rattle.std.specs.Prelude.{length, map, reverse, slice_get, slice_index_or}
 use Rattle.std.specs.Option.{option_map_or, option_or}
 use Rattle.hyd_num.specs.Quantity.{is_us_unit, head_ticks, pressure_numerator, pressure_denominator}
 use Rattle.hyd_net.specs.ListView.{ListView}
 use Rattle.hyd_net.specs.Curves.{Knot}
-use Rattle.hyd_spec.specs.Types.{Project, Junction, Demand, Reservoir, Decimal, ShutoffHead, FourThirds, Given, HeadPoint}
+use Rattle.hyd_spec.specs.Types.{Project, Junction, Demand, Reservoir, Decimal, ShutoffHead, FourThirds, Given}
+use Rattle.hyd_spec.specs.Types.{HeadPoint}
 use Rattle.hyd_num.specs.Rational.{Rational}
 use Rattle.hyd_spec.specs.Scale.{cut, total}
 
@@ -77,8 +79,8 @@ lift_of us head speed =
 abbrev pub points_of : List (ListView HeadPoint) → ℕ → List HeadPoint
 points_of bends bend = option_map_or (λ (b : ListView HeadPoint). b.list) (slice_get bends bend) []
 
--- The knots of a pump's curve at a speed (in nano, at least 0), its flow (flow ticks) by the head difference (head ticks): the
--- squared speed times a point's head, below 0, and the speed times its flow, each cut to whole ticks.
+-- The knots of a pump's curve at a speed (in nano, at least 0), its flow (flow ticks) by the head difference (head
+-- ticks): the squared speed times a point's head, below 0, and the speed times its flow, each cut to whole ticks.
 abbrev pub pump_knots : List HeadPoint → ℤ → List Knot
 pump_knots points speed =
     let w = unsigned_abs speed in

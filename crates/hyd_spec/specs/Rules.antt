@@ -2,10 +2,15 @@
 -- OR binds tighter than AND: a premise is a row of groups joined by AND, each a row of clauses joined by OR.
 -- Source: EPANET 2.2 User Manual, chapter 3 (rule-based controls) and appendix C ([RULES]); the order of AND and OR,
 -- equality of times within a rule step and flows without their sign are this program's.
-use Rattle.std.specs.Prelude.{ℕ, suc, ◌+◌, ◌*◌, ◌-◌, ◌%◌, ℤ, pos, ◌-ℤ◌, Bool, true, false, ◌&&◌, not, nat_lt, nat_le, List, [], ◌∷◌, ◌++◌, Option, Some, None, map, slice_get, slice_index_or, int_lt, unsigned_abs, if◌then◌else◌, ◌==◌}
+use Rattle.std.specs.Prelude.{ℕ, suc, ◌+◌, ◌*◌, ◌-◌, ◌%◌, ℤ, pos, ◌-ℤ◌, Bool, true, false, ◌&&◌, not, nat_lt, nat_le}
+use Rattle.std.specs.Prelude.{List, [], ◌∷◌, ◌++◌, Option, Some, None, map, slice_get, slice_index_or, int_lt}
+use Rattle.std.specs.Prelude.{unsigned_abs, if◌then◌else◌, ◌==◌}
 use Rattle.std.specs.List.{list_any, list_all}
 use Rattle.std.specs.Option.{option_map_or, option_and_then}
-use Rattle.hyd_spec.specs.Types.{Project, Rule, RuleClause, Joined, And, Or, Clause, What, Head, Pressure, Level, Flow, Setting, Status, Time, Clock, Relation, Less, NotMore, More, NotLess, Equal, Unequal, Value, Amount, ValueOpen, ValueClosed, ValueActive, Action, LinkState, Open, Closed, Speed, Throttle, Limit, Change, ByRule}
+use Rattle.hyd_spec.specs.Types.{Project, Rule, RuleClause, Joined, And, Or, Clause, What, Head, Pressure, Level, Flow}
+use Rattle.hyd_spec.specs.Types.{Setting, Status, Time, Clock, Relation, Less, NotMore, More, NotLess, Equal, Unequal}
+use Rattle.hyd_spec.specs.Types.{Value, Amount, ValueOpen, ValueClosed, ValueActive, Action, LinkState, Open, Closed}
+use Rattle.hyd_spec.specs.Types.{Speed, Throttle, Limit, Change, ByRule}
 use Rattle.hyd_spec.specs.Lists.{map_from, present}
 use Rattle.hyd_num.specs.Rational.{Rational, whole, total_of, is_less, is_at_most}
 use Rattle.hyd_spec.specs.Scale.{at_scale, is_same_number}
@@ -81,7 +86,8 @@ level_of readings tank = slice_index_or readings.levels tank (whole (pos 0))
 abbrev pub head_of : Project → ℕ → Readings → ℕ → Rational
 head_of network S readings node =
     if is_tank network node
-    then total_of (level_of readings (tank_number network node)) (whole (at_scale S (bottom_of network (tank_number network node))))
+    then total_of (level_of readings (tank_number network node))
+    (whole (at_scale S (bottom_of network (tank_number network node))))
     else whole (slice_index_or readings.heads node (pos 0))
 
 -- The pressure of a node: a junction's head above its elevation, a tank's above its bottom.
@@ -134,9 +140,9 @@ abbrev pub status_holds : Relation → StateWord → Value → Bool
 status_holds Unequal word value = not (is_word word value)
 status_holds relation word value = is_word word value
 
--- A clause on the time or the clock. It is equal to a value v at the second s where s less the rule step is below v and v is at
--- most s, on the clock modulo a day, as `came` says: so a time above 0 holds at one multiple of the rule step, and a time of
--- day at one in each day, where the rule step is at most a day. (At time 0 no rule is tried.)
+-- A clause on the time or the clock. It is equal to a value v at the second s where s less the rule step is below v and
+-- v is at most s, on the clock modulo a day, as `came` says: so a time above 0 holds at one multiple of the rule step,
+-- and a time of day at one in each day, where the rule step is at most a day. (At time 0 no rule is tried.)
 abbrev pub time_holds : Relation → ℕ → ℕ → Bool → Bool
 time_holds Equal now at came = came
 time_holds Unequal now at came = not came
@@ -162,7 +168,8 @@ holds_on network S time readings (Status link) relation value =
 holds_on network S time readings Time relation value =
     time_holds relation time (seconds_of value) (has_come network time (seconds_of value))
 holds_on network S time readings Clock relation value =
-    time_holds relation (clock_at network time) (seconds_of value) (has_come_today network (clock_at network time) (seconds_of value))
+    time_holds relation (clock_at network time) (seconds_of value) (has_come_today network (clock_at network time)
+    (seconds_of value))
 holds_on network S time readings what relation value =
     compares relation (measured network S readings what) (amount network what value)
 

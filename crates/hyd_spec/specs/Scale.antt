@@ -1,5 +1,5 @@
--- The scale of a history, and what its flows may miss. A scale S is at least 1. At scale S heads and levels are whole numbers
--- of S-th parts of a head tick (10^-13 m), flows of S-th parts of a flow tick (10^-7 cubic metres a day).
+-- The scale of a history, and what its flows may miss. A scale S is at least 1. At scale S heads and levels are whole
+-- numbers of S-th parts of a head tick (10^-13 m), flows of S-th parts of a flow tick (10^-7 cubic metres a day).
 -- Source: this program's.
 use Rattle.std.specs.Prelude.{ℕ, ℤ, pos, ◌+ℤ◌, ◌*ℤ◌, int_div, int_le, Bool, ◌&&◌, List, [], ◌∷◌}
 

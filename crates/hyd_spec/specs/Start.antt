@@ -1,8 +1,10 @@
 -- The start of a period: pump patterns, then simple controls.
 -- Source: EPANET 2.2 User Manual, chapter 3 (controls) and appendix C ([CONTROLS], [PUMPS]); that a pump takes its
 -- pattern's multiplier at time 0 and where a step of the patterns begins, and at no other time, is this program's.
-use Rattle.std.specs.Prelude.{ℕ, ◌+◌, ◌%◌, ℤ, pos, Bool, ◌||◌, ◌==◌, List, [], ◌∷◌, Option, Some, None, fold, slice_set, slice_index_or, int_le, if◌then◌else◌}
-use Rattle.hyd_spec.specs.Types.{Project, Link, LinkKind, PipeLink, CheckPipe, PumpLink, CurvePump, Tcv, Fcv, Gpv, LinkState, Closed, Speed, When, AtLevel, AtTime, AtClock}
+use Rattle.std.specs.Prelude.{ℕ, ◌+◌, ◌%◌, ℤ, pos, Bool, ◌||◌, ◌==◌, List, [], ◌∷◌, Option, Some, None, fold, slice_set}
+use Rattle.std.specs.Prelude.{slice_index_or, int_le, if◌then◌else◌}
+use Rattle.hyd_spec.specs.Types.{Project, Link, LinkKind, PipeLink, CheckPipe, PumpLink, CurvePump, Tcv, Fcv, Gpv}
+use Rattle.hyd_spec.specs.Types.{LinkState, Closed, Speed, When, AtLevel, AtTime, AtClock}
 use Rattle.hyd_num.specs.Rational.{whole}
 use Rattle.hyd_spec.specs.Tank.{reaches}
 use Rattle.hyd_spec.specs.Quantity.{multiplier_at}
@@ -69,7 +71,8 @@ control_acts network time acts (AtClock at) = at == clock_at network time
 -- The link states after the controls, carried out in order, a later one overriding.
 abbrev pub controlled : Project → ℕ → (ℕ → Bool → ℤ → Bool) → List LinkState → List LinkState
 controlled network time acts states =
-    fold (λ links control. if control_acts network time acts control.when then slice_set links control.link control.to else links)
+    fold (λ links control. if control_acts network time acts control.when then slice_set links control.link control.to
+    else links)
     states network.controls.list
 
 -- The link states of a period that starts at `time`, from those commanded before.

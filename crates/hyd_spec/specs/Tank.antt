@@ -1,9 +1,10 @@
 -- Tanks: what their stock of water becomes under a constant inflow, and when they count as full or empty.
 -- Levels, volumes and inflows of a history are S-th parts of ticks; a volume tick is 10^-9 cubic metres.
--- Source: EPANET 2.2 User Manual, chapter 3 (tanks; curves; hydraulic simulation model); the ten ticks of a next level and of a
--- next volume, the band in which a tank counts as full or empty, and that a level equal to a target has reached it, are
--- this program's.
-use Rattle.std.specs.Prelude.{◌≡◌, ℕ, ◌*◌, ◌^◌, ℤ, pos, ◌+ℤ◌, ◌-ℤ◌, ◌*ℤ◌, ◌≤ℤ◌, neg_ℤ, Bool, true, false, List, [], map, slice_get, if◌then◌else◌, int_le, unsigned_abs, MatchBool}
+-- Source: EPANET 2.2 User Manual, chapter 3 (tanks; curves; hydraulic simulation model); the ten ticks of a next level
+-- and of a next volume, the band in which a tank counts as full or empty, and that a level equal to a target has
+-- reached it, are this program's.
+use Rattle.std.specs.Prelude.{◌≡◌, ℕ, ◌*◌, ◌^◌, ℤ, pos, ◌+ℤ◌, ◌-ℤ◌, ◌*ℤ◌, ◌≤ℤ◌, neg_ℤ, Bool, true, false, List, [], map}
+use Rattle.std.specs.Prelude.{slice_get, if◌then◌else◌, int_le, unsigned_abs, MatchBool}
 use Rattle.std.specs.Option.{option_map_or}
 use Rattle.hyd_net.specs.Curves.{Knot, value_at, volume_at}
 use Rattle.hyd_spec.specs.Types.{Project, Tank, VolumePoint, TankState, Full, Between, Empty}
@@ -14,13 +15,14 @@ use Rattle.hyd_spec.specs.Network.{tank_node}
 
 -- ---- stocks
 
--- What is kept of a tank from period to period: its level above the bottom and, where it has a volume curve, its volume (else
--- 0).
+-- What is kept of a tank from period to period: its level above the bottom and, where it has a volume curve, its volume
+-- (else 0).
 pub record Stock : Type 0 where
   pub level : ℤ
   pub volume : ℤ
 
--- How a tank holds its water: a cylinder by its area (10^-9 square metres), a tank with a volume curve by the curve's points.
+-- How a tank holds its water: a cylinder by its area (10^-9 square metres), a tank with a volume curve by the curve's
+-- points.
 pub data Walls : Type 0 where
   Cylinder : ℕ → Walls
   Curve : List VolumePoint → Walls
@@ -64,9 +66,9 @@ level_bounds tank = record { least = tank.minimum; most = tank.maximum }
 abbrev pub content_bounds : Walls → Tank → Bounds
 content_bounds walls tank = record { least = content_at walls tank.minimum; most = content_at walls tank.maximum }
 
--- The content after `seconds` of a constant inflow, before its bounds are looked at. A flow tick for a day is 100 volume ticks,
--- and on 10^-9 square metres it is 10^15 head ticks; a day has 86,400 seconds, and 864 is a hundredth of that. Stock and inflow may be parts of a tick,
--- at one scale.
+-- The content after `seconds` of a constant inflow, before its bounds are looked at. A flow tick for a day is 100
+-- volume ticks, and on 10^-9 square metres it is 10^15 head ticks; a day has 86,400 seconds, and 864 is a hundredth of
+-- that. Stock and inflow may be parts of a tick, at one scale.
 abbrev pub exact_content : Walls → Stock → ℤ → ℕ → Rational
 exact_content (Cylinder area) stock inflow seconds =
     let breadth = 86400 * area in
@@ -74,8 +76,8 @@ exact_content (Cylinder area) stock inflow seconds =
 exact_content (Curve points) stock inflow seconds =
     record { num = (pos 864 *ℤ stock.volume) +ℤ (pos seconds *ℤ inflow); den = 864 }
 
--- The value x has met a target (whole ticks) in one of two ways: ABOVE (`true`), it is at least the target; BELOW, it is at
--- most the target.
+-- The value x has met a target (whole ticks) in one of two ways: ABOVE (`true`), it is at least the target; BELOW, it
+-- is at most the target.
 abbrev pub reaches : ℕ → Bool → ℤ → Rational → Bool
 reaches S true ticks x = is_at_most (whole (at_scale S ticks)) x
 reaches S false ticks x = is_at_most x (whole (at_scale S ticks))
@@ -90,8 +92,8 @@ is_at_minimum S bounds x = reaches S false bounds.least x
 
 -- ---- levels
 
--- What goes with a content x: the most of a range where x is at or above the most content, the least where it is at or below
--- the least, else `inside`.
+-- What goes with a content x: the most of a range where x is at or above the most content, the least where it is at or
+-- below the least, else `inside`.
 abbrev pub placed : ℕ → Bounds → Bounds → Rational → Rational → Rational
 placed S contents range x inside =
     if is_at_maximum S contents x then whole (at_scale S range.most)
@@ -119,8 +121,8 @@ abbrev pub level_at : ℕ → Walls → Tank → Rational → Rational
 level_at S (Cylinder area) tank x = x
 level_at S (Curve points) tank x = level_at_volume S points tank x
 
--- The carried level: the maximum where the exact content is at least that of the maximum, the minimum where it is at most
--- that of the minimum, else the level at the exact content.
+-- The carried level: the maximum where the exact content is at least that of the maximum, the minimum where it is at
+-- most that of the minimum, else the level at the exact content.
 abbrev pub carried_level : ℕ → Walls → Tank → Stock → ℤ → ℕ → Rational
 carried_level S walls tank stock inflow seconds =
     let exact = exact_content walls stock inflow seconds in
@@ -128,8 +130,8 @@ carried_level S walls tank stock inflow seconds =
 
 -- ---- targets
 
--- The level that is compared with a target: the exact one of a cylinder, which may lie beyond its bounds, and the carried
--- one of a tank with a curve.
+-- The level that is compared with a target: the exact one of a cylinder, which may lie beyond its bounds, and the
+-- carried one of a tank with a curve.
 abbrev pub watched_level : ℕ → Walls → Tank → Stock → ℤ → ℕ → Rational
 watched_level S (Cylinder area) tank stock inflow seconds = exact_content (Cylinder area) stock inflow seconds
 watched_level S (Curve points) tank stock inflow seconds = carried_level S (Curve points) tank stock inflow seconds
@@ -158,8 +160,8 @@ pub record IsNear (S : ℕ) (range : Bounds) (x : Rational) (next : ℤ) : Type 
   pub above_least : at_scale S range.least ≤ℤ next
   pub below_most : next ≤ℤ at_scale S range.most
 
--- What may go with a content x: the most of a range where x is at or above the most content, the least where it is at or below
--- the least, any whole value near `inside` otherwise.
+-- What may go with a content x: the most of a range where x is at or above the most content, the least where it is at
+-- or below the least, any whole value near `inside` otherwise.
 abbrev pub IsPlaced : ℕ → Bounds → Bounds → Rational → Rational → ℤ → Type 0
 IsPlaced S contents range x inside next =
     MatchBool (is_at_maximum S contents x) (next ≡ at_scale S range.most)
@@ -180,13 +182,14 @@ IsLevelAt S points tank volume level =
     IsPlaced S (content_bounds (Curve points) tank) (level_bounds tank) (whole volume)
     (level_at_volume S points tank (whole volume)) level
 
--- The stock with which the next period begins. A cylinder's level is its content; with a curve the volume is the content, and
--- the level goes with it.
+-- The stock with which the next period begins. A cylinder's level is its content; with a curve the volume is the
+-- content, and the level goes with it.
 abbrev pub IsNextStock : ℕ → Walls → Tank → Stock → ℤ → ℕ → Stock → Type 0
 IsNextStock S (Cylinder area) tank stock inflow seconds next =
     IsNextContent S (Cylinder area) tank stock inflow seconds next.level × (next.volume ≡ pos 0)
 IsNextStock S (Curve points) tank stock inflow seconds next =
-    IsNextContent S (Curve points) tank stock inflow seconds next.volume × IsLevelAt S points tank next.volume next.level
+    IsNextContent S (Curve points) tank stock inflow seconds next.volume × IsLevelAt S points tank next.volume
+    next.level
 
 -- ---- states
 

@@ -1,5 +1,5 @@
--- The types of the program that definitions speak of, under one roof. Variants whose name another type or definition has
--- too have a name of their own here.
+-- The types of the program that definitions speak of, under one roof. Variants whose name another type or definition
+-- has too have a name of their own here.
 pub use Rattle.hyd_num.specs.declared.decimals.Decimal.{Decimal}
 pub use Rattle.hyd_num.specs.declared.units.FlowUnit.{FlowUnit}
 pub use Rattle.hyd_num.specs.declared.units.FlowUnit.TheVariants.{Cmd}
@@ -17,7 +17,8 @@ pub use Rattle.hyd_net.specs.declared.curves.VolumePoint.{VolumePoint}
 pub use Rattle.hyd_net.specs.declared.curves.HeadPoint.{HeadPoint}
 pub use Rattle.hyd_net.specs.declared.links.Link.{Link}
 pub use Rattle.hyd_net.specs.declared.links.LinkKind.{LinkKind}
-pub use Rattle.hyd_net.specs.declared.links.LinkKind.TheVariants.{Pipe as PipeLink, CheckPipe, Pump as PumpLink, CurvePump, Tcv, Fcv, Gpv}
+pub use Rattle.hyd_net.specs.declared.links.LinkKind.TheVariants.{Pipe as PipeLink, CheckPipe, Pump as PumpLink}
+pub use Rattle.hyd_net.specs.declared.links.LinkKind.TheVariants.{CurvePump, Tcv, Fcv, Gpv}
 pub use Rattle.hyd_net.specs.declared.links.LinkState.{LinkState}
 pub use Rattle.hyd_net.specs.declared.links.LinkState.TheVariants.{Open, Closed, Speed, Throttle, Limit}
 pub use Rattle.hyd_net.specs.declared.links.OpenValve.{OpenValve}
@@ -36,9 +37,11 @@ pub use Rattle.hyd_net.specs.declared.rules.Clause.{Clause}
 pub use Rattle.hyd_net.specs.declared.rules.What.{What}
 pub use Rattle.hyd_net.specs.declared.rules.What.TheVariants.{Head, Pressure, Level, Flow, Setting, Status, Time, Clock}
 pub use Rattle.hyd_net.specs.declared.rules.Relation.{Relation}
-pub use Rattle.hyd_net.specs.declared.rules.Relation.TheVariants.{Less, AtMost as NotMore, More, AtLeast as NotLess, Equal, Unequal}
+pub use Rattle.hyd_net.specs.declared.rules.Relation.TheVariants.{Less, AtMost as NotMore, More, AtLeast as NotLess}
+pub use Rattle.hyd_net.specs.declared.rules.Relation.TheVariants.{Equal, Unequal}
 pub use Rattle.hyd_net.specs.declared.rules.Value.{Value}
-pub use Rattle.hyd_net.specs.declared.rules.Value.TheVariants.{Amount, Open as ValueOpen, Closed as ValueClosed, Active as ValueActive}
+pub use Rattle.hyd_net.specs.declared.rules.Value.TheVariants.{Amount, Open as ValueOpen, Closed as ValueClosed}
+pub use Rattle.hyd_net.specs.declared.rules.Value.TheVariants.{Active as ValueActive}
 pub use Rattle.hyd_net.specs.declared.rules.Action.{Action}
 pub use Rattle.hyd_spec.specs.declared.Source.{Source}
 pub use Rattle.hyd_spec.specs.declared.Source.TheVariants.{Control as ByControl, Rule as ByRule}

@@ -22,7 +22,8 @@ can_be m e n f = (is_normal m && is_normal n) && are_ends m e n f
 scaled : (m : ℕ) (e : ℤ) → 2 ^ 62 ≤ m → m < 2 ^ 63 → Scaled
 scaled m e normal short = record { mant = m; exp = e; normal = normal; short = short }
 
-pub with_ends : (origin : Origin) (m : ℕ) (e : ℤ) (n : ℕ) (f : ℤ) → can_be m e n f ≡ true → (capacity : Capacity) × HasEnds capacity m e n f
+pub with_ends : (origin : Origin) (m : ℕ) (e : ℤ) (n : ℕ) (f : ℤ) → can_be m e n f ≡ true
+    → (capacity : Capacity) × HasEnds capacity m e n f
 unfolding can_be is_normal are_ends scaled
 with_ends origin m e n f can =
     let parts = and_parts _ _ can in

@@ -1,5 +1,6 @@
 -- The great emitter's capacity is out of range, and that is the fault of its text.
-use Rattle.std.proofs.Common.{◌≡◌, ℕ, zero, suc, ◌+◌, ◌*◌, ◌^◌, ◌<◌, List, [], ◌∷◌, codes, take, Option, Some, None, refl, arith, pos, neg_ℤ, inl, inr, true, false, true≢false, lit≤, lit<, subst, sym}
+use Rattle.std.proofs.Common.{◌≡◌, ℕ, zero, suc, ◌+◌, ◌*◌, ◌^◌, ◌<◌, List, [], ◌∷◌, codes, take, Option, Some, None}
+use Rattle.std.proofs.Common.{refl, arith, pos, neg_ℤ, inl, inr, true, false, true≢false, lit≤, lit<, subst, sym}
 use borrow.Author.Differences.{up}
 use Rattle.hyd_num.proofs.Rounding.{IsDown-from_cut, IsUp-exact, IsUp-next}
 use Rattle.hyd_num.specs.declared.binary.Scaled.{Scaled}
@@ -15,7 +16,8 @@ use Rattle.hyd_spec_lines.specs.Lines.{Row, items_of, rows_in, fault_in, kind_of
 use Rattle.hyd_spec_lines.specs.declared.section.Section.TheVariants.{Junctions, Emitters, Options}
 use Rattle.hyd_net.specs.declared.cause.Cause.{Cause}
 use Rattle.hyd_net.specs.declared.cause.Cause.TheVariants.{Limit}
-use Rattle.hyd_spec_input.specs.Keywords.{flow_unit, option_word, time_word, link_word, node_word, object_word, attribute_word, relation_word, rule_word}
+use Rattle.hyd_spec_input.specs.Keywords.{flow_unit, option_word, time_word, link_word, node_word, object_word}
+use Rattle.hyd_spec_input.specs.Keywords.{attribute_word, relation_word, rule_word}
 use Rattle.hyd_spec_input.specs.Moments.{unit_seconds}
 use Rattle.hyd_spec_input.specs.ByItself as itself
 use Rattle.hyd_spec_input.specs.ByItself.{IsWrongByItself}
@@ -116,7 +118,8 @@ rows : List Row
 rows = unit ∷ losses ∷ junction ∷ emitter ∷ []
 
 rows_are : rows_in (items_of great_emitter) ≡ rows
-unfolding rows unit losses junction emitter items_of kind_of read_section is_passed_over heading_kind words_in is_keyword
+unfolding rows unit losses junction emitter items_of kind_of read_section is_passed_over heading_kind words_in
+    is_keyword
     is_numeral magnitude_of nano_of
 rows_are = refl
 

@@ -1,10 +1,12 @@
--- Capacities of realistic size, as the binary numbers between which they lie, and head differences at which they are tried.
+-- Capacities of realistic size, as the binary numbers between which they lie, and head differences at which they are
+-- tried.
 use Rattle.std.specs.Prelude.{◌≡◌, ℕ, ℤ, pos, neg_ℤ, List, [], ◌∷◌}
 use Rattle.hyd_spec.specs.Types.{Capacity}
 use Rattle.hyd_spec_certificates.specs.Enclosing.{DemandLaw, Driven}
 
 -- The mantissas and exponents of both ends of a capacity.
-pub record HasEnds (capacity : Capacity) (low_mantissa : ℕ) (low_exponent : ℤ) (high_mantissa : ℕ) (high_exponent : ℤ) : Type 0 where
+pub record HasEnds (capacity : Capacity) (low_mantissa : ℕ) (low_exponent : ℤ) (high_mantissa : ℕ)
+    (high_exponent : ℤ) : Type 0 where
   pub low_mantissa_is : capacity.lo.mant ≡ low_mantissa
   pub low_exponent_is : capacity.lo.exp ≡ low_exponent
   pub high_mantissa_is : capacity.hi.mant ≡ high_mantissa
@@ -44,16 +46,21 @@ IsDrivenInPounds capacity = HasEnds capacity 4953984467136903447 (neg_ℤ (pos 4
 
 -- None, one tick, a ten-thousandth of a millimetre, 1 m, 12.3 m and 100 m, in both directions.
 abbrev pub differences : List ℤ
-differences = pos 0 ∷ pos 1 ∷ neg_ℤ (pos 1) ∷ pos 1000003 ∷ neg_ℤ (pos 1000003) ∷ pos 10000000000000 ∷ neg_ℤ (pos 10000000000000)
+differences = pos 0 ∷ pos 1 ∷ neg_ℤ (pos 1) ∷ pos 1000003 ∷ neg_ℤ (pos 1000003) ∷ pos 10000000000000
+    ∷ neg_ℤ (pos 10000000000000)
     ∷ pos 123456789012345 ∷ neg_ℤ (pos 123456789012345) ∷ pos 1000000000000000 ∷ neg_ℤ (pos 1000000000000000) ∷ []
 
 -- The law of the demand in metres.
 abbrev pub driven : Capacity → DemandLaw
-driven capacity = Driven (pos 8000000000) capacity (record { num = pos 50000000000000; den = 1 }) (record { num = pos 200000000000000; den = 1 })
+driven capacity = Driven (pos 8000000000) capacity (record {
+  num = pos 50000000000000;
+  den = 1;
+}) (record { num = pos 200000000000000; den = 1 })
 
 -- Pressures around its minimum and its required one.
 abbrev pub around : List ℤ
-around = neg_ℤ (pos 10000000000000) ∷ pos 49999999999999 ∷ pos 50000000000000 ∷ pos 50000000000001 ∷ pos 100000000000000 ∷ pos 199999999999999
+around = neg_ℤ (pos 10000000000000) ∷ pos 49999999999999 ∷ pos 50000000000000 ∷ pos 50000000000001
+    ∷ pos 100000000000000 ∷ pos 199999999999999
     ∷ pos 200000000000000 ∷ pos 200000000000001 ∷ pos 1000000000000000 ∷ []
 
 -- The law of the demand in pounds.
@@ -63,5 +70,6 @@ driven_in_pounds capacity = Driven (pos 5451000000) capacity
 
 -- Pressures around its minimum and its required one.
 abbrev pub around_in_pounds : List ℤ
-around_in_pounds = neg_ℤ (pos 10000000000000) ∷ pos 35171936302792 ∷ pos 35171936302793 ∷ pos 35171936302794 ∷ pos 100000000000000
+around_in_pounds = neg_ℤ (pos 10000000000000) ∷ pos 35171936302792 ∷ pos 35171936302793 ∷ pos 35171936302794
+    ∷ pos 100000000000000
     ∷ pos 140687745218203 ∷ pos 140687745218204 ∷ pos 140687745218205 ∷ pos 140687745218206 ∷ pos 1000000000000000 ∷ []

@@ -1,5 +1,5 @@
--- A city of two junctions, a reservoir and a tank, with one link of each kind, in cubic metres a day and metres. The second
--- junction has an emitter; the demand of the first depends on its pressure.
+-- A city of two junctions, a reservoir and a tank, with one link of each kind, in cubic metres a day and metres. The
+-- second junction has an emitter; the demand of the first depends on its pressure.
 use Rattle.std.specs.Prelude.{pos, neg_ℤ, List, ℤ, [], ◌∷◌, Some, None}
 use Rattle.hyd_spec.specs.Types.{Capacity}
 use Rattle.hyd_spec.specs.Law.{QuadraticLaw, Lifted, ForwardOnly, Capped}
@@ -7,9 +7,9 @@ use Rattle.hyd_spec_certificates.specs.Enclosing.{Fixed, Driven}
 use Rattle.hyd_spec_certificates.specs.Grid.{Grid, GridLink, GridJunction}
 use Rattle.hyd_spec_cases.specs.Capacities.{HasEnds}
 
--- The capacities of the pipe (1000 m, 300 mm across), the pipe with a check valve (400 m, 200 mm across), the pump (40 m at
--- 2160 cubic metres a day), the throttle control valve (304.8 mm, a setting of 100), the flow control valve (250 mm), the
--- emitter, and the demand.
+-- The capacities of the pipe (1000 m, 300 mm across), the pipe with a check valve (400 m, 200 mm across), the pump (40
+-- m at 2160 cubic metres a day), the throttle control valve (304.8 mm, a setting of 100), the flow control valve (250
+-- mm), the emitter, and the demand.
 pub record CityParts : Type 0 where
   pub pipe : Capacity
   pub pipe_is : HasEnds pipe 6703202733254145186 (neg_ℤ (pos 36)) 6703202733254145207 (neg_ℤ (pos 36))
@@ -30,7 +30,10 @@ pub record CityParts : Type 0 where
 abbrev pub first : CityParts → GridJunction
 first parts = record {
   elevation = pos 100000000000000;
-  demand = Driven (pos 8000000000) parts.driven (record { num = pos 50000000000000; den = 1 }) (record { num = pos 200000000000000; den = 1 });
+  demand = Driven (pos 8000000000) parts.driven (record {
+    num = pos 50000000000000;
+    den = 1;
+  }) (record { num = pos 200000000000000; den = 1 });
   emitter = None;
 }
 
@@ -55,7 +58,10 @@ abbrev pub pump : CityParts → GridLink
 pump parts = record {
   from = 2;
   to = 1;
-  law = ForwardOnly (Lifted (record { num = pos 1296000000000000000000000000000000; den = 3000000000000000000 }) (QuadraticLaw parts.pump));
+  law = ForwardOnly (Lifted (record {
+    num = pos 1296000000000000000000000000000000;
+    den = 3000000000000000000;
+  }) (QuadraticLaw parts.pump));
 }
 
 -- From the first junction to the tank, which is node 3.

@@ -1,5 +1,5 @@
--- Curves by straight lines: one of a pump, one of a general purpose valve and one of a tank, in metres, cubic metres and
--- cubic metres a day; and knots some of which have one place.
+-- Curves by straight lines: one of a pump, one of a general purpose valve and one of a tank, in metres, cubic metres
+-- and cubic metres a day; and knots some of which have one place.
 use Rattle.std.specs.Prelude.{ℤ, pos, neg_ℤ, false, List, [], ◌∷◌, None}
 use Rattle.hyd_net.specs.ListView.{ListView}
 use Rattle.hyd_net.specs.Curves.{Knot}
@@ -38,12 +38,14 @@ running speed = own_law false bends (CurvePump 0 None) (Speed speed)
 
 -- Head differences along the pump, before its first knot, at and between its knots and after the last one.
 abbrev pub along_pump : List ℤ
-along_pump = neg_ℤ (pos 500000000000000) ∷ neg_ℤ (pos 400000000000000) ∷ neg_ℤ (pos 350000000000000) ∷ neg_ℤ (pos 100000000000000)
+along_pump = neg_ℤ (pos 500000000000000) ∷ neg_ℤ (pos 400000000000000) ∷ neg_ℤ (pos 350000000000000)
+    ∷ neg_ℤ (pos 100000000000000)
     ∷ neg_ℤ (pos 99999999999999) ∷ pos 0 ∷ pos 50000000000000 ∷ pos 1000000000000000000 ∷ []
 
 -- Head differences along the pump at a third of its speed.
 abbrev pub along_slow_pump : List ℤ
-along_slow_pump = neg_ℤ (pos 500000000000000) ∷ neg_ℤ (pos 44444444355556) ∷ neg_ℤ (pos 44444444355555) ∷ neg_ℤ (pos 44444444355554)
+along_slow_pump = neg_ℤ (pos 500000000000000) ∷ neg_ℤ (pos 44444444355556) ∷ neg_ℤ (pos 44444444355555)
+    ∷ neg_ℤ (pos 44444444355554)
     ∷ neg_ℤ (pos 10000000000000) ∷ pos 0 ∷ pos 1 ∷ []
 
 -- Intervals of head differences along the pump.
@@ -57,7 +59,8 @@ intervals = record { lo = neg_ℤ (pos 100000000000000); hi = neg_ℤ (pos 10000
 
 -- Head differences along the valve.
 abbrev pub along_valve : List ℤ
-along_valve = neg_ℤ (pos 90000000000000) ∷ neg_ℤ (pos 40000000000000) ∷ neg_ℤ (pos 10000000000001) ∷ neg_ℤ (pos 1) ∷ pos 0 ∷ pos 1
+along_valve = neg_ℤ (pos 90000000000000) ∷ neg_ℤ (pos 40000000000000) ∷ neg_ℤ (pos 10000000000001) ∷ neg_ℤ (pos 1)
+    ∷ pos 0 ∷ pos 1
     ∷ pos 10000000000000 ∷ pos 20000000000000 ∷ pos 40000000000000 ∷ pos 50000000000000 ∷ []
 
 -- A head difference one way and a greater one the other way.

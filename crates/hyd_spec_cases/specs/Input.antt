@@ -1,4 +1,5 @@
--- The fault of a text as a value that computes, capacities out of range left out, and texts that many examples begin with.
+-- The fault of a text as a value that computes, capacities out of range left out, and texts that many examples begin
+-- with.
 use Rattle.std.specs.Prelude.{ℕ, ◌+◌, List, [], ◌∷◌, ◌++◌, codes, Option, Some, None}
 use Rattle.std.specs.List.{flat_map}
 use Rattle.hyd_spec_lines.specs.Lines.{Row, items_of, rows_in, fault_in}

@@ -1,5 +1,5 @@
--- The network of the example: a reservoir at 100 m, a throttle control valve of 304.8 mm at a setting of 100, and a junction
--- at elevation 0 with a demand of 1000 cubic metres a day.
+-- The network of the example: a reservoir at 100 m, a throttle control valve of 304.8 mm at a setting of 100, and a
+-- junction at elevation 0 with a demand of 1000 cubic metres a day.
 use Rattle.std.specs.Prelude.{pos, [], ◌∷◌, None}
 use Rattle.hyd_spec.specs.Types.{Capacity}
 use Rattle.hyd_spec.specs.Law.{QuadraticLaw}

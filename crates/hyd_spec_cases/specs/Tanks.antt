@@ -10,7 +10,8 @@ between_tanks kind = record { from = 1; to = 2; kind = kind; start = Open }
 
 -- Each pair of states, that of the first tank before that of the second.
 abbrev pub pairs : List (List TankState)
-pairs = (Full ∷ Full ∷ []) ∷ (Full ∷ Between ∷ []) ∷ (Full ∷ Empty ∷ []) ∷ (Between ∷ Full ∷ []) ∷ (Between ∷ Between ∷ []) ∷ (Between ∷ Empty ∷ [])
+pairs = (Full ∷ Full ∷ []) ∷ (Full ∷ Between ∷ []) ∷ (Full ∷ Empty ∷ []) ∷ (Between ∷ Full ∷ [])
+    ∷ (Between ∷ Between ∷ []) ∷ (Between ∷ Empty ∷ [])
     ∷ (Empty ∷ Full ∷ []) ∷ (Empty ∷ Between ∷ []) ∷ (Empty ∷ Empty ∷ []) ∷ []
 
 -- The network has these two tanks, of which each overflows or not.

@@ -10,40 +10,48 @@ ghost use Rattle.hyd_spec.specs.Law.{loss_at_most, loss_at_least};
 
 /// A pipe in feet and inches, without minor losses, at 10000000000000 head ticks.
 pub fn pipe_feet()
-    ensures below { (length diameter roughness minor : Decimal) → length.nano ≡ pos 1000000000000 → diameter.nano ≡ pos 12000000000
+    ensures below { (length diameter roughness minor : Decimal) → length.nano ≡ pos 1000000000000
+        → diameter.nano ≡ pos 12000000000
         → roughness.nano ≡ pos 10000000 → minor.nano ≡ pos 0
         → PipeLossAtMost true length diameter roughness minor 1 64916962507 10000000000000 }
-    ensures above { (length diameter roughness minor : Decimal) → length.nano ≡ pos 1000000000000 → diameter.nano ≡ pos 12000000000
+    ensures above { (length diameter roughness minor : Decimal) → length.nano ≡ pos 1000000000000
+        → diameter.nano ≡ pos 12000000000
         → roughness.nano ≡ pos 10000000 → minor.nano ≡ pos 0
         → PipeLossAtLeast true length diameter roughness minor 1 64916962508 10000000000000 }
 {}
 
 /// A pipe in feet and inches, with minor losses, at 3000000000000 head ticks.
 pub fn pipe_feet_minor()
-    ensures below { (length diameter roughness minor : Decimal) → length.nano ≡ pos 5280123456789 → diameter.nano ≡ pos 8123456789
+    ensures below { (length diameter roughness minor : Decimal) → length.nano ≡ pos 5280123456789
+        → diameter.nano ≡ pos 8123456789
         → roughness.nano ≡ pos 13000000 → minor.nano ≡ pos 2500000000
         → PipeLossAtMost true length diameter roughness minor 1 4189361902 3000000000000 }
-    ensures above { (length diameter roughness minor : Decimal) → length.nano ≡ pos 5280123456789 → diameter.nano ≡ pos 8123456789
+    ensures above { (length diameter roughness minor : Decimal) → length.nano ≡ pos 5280123456789
+        → diameter.nano ≡ pos 8123456789
         → roughness.nano ≡ pos 13000000 → minor.nano ≡ pos 2500000000
         → PipeLossAtLeast true length diameter roughness minor 1 4189361903 3000000000000 }
 {}
 
 /// A pipe in metres and millimetres, without minor losses, at 10000000000000 head ticks.
 pub fn pipe_metres()
-    ensures below { (length diameter roughness minor : Decimal) → length.nano ≡ pos 1000000000000 → diameter.nano ≡ pos 300000000000
+    ensures below { (length diameter roughness minor : Decimal) → length.nano ≡ pos 1000000000000
+        → diameter.nano ≡ pos 300000000000
         → roughness.nano ≡ pos 11000000 → minor.nano ≡ pos 0
         → PipeLossAtMost false length diameter roughness minor 1 31232104945 10000000000000 }
-    ensures above { (length diameter roughness minor : Decimal) → length.nano ≡ pos 1000000000000 → diameter.nano ≡ pos 300000000000
+    ensures above { (length diameter roughness minor : Decimal) → length.nano ≡ pos 1000000000000
+        → diameter.nano ≡ pos 300000000000
         → roughness.nano ≡ pos 11000000 → minor.nano ≡ pos 0
         → PipeLossAtLeast false length diameter roughness minor 1 31232104946 10000000000000 }
 {}
 
 /// A pipe in metres and millimetres, with minor losses, at 777777777777 head ticks.
 pub fn pipe_metres_minor()
-    ensures below { (length diameter roughness minor : Decimal) → length.nano ≡ pos 987654321987 → diameter.nano ≡ pos 123456789012
+    ensures below { (length diameter roughness minor : Decimal) → length.nano ≡ pos 987654321987
+        → diameter.nano ≡ pos 123456789012
         → roughness.nano ≡ pos 15000000 → minor.nano ≡ pos 10000000000
         → PipeLossAtMost false length diameter roughness minor 1 596492032 777777777777 }
-    ensures above { (length diameter roughness minor : Decimal) → length.nano ≡ pos 987654321987 → diameter.nano ≡ pos 123456789012
+    ensures above { (length diameter roughness minor : Decimal) → length.nano ≡ pos 987654321987
+        → diameter.nano ≡ pos 123456789012
         → roughness.nano ≡ pos 15000000 → minor.nano ≡ pos 10000000000
         → PipeLossAtLeast false length diameter roughness minor 1 596492033 777777777777 }
 {}
@@ -72,7 +80,8 @@ pub fn pump_three_points()
         → loss_at_least (Pump flow drop 1 Gpm) 1 7463613064 10000000000000 }
 {}
 
-/// A pump with a curve of one point, which loses a third of its drop, at a driving difference of 123456789012345 head ticks.
+/// A pump with a curve of one point, which loses a third of its drop, at a driving difference of 123456789012345 head
+/// ticks.
 pub fn pump_one_point()
     ensures below { (flow drop : Decimal) → flow.nano ≡ pos 25000000000 → drop.nano ≡ pos 40000000000
         → loss_at_most (Pump flow drop 3 Lps) 1 20784609597 123456789012345 }

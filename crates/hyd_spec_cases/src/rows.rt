@@ -6,11 +6,13 @@ ghost use Rattle.hyd_spec_lines.specs.Bytes.{words_in};
 ghost use Rattle.hyd_spec_lines.specs.declared.section.Section.TheVariants.{Pipes, Pumps, Valves};
 ghost use Rattle.hyd_net.specs.declared.links.LinkState.TheVariants.{Closed, Speed};
 ghost use Rattle.hyd_spec_input.specs.Moments.{clock_seconds};
-ghost use Rattle.hyd_spec_input.specs.NetworkRows.{has_check_valve, is_closed_pipe, pump_speed, is_throttle, is_general};
+ghost use Rattle.hyd_spec_input.specs.NetworkRows.{has_check_valve, is_closed_pipe, pump_speed, is_throttle};
+ghost use Rattle.hyd_spec_input.specs.NetworkRows.{is_general};
 ghost use Rattle.hyd_spec_input.specs.Project.{speed_state};
 ghost use Rattle.hyd_spec_input.specs.Tables.{rows_of};
 ghost use Rattle.hyd_spec_cases.specs.Input.{fault_of};
-ghost use Rattle.hyd_spec_cases.specs.Plant.{plant, plant_rows, pipe_numbers, valve_numbers, plant_drop, plant_emitters};
+ghost use Rattle.hyd_spec_cases.specs.Plant.{plant, plant_rows, pipe_numbers, valve_numbers, plant_drop};
+ghost use Rattle.hyd_spec_cases.specs.Plant.{plant_emitters};
 
 /// Pipes: their numbers, where a status stands in place of the minor loss too; which have a check valve, and which are
 /// closed.
@@ -20,7 +22,8 @@ pub fn pipes()
         ≡ (pos 1000000000000 ∷ pos 300000000000 ∷ pos 12000000 ∷ pos 2500000000 ∷ [])
         ∷ (pos 50500000000 ∷ pos 200000000000 ∷ pos 10000000 ∷ pos 0 ∷ [])
         ∷ (pos 1000000000 ∷ pos 2000000000 ∷ pos 10000000 ∷ pos 0 ∷ []) ∷ [] }
-    ensures check_valves { map (λ row. has_check_valve row.words) (rows_of Pipes plant_rows) ≡ false ∷ true ∷ false ∷ [] }
+    ensures check_valves { map (λ row. has_check_valve row.words) (rows_of Pipes plant_rows) ≡ false ∷ true ∷ false
+        ∷ [] }
     ensures closed { map (λ row. is_closed_pipe row.words) (rows_of Pipes plant_rows) ≡ false ∷ false ∷ true ∷ [] }
 {}
 

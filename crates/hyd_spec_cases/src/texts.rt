@@ -8,9 +8,15 @@ ghost use Rattle.hyd_spec_certificates.specs.declared.Side.TheVariants.{Upper, L
 ghost use Rattle.hyd_spec.specs.declared.TankState.TheVariants.{Between};
 ghost use Rattle.hyd_spec_reports.specs.declared.StatusWord.TheVariants.{Active as WordActive};
 ghost use Rattle.hyd_spec_reports.specs.CertificateText.{words, certificate_text};
-ghost use Rattle.hyd_spec_reports.specs.declared.StopCause.TheVariants.{Demand as DemandOutOfRange, NoCertificate, RoundsSpent, RuleOpen, EventOpen, TankOpen, ControlOpen};
-ghost use Rattle.hyd_spec_reports.specs.declared.CertRefused.TheVariants.{Place, Demand as DemandRefused, Fails, Open as MatterOpen, Length, After};
-ghost use Rattle.hyd_spec_reports.specs.ReportLine.{state_words, line_text, ControlLine, TimeLine, JunctionLine, ReservoirLine, TankLine, LinkLine, FilledLine, EmptiedLine, ReachedLine, RuleLine, stop_line, done_line, partial_line, refused_line, refused_end_line, report_text};
+ghost use Rattle.hyd_spec_reports.specs.declared.StopCause.TheVariants.{Demand as DemandOutOfRange, NoCertificate};
+ghost use Rattle.hyd_spec_reports.specs.declared.StopCause.TheVariants.{RoundsSpent, RuleOpen, EventOpen, TankOpen};
+ghost use Rattle.hyd_spec_reports.specs.declared.StopCause.TheVariants.{ControlOpen};
+ghost use Rattle.hyd_spec_reports.specs.declared.CertRefused.TheVariants.{Place, Demand as DemandRefused, Fails};
+ghost use Rattle.hyd_spec_reports.specs.declared.CertRefused.TheVariants.{Open as MatterOpen, Length, After};
+ghost use Rattle.hyd_spec_reports.specs.ReportLine.{state_words, line_text, ControlLine, TimeLine, JunctionLine};
+ghost use Rattle.hyd_spec_reports.specs.ReportLine.{ReservoirLine, TankLine, LinkLine, FilledLine, EmptiedLine};
+ghost use Rattle.hyd_spec_reports.specs.ReportLine.{ReachedLine, RuleLine, stop_line, done_line, partial_line};
+ghost use Rattle.hyd_spec_reports.specs.ReportLine.{refused_line, refused_end_line, report_text};
 
 /// The text of a certificate: without records, of one record with two heads, and of two records with a tank.
 pub fn certificates()
@@ -57,7 +63,8 @@ pub fn certificates()
 pub fn states()
     ensures { map (λ state. words (state_words state)) (Open ∷ Closed ∷ Speed (pos 1200000000) ∷ Throttle (pos 5) Linear
         ∷ Limit (pos 1000000000000) (pos 7) ∷ [])
-        ≡ codes "OPEN" ∷ codes "CLOSED" ∷ codes "SETTING 1.200000000" ∷ codes "SETTING 0.000000005" ∷ codes "SETTING 1000.000000000"
+        ≡ codes "OPEN" ∷ codes "CLOSED" ∷ codes "SETTING 1.200000000" ∷ codes "SETTING 0.000000005"
+        ∷ codes "SETTING 1000.000000000"
         ∷ [] }
 {}
 
@@ -73,14 +80,22 @@ pub fn lines()
         → line_text network (TimeLine 3600)
         ≡ codes "TIME 1:00:00\n" }
     ensures junction { (network : Project) → network.node_ids ≡ codes "J1" ∷ codes "R" ∷ codes "T" ∷ []
-        → line_text network (JunctionLine 0 (record { lo = neg_ℤ (pos 5); hi = pos 20 }) (record { lo = neg_ℤ (pos 35); hi = neg_ℤ (pos 10) }) (record { lo = neg_ℤ (pos 1); hi = pos 1234 }))
+        → line_text network (JunctionLine 0 (record {
+          lo = neg_ℤ (pos 5);
+          hi = pos 20;
+        }) (record { lo = neg_ℤ (pos 35); hi = neg_ℤ (pos 10) })
+        (record { lo = neg_ℤ (pos 1); hi = pos 1234 }))
         ≡ codes "JUNCTION J1 head -0.0005 0.0020 pressure -0.0035 -0.0010 outflow -0.0001 0.1234\n" }
-    ensures reservoir { (network : Project) → network.node_ids ≡ codes "J1" ∷ codes "R" ∷ codes "T" ∷ [] → length network.junctions.list ≡ 1
+    ensures reservoir { (network : Project) → network.node_ids ≡ codes "J1" ∷ codes "R" ∷ codes "T" ∷ []
+        → length network.junctions.list ≡ 1
         → line_text network (ReservoirLine 0 (record { lo = pos 1000001; hi = pos 1000001 }))
         ≡ codes "RESERVOIR R head 100.0001 100.0001\n" }
     ensures tank { (network : Project) → network.node_ids ≡ codes "J1" ∷ codes "R" ∷ codes "T"
         ∷ [] → length network.junctions.list ≡ 1 → length network.reservoirs.list ≡ 1
-        → line_text network (TankLine 0 (record { lo = pos 9; hi = pos 30007 }) (record { lo = pos 2; hi = pos 30000 }) (record { lo = neg_ℤ (pos 1); hi = pos 1 }) Between)
+        → line_text network (TankLine 0 (record { lo = pos 9; hi = pos 30007 }) (record {
+          lo = pos 2;
+          hi = pos 30000;
+        }) (record { lo = neg_ℤ (pos 1); hi = pos 1 }) Between)
         ≡ codes "TANK T head 0.0009 3.0007 level 0.0002 3.0000 inflow -0.0001 0.0001 state BETWEEN\n" }
     ensures link { (network : Project) → network.link_ids ≡ codes "P" ∷ []
         → line_text network (LinkLine 0 (record { lo = neg_ℤ (pos 5); hi = pos 123456789 }) WordActive)
@@ -97,7 +112,8 @@ pub fn lines()
         ∷ [] → length network.junctions.list ≡ 1 → length network.reservoirs.list ≡ 1
         → line_text network (ReachedLine 3725 0 1)
         ≡ codes "EVENT 1:02:05 TANK T CONTROL 2\n" }
-    ensures rule { (network : Project) (rule : Rule) → network.rules.list ≡ rule ∷ [] → rule.id.list ≡ codes "U1" → network.link_ids ≡ codes "P" ∷ []
+    ensures rule { (network : Project) (rule : Rule) → network.rules.list ≡ rule ∷ [] → rule.id.list ≡ codes "U1"
+        → network.link_ids ≡ codes "P" ∷ []
         → line_text network (RuleLine 3725 0 0 Closed)
         ≡ codes "RULE U1 1:02:05 LINK P CLOSED\n" }
 {}

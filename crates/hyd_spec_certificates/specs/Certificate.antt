@@ -1,7 +1,8 @@
 -- Certificates: vectors of heads that lie above, or below, the heads of every assignment; and raises, which
 -- lead to the tight ones.
 -- Source: Ortega and Rheinboldt 1970 (supersolutions and subsolutions), made strict by a margin.
-use Rattle.std.specs.Prelude.{◌≡◌, ℕ, suc, ◌<◌, ◌^◌, ◌==◌, ℤ, pos, neg_ℤ, ◌+ℤ◌, ◌≤ℤ◌, List, length, All, slice_get, slice_set, Option, Some, None, MatchBool}
+use Rattle.std.specs.Prelude.{◌≡◌, ℕ, suc, ◌<◌, ◌^◌, ◌==◌, ℤ, pos, neg_ℤ, ◌+ℤ◌, ◌≤ℤ◌, List, length, All, slice_get}
+use Rattle.std.specs.Prelude.{slice_set, Option, Some, None, MatchBool}
 use Rattle.hyd_spec_certificates.specs.declared.Problem.{Problem}
 use Rattle.hyd_spec_certificates.specs.declared.Side.{Side}
 use Rattle.hyd_spec_certificates.specs.declared.Side.TheVariants.{Upper, Lower}
@@ -20,8 +21,8 @@ pub record IsInBox (h : ℤ) : Type 0 where
   pub above_floor : neg_ℤ (pos box_limit) ≤ℤ h
   pub below_ceiling : h ≤ℤ pos box_limit
 
--- The junction passes: for UPPER at least its margin and 1 (flow ticks) flows out of it on balance, for LOWER as much flows
--- into it.
+-- The junction passes: for UPPER at least its margin and 1 (flow ticks) flows out of it on balance, for LOWER as much
+-- flows into it.
 abbrev pub Passes : Grid → Problem → Side → List ℤ → ℕ → GridJunction → Type 0
 Passes grid problem Upper u i junction = (margin grid i +ℤ pos 1) ≤ℤ net_low grid problem u i junction
 Passes grid problem Lower u i junction = net_high grid problem u i junction ≤ℤ neg_ℤ (margin grid i +ℤ pos 1)

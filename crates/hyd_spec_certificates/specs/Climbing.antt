@@ -1,13 +1,15 @@
 -- Vectors on the way to the tight one: where a search may begin, lists of raises in any order, and leaps.
 -- Source: this program's; rounds in any order are chaotic iterations (Chazan and Miranker 1969).
-use Rattle.std.specs.Prelude.{◌≡◌, ℕ, suc, ◌<◌, ◌==◌, ℤ, List, [], ◌∷◌, ◌++◌, length, All, slice_get, slice_set, Option, Some, None, MatchBool, ◌⊎◌, Contains, ⊤}
+use Rattle.std.specs.Prelude.{◌≡◌, ℕ, suc, ◌<◌, ◌==◌, ℤ, List, [], ◌∷◌, ◌++◌, length, All, slice_get, slice_set, Option}
+use Rattle.std.specs.Prelude.{Some, None, MatchBool, ◌⊎◌, Contains, ⊤}
 use Rattle.hyd_spec_certificates.specs.declared.Problem.{Problem}
 use Rattle.hyd_spec_certificates.specs.declared.Side.{Side}
 use Rattle.hyd_spec_certificates.specs.declared.HeldJunction.{HeldJunction}
 use Rattle.hyd_spec.specs.Lists.{Each}
 use Rattle.hyd_spec.specs.Assignment.{head_at}
 use Rattle.hyd_spec_certificates.specs.Grid.{Grid, GridJunction, GridLink}
-use Rattle.hyd_spec_certificates.specs.Certificate.{IsInBox, Passes, IsBeyond, IsCertificateHolding, IsRaisedHolding, AreRoundsHolding}
+use Rattle.hyd_spec_certificates.specs.Certificate.{IsInBox, Passes, IsBeyond, IsCertificateHolding, IsRaisedHolding}
+use Rattle.hyd_spec_certificates.specs.Certificate.{AreRoundsHolding}
 
 -- At each place of u the vector v lies as far out as u, or farther.
 abbrev pub LiesBeyond : Side → List ℤ → List ℤ → Type 0

@@ -1,7 +1,9 @@
 -- Decided matters: what certificates leave no doubt about. A matter is decided where it has one answer for all
 -- points of the intervals.
 -- Source: this program's; the matters are those of EPANET 2.2 User Manual, chapter 3 (tanks, controls, time steps).
-use Rattle.std.specs.Prelude.{◌≡◌, ◌≢◌, ℕ, suc, ◌+◌, ◌%◌, ◌<◌, ◌≤◌, ℤ, pos, neg_ℤ, Bool, true, false, IsTrue, IsFalse, ◌⊎◌, List, [], ◌∷◌, ◌++◌, Option, Some, None, map, slice_get, slice_index_or, if◌then◌else◌, int_le, unsigned_abs, Contains, position}
+use Rattle.std.specs.Prelude.{◌≡◌, ◌≢◌, ℕ, suc, ◌+◌, ◌%◌, ◌<◌, ◌≤◌, ℤ, pos, neg_ℤ, Bool, true, false, IsTrue, IsFalse}
+use Rattle.std.specs.Prelude.{◌⊎◌, List, [], ◌∷◌, ◌++◌, Option, Some, None, map, slice_get, slice_index_or}
+use Rattle.std.specs.Prelude.{if◌then◌else◌, int_le, unsigned_abs, Contains, position}
 use Rattle.std.specs.Int.{int_max}
 use Rattle.std.specs.List.{list_any}
 use Rattle.hyd_spec.specs.Types.{Project, Tank, LinkState, Control, When, AtLevel, Rule, RuleClause, Clause}
@@ -24,7 +26,8 @@ use Rattle.hyd_spec_certificates.specs.Grid.{Grid, all_heads}
 use Rattle.hyd_spec_certificates.specs.Boxes.{flow_box, inflow_box}
 use Rattle.hyd_spec_certificates.specs.Record.{Record, Standing}
 use Rattle.hyd_spec_certificates.specs.Stocks.{Stocks, carried_levels, may_reach, must_reach}
-use Rattle.hyd_spec_certificates.specs.Verdict.{Verdict, Yes, No, Unknown, at_both_ends, is_yes, is_unknown, some_holds, all_hold}
+use Rattle.hyd_spec_certificates.specs.Verdict.{Verdict, Yes, No, Unknown, at_both_ends, is_yes, is_unknown, some_holds}
+use Rattle.hyd_spec_certificates.specs.Verdict.{all_hold}
 
 -- ---- intervals of a period
 
@@ -55,7 +58,10 @@ level_of_tank standing k = slice_index_or standing.levels k nowhere
 
 -- The stocks of tank number k at the start.
 abbrev pub stocks_of_tank : Standing → ℕ → Stocks
-stocks_of_tank standing k = record { level = level_of_tank standing k; volume = slice_index_or standing.volumes k nowhere }
+stocks_of_tank standing k = record {
+  level = level_of_tank standing k;
+  volume = slice_index_or standing.volumes k nowhere;
+}
 
 -- The inflow interval (flow ticks) of tank number k.
 abbrev pub inflow_of_tank : Project → Grid → Record → ℕ → Interval
@@ -65,7 +71,8 @@ inflow_of_tank network grid row k = slice_index_or (inflow_boxes network grid ro
 
 -- A level control on a level interval.
 abbrev pub control_truth : Interval → Bool → ℤ → Verdict
-control_truth level above ticks = at_both_ends (reaches 1 above ticks (whole level.lo)) (reaches 1 above ticks (whole level.hi))
+control_truth level above ticks = at_both_ends (reaches 1 above ticks (whole level.lo))
+    (reaches 1 above ticks (whole level.hi))
 
 -- Whether a level control acts at the level intervals of a standing, where it is decided.
 abbrev pub acts_on : List Interval → ℕ → Bool → ℤ → Bool
@@ -77,8 +84,8 @@ links_at network standing = started network standing.time (acts_on standing.leve
 
 -- ---- events
 
--- A level (head ticks) that is watched: a tank that isn't full for its maximum, one that isn't empty for its minimum, and the
--- tank of a level control that doesn't hold for the control's level.
+-- A level (head ticks) that is watched: a tank that isn't full for its maximum, one that isn't empty for its minimum,
+-- and the tank of a level control that doesn't hold for the control's level.
 pub record Watch : Type 0 where
   pub tank : ℕ
   pub target : ℤ
@@ -109,8 +116,8 @@ watches network standing =
     tank_watches 0 network.tanks.list standing.tanks
     ++ present (map (watch_of standing.levels) network.controls.list)
 
--- A watched level reaches its target some seconds after the start, by a test of its tank's walls, of the tank, of its stocks
--- and inflow, of the target and its direction, and of the seconds.
+-- A watched level reaches its target some seconds after the start, by a test of its tank's walls, of the tank, of its
+-- stocks and inflow, of the target and its direction, and of the seconds.
 pub record SomeReaches (test : Walls → Tank → Stocks → Interval → ℤ → Bool → ℕ → Bool)
     (network : Project) (grid : Grid) (standing : Standing) (row : Record) (seconds : ℕ) : Type 0 where
   pub watch : Watch
@@ -179,8 +186,8 @@ readings_above network grid standing row seconds = record {
   links = links_at network standing;
 }
 
--- A clause at a time, where what the rules look at lies between two readings. A comparison goes one way, so that both ends
--- decide; `=` and `<>` compare times and status words alone, which are the same in both readings.
+-- A clause at a time, where what the rules look at lies between two readings. A comparison goes one way, so that both
+-- ends decide; `=` and `<>` compare times and status words alone, which are the same in both readings.
 abbrev pub clause_between : Project → ℕ → Readings → Readings → Clause → Verdict
 clause_between network time below above clause =
     at_both_ends (clause_holds network 1 time below clause) (clause_holds network 1 time above clause)
@@ -192,8 +199,10 @@ rule_between network time below above rule =
 
 -- The clause of a rule that is open there, the first by itself, and what it measures from below and above, in head or
 -- flow ticks, of a flow its magnitude, rounded outward to whole ticks.
-pub record IsOpenClause (network : Project) (time : ℕ) (below above : Readings) (rule : Rule) (clause : ℕ) (lo hi : ℤ) : Type 0 where
-  pub first_clause : position (λ each. is_unknown (clause_between network time below above each.clause)) rule.clauses.list
+pub record IsOpenClause (network : Project) (time : ℕ) (below above : Readings) (rule : Rule) (clause : ℕ)
+    (lo hi : ℤ) : Type 0 where
+  pub first_clause : position (λ each. is_unknown (clause_between network time below above each.clause))
+      rule.clauses.list
       ≡ Some clause
   pub each : RuleClause
   pub is_clause : slice_get rule.clauses.list clause ≡ Some each
@@ -235,15 +244,16 @@ pub record IsTried (network : Project) (standing : Standing) (seconds : ℕ) : T
   pub is_multiple : (standing.time + seconds) % network.times.rule ≡ 0
 
 -- The rules matter there: one is open, or they change a link.
-pub record RulesMatter (network : Project) (grid : Grid) (standing : Standing) (row : Record) (seconds : ℕ) : Type 0 where
-  pub tried : IsTried network standing seconds
-  pub matters : IsTrue (list_any is_unknown (rule_truths network grid standing row seconds))
-      ⊎ (decided_changes network grid standing row seconds ≢ [])
+pub record RulesMatter (network : Project) (grid : Grid) (standing : Standing) (row : Record) (seconds : ℕ) : Type 0
+  where
+    pub tried : IsTried network standing seconds
+    pub matters : IsTrue (list_any is_unknown (rule_truths network grid standing row seconds))
+        ⊎ (decided_changes network grid standing row seconds ≢ [])
 
 -- ---- the end of a period
 
--- A rule that is open: the first open rule, its first clause that is open by itself, and the two ends of what that clause
--- measures.
+-- A rule that is open: the first open rule, its first clause that is open by itself, and the two ends of what that
+-- clause measures.
 pub record OpenRule : Type 0 where
   pub rule : ℕ
   pub clause : ℕ
@@ -251,7 +261,8 @@ pub record OpenRule : Type 0 where
   pub hi : ℤ
 
 -- Some seconds after the start this is the open rule.
-pub record IsOpenRule (network : Project) (grid : Grid) (standing : Standing) (row : Record) (seconds : ℕ) (open_rule : OpenRule) : Type 0 where
+pub record IsOpenRule (network : Project) (grid : Grid) (standing : Standing) (row : Record) (seconds : ℕ)
+    (open_rule : OpenRule) : Type 0 where
   pub first_rule : position is_unknown (rule_truths network grid standing row seconds) ≡ Some open_rule.rule
   pub rule : Rule
   pub is_rule : slice_get network.rules.list open_rule.rule ≡ Some rule
@@ -266,16 +277,19 @@ pub data End : Type 0 where
   RuleIsOpen : OpenRule → End
   EventIsOpen : ℕ → ℕ → End
 
--- The first instant at which the rules matter, up to the earliest end, of a period that doesn't begin at the end of the run.
-pub record IsFirstMatter (network : Project) (grid : Grid) (standing : Standing) (row : Record) (seconds : ℕ) : Type 0 where
-  pub not_last : standing.time ≢ network.times.duration
-  pub earliest : ℕ
-  pub is_earliest : IsEarliestEnd network grid standing row earliest
-  pub in_time : seconds ≤ earliest
-  pub first : IsLeast (RulesMatter network grid standing row) seconds
+-- The first instant at which the rules matter, up to the earliest end, of a period that doesn't begin at the end of the
+-- run.
+pub record IsFirstMatter (network : Project) (grid : Grid) (standing : Standing) (row : Record) (seconds : ℕ) : Type 0
+  where
+    pub not_last : standing.time ≢ network.times.duration
+    pub earliest : ℕ
+    pub is_earliest : IsEarliestEnd network grid standing row earliest
+    pub in_time : seconds ≤ earliest
+    pub first : IsLeast (RulesMatter network grid standing row) seconds
 
 -- The rules matter at no instant up to the earliest end, in such a period.
-pub record NoRuleMatters (network : Project) (grid : Grid) (standing : Standing) (row : Record) (earliest : ℕ) : Type 0 where
+pub record NoRuleMatters (network : Project) (grid : Grid) (standing : Standing) (row : Record) (earliest : ℕ) : Type
+    0 where
   pub not_last : standing.time ≢ network.times.duration
   pub is_earliest : IsEarliestEnd network grid standing row earliest
   pub none : (seconds : ℕ) → RulesMatter network grid standing row seconds → earliest < seconds

@@ -1,8 +1,9 @@
--- Enclosing functions: for each law and at a head difference of whole head ticks, a whole number of flow ticks that is at most
--- the exact flow, and one that is at least it. Neither falls as the difference rises.
+-- Enclosing functions: for each law and at a head difference of whole head ticks, a whole number of flow ticks that is
+-- at most the exact flow, and one that is at least it. Neither falls as the difference rises.
 -- Source: interval arithmetic with outward rounding (Moore 1966, Interval Analysis), for the laws of EPANET 2.2 User
 -- Manual, chapter 3.
-use Rattle.std.specs.Prelude.{ℕ, zero, suc, ◌*◌, ◌^◌, ℤ, pos, negsuc, neg_ℤ, ◌+ℤ◌, ◌-ℤ◌, ◌*ℤ◌, nat_le, int_le, ◌==◌, ◌+◌, if◌then◌else◌, Option}
+use Rattle.std.specs.Prelude.{ℕ, zero, suc, ◌*◌, ◌^◌, ℤ, pos, negsuc, neg_ℤ, ◌+ℤ◌, ◌-ℤ◌, ◌*ℤ◌, nat_le, int_le, ◌==◌}
+use Rattle.std.specs.Prelude.{◌+◌, if◌then◌else◌, Option}
 use Rattle.std.specs.Int.{int_max, int_min}
 use Rattle.std.specs.Option.{option_map_or}
 use Rattle.hyd_num.specs.Scaled.{numerator, denominator}
@@ -29,7 +30,8 @@ root_up p q = if root_down p q * root_down p q * q == p then root_down p q else 
 
 -- ---- quadratic laws
 
--- The root of the capacity times the head difference d (head ticks), with its sign: at most the exact flow (flow ticks).
+-- The root of the capacity times the head difference d (head ticks), with its sign: at most the exact flow (flow
+-- ticks).
 abbrev pub quadratic_low : Capacity → ℤ → ℤ
 quadratic_low capacity (pos d) = pos (root_down (numerator capacity.lo * d) (denominator capacity.lo))
 quadratic_low capacity (negsuc d) = neg_ℤ (pos (root_up (numerator capacity.hi * suc d) (denominator capacity.hi)))

@@ -25,7 +25,8 @@ held_flow_box link held_below held_above = widened (pos 10) (record {
   hi = high link.law (head_at held_below link.from -ℤ head_at held_below link.to);
 })
 
--- The draw (flow ticks) at a held junction with which it would pass besides: for UPPER so much or more, for LOWER so much or less.
+-- The draw (flow ticks) at a held junction with which it would pass besides: for UPPER so much or more, for LOWER so
+-- much or less.
 abbrev pub passing_draw : Grid → Side → List ℤ → ℕ → GridJunction → ℤ
 passing_draw grid Upper u i junction = (margin grid i +ℤ pos 1) -ℤ net_low grid Main u i junction
 passing_draw grid Lower u i junction = neg_ℤ (margin grid i +ℤ pos 1) -ℤ net_high grid Main u i junction

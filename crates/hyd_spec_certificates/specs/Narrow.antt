@@ -13,8 +13,8 @@ abbrev pub widest : List Interval → ℤ
 widest [] = pos 0
 widest (x ∷ rest) = int_max (width x) (widest rest)
 
--- For a width W in head ticks: every head interval is at most W wider than the widest level interval at the start, and every
--- level interval at the end is at most twice as wide as at the start, plus a hundredth of W.
+-- For a width W in head ticks: every head interval is at most W wider than the widest level interval at the start, and
+-- every level interval at the end is at most twice as wide as at the start, plus a hundredth of W.
 pub record IsNarrow (W : ℤ) (standing : Standing) (row : Record) (next : Standing) : Type 0 where
   pub heads : Each row.main.upper (λ j upper. (upper -ℤ head_at row.main.lower j) ≤ℤ (W +ℤ widest standing.levels))
   pub levels : Each next.levels (λ k level.

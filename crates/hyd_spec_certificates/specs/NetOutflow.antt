@@ -1,5 +1,5 @@
--- The net outflow of a junction under a vector of heads, at most and at least: for the first the low flows out of it, less
--- the high flows into it, plus the low outflows.
+-- The net outflow of a junction under a vector of heads, at most and at least: for the first the low flows out of it,
+-- less the high flows into it, plus the low outflows.
 -- Source: Rheinboldt 1970 (M-functions and network flows).
 use Rattle.std.specs.Prelude.{ℕ, ◌+◌, ◌*◌, ℤ, pos, ◌+ℤ◌, ◌-ℤ◌, Bool, true, false, List, [], ◌∷◌, ◌==◌}
 use Rattle.hyd_spec_certificates.specs.declared.Problem.{Problem}

@@ -42,9 +42,9 @@ vector_on Lower vectors = vectors.lower
 abbrev pub vector_of : Record → Problem → Side → List ℤ
 vector_of row problem side = vector_on side (vectors_of row problem)
 
--- What is known when a period begins: its number and time (seconds), an interval for each tank's level (head ticks) and for
--- its volume (volume ticks; 0 to 0 without a curve), the tanks' states, and the states that links were last commanded to
--- be in. `finished` says that the period at the end of the run is over.
+-- What is known when a period begins: its number and time (seconds), an interval for each tank's level (head ticks) and
+-- for its volume (volume ticks; 0 to 0 without a curve), the tanks' states, and the states that links were last
+-- commanded to be in. `finished` says that the period at the end of the run is over.
 pub record Standing : Type 0 where
   pub number : ℕ
   pub time : ℕ

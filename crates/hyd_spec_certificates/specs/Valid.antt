@@ -1,6 +1,7 @@
 -- Valid records: what a record claims at a standing, and the standing that it leads on to.
 -- Source: this program's.
-use Rattle.std.specs.Prelude.{◌≡◌, ◌≢◌, ℕ, suc, ◌+◌, ◌<◌, ◌≤◌, ◌^◌, ℤ, Bool, true, false, IsFalse, List, [], ◌∷◌, Some, map, length, slice_index_or, unsigned_abs, All, Contains, ⊤}
+use Rattle.std.specs.Prelude.{◌≡◌, ◌≢◌, ℕ, suc, ◌+◌, ◌<◌, ◌≤◌, ◌^◌, ℤ, Bool, true, false, IsFalse, List, [], ◌∷◌, Some}
+use Rattle.std.specs.Prelude.{map, length, slice_index_or, unsigned_abs, All, Contains, ⊤}
 use Rattle.hyd_spec.specs.Types.{Project, Tank, LinkState, Control, AtLevel}
 use Rattle.hyd_spec.specs.declared.TankState.{TankState}
 use Rattle.hyd_spec_certificates.specs.declared.Problem.{Problem}
@@ -17,7 +18,8 @@ use Rattle.hyd_spec_certificates.specs.Record.{Record, Standing, vector_of, init
 use Rattle.hyd_spec.specs.Tank.{walls_of}
 use Rattle.hyd_spec_certificates.specs.Stocks.{Stocks, next_stocks, state_of}
 use Rattle.hyd_spec_certificates.specs.Verdict.{is_yes, is_unknown}
-use Rattle.hyd_spec_certificates.specs.Decided.{links_at, stocks_of_tank, inflow_of_tank, nowhere, control_truth, rule_truths, EndsBy, ByRules, WithoutRules}
+use Rattle.hyd_spec_certificates.specs.Decided.{links_at, stocks_of_tank, inflow_of_tank, nowhere, control_truth}
+use Rattle.hyd_spec_certificates.specs.Decided.{rule_truths, EndsBy, ByRules, WithoutRules}
 
 -- ---- the vectors
 
@@ -50,7 +52,8 @@ pub record AreCertificates (network : Project) (grid : Grid) (row : Record) : Ty
 
 -- A period that doesn't begin at the end of the run ends, decidedly, after so many seconds, and leaves the
 -- links commanded so.
-pub data LeavesLinks (network : Project) (grid : Grid) (standing : Standing) (row : Record) : ℕ → List LinkState → Type 0 where
+pub data LeavesLinks (network : Project) (grid : Grid) (standing : Standing) (row : Record) : ℕ → List LinkState
+    → Type 0 where
   by_rules : {seconds : ℕ} → EndsBy network grid standing row (ByRules seconds)
       → LeavesLinks network grid standing row seconds
       (acted network (map is_yes (rule_truths network grid standing row seconds)) (links_at network standing))
@@ -86,16 +89,17 @@ ControlsAreDecided network levels =
 
 -- Before the end of the run a record leads on from a standing to the next one: its length is the decided one, and each
 -- matter of its end is decided.
-pub record Continues (network : Project) (grid : Grid) (standing : Standing) (row : Record) (next : Standing) : Type 0 where
-  pub not_last : standing.time ≢ network.times.duration
-  pub leaves_links : LeavesLinks network grid standing row row.length next.commanded
-  pub levels : next.levels ≡ levels_next network grid standing row row.length
-  pub volumes : next.volumes ≡ volumes_next network grid standing row row.length
-  pub tanks : AreStates network next.levels next.tanks
-  pub controls : ControlsAreDecided network next.levels
-  pub number : next.number ≡ suc standing.number
-  pub time : next.time ≡ standing.time + row.length
-  pub unfinished : next.finished ≡ false
+pub record Continues (network : Project) (grid : Grid) (standing : Standing) (row : Record) (next : Standing) : Type 0
+  where
+    pub not_last : standing.time ≢ network.times.duration
+    pub leaves_links : LeavesLinks network grid standing row row.length next.commanded
+    pub levels : next.levels ≡ levels_next network grid standing row row.length
+    pub volumes : next.volumes ≡ volumes_next network grid standing row row.length
+    pub tanks : AreStates network next.levels next.tanks
+    pub controls : ControlsAreDecided network next.levels
+    pub number : next.number ≡ suc standing.number
+    pub time : next.time ≡ standing.time + row.length
+    pub unfinished : next.finished ≡ false
 
 -- At the end of the run a record has length 0 and no matters: the stocks, the states and the commands stay, and nothing
 -- follows.
@@ -114,14 +118,15 @@ pub data LeadsOn (network : Project) (grid : Grid) (standing : Standing) (row : 
 -- A record is valid at a standing, on the grid of its period, and leads on to the next standing: it has the
 -- standing's number and time and doesn't come after the end of the run, the demands are in range, its vectors
 -- are certificates, all its matters are decided and its length is the decided one.
-pub record IsValid (network : Project) (standing : Standing) (grid : Grid) (row : Record) (next : Standing) : Type 0 where
-  pub unfinished : standing.finished ≡ false
-  pub number : row.number ≡ standing.number
-  pub time : row.time ≡ standing.time
-  pub demands : DemandsAreInRange network standing.time
-  pub is_grid : IsGridAt network standing grid
-  pub certificates : AreCertificates network grid row
-  pub leads_on : LeadsOn network grid standing row next
+pub record IsValid (network : Project) (standing : Standing) (grid : Grid) (row : Record) (next : Standing) : Type 0
+  where
+    pub unfinished : standing.finished ≡ false
+    pub number : row.number ≡ standing.number
+    pub time : row.time ≡ standing.time
+    pub demands : DemandsAreInRange network standing.time
+    pub is_grid : IsGridAt network standing grid
+    pub certificates : AreCertificates network grid row
+    pub leads_on : LeadsOn network grid standing row next
 
 -- The records are valid one after another, from one standing to another.
 pub data AreValidFrom (network : Project) : Standing → List Record → Standing → Type 0 where

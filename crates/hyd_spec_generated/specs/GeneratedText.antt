@@ -2,7 +2,8 @@
 -- Junctions are numbered from 1 and stand in rows of 50, one row under the other. A pipe leads from each junction to
 -- the next one of its row, and one to the junction under it. A reservoir feeds the first junction, and a tank is at
 -- the last one. Source: this program's own; the lines are those of the EPANET 2.2 User Manual, appendix C.
-use Rattle.std.specs.Prelude.{ℕ, ◌+◌, ◌%◌, ◌==◌, nat_le, Bool, not, ◌&&◌, List, [], ◌∷◌, ◌++◌, map, codes, if◌then◌else◌}
+use Rattle.std.specs.Prelude.{ℕ, ◌+◌, ◌%◌, ◌==◌, nat_le, Bool, not, ◌&&◌, List, [], ◌∷◌, ◌++◌, map, codes}
+use Rattle.std.specs.Prelude.{if◌then◌else◌}
 use Rattle.std.specs.Fmt.{decimal}
 use Rattle.std.specs.List.{range_with_len, flat_map}
 use Rattle.hyd_spec_reports.specs.CertificateText.{line}

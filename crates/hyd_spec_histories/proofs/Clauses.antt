@@ -1,16 +1,19 @@
 -- A clause that both ends of what rules look at decide is decided so between them.
-use Rattle.std.proofs.Common.{◌≡◌, ℕ, ◌*◌, ◌<◌, ℤ, pos, ◌+ℤ◌, ◌-ℤ◌, ◌*ℤ◌, ◌≤ℤ◌, refl, ap, arith, Bool, true, false, mul-pos}
+use Rattle.std.proofs.Common.{◌≡◌, ℕ, ◌*◌, ◌<◌, ℤ, pos, ◌+ℤ◌, ◌-ℤ◌, ◌*ℤ◌, ◌≤ℤ◌, refl, ap, arith, Bool, true, false}
+use Rattle.std.proofs.Common.{mul-pos}
 use Rattle.std.specs.Prelude.{if◌then◌else◌, nat_le, slice_index_or, List}
 use Rattle.std.proofs.Math.IntN.{*ℤ_comm}
 use Rattle.std.proofs.lemmas.Int.{ints}
 use Rattle.hyd_num.proofs.Integers.{times_plus, times_minus, times_times}
 use Rattle.hyd_num.specs.Rational.{Rational, whole, total_of}
 use Rattle.hyd_net.specs.Commands.{Compares}
-use Rattle.hyd_spec.specs.Types.{Project, LinkState, Clause, What, Head, Pressure, Level, Flow, Setting, Status, Time, Clock, Relation, Less, NotMore, More, NotLess, Equal, Unequal, Value}
+use Rattle.hyd_spec.specs.Types.{Project, LinkState, Clause, What, Head, Pressure, Level, Flow, Setting, Status, Time}
+use Rattle.hyd_spec.specs.Types.{Clock, Relation, Less, NotMore, More, NotLess, Equal, Unequal, Value}
 use Rattle.hyd_spec.specs.Scale.{at_scale}
 use Rattle.hyd_spec.specs.Network.{nodes_before_tanks, is_tank, tank_number}
 use Rattle.hyd_spec.specs.Assignment.{head_at}
-use Rattle.hyd_spec.specs.Rules.{Readings, in_ticks, level_of, head_of, pressure_of, elevation_of, bottom_of, amount, compares, holds_on, clause_holds, setting_of, state_of_link, status_holds, state_word}
+use Rattle.hyd_spec.specs.Rules.{Readings, in_ticks, level_of, head_of, pressure_of, elevation_of, bottom_of, amount}
+use Rattle.hyd_spec.specs.Rules.{compares, holds_on, clause_holds, setting_of, state_of_link, status_holds, state_word}
 use Rattle.hyd_spec_certificates.specs.Verdict.{at_both_ends}
 use Rattle.hyd_spec_laws.specs.Laws.{IsAtMost, IsOneWay, Tells}
 use Rattle.hyd_spec_laws.proofs.Deciding.{compare_tells}
@@ -125,7 +128,8 @@ head-between network S below x above node b =
     (λ no. let lies = b.heads node (before-tanks (nodes_before_tanks network) node no) in
     whole-between S (head_at below.heads node) (head_at x.heads node) (head_at above.heads node) lies.low lies.high)
 
-pressure-between : (network : Project) (S : ℕ) (below x above : Readings) (node : ℕ) → AreBetween network S below x above
+pressure-between : (network : Project) (S : ℕ) (below x above : Readings) (node : ℕ)
+    → AreBetween network S below x above
     → IsValueBetween S (pressure_of network 1 below node) (pressure_of network S x node)
     (pressure_of network 1 above node)
 pressure-between network S below x above node b =

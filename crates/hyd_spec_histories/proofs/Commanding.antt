@@ -1,6 +1,8 @@
 -- Pump patterns, controls and rules give each link a state of its own.
-use Rattle.std.proofs.Common.{◌≡◌, ℕ, zero, suc, ◌+◌, ◌<◌, ℤ, pos, refl, sym, ap, subst, arith, Bool, true, false, ◌==◌, List, [], ◌∷◌, ◌++◌, length, map}
-use Rattle.std.specs.Prelude.{Option, Some, None, slice_get, slice_index_or, slice_set, fold, All, int_le, if◌then◌else◌}
+use Rattle.std.proofs.Common.{◌≡◌, ℕ, zero, suc, ◌+◌, ◌<◌, ℤ, pos, refl, sym, ap, subst, arith, Bool, true, false, ◌==◌}
+use Rattle.std.proofs.Common.{List, [], ◌∷◌, ◌++◌, length, map}
+use Rattle.std.specs.Prelude.{Option, Some, None, slice_get, slice_index_or, slice_set, fold, All, int_le}
+use Rattle.std.specs.Prelude.{if◌then◌else◌}
 use Rattle.std.specs.List.{AllByRecursion, AllZip}
 use Rattle.std.specs.Option.{option_map_or, option_and_then}
 use Rattle.std.proofs.lemmas.Bool.{cond_both, eqb-true}
@@ -11,13 +13,16 @@ use Rattle.hyd_net.specs.States.{IsSpeed, CanHave, CanBeSet}
 use Rattle.hyd_net.specs.Commands.{CanCommand, IsControl, IsRule}
 use Rattle.hyd_net.specs.Made.{IsStateMade, IsRuleMade}
 use Rattle.hyd_net.specs.Sound.{Sound}
-use Rattle.hyd_spec.specs.Types.{Project, Link, LinkKind, PipeLink, CheckPipe, PumpLink, CurvePump, Tcv, Fcv, Gpv, LinkState, Closed, Speed, Control, Rule, Action, Pattern}
+use Rattle.hyd_spec.specs.Types.{Project, Link, LinkKind, PipeLink, CheckPipe, PumpLink, CurvePump, Tcv, Fcv, Gpv}
+use Rattle.hyd_spec.specs.Types.{LinkState, Closed, Speed, Control, Rule, Action, Pattern}
 use Rattle.hyd_spec.specs.declared.Change.{Change}
 use Rattle.hyd_spec.specs.declared.Source.TheVariants.{Rule as ByRule}
 use Rattle.hyd_spec.specs.Lists.{map_from}
 use Rattle.hyd_spec.specs.Quantity.{multipliers_of, multiplier_at}
-use Rattle.hyd_spec.specs.Start.{speed_state, is_pattern_boundary, patterned_state, after_patterns, patterned, control_acts, started}
-use Rattle.hyd_spec.specs.Rules.{Offer, offer_of, offers_of, offers_from, is_above, higher, best_offer, change_by, change_of, acted, is_same_state}
+use Rattle.hyd_spec.specs.Start.{speed_state, is_pattern_boundary, patterned_state, after_patterns, patterned}
+use Rattle.hyd_spec.specs.Start.{control_acts, started}
+use Rattle.hyd_spec.specs.Rules.{Offer, offer_of, offers_of, offers_from, is_above, higher, best_offer, change_by}
+use Rattle.hyd_spec.specs.Rules.{change_of, acted, is_same_state}
 use Rattle.hyd_spec.specs.History.{initial_links}
 use Rattle.std.proofs.lemmas.Int.{ints}
 use Rattle.hyd_spec_laws.proofs.Outflows.{le-no}

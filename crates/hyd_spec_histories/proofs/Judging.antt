@@ -1,11 +1,13 @@
 -- The truths of rules tell the values that rules have in a period.
-use Rattle.std.proofs.Common.{◌≡◌, ℕ, suc, ◌+◌, ◌-◌, ◌<◌, refl, sym, ◌∙◌, arith, Bool, true, false, ◌||◌, List, [], ◌∷◌, map}
+use Rattle.std.proofs.Common.{◌≡◌, ℕ, suc, ◌+◌, ◌-◌, ◌<◌, refl, sym, ◌∙◌, arith, Bool, true, false, ◌||◌, List, [], ◌∷◌}
+use Rattle.std.proofs.Common.{map}
 use Rattle.std.specs.Prelude.{slice_index_or, All}
 use Rattle.std.specs.List.{AllByRecursion, list_any}
 use Rattle.hyd_net.specs.Commands.{Compares, IsRule}
 use Rattle.hyd_net.specs.Sound.{Sound}
 use Rattle.hyd_spec.specs.Types.{Project, Rule, RuleClause, Joined, And, Or, Clause}
-use Rattle.hyd_spec.specs.Rules.{Readings, Parts, put_before, parts_of, groups_in, groups_of, clause_holds, rule_holds, rule_values, rule_changes}
+use Rattle.hyd_spec.specs.Rules.{Readings, Parts, put_before, parts_of, groups_in, groups_of, clause_holds, rule_holds}
+use Rattle.hyd_spec.specs.Rules.{rule_values, rule_changes}
 use Rattle.hyd_spec.specs.Length.{Period, readings_after, values_at}
 use Rattle.hyd_spec_certificates.specs.Verdict.{Verdict, Yes, No, Unknown, is_yes, is_unknown, some_holds, all_hold}
 use Rattle.hyd_spec_certificates.specs.Grid.{Grid}

@@ -1,5 +1,6 @@
 -- A period of a history lasts as long as the record decides, and leaves the links as it says.
-use Rattle.std.proofs.Common.{◌≡◌, ◌≢◌, ℕ, suc, ◌+◌, ◌%◌, ◌<◌, ◌≤◌, refl, sym, subst, ◌∙◌, arith, Bool, true, false, ◌==◌, List, [], ◌∷◌, map, ◌⊎◌, inl, inr}
+use Rattle.std.proofs.Common.{◌≡◌, ◌≢◌, ℕ, suc, ◌+◌, ◌%◌, ◌<◌, ◌≤◌, refl, sym, subst, ◌∙◌, arith, Bool, true, false}
+use Rattle.std.proofs.Common.{◌==◌, List, [], ◌∷◌, map, ◌⊎◌, inl, inr}
 use Rattle.std.specs.Prelude.{Option, Some, None, if◌then◌else◌}
 use Rattle.std.specs.List.{list_any}
 use Rattle.std.specs.Option.{option_map_or}
@@ -9,12 +10,17 @@ use Rattle.hyd_spec.specs.Types.{Project, LinkState}
 use Rattle.hyd_spec.specs.Lists.{map_from, present}
 use Rattle.hyd_spec.specs.declared.Change.{Change}
 use Rattle.hyd_spec.specs.Rules.{change_of, rule_changes, acted}
-use Rattle.hyd_spec.specs.Length.{Period, IsLeast, EndsByClock, step, duration, pattern, report, control_time, control_clock, EndsByRules, MayEnd, by_clock, by_level, by_rules, HasItsLength, at_end, before_end, values_at}
+use Rattle.hyd_spec.specs.Length.{Period, IsLeast, EndsByClock, step, duration, pattern, report, control_time}
+use Rattle.hyd_spec.specs.Length.{control_clock, EndsByRules, MayEnd, by_clock, by_level, by_rules, HasItsLength}
+use Rattle.hyd_spec.specs.Length.{at_end, before_end, values_at}
 use Rattle.hyd_spec.specs.History.{commanded_after}
 use Rattle.hyd_spec_certificates.specs.Verdict.{is_yes, is_unknown}
 use Rattle.hyd_spec_certificates.specs.Grid.{Grid}
 use Rattle.hyd_spec_certificates.specs.Record.{Record, Standing}
-use Rattle.hyd_spec_certificates.specs.Decided.{links_at, SomeMayReach, SomeMustReach, IsClockLength, IsEarliestEnd, IsLatestEnd, IsTried, RulesMatter, rule_truths, decided_changes, EndsBy, ByRules, WithoutRules, by_rules as decided_by_rules, by_clock as decided_by_clock}
+use Rattle.hyd_spec_certificates.specs.Decided.{links_at, SomeMayReach, SomeMustReach, IsClockLength, IsEarliestEnd}
+use Rattle.hyd_spec_certificates.specs.Decided.{IsLatestEnd, IsTried, RulesMatter, rule_truths, decided_changes, EndsBy}
+use Rattle.hyd_spec_certificates.specs.Decided.{ByRules, WithoutRules, by_rules as decided_by_rules}
+use Rattle.hyd_spec_certificates.specs.Decided.{by_clock as decided_by_clock}
 use Rattle.hyd_spec_certificates.specs.Valid.{LeavesLinks, by_rules as left_by_rules, by_clock as left_by_clock}
 use Rattle.hyd_spec_histories.specs.Agreement.{IsUnder}
 use Rattle.hyd_spec_histories.proofs.Judging.{decided_values, changes_are}

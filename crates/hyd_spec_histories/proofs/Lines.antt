@@ -1,6 +1,8 @@
 -- Each line of a period's report holds of each period of a history that is under the record.
-use Rattle.std.proofs.Common.{◌≡◌, ℕ, zero, suc, ◌+◌, ◌<◌, ℤ, pos, ◌+ℤ◌, ◌-ℤ◌, ◌*ℤ◌, ◌≤ℤ◌, ◌<ℤ◌, refl, sym, ap, subst, ◌∙◌, arith, Bool, true, false, ◌&&◌, not, List, [], ◌∷◌, ◌++◌, length, map, inl, inr}
-use Rattle.std.specs.Prelude.{Option, Some, None, slice_get, slice_index_or, slice_set, Contains, int_le, if◌then◌else◌, IfSome, ⊤}
+use Rattle.std.proofs.Common.{◌≡◌, ℕ, zero, suc, ◌+◌, ◌<◌, ℤ, pos, ◌+ℤ◌, ◌-ℤ◌, ◌*ℤ◌, ◌≤ℤ◌, ◌<ℤ◌, refl, sym, ap, subst}
+use Rattle.std.proofs.Common.{◌∙◌, arith, Bool, true, false, ◌&&◌, not, List, [], ◌∷◌, ◌++◌, length, map, inl, inr}
+use Rattle.std.specs.Prelude.{Option, Some, None, slice_get, slice_index_or, slice_set, Contains, int_le, if◌then◌else◌}
+use Rattle.std.specs.Prelude.{IfSome, ⊤}
 use Rattle.std.specs.List.{AllByRecursion, AllZip}
 use Rattle.std.proofs.lemmas.Int.{ints}
 use Rattle.std.proofs.lemmas.Bool.{cases_Bool, cond_both}
@@ -29,17 +31,25 @@ use Rattle.hyd_spec.specs.declared.Change.{Change}
 use Rattle.hyd_spec.specs.declared.Source.{Source}
 use Rattle.hyd_spec.specs.declared.Source.TheVariants.{Control as ByControl, Rule as ByRule}
 use Rattle.hyd_spec_reports.specs.declared.Event.{Event}
-use Rattle.hyd_spec_reports.specs.declared.EventKind.TheVariants.{Full as BecomesFull, Empty as BecomesEmpty, Control as ReachesLevel}
-use Rattle.hyd_spec.specs.Rules.{Offer, is_same_state, state_of_link, best_offer, offers_from, change_by, change_of, rule_changes}
+use Rattle.hyd_spec_reports.specs.declared.EventKind.TheVariants.{Full as BecomesFull, Empty as BecomesEmpty}
+use Rattle.hyd_spec_reports.specs.declared.EventKind.TheVariants.{Control as ReachesLevel}
+use Rattle.hyd_spec.specs.Rules.{Offer, is_same_state, state_of_link, best_offer, offers_from, change_by, change_of}
+use Rattle.hyd_spec.specs.Rules.{rule_changes}
 use Rattle.hyd_spec.specs.Length.{Period, level_at_start, stock_at_start, watched_after, values_at}
 use Rattle.hyd_spec_certificates.specs.Stocks.{carried_levels}
 use Rattle.hyd_spec_certificates.specs.Verdict.{at_both_ends, is_yes}
 use Rattle.hyd_spec_certificates.specs.Grid.{Grid, GridLink, grid_links}
 use Rattle.hyd_spec_certificates.specs.Boxes.{difference}
 use Rattle.hyd_spec_certificates.specs.Record.{Record, Standing}
-use Rattle.hyd_spec_certificates.specs.Decided.{links_at, acts_on, control_truth, nowhere, level_of_tank, stocks_of_tank, inflow_of_tank, carried_at, heads_below, heads_above, decided_changes, rule_truths, EndsBy, ByRules, by_rules as decided_by_rules}
+use Rattle.hyd_spec_certificates.specs.Decided.{links_at, acts_on, control_truth, nowhere, level_of_tank}
+use Rattle.hyd_spec_certificates.specs.Decided.{stocks_of_tank, inflow_of_tank, carried_at, heads_below, heads_above}
+use Rattle.hyd_spec_certificates.specs.Decided.{decided_changes, rule_truths, EndsBy, ByRules}
+use Rattle.hyd_spec_certificates.specs.Decided.{by_rules as decided_by_rules}
 use Rattle.hyd_spec_reports.specs.ReportLine.{ReportLine}
-use Rattle.hyd_spec_reports.specs.Report.{IsTankLine, IsLinkLine, control_changes, start_changes, changes_at, change_line, control_lines, tank_event, tank_events, control_event, events_of, event_line, status_of, EndBrings, at_end as brings_last, by_rules as brings_by_rules, by_clock as brings_by_clock, AreEndLines}
+use Rattle.hyd_spec_reports.specs.Report.{IsTankLine, IsLinkLine, control_changes, start_changes, changes_at}
+use Rattle.hyd_spec_reports.specs.Report.{change_line, control_lines, tank_event, tank_events, control_event, events_of}
+use Rattle.hyd_spec_reports.specs.Report.{event_line, status_of, EndBrings, at_end as brings_last}
+use Rattle.hyd_spec_reports.specs.Report.{by_rules as brings_by_rules, by_clock as brings_by_clock, AreEndLines}
 use Rattle.hyd_spec_reports.specs.Claims.{LineHolds, ReachesControl, ReachesAtEnd, StatusHolds, difference_along}
 use Rattle.hyd_spec_laws.specs.Laws.{LiesIn}
 use Rattle.hyd_spec_laws.proofs.Boxed.{heads_between}
@@ -52,7 +62,8 @@ use Rattle.hyd_spec_histories.proofs.Places.{same_item, numbered_from_start}
 use Rattle.hyd_spec_histories.proofs.Reaching.{watched_above, watched_below}
 use Rattle.hyd_spec_histories.proofs.Looks.{level_lies, stock_lies, inflow_within}
 use Rattle.hyd_spec_histories.proofs.Judging.{changes_are}
-use Rattle.hyd_spec_histories.proofs.Watching.{contains-here, contains-later, contains-cons, contains-none, known-no, isnt-full, isnt-empty}
+use Rattle.hyd_spec_histories.proofs.Watching.{contains-here, contains-later, contains-cons, contains-none, known-no}
+use Rattle.hyd_spec_histories.proofs.Watching.{isnt-full, isnt-empty}
 use Rattle.hyd_spec_laws.proofs.Vessels.{sound_tank}
 use Rattle.hyd_spec_histories.proofs.PrintedValues.{prints_hold, head_proportional, flow_proportional}
 use Rattle.hyd_spec_histories.proofs.LinesHold.{IsCovered, all_after, flow_holds}
@@ -317,7 +328,8 @@ module _ (network : Project) (sound : Sound network) (S : ℕ) (commanded : List
             );
       }))
 
-  link-made : (l : ℕ) (link : Link) → slice_get network.links.list l ≡ Some link → IsKindMade network.options.unit link.kind
+  link-made : (l : ℕ) (link : Link) → slice_get network.links.list l ≡ Some link
+      → IsKindMade network.options.unit link.kind
   link-made l link at =
       subst (λ (x : Link). IsKindMade network.options.unit x.kind)
       (get_or_from_slice_get network.links.list l link link at)

@@ -1,5 +1,6 @@
 -- What the lines of a report time say holds of a period whose heads lie between the record's vectors.
-use Rattle.std.proofs.Common.{◌≡◌, ℕ, zero, suc, ◌+◌, ◌<◌, ℤ, pos, ◌+ℤ◌, ◌-ℤ◌, ◌<ℤ◌, List, [], ◌∷◌, ◌++◌, length, map, refl, sym, subst, ◌∙◌, arith}
+use Rattle.std.proofs.Common.{◌≡◌, ℕ, zero, suc, ◌+◌, ◌<◌, ℤ, pos, ◌+ℤ◌, ◌-ℤ◌, ◌<ℤ◌, List, [], ◌∷◌, ◌++◌, length, map}
+use Rattle.std.proofs.Common.{refl, sym, subst, ◌∙◌, arith}
 use Rattle.std.specs.Prelude.{Option, Some, slice_get}
 use Rattle.std.specs.List.{AllByRecursion}
 use Rattle.std.proofs.lemmas.Int.{ints}
@@ -20,12 +21,14 @@ use Rattle.hyd_spec_certificates.specs.Certificate.{IsCertificate}
 use Rattle.hyd_spec_certificates.specs.Record.{Record, Standing}
 use Rattle.hyd_spec_certificates.specs.Decided.{heads_below, heads_above, flow_boxes}
 use Rattle.hyd_spec_reports.specs.ReportLine.{ReportLine}
-use Rattle.hyd_spec_reports.specs.Report.{Prints, LineEach, IsJunctionLine, IsReservoirLine, IsTankLine, IsLinkLine, AreStateLines}
+use Rattle.hyd_spec_reports.specs.Report.{Prints, LineEach, IsJunctionLine, IsReservoirLine, IsTankLine, IsLinkLine}
+use Rattle.hyd_spec_reports.specs.Report.{AreStateLines}
 use Rattle.hyd_spec_reports.specs.Claims.{LineHolds, FlowLies}
 use Rattle.hyd_spec_laws.specs.Laws.{LiesIn, IsCompared}
 use Rattle.hyd_spec_laws.proofs.Comparison.{below_main, above_main, place_at}
 use Rattle.hyd_spec_laws.proofs.Boxed.{heads_between, flow_lies, outflow_lies}
-use Rattle.hyd_spec_histories.proofs.PrintedValues.{prints_hold, head_proportional, pressure_proportional, flow_proportional}
+use Rattle.hyd_spec_histories.proofs.PrintedValues.{prints_hold, head_proportional, pressure_proportional}
+use Rattle.hyd_spec_histories.proofs.PrintedValues.{flow_proportional}
 
 -- ---- lists
 

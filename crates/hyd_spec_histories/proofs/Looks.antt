@@ -1,5 +1,6 @@
 -- What the rules look at in a period lies between what the record's ends give.
-use Rattle.std.proofs.Common.{◌≡◌, ℕ, zero, suc, ◌+◌, ◌*◌, ◌<◌, ◌≤◌, ℤ, pos, negsuc, neg_ℤ, ◌*ℤ◌, ◌≤ℤ◌, refl, sym, ap, subst, ◌∙◌, arith, List, [], ◌∷◌, length, map}
+use Rattle.std.proofs.Common.{◌≡◌, ℕ, zero, suc, ◌+◌, ◌*◌, ◌<◌, ◌≤◌, ℤ, pos, negsuc, neg_ℤ, ◌*ℤ◌, ◌≤ℤ◌, refl, sym, ap}
+use Rattle.std.proofs.Common.{subst, ◌∙◌, arith, List, [], ◌∷◌, length, map}
 use Rattle.std.specs.Prelude.{Some, slice_get, slice_index_or, unsigned_abs, int_le, if◌then◌else◌}
 use Rattle.std.specs.Int.{int_max}
 use Rattle.std.proofs.lemmas.Int.{ints}
@@ -21,7 +22,9 @@ use Rattle.hyd_spec.specs.Length.{Period, level_at_start, stock_at_start, readin
 use Rattle.hyd_spec_certificates.specs.Grid.{Grid, GridLink, grid_links}
 use Rattle.hyd_spec_certificates.specs.Boxes.{flow_box, inflow_box}
 use Rattle.hyd_spec_certificates.specs.Record.{Record, Standing, Vectors, no_vectors}
-use Rattle.hyd_spec_certificates.specs.Decided.{level_of_tank, stocks_of_tank, inflow_of_tank, nowhere, least_magnitude, greatest_magnitude, readings_below, readings_above, heads_below, heads_above}
+use Rattle.hyd_spec_certificates.specs.Decided.{level_of_tank, stocks_of_tank, inflow_of_tank, nowhere, least_magnitude}
+use Rattle.hyd_spec_certificates.specs.Decided.{greatest_magnitude, readings_below, readings_above, heads_below}
+use Rattle.hyd_spec_certificates.specs.Decided.{heads_above}
 use Rattle.hyd_spec_laws.specs.Laws.{LiesIn, LiesAround, StockLies}
 use Rattle.hyd_lemmas.proofs.Integers.{max_left, max_right}
 use Rattle.hyd_spec_laws.proofs.Outflows.{le-yes}

@@ -1,5 +1,6 @@
 -- What the ends of a tank's intervals have reached, each history's tank has.
-use Rattle.std.proofs.Common.{◌≡◌, ℕ, ◌<◌, ℤ, pos, ◌-ℤ◌, ◌+ℤ◌, ◌*ℤ◌, ◌≤ℤ◌, ◌<ℤ◌, refl, ap, subst, sym, arith, Bool, true, false, ◌&&◌}
+use Rattle.std.proofs.Common.{◌≡◌, ℕ, ◌<◌, ℤ, pos, ◌-ℤ◌, ◌+ℤ◌, ◌*ℤ◌, ◌≤ℤ◌, ◌<ℤ◌, refl, ap, subst, sym, arith, Bool}
+use Rattle.std.proofs.Common.{true, false, ◌&&◌}
 use Rattle.std.specs.Prelude.{if◌then◌else◌}
 use Rattle.std.proofs.lemmas.Int.{ints}
 use Rattle.hyd_num.proofs.Integers.{times_rises}
@@ -7,7 +8,8 @@ use Rattle.hyd_num.specs.Rational.{Rational, floor, ceiling}
 use Rattle.hyd_net.specs.Curves.{volume_at}
 use Rattle.hyd_spec.specs.Types.{Tank}
 use Rattle.hyd_spec.specs.Scale.{is_same_number}
-use Rattle.hyd_spec.specs.Tank.{Walls, Cylinder, Curve, Stock, level_bounds, content_bounds, exact_content, is_at_maximum, is_at_minimum, reaches, watched_level, carried_level, has_reached}
+use Rattle.hyd_spec.specs.Tank.{Walls, Cylinder, Curve, Stock, level_bounds, content_bounds, exact_content}
+use Rattle.hyd_spec.specs.Tank.{is_at_maximum, is_at_minimum, reaches, watched_level, carried_level, has_reached}
 use Rattle.hyd_spec_certificates.specs.Interval.{Interval}
 use Rattle.hyd_spec_certificates.specs.Stocks.{Stocks, least_stock, greatest_stock, carried_levels, must_reach}
 use Rattle.hyd_spec_laws.specs.Laws.{LiesIn, StockLies, IsVessel}

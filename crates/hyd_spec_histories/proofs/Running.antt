@@ -8,20 +8,23 @@ use Rattle.hyd_spec_certificates.specs.declared.Problem.TheVariants.{Main}
 use Rattle.hyd_spec_certificates.specs.declared.Side.TheVariants.{Upper, Lower}
 use Rattle.hyd_spec.specs.Start.{acts_at, patterned}
 use Rattle.hyd_spec.specs.Length.{Period, HasItsLength, at_end, before_end}
-use Rattle.hyd_spec.specs.History.{Begins, IsPeriod, GoesOn, IsHistory, initial_levels, initial_volumes, initial_links, commanded_after}
+use Rattle.hyd_spec.specs.History.{Begins, IsPeriod, GoesOn, IsHistory, initial_levels, initial_volumes, initial_links}
+use Rattle.hyd_spec.specs.History.{commanded_after}
 use Rattle.hyd_spec_certificates.specs.Record.{Standing, initial_standing}
 use Rattle.hyd_spec_certificates.specs.Decided.{acts_on}
 use Rattle.hyd_spec_certificates.specs.Valid.{LeadsOn, continues, finishes}
 use Rattle.hyd_spec_reports.specs.ReportLine.{ReportLine}
 use Rattle.hyd_spec_reports.specs.Report.{IsReport, AreStateLines, is_report_time, start_changes}
 use Rattle.hyd_spec_reports.specs.Claims.{LineHolds}
-use Rattle.hyd_spec_reports.specs.Headline.{Found, IsFound, IsRunFrom, none, more, IsRun, Agrees, AllAgree, EveryHistoryAgrees}
+use Rattle.hyd_spec_reports.specs.Headline.{Found, IsFound, IsRunFrom, none, more, IsRun, Agrees, AllAgree}
+use Rattle.hyd_spec_reports.specs.Headline.{EveryHistoryAgrees}
 use Rattle.hyd_spec_laws.proofs.Comparison.{below_main, above_main}
 use Rattle.hyd_spec_histories.specs.Agreement.{IsUnder, AgreesWith, IsKept}
 use Rattle.hyd_spec_histories.proofs.Beginning.{same_acts, agrees_at_start}
 use Rattle.hyd_spec_histories.proofs.Stepping.{kept_at_start, kept_next, its_states, is_under, lasts_so, agrees_next}
 use Rattle.hyd_spec_histories.proofs.LinesHold.{all_after, state_lines_hold}
-use Rattle.hyd_spec_histories.proofs.Lines.{same-changes, covered, tank_holds, link_holds, control_lines_hold, end_lines_hold}
+use Rattle.hyd_spec_histories.proofs.Lines.{same-changes, covered, tank_holds, link_holds, control_lines_hold}
+use Rattle.hyd_spec_histories.proofs.Lines.{end_lines_hold}
 
 -- the periods of a history from one on
 abbrev StartsAt : Project → ℕ → ℕ → List ℤ → List ℤ → List LinkState → List Period → Type 0

@@ -1,6 +1,7 @@
 -- A period that begins where a history agrees with a standing is under each record that is valid there, and where the
 -- record leads on, the history agrees with the next standing.
-use Rattle.std.proofs.Common.{◌≡◌, ℕ, zero, suc, ◌+◌, ◌<◌, ℤ, pos, refl, sym, ap, subst, ◌∙◌, arith, List, [], ◌∷◌, length, map}
+use Rattle.std.proofs.Common.{◌≡◌, ℕ, zero, suc, ◌+◌, ◌<◌, ℤ, pos, refl, sym, ap, subst, ◌∙◌, arith, List, [], ◌∷◌}
+use Rattle.std.proofs.Common.{length, map}
 use Rattle.std.specs.Prelude.{Some, slice_get, slice_index_or, All}
 use Rattle.std.specs.List.{AllZip}
 use Rattle.hyd_net.specs.Made.{IsStateMade}
@@ -14,7 +15,8 @@ use Rattle.hyd_spec.specs.History.{Begins, IsPeriod, AreNextStocks, commanded_af
 use Rattle.hyd_spec_certificates.specs.Grid.{Grid, IsGrid}
 use Rattle.hyd_spec_certificates.specs.Verdict.{is_yes}
 use Rattle.hyd_spec_certificates.specs.Record.{Record, Standing, initial_standing}
-use Rattle.hyd_spec_certificates.specs.Decided.{links_at, acts_on, level_of_tank, stocks_of_tank, inflow_of_tank, nowhere, rule_truths}
+use Rattle.hyd_spec_certificates.specs.Decided.{links_at, acts_on, level_of_tank, stocks_of_tank, inflow_of_tank}
+use Rattle.hyd_spec_certificates.specs.Decided.{nowhere, rule_truths}
 use Rattle.hyd_spec_certificates.specs.Valid.{IsValid, Continues, LeavesLinks, by_rules, by_clock, stocks_next}
 use Rattle.hyd_spec_laws.specs.Laws.{LiesIn, LevelsLie, StockLies, IsWithin, IsSoundGrid}
 use Rattle.hyd_spec_laws.proofs.Grids.{IsSoundGrid-made}

@@ -1,5 +1,6 @@
 -- What is watched under a record is what may end a period by its levels.
-use Rattle.std.proofs.Common.{◌≡◌, ◌≢◌, ℕ, zero, suc, ◌+◌, ◌<◌, ℤ, refl, sym, ap, subst, ◌∙◌, arith, Bool, true, false, List, [], ◌∷◌, ◌++◌, length, map, ◌⊎◌, inl, inr}
+use Rattle.std.proofs.Common.{◌≡◌, ◌≢◌, ℕ, zero, suc, ◌+◌, ◌<◌, ℤ, refl, sym, ap, subst, ◌∙◌, arith, Bool, true, false}
+use Rattle.std.proofs.Common.{List, [], ◌∷◌, ◌++◌, length, map, ◌⊎◌, inl, inr}
 use Rattle.std.specs.Prelude.{Option, Some, None, slice_get, slice_index_or, Contains, if◌then◌else◌}
 use Rattle.std.proofs.lemmas.Option.{slice_get_within, slice_get-get_or}
 use Rattle.hyd_num.specs.Rational.{whole}
@@ -11,11 +12,14 @@ use Rattle.hyd_spec_certificates.specs.Interval.{Interval}
 use Rattle.hyd_spec.specs.LinkLaw.{is_full, is_empty}
 use Rattle.hyd_spec.specs.Tank.{walls_of, reaches, tank_inflow}
 use Rattle.hyd_spec_certificates.specs.Stocks.{may_reach, must_reach}
-use Rattle.hyd_spec.specs.Length.{Period, EndsByLevel, full, empty, control as at_control, level_at_start, stock_at_start, reached_after}
+use Rattle.hyd_spec.specs.Length.{Period, EndsByLevel, full, empty, control as at_control, level_at_start}
+use Rattle.hyd_spec.specs.Length.{stock_at_start, reached_after}
 use Rattle.hyd_spec_certificates.specs.Verdict.{Verdict, Yes, No, Unknown, is_yes, is_unknown}
 use Rattle.hyd_spec_certificates.specs.Grid.{Grid}
 use Rattle.hyd_spec_certificates.specs.Record.{Record, Standing}
-use Rattle.hyd_spec_certificates.specs.Decided.{Watch, tank_watches, watch_of, watches, acts_on, control_truth, level_of_tank, stocks_of_tank, inflow_of_tank, SomeMayReach, SomeMustReach}
+use Rattle.hyd_spec_certificates.specs.Decided.{Watch, tank_watches, watch_of, watches, acts_on, control_truth}
+use Rattle.hyd_spec_certificates.specs.Decided.{level_of_tank, stocks_of_tank, inflow_of_tank, SomeMayReach}
+use Rattle.hyd_spec_certificates.specs.Decided.{SomeMustReach}
 use Rattle.hyd_spec_laws.specs.Laws.{Tells}
 use Rattle.hyd_spec_laws.proofs.Deciding.{control_tells, reached_may, must_reached}
 use Rattle.hyd_spec_histories.specs.Agreement.{IsUnder}

@@ -30,8 +30,8 @@ pub record IsValueBetween (S : ℕ) (lo x hi : Rational) : Type 0 where
   pub low : (pos (x.den * S) *ℤ lo.num) ≤ℤ (pos lo.den *ℤ x.num)
   pub high : (pos hi.den *ℤ x.num) ≤ℤ (pos (x.den * S) *ℤ hi.num)
 
--- What rules look at at scale S lies between two readings in ticks, with the same states of links: the heads of junctions
--- and reservoirs, the carried levels of tanks (from which the heads of tanks follow) and the flows.
+-- What rules look at at scale S lies between two readings in ticks, with the same states of links: the heads of
+-- junctions and reservoirs, the carried levels of tanks (from which the heads of tanks follow) and the flows.
 pub record AreBetween (network : Project) (S : ℕ) (below x above : Readings) : Type 0 where
   pub heads : (m : ℕ) → m < nodes_before_tanks network
       → LiesIn S (record { lo = head_at below.heads m; hi = head_at above.heads m }) (head_at x.heads m)

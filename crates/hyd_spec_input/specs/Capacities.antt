@@ -8,7 +8,8 @@ use Rattle.hyd_num.specs.declared.capacities.Origin.TheVariants.{Pipe, Valve, Pu
 use Rattle.hyd_num.specs.Refusal.{IsRefused}
 use Rattle.hyd_spec_lines.specs.Lines.{Row}
 use Rattle.hyd_spec_lines.specs.declared.section.Section.{Section}
-use Rattle.hyd_spec_lines.specs.declared.section.Section.TheVariants.{Pipes, Pumps, Valves, Emitters, Status, Controls, Rules}
+use Rattle.hyd_spec_lines.specs.declared.section.Section.TheVariants.{Pipes, Pumps, Valves, Emitters, Status, Controls}
+use Rattle.hyd_spec_lines.specs.declared.section.Section.TheVariants.{Rules}
 use Rattle.hyd_spec_input.specs.Columns.{word, amount}
 use Rattle.hyd_spec_input.specs.NetworkRows.{pipe_minor, pump_curve, is_throttle, is_general, valve_minor}
 use Rattle.hyd_spec_input.specs.Tables.{is_of, link_named, curve_named}

@@ -1,6 +1,7 @@
 -- What is asked of the words of a row, from left to right.
 -- Source: EPANET 2.2 User Manual, appendix C; the bounds are this program's.
-use Rattle.std.specs.Prelude.{ℕ, ◌*◌, ◌^◌, Bool, true, false, ◌&&◌, not, nat_le, List, [], ◌∷◌, length, codes, Option, Some, None, slice_get, if◌then◌else◌, ℤ, pos, neg_ℤ}
+use Rattle.std.specs.Prelude.{ℕ, ◌*◌, ◌^◌, Bool, true, false, ◌&&◌, not, nat_le, List, [], ◌∷◌, length, codes, Option}
+use Rattle.std.specs.Prelude.{Some, None, slice_get, if◌then◌else◌, ℤ, pos, neg_ℤ}
 use Rattle.std.specs.Ordering.{int_eq}
 use lib.Signed.{le_z}
 use Rattle.hyd_num.specs.Numeral.{is_numeral, magnitude_of, nano_of}

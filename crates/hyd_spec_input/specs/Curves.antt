@@ -1,7 +1,8 @@
 -- Curves: what pumps, general purpose valves and tanks ask of theirs.
 -- Source: EPANET 2.2 User Manual, chapter 3 (pumps, valves, tanks) and appendix C ([CURVES]); which curves are
 -- accepted is this program's choice.
-use Rattle.std.specs.Prelude.{ℕ, ◌*◌, ◌^◌, Bool, true, false, ◌&&◌, nat_le, List, [], ◌∷◌, length, map, ℤ, pos, neg_ℤ, ◌*ℤ◌, ◌-ℤ◌, int_div}
+use Rattle.std.specs.Prelude.{ℕ, ◌*◌, ◌^◌, Bool, true, false, ◌&&◌, nat_le, List, [], ◌∷◌, length, map, ℤ, pos, neg_ℤ}
+use Rattle.std.specs.Prelude.{◌*ℤ◌, ◌-ℤ◌, int_div}
 use Rattle.std.specs.Ordering.{int_eq}
 use Rattle.std.specs.List.{list_all}
 use lib.Signed.{le_z, lt_z}

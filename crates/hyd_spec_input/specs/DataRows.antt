@@ -2,7 +2,8 @@
 -- Source: EPANET 2.2 User Manual, appendix C ([DEMANDS] to [STATUS]); the bounds are this program's.
 use Rattle.std.specs.Prelude.{ℕ, ◌^◌, List, [], ◌∷◌, map, drop, Option, None, ℤ}
 use Rattle.hyd_num.specs.Numeral.{nano_of}
-use Rattle.hyd_spec_input.specs.Columns.{Column, any, id, number, up_to, within, asked, or_else, first, needed, optional, ends}
+use Rattle.hyd_spec_input.specs.Columns.{Column, any, id, number, up_to, within, asked, or_else, first, needed}
+use Rattle.hyd_spec_input.specs.Columns.{optional, ends}
 use Rattle.hyd_net.specs.declared.cause.Cause.{Cause}
 
 -- junction, demand, pattern, category

@@ -1,7 +1,8 @@
 -- The fault of a text: its first row that is wrong by itself, or the fault that ends its rows; else its first row
 -- that is wrong with the others; else what the whole file lacks.
 -- Source: EPANET 2.2 User Manual, appendix C; the order of faults is this program's.
-use Rattle.std.specs.Prelude.{◌≡◌, ℕ, ◌^◌, ◌<◌, ◌≤◌, Bool, ◌||◌, nat_le, List, [], ◌∷◌, length, take, Option, Some, None, slice_get, ◌⊎◌, Result}
+use Rattle.std.specs.Prelude.{◌≡◌, ℕ, ◌^◌, ◌<◌, ◌≤◌, Bool, ◌||◌, nat_le, List, [], ◌∷◌, length, take, Option, Some}
+use Rattle.std.specs.Prelude.{None, slice_get, ◌⊎◌, Result}
 use Rattle.hyd_spec_lines.specs.Lines.{Row, items_of, rows_in, fault_in}
 use Rattle.hyd_spec_lines.specs.declared.fault.LexFault.{LexFault}
 use Rattle.hyd_spec_lines.specs.declared.fault.LexCause.{LexCause}

@@ -1,7 +1,8 @@
 -- The options and times that a file has in force: a later line wins.
--- Source: EPANET 2.2 User Manual, appendix C ([OPTIONS], [TIMES]), with its defaults; that the rule step is a tenth of the
--- hydraulic one, cut to whole seconds and at least 1, is this program's.
-use Rattle.std.specs.Prelude.{ℕ, ◌/◌, ◌^◌, Bool, true, false, ◌&&◌, List, [], ◌∷◌, min, max, codes, Option, Some, None, unwrap_or, if◌then◌else◌, ℤ, pos}
+-- Source: EPANET 2.2 User Manual, appendix C ([OPTIONS], [TIMES]), with its defaults; that the rule step is a tenth of
+-- the hydraulic one, cut to whole seconds and at least 1, is this program's.
+use Rattle.std.specs.Prelude.{ℕ, ◌/◌, ◌^◌, Bool, true, false, ◌&&◌, List, [], ◌∷◌, min, max, codes, Option, Some, None}
+use Rattle.std.specs.Prelude.{unwrap_or, if◌then◌else◌, ℤ, pos}
 use Rattle.hyd_num.specs.declared.units.FlowUnit.{FlowUnit}
 use Rattle.hyd_num.specs.declared.units.FlowUnit.TheVariants.{Gpm}
 use Rattle.hyd_spec_lines.specs.Lines.{Row}

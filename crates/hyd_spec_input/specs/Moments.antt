@@ -1,6 +1,7 @@
 -- Times and times of day, as one or two words.
 -- Source: EPANET 2.2 User Manual, appendix C ([TIMES]); the bounds are this program's.
-use Rattle.std.specs.Prelude.{ℕ, ◌+◌, ◌*◌, ◌/◌, ◌%◌, ◌^◌, Bool, false, ◌==◌, ◌&&◌, not, nat_le, nat_lt, List, [], ◌∷◌, length, codes, Option, Some, None, slice_get, if◌then◌else◌, ℤ, pos, ◌*ℤ◌}
+use Rattle.std.specs.Prelude.{ℕ, ◌+◌, ◌*◌, ◌/◌, ◌%◌, ◌^◌, Bool, false, ◌==◌, ◌&&◌, not, nat_le, nat_lt, List, [], ◌∷◌}
+use Rattle.std.specs.Prelude.{length, codes, Option, Some, None, slice_get, if◌then◌else◌, ℤ, pos, ◌*ℤ◌}
 use Rattle.std.specs.List.{list_all, list_any, slice_split}
 use lib.Signed.{le_z, lt_z}
 use borrow.Author.Differences.{up}

@@ -1,11 +1,13 @@
 -- What rows say of the network: numbers of names, values that later rows replace, groups of the lines of rules.
 -- Source: EPANET 2.2 User Manual, appendix C.
-use Rattle.std.specs.Prelude.{ℕ, Bool, true, false, ◌||◌, List, [], ◌∷◌, ◌++◌, map, filter, position, Option, Some, None, slice_get, if◌then◌else◌, ℤ, pos}
+use Rattle.std.specs.Prelude.{ℕ, Bool, true, false, ◌||◌, List, [], ◌∷◌, ◌++◌, map, filter, position, Option, Some}
+use Rattle.std.specs.Prelude.{None, slice_get, if◌then◌else◌, ℤ, pos}
 use Rattle.std.specs.List.{flat_map}
 use Rattle.std.specs.Str.{bytes_eq}
 use Rattle.hyd_num.specs.Quantity.{flow_ticks}
 use Rattle.hyd_spec_lines.specs.Lines.{Row}
-use Rattle.hyd_spec_lines.specs.declared.section.Section.TheVariants.{Junctions, Reservoirs, Tanks, Pipes, Pumps, Valves, Demands, Emitters, Patterns, Status}
+use Rattle.hyd_spec_lines.specs.declared.section.Section.TheVariants.{Junctions, Reservoirs, Tanks, Pipes, Pumps}
+use Rattle.hyd_spec_lines.specs.declared.section.Section.TheVariants.{Valves, Demands, Emitters, Patterns, Status}
 use Rattle.hyd_spec_input.specs.Columns.{word, or_empty, amount, amount_or}
 use Rattle.hyd_spec_input.specs.NetworkRows.{tank_curve, pump_curve, valve_curve}
 use Rattle.hyd_spec_input.specs.RuleRows.{begins_with, is_rule, until_rule, stage_by}

@@ -1,11 +1,14 @@
 -- The rows of nodes and links, each judged by itself, and what their words say.
 -- Source: EPANET 2.2 User Manual, appendix C ([JUNCTIONS] to [VALVES]); the bounds are this program's.
-use Rattle.std.specs.Prelude.{ℕ, ◌^◌, Bool, false, ◌==◌, ◌&&◌, ◌||◌, not, List, [], ◌∷◌, length, codes, drop, Option, Some, None, slice_get, if◌then◌else◌, ℤ, pos}
+use Rattle.std.specs.Prelude.{ℕ, ◌^◌, Bool, false, ◌==◌, ◌&&◌, ◌||◌, not, List, [], ◌∷◌, length, codes, drop, Option}
+use Rattle.std.specs.Prelude.{Some, None, slice_get, if◌then◌else◌, ℤ, pos}
 use Rattle.std.specs.Str.{bytes_eq}
 use lib.Signed.{le_z}
 use Rattle.hyd_num.specs.Numeral.{nano_of}
 use Rattle.hyd_spec_lines.specs.Bytes.{is_keyword}
-use Rattle.hyd_spec_input.specs.Columns.{Column, id, one_of, number, number_where, number_within, not_negative, up_to, above_0_to, supported, or_else, first, unless, is_there, needed, optional, ends, word, amount_or, amount, word_is, word_is_of, units}
+use Rattle.hyd_spec_input.specs.Columns.{Column, id, one_of, number, number_where, number_within, not_negative, up_to}
+use Rattle.hyd_spec_input.specs.Columns.{above_0_to, supported, or_else, first, unless, is_there, needed, optional}
+use Rattle.hyd_spec_input.specs.Columns.{ends, word, amount_or, amount, word_is, word_is_of, units}
 use Rattle.hyd_spec_input.specs.declared.EarlierKeys.{EarlierKeys}
 use Rattle.hyd_net.specs.declared.cause.Cause.{Cause}
 use Rattle.hyd_net.specs.declared.cause.Cause.TheVariants.{Syntax, Range, Unsupported}

@@ -1,11 +1,13 @@
 -- The lines of options and times, each judged by itself.
 -- Source: EPANET 2.2 User Manual, appendix C ([OPTIONS], [TIMES]); what is unused or refused is this program's choice.
 use Rattle.std.specs.Prelude.{ℕ, ◌*◌, ◌^◌, List, [], ◌∷◌, codes, Option, Some, None, if◌then◌else◌, pos}
-use Rattle.hyd_spec_input.specs.Columns.{Column, id, one_of, meant, not_negative, up_to, only, units, supported, or_else, first, needed, ends, word, word_is}
+use Rattle.hyd_spec_input.specs.Columns.{Column, id, one_of, meant, not_negative, up_to, only, units, supported}
+use Rattle.hyd_spec_input.specs.Columns.{or_else, first, needed, ends, word, word_is}
 use Rattle.hyd_spec_input.specs.Keywords.{flow_unit, option_word, time_word}
 use Rattle.hyd_spec_input.specs.Moments.{time, clock}
 use Rattle.hyd_spec_input.specs.declared.OptionWord.{OptionWord}
-use Rattle.hyd_spec_input.specs.declared.OptionWord.TheVariants.{Units, HeadLoss, Pattern, Demand, Minimum, Required, Pressure, Emitter, Specific, Unused}
+use Rattle.hyd_spec_input.specs.declared.OptionWord.TheVariants.{Units, HeadLoss, Pattern, Demand, Minimum, Required}
+use Rattle.hyd_spec_input.specs.declared.OptionWord.TheVariants.{Pressure, Emitter, Specific, Unused}
 use Rattle.hyd_spec_input.specs.declared.TimeWord.{TimeWord}
 use Rattle.hyd_spec_input.specs.declared.TimeWord.TheVariants as at
 use Rattle.hyd_net.specs.declared.cause.Cause.{Cause}

@@ -1,7 +1,8 @@
 -- The network that a file without a fault describes, item by item: each junction, link, control and rule is that of
 -- its row.
 -- Source: EPANET 2.2 User Manual, appendix C.
-use Rattle.std.specs.Prelude.{◌≡◌, ℕ, ◌+◌, Bool, true, false, ◌&&◌, not, List, [], ◌∷◌, ◌++◌, codes, Option, Some, None, slice_get, if◌then◌else◌, ℤ, pos, ◌<ℤ◌, ◌*ℤ◌, ⊤}
+use Rattle.std.specs.Prelude.{◌≡◌, ℕ, ◌+◌, Bool, true, false, ◌&&◌, not, List, [], ◌∷◌, ◌++◌, codes, Option, Some, None}
+use Rattle.std.specs.Prelude.{slice_get, if◌then◌else◌, ℤ, pos, ◌<ℤ◌, ◌*ℤ◌, ⊤}
 use Rattle.std.specs.Ordering.{int_eq}
 use Rattle.hyd_num.specs.Numeral.{nano_of}
 use Rattle.hyd_num.specs.Quantity.{head_ticks, flow_ticks}
@@ -9,21 +10,27 @@ use Rattle.hyd_num.specs.Chain.{IsMade}
 use Rattle.hyd_num.specs.declared.decimals.Decimal.{Decimal}
 use Rattle.hyd_num.specs.declared.units.FlowUnit.{FlowUnit}
 use Rattle.hyd_num.specs.declared.capacities.Capacity.{Capacity}
-use Rattle.hyd_num.specs.declared.capacities.Origin.TheVariants.{Pipe as PipeOrigin, Valve as ValveOrigin, Pump as PumpOrigin, Emitter as EmitterOrigin}
+use Rattle.hyd_num.specs.declared.capacities.Origin.TheVariants.{Pipe as PipeOrigin, Valve as ValveOrigin}
+use Rattle.hyd_num.specs.declared.capacities.Origin.TheVariants.{Pump as PumpOrigin, Emitter as EmitterOrigin}
 use Rattle.hyd_spec_lines.specs.Bytes.{is_keyword}
 use Rattle.hyd_spec_lines.specs.Lines.{Row}
-use Rattle.hyd_spec_lines.specs.declared.section.Section.TheVariants.{Junctions, Reservoirs, Tanks, Pipes, Pumps, Valves, Controls, Rules}
+use Rattle.hyd_spec_lines.specs.declared.section.Section.TheVariants.{Junctions, Reservoirs, Tanks, Pipes, Pumps}
+use Rattle.hyd_spec_lines.specs.declared.section.Section.TheVariants.{Valves, Controls, Rules}
 use Rattle.hyd_spec_input.specs.Columns.{word, or_empty, amount, word_is, units}
 use Rattle.hyd_spec_input.specs.Keywords.{object_word, attribute_word, relation_word}
 use Rattle.hyd_spec_input.specs.Moments.{time_seconds, clock_seconds}
-use Rattle.hyd_spec_input.specs.NetworkRows.{tank_curve, tank_overflows, pipe_minor, has_check_valve, is_closed_pipe, pump_curve, pump_pattern, pump_speed, is_throttle, is_general, valve_curve, valve_minor}
+use Rattle.hyd_spec_input.specs.NetworkRows.{tank_curve, tank_overflows, pipe_minor, has_check_valve, is_closed_pipe}
+use Rattle.hyd_spec_input.specs.NetworkRows.{pump_curve, pump_pattern, pump_speed, is_throttle, is_general, valve_curve}
+use Rattle.hyd_spec_input.specs.NetworkRows.{valve_minor}
 use Rattle.hyd_spec_input.specs.RuleRows.{begins_with, attribute_place}
 use Rattle.hyd_spec_input.specs.Tables.{Point, is_of, rows_of, words_of, link_named, pattern_named, curve_named}
 use Rattle.hyd_spec_input.specs.InForce as force
 use Rattle.hyd_spec_input.specs.InForce.{unit}
 use Rattle.hyd_spec_input.specs.Curves.{Drop, drop_of, is_bent, head_points, volume_points}
 use Rattle.hyd_spec_input.specs.WithOthers.{us}
-use Rattle.hyd_spec_input.specs.Network.{node_ids, tank_ids, link_ids, number_in, pattern_ids, pattern_number, shape_names, bend_names, demands_of, emitter_of, status_of, rule_groups, clause_lines, then_lines, else_lines, rule_id, priority_of}
+use Rattle.hyd_spec_input.specs.Network.{node_ids, tank_ids, link_ids, number_in, pattern_ids, pattern_number}
+use Rattle.hyd_spec_input.specs.Network.{shape_names, bend_names, demands_of, emitter_of, status_of, rule_groups}
+use Rattle.hyd_spec_input.specs.Network.{clause_lines, then_lines, else_lines, rule_id, priority_of}
 use Rattle.hyd_spec_input.specs.declared.ObjectWord.{ObjectWord}
 use Rattle.hyd_spec_input.specs.declared.Attribute.{Attribute}
 use Rattle.hyd_spec_input.specs.declared.Attribute.TheVariants as attribute

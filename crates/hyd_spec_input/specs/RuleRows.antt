@@ -1,6 +1,7 @@
 -- The lines of rules: their order, and each judged by itself.
 -- Source: EPANET 2.2 User Manual, appendix C ([RULES]).
-use Rattle.std.specs.Prelude.{ℕ, ◌+◌, Bool, true, false, ◌||◌, not, List, [], ◌∷◌, fold, codes, Option, Some, None, if◌then◌else◌}
+use Rattle.std.specs.Prelude.{ℕ, ◌+◌, Bool, true, false, ◌||◌, not, List, [], ◌∷◌, fold, codes, Option, Some, None}
+use Rattle.std.specs.Prelude.{if◌then◌else◌}
 use Rattle.hyd_spec_lines.specs.Headings.{is_one_of}
 use Rattle.hyd_spec_input.specs.Columns.{Column, id, one_of, meant, number, or_else, first, unless, needed, ends, word}
 use Rattle.hyd_spec_input.specs.Keywords.{object_word, attribute_word, relation_word, link_word, rule_word}
@@ -13,7 +14,8 @@ use Rattle.hyd_spec_input.specs.declared.NodeWord.TheVariants.{Node, Junction, T
 use Rattle.hyd_spec_input.specs.declared.LinkWord.{LinkWord}
 use Rattle.hyd_spec_input.specs.declared.LinkWord.TheVariants.{Pump, Valve}
 use Rattle.hyd_spec_input.specs.declared.Attribute.{Attribute}
-use Rattle.hyd_spec_input.specs.declared.Attribute.TheVariants.{Head, Pressure, Level, Flow, Setting, Status, Time, Clock}
+use Rattle.hyd_spec_input.specs.declared.Attribute.TheVariants.{Head, Pressure, Level, Flow, Setting, Status, Time}
+use Rattle.hyd_spec_input.specs.declared.Attribute.TheVariants.{Clock}
 use Rattle.hyd_spec_input.specs.declared.Stage.{Stage}
 use Rattle.hyd_spec_input.specs.declared.Stage.TheVariants.{Outside, Named, Asking, Acting, Otherwise, Closed}
 use Rattle.hyd_net.specs.declared.rules.Relation.{Relation}

@@ -1,6 +1,8 @@
 -- A row that is right by itself and wrong with the others, its capacity aside.
 -- Source: EPANET 2.2 User Manual, appendix C; ranges, limits and what is unsupported are this program's.
-use Rattle.std.specs.Prelude.{ℕ, ◌+◌, ◌*◌, ◌^◌, Bool, true, false, ◌==◌, ◌&&◌, ◌||◌, not, nat_le, List, [], ◌∷◌, length, filter, sum_by, take, codes, Option, Some, None, slice_get, if◌then◌else◌, ℤ, pos, ◌+ℤ◌, ◌-ℤ◌, ◌*ℤ◌}
+use Rattle.std.specs.Prelude.{ℕ, ◌+◌, ◌*◌, ◌^◌, Bool, true, false, ◌==◌, ◌&&◌, ◌||◌, not, nat_le, List, [], ◌∷◌, length}
+use Rattle.std.specs.Prelude.{filter, sum_by, take, codes, Option, Some, None, slice_get, if◌then◌else◌, ℤ, pos, ◌+ℤ◌}
+use Rattle.std.specs.Prelude.{◌-ℤ◌, ◌*ℤ◌}
 use Rattle.std.specs.List.{list_all}
 use Rattle.std.specs.Str.{bytes_eq}
 use lib.Signed.{le_z}
@@ -9,15 +11,22 @@ use Rattle.hyd_num.specs.Quantity.{is_us_unit, head_ticks, pressure_numerator, p
 use Rattle.hyd_spec_lines.specs.Headings.{is_one_of}
 use Rattle.hyd_spec_lines.specs.Lines.{Row}
 use Rattle.hyd_spec_lines.specs.declared.section.Section.{Section}
-use Rattle.hyd_spec_lines.specs.declared.section.Section.TheVariants.{Junctions, Reservoirs, Tanks, Pipes, Pumps, Valves, Demands, Emitters, Curves, Patterns, Status, Controls, Rules, Options, Times}
-use Rattle.hyd_spec_input.specs.Columns.{or_else, first, unless, of_word, word, amount, amount_or, word_is, word_is_of, status_words, units}
+use Rattle.hyd_spec_lines.specs.declared.section.Section.TheVariants.{Junctions, Reservoirs, Tanks, Pipes, Pumps}
+use Rattle.hyd_spec_lines.specs.declared.section.Section.TheVariants.{Valves, Demands, Emitters, Curves, Patterns}
+use Rattle.hyd_spec_lines.specs.declared.section.Section.TheVariants.{Status, Controls, Rules, Options, Times}
+use Rattle.hyd_spec_input.specs.Columns.{or_else, first, unless, of_word, word, amount, amount_or, word_is, word_is_of}
+use Rattle.hyd_spec_input.specs.Columns.{status_words, units}
 use Rattle.hyd_spec_input.specs.Keywords.{link_word, node_word, object_word, attribute_word}
-use Rattle.hyd_spec_input.specs.NetworkRows.{has_check_valve, is_throttle, is_general, tank_curve, pump_curve, pump_pattern, valve_curve}
+use Rattle.hyd_spec_input.specs.NetworkRows.{has_check_valve, is_throttle, is_general, tank_curve, pump_curve}
+use Rattle.hyd_spec_input.specs.NetworkRows.{pump_pattern, valve_curve}
 use Rattle.hyd_spec_input.specs.DataRows.{multipliers}
 use Rattle.hyd_spec_input.specs.RuleRows.{begins_with, stage_after, is_acting, is_rule}
-use Rattle.hyd_spec_input.specs.Tables.{is_of, rows_of, words_of, own_id, node_rows, link_rows, has_id, node_named, link_named, distinct, allows_node, allows_link, pattern_named, curve_named}
+use Rattle.hyd_spec_input.specs.Tables.{is_of, rows_of, words_of, own_id, node_rows, link_rows, has_id, node_named}
+use Rattle.hyd_spec_input.specs.Tables.{link_named, distinct, allows_node, allows_link, pattern_named, curve_named}
 use Rattle.hyd_spec_input.specs.InForce.{unit, depends_on_pressure, minimum_pressure, required_pressure, pressure_line}
-use Rattle.hyd_spec_input.specs.Curves.{is_within, is_head, is_flow, is_bent, is_pump_curve, are_flows, has_shutoff, is_pump_bend, begins_at_0, is_valve_bend, is_volume_curve, head_points, volume_points}
+use Rattle.hyd_spec_input.specs.Curves.{is_within, is_head, is_flow, is_bent, is_pump_curve, are_flows, has_shutoff}
+use Rattle.hyd_spec_input.specs.Curves.{is_pump_bend, begins_at_0, is_valve_bend, is_volume_curve, head_points}
+use Rattle.hyd_spec_input.specs.Curves.{volume_points}
 use Rattle.hyd_spec_input.specs.declared.ObjectWord.{ObjectWord}
 use Rattle.hyd_spec_input.specs.declared.ObjectWord.TheVariants.{Node as NodeObject, Link as LinkObject}
 use Rattle.hyd_spec_input.specs.declared.LinkWord.{LinkWord}

@@ -1,7 +1,8 @@
 -- Histories, runs and certificates grow by a period at their end, and a front of each is one.
 use Rattle.std.proofs.Common.{◌≡◌, ◌≢◌, ℕ, ◌+◌, ◌<◌, ◌≤◌, List, [], ◌∷◌, ◌++◌, subst, arith}
 use Rattle.hyd_spec.specs.Types.{Project}
-use Rattle.hyd_spec.specs.Length.{Period, EndsByClock, step, duration, pattern, report, control_time, control_clock, MayEnd, by_clock, by_level, by_rules, HasItsLength, at_end, before_end}
+use Rattle.hyd_spec.specs.Length.{Period, EndsByClock, step, duration, pattern, report, control_time, control_clock}
+use Rattle.hyd_spec.specs.Length.{MayEnd, by_clock, by_level, by_rules, HasItsLength, at_end, before_end}
 use Rattle.hyd_spec.specs.History.{IsPeriod, ComesAfter, GoesOn, IsHistory}
 use Rattle.hyd_spec_certificates.specs.Grid.{Grid}
 use Rattle.hyd_spec_certificates.specs.Record.{Record, Standing, initial_standing}

@@ -1,6 +1,7 @@
 -- Certificates with a junction held, against an assignment in which water may be drawn at that junction. On both
 -- sides at once: heads are read in the direction of the side.
-use Rattle.std.proofs.Common.{◌≡◌, ℕ, zero, suc, ◌+◌, ◌*◌, ◌<◌, ℤ, pos, ◌+ℤ◌, ◌-ℤ◌, ◌*ℤ◌, ◌≤ℤ◌, neg_ℤ, refl, sym, ap, subst, ◌∙◌, arith, Bool, false, ◌==◌, List, [], ◌∷◌, ◌++◌, length, inl, inr}
+use Rattle.std.proofs.Common.{◌≡◌, ℕ, zero, suc, ◌+◌, ◌*◌, ◌<◌, ℤ, pos, ◌+ℤ◌, ◌-ℤ◌, ◌*ℤ◌, ◌≤ℤ◌, neg_ℤ, refl, sym, ap}
+use Rattle.std.proofs.Common.{subst, ◌∙◌, arith, Bool, false, ◌==◌, List, [], ◌∷◌, ◌++◌, length, inl, inr}
 use Rattle.std.specs.Prelude.{Some, map, MatchBool}
 use Rattle.std.specs.List.{AllByRecursion}
 use Rattle.std.proofs.lemmas.Int.{ints}
@@ -16,14 +17,16 @@ use Rattle.hyd_spec_certificates.specs.declared.Side.TheVariants.{Upper, Lower}
 use Rattle.hyd_spec_certificates.specs.declared.Problem.TheVariants.{Main}
 use Rattle.hyd_spec_certificates.specs.Interval.{Interval}
 use Rattle.hyd_spec_certificates.specs.Enclosing.{low, high}
-use Rattle.hyd_spec_certificates.specs.Grid.{Grid, GridLink, GridJunction, IsJunctionOf, grid_links, all_heads, fixed_heads}
+use Rattle.hyd_spec_certificates.specs.Grid.{Grid, GridLink, GridJunction, IsJunctionOf, grid_links, all_heads}
+use Rattle.hyd_spec_certificates.specs.Grid.{fixed_heads}
 use Rattle.hyd_spec_certificates.specs.NetOutflow.{net, net_low, net_high, margin, outflow_low, outflow_high, link_ends}
 use Rattle.hyd_spec_certificates.specs.Certificate.{Passes, IsCertificateHolding}
 use Rattle.hyd_spec_laws.specs.Laws.{IsSoundLaw, IsComparedDrawing}
 use Rattle.hyd_spec_laws.specs.Sides.{along}
 use Rattle.hyd_spec_laws.proofs.Nodes.{lack, head_front, IsGreatestBelow, greatest_below}
 use Rattle.hyd_spec_laws.proofs.Sums.{IsDip, sum-upper, sum-lower}
-use Rattle.hyd_spec_laws.proofs.Comparison.{outflow-follows-below, outflow-follows-above, IsPlace, place_at, emitter_at, fixed_below, fixed_above}
+use Rattle.hyd_spec_laws.proofs.Comparison.{outflow-follows-below, outflow-follows-above, IsPlace, place_at, emitter_at}
+use Rattle.hyd_spec_laws.proofs.Comparison.{fixed_below, fixed_above}
 
 -- ---- heads in the direction of a side
 

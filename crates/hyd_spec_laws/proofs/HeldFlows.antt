@@ -1,5 +1,6 @@
 -- What certificates with a junction held tell: the flow of a link from that junction, and its head under a draw.
-use Rattle.std.proofs.Common.{◌≡◌, ℕ, ◌<◌, ℤ, pos, ◌+ℤ◌, ◌-ℤ◌, ◌*ℤ◌, ◌≤ℤ◌, ◌<ℤ◌, neg_ℤ, refl, ap, subst, arith, Bool, true, false, ◌==◌, List, length}
+use Rattle.std.proofs.Common.{◌≡◌, ℕ, ◌<◌, ℤ, pos, ◌+ℤ◌, ◌-ℤ◌, ◌*ℤ◌, ◌≤ℤ◌, ◌<ℤ◌, neg_ℤ, refl, ap, subst, arith, Bool}
+use Rattle.std.proofs.Common.{true, false, ◌==◌, List, length}
 use Rattle.std.specs.Prelude.{Some, slice_get, MatchBool}
 use Rattle.std.specs.List.{AllByRecursion}
 use Rattle.std.proofs.lemmas.Int.{ints, by_lt_z}
@@ -74,7 +75,8 @@ module _ (network : Project) (S time : ℕ) (intervals : List Interval) (levels 
       let p = place-at place here inside at in
       let within = subst (λ (j : GridJunction). along side ((pos S *ℤ net_on grid side u place j) +ℤ where_so
       (place == place) q) ≤ℤ (pos S *ℤ margin grid place))
-      p.1 (within-margin network S time intervals levels tanks links place q assignment grid c side u place p.0 farthest beyond) in
+      p.1 (within-margin network S time intervals levels tanks links place q assignment grid c side u place p.0
+      farthest beyond) in
       let draws : where_so (place == place) q ≡ q = ap (λ (b : Bool). where_so b q) (eq-eqb place place refl) in
       let drawn_along = ap (along side) draws in
       let apart = along-plus side (pos S *ℤ net_on grid side u place here) (where_so (place == place) q) in
@@ -176,7 +178,8 @@ module _ (network : Project) (S time : ℕ) (intervals : List Interval) (levels 
       → IsFollowed S (node_heads network S time levels assignment.heads) link (flow_at assignment.flows l)
   follows-at l link is =
       followed_at network tanks S
-      (node_heads network S time levels assignment.heads) network.links.list links assignment.flows c.assigned.links_follow
+      (node_heads network S time levels assignment.heads) network.links.list links assignment.flows
+      c.assigned.links_follow
       (subst (λ (ls : List GridLink). AllByRecursion (λ (link : GridLink).
       IsSoundLaw link.law) ls) c.is_grid.links_are c.sound.links)
       l link (subst (λ (ls : List GridLink). slice_get ls l ≡ Some link) c.is_grid.links_are is)
@@ -249,7 +252,9 @@ pub held_flow : (network : Project) (S time : ℕ) (intervals : List Interval) (
     → IsCertificateHolding (Some (held_in above link.from)) grid Main Lower held_below
     → IsCertificateHolding (Some (held_in below link.from)) grid Main Upper held_above
     → LiesIn S (held_flow_box link held_below held_above) (flow_at assignment.flows l)
-held_flow network S time intervals levels tanks links assignment grid below above held_below held_above l link c under over is
+held_flow network S time intervals levels tanks links assignment grid below above held_below held_above l link c under
+    over is
     from to lower upper =
-    held_flow_lies network S time intervals levels tanks links assignment grid c below above held_below held_above under over l
+    held_flow_lies network S time intervals levels tanks links assignment grid c below above held_below held_above
+    under over l
     link is from to lower upper

@@ -1,5 +1,6 @@
 -- Heads of all nodes: how those of an assignment compare with those of a vector.
-use Rattle.std.proofs.Common.{◌≡◌, ℕ, zero, suc, ◌<◌, ℤ, pos, ◌-ℤ◌, ◌*ℤ◌, ◌≤ℤ◌, ◌<ℤ◌, refl, sym, subst, arith, List, [], ◌∷◌, ◌++◌, length, inl, inr}
+use Rattle.std.proofs.Common.{◌≡◌, ℕ, zero, suc, ◌<◌, ℤ, pos, ◌-ℤ◌, ◌*ℤ◌, ◌≤ℤ◌, ◌<ℤ◌, refl, sym, subst, arith, List, []}
+use Rattle.std.proofs.Common.{◌∷◌, ◌++◌, length, inl, inr}
 use Rattle.std.specs.Prelude.{map}
 use Rattle.std.proofs.lemmas.Int.{ints, by_lt_z}
 use Rattle.std.proofs.lemmas.Bool.{cases_eq}
@@ -53,35 +54,43 @@ outside_below S = omega (arith, ints)
 
 -- ---- tanks, each on the side of the vector
 
-pub tanks_below : (S k : ℕ) (tanks : List Tank) (intervals : List Interval) (levels : List ℤ) → LevelsLie S intervals levels → (m : ℕ)
-    → excess S (tank_heads S tanks levels) (map_from (λ k tank. end_on (tank_side Main Upper k) tank) k (tank_intervals tanks intervals)) m ≤ℤ pos 0
+pub tanks_below : (S k : ℕ) (tanks : List Tank) (intervals : List Interval) (levels : List ℤ)
+    → LevelsLie S intervals levels → (m : ℕ)
+    → excess S (tank_heads S tanks levels) (map_from (λ k tank. end_on (tank_side Main Upper k) tank) k
+    (tank_intervals tanks intervals)) m ≤ℤ pos 0
 tanks_below S k [] intervals levels lie m = outside S
 tanks_below S k (tank ∷ tanks) [] [] lie m = outside S
 tanks_below S k (tank ∷ tanks) [] (level ∷ levels) lie m = absurd lie
 tanks_below S k (tank ∷ tanks) (x ∷ intervals) [] lie m = absurd lie
 tanks_below S k (tank ∷ tanks) (x ∷ intervals) (level ∷ levels) lie zero =
     let l = lie.0.high in omega (arith, ints, l, times_plus S x.hi tank.bottom)
-tanks_below S k (tank ∷ tanks) (x ∷ intervals) (level ∷ levels) lie (suc m) = tanks_below S (suc k) tanks intervals levels lie.1 m
+tanks_below S k (tank ∷ tanks) (x ∷ intervals) (level ∷ levels) lie (suc m) = tanks_below S (suc k) tanks intervals
+    levels lie.1 m
 
-pub tanks_above : (S k : ℕ) (tanks : List Tank) (intervals : List Interval) (levels : List ℤ) → LevelsLie S intervals levels → (m : ℕ)
-    → lack S (tank_heads S tanks levels) (map_from (λ k tank. end_on (tank_side Main Lower k) tank) k (tank_intervals tanks intervals)) m ≤ℤ pos 0
+pub tanks_above : (S k : ℕ) (tanks : List Tank) (intervals : List Interval) (levels : List ℤ)
+    → LevelsLie S intervals levels → (m : ℕ)
+    → lack S (tank_heads S tanks levels) (map_from (λ k tank. end_on (tank_side Main Lower k) tank) k
+    (tank_intervals tanks intervals)) m ≤ℤ pos 0
 tanks_above S k [] intervals levels lie m = outside_below S
 tanks_above S k (tank ∷ tanks) [] [] lie m = outside_below S
 tanks_above S k (tank ∷ tanks) [] (level ∷ levels) lie m = absurd lie
 tanks_above S k (tank ∷ tanks) (x ∷ intervals) [] lie m = absurd lie
 tanks_above S k (tank ∷ tanks) (x ∷ intervals) (level ∷ levels) lie zero =
     let l = lie.0.low in omega (arith, ints, l, times_plus S x.lo tank.bottom)
-tanks_above S k (tank ∷ tanks) (x ∷ intervals) (level ∷ levels) lie (suc m) = tanks_above S (suc k) tanks intervals levels lie.1 m
+tanks_above S k (tank ∷ tanks) (x ∷ intervals) (level ∷ levels) lie (suc m) = tanks_above S (suc k) tanks intervals
+    levels lie.1 m
 
 -- ---- reservoirs, whose heads are the same
 
-pub reservoirs_below : (S : ℕ) (f : Reservoir → ℤ) (reservoirs : List Reservoir) (ps rs : List ℤ) (t : ℤ) → pos 0 ≤ℤ t → ((m : ℕ) → excess S ps rs m ≤ℤ t)
+pub reservoirs_below : (S : ℕ) (f : Reservoir → ℤ) (reservoirs : List Reservoir) (ps rs : List ℤ) (t : ℤ) → pos 0 ≤ℤ t
+    → ((m : ℕ) → excess S ps rs m ≤ℤ t)
     → (m : ℕ) → excess S (map (λ r. at_scale S (f r)) reservoirs ++ ps) (map f reservoirs ++ rs) m ≤ℤ t
 reservoirs_below S f [] ps rs t some after m = after m
 reservoirs_below S f (r ∷ reservoirs) ps rs t some after zero = omega (arith, ints)
 reservoirs_below S f (r ∷ reservoirs) ps rs t some after (suc m) = reservoirs_below S f reservoirs ps rs t some after m
 
-pub reservoirs_above : (S : ℕ) (f : Reservoir → ℤ) (reservoirs : List Reservoir) (ps rs : List ℤ) (t : ℤ) → pos 0 ≤ℤ t → ((m : ℕ) → lack S ps rs m ≤ℤ t)
+pub reservoirs_above : (S : ℕ) (f : Reservoir → ℤ) (reservoirs : List Reservoir) (ps rs : List ℤ) (t : ℤ) → pos 0 ≤ℤ t
+    → ((m : ℕ) → lack S ps rs m ≤ℤ t)
     → (m : ℕ) → lack S (map (λ r. at_scale S (f r)) reservoirs ++ ps) (map f reservoirs ++ rs) m ≤ℤ t
 reservoirs_above S f [] ps rs t some after m = after m
 reservoirs_above S f (r ∷ reservoirs) ps rs t some after zero = omega (arith, ints)
@@ -95,7 +104,14 @@ pub record IsGreatestBelow (f : ℕ → ℤ) (n i : ℕ) : Type 0 where
 
 pub greatest_below : (f : ℕ → ℤ) (n : ℕ) → 0 < n → (i : ℕ) × IsGreatestBelow f n i
 greatest_below f zero some = absurd (omega arith)
-greatest_below f (suc zero) some = (0, record { below = omega arith; each = λ m lt. subst (λ (k : ℕ). f k ≤ℤ f 0) (let e : 0 ≡ m = omega arith in e) (let l : f 0 ≤ℤ f 0 = omega (arith, ints) in l) })
+greatest_below f (suc zero) some = (
+  0,
+  record {
+    below = omega arith;
+    each = λ m lt. subst (λ (k : ℕ). f k ≤ℤ f 0) (let e : 0 ≡ m = omega arith in
+        e) (let l : f 0 ≤ℤ f 0 = omega (arith, ints) in l);
+  },
+)
 greatest_below f (suc (suc n)) some = further (greatest_below f (suc n) (omega arith))
   where
     further : ((i : ℕ) × IsGreatestBelow f (suc n) i) → (i : ℕ) × IsGreatestBelow f (suc (suc n)) i

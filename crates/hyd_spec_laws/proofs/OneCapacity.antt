@@ -1,5 +1,6 @@
 -- Given numbers have one capacity: a number that is rounded to 63 bits has one mantissa and one exponent.
-use Rattle.std.proofs.Common.{◌≡◌, ℕ, suc, ◌+◌, ◌*◌, ◌^◌, ◌<◌, ◌≤◌, lit<, ℤ, pos, negsuc, sym, ap, subst, ◌∙◌, arith, inl, inr, mul_assoc, mul-le-mul_right, mul-lt-mul_of_pos_right, pow_pos, pow-add}
+use Rattle.std.proofs.Common.{◌≡◌, ℕ, suc, ◌+◌, ◌*◌, ◌^◌, ◌<◌, ◌≤◌, lit<, ℤ, pos, negsuc, sym, ap, subst, ◌∙◌, arith}
+use Rattle.std.proofs.Common.{inl, inr, mul_assoc, mul-le-mul_right, mul-lt-mul_of_pos_right, pow_pos, pow-add}
 use Rattle.std.proofs.Math.Nat.{pow-le-pow_right, two-pow-succ, eq_of_mul-eq-mul_right}
 use Rattle.std.proofs.lemmas.Bool.{cases_lt}
 use Rattle.std.specs.Coded.{le_prop}

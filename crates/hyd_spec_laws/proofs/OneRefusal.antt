@@ -1,5 +1,6 @@
 -- A record is refused by one cause, and one that is refused isn't valid.
-use Rattle.std.proofs.Common.{◌≡◌, ◌≢◌, ℕ, zero, suc, ◌<◌, Bool, true, false, List, [], ◌∷◌, map, length, refl, sym, ap, subst, ◌∙◌, arith, inl, inr}
+use Rattle.std.proofs.Common.{◌≡◌, ◌≢◌, ℕ, zero, suc, ◌<◌, Bool, true, false, List, [], ◌∷◌, map, length, refl, sym, ap}
+use Rattle.std.proofs.Common.{subst, ◌∙◌, arith, inl, inr}
 use Rattle.std.specs.Prelude.{Option, Some, None, slice_index_or, Contains, position, is_none}
 use Rattle.std.proofs.lemmas.List.Quantifiers.{position-Some}
 use Rattle.std.proofs.lemmas.Bool.{cases_lt}
@@ -16,13 +17,18 @@ use Rattle.hyd_spec_certificates.specs.Certificate.{IsCertificate}
 use Rattle.hyd_spec_certificates.specs.Record.{Record, Standing, vector_of}
 use Rattle.hyd_spec_certificates.specs.Verdict.{is_unknown}
 use Rattle.hyd_spec_certificates.specs.Stocks.{state_of}
-use Rattle.hyd_spec_certificates.specs.Decided.{End, ByRules, WithoutRules, RuleIsOpen, EventIsOpen, EndsBy, OpenRule, control_truth, nowhere, by_rules, rule_is_open, by_clock, event_is_open}
-use Rattle.hyd_spec_certificates.specs.Valid.{LeavesLinks, by_rules as left_by_rules, by_clock as left_by_clock, levels_next, AreStates, ControlsAreDecided, Continues, LeadsOn, continues, finishes, IsValid}
+use Rattle.hyd_spec_certificates.specs.Decided.{End, ByRules, WithoutRules, RuleIsOpen, EventIsOpen, EndsBy, OpenRule}
+use Rattle.hyd_spec_certificates.specs.Decided.{control_truth, nowhere, by_rules, rule_is_open, by_clock, event_is_open}
+use Rattle.hyd_spec_certificates.specs.Valid.{LeavesLinks, by_rules as left_by_rules, by_clock as left_by_clock}
+use Rattle.hyd_spec_certificates.specs.Valid.{levels_next, AreStates, ControlsAreDecided, Continues, LeadsOn, continues}
+use Rattle.hyd_spec_certificates.specs.Valid.{finishes, IsValid}
 use Rattle.hyd_spec_reports.specs.declared.CertRefused.{CertRefused}
-use Rattle.hyd_spec_reports.specs.declared.CertRefused.TheVariants.{Place, Demand, Fails, Open as MatterOpen, Length, After}
+use Rattle.hyd_spec_reports.specs.declared.CertRefused.TheVariants.{Place, Demand, Fails, Open as MatterOpen, Length}
+use Rattle.hyd_spec_reports.specs.declared.CertRefused.TheVariants.{After}
 use Rattle.hyd_spec_reports.specs.ReportLine.{refused_period}
 use Rattle.hyd_spec_reports.specs.Stops.{turn, open_states, is_open_control}
-use Rattle.hyd_spec_reports.specs.Refusals.{IsRefused, IsRefusedBy, IsDue, HasItsGrid, IsCertified, IsFirstToFail, LeavesOpen, rule, event, tank, control, HasOtherLength, at_end, before_end}
+use Rattle.hyd_spec_reports.specs.Refusals.{IsRefused, IsRefusedBy, IsDue, HasItsGrid, IsCertified, IsFirstToFail}
+use Rattle.hyd_spec_reports.specs.Refusals.{LeavesOpen, rule, event, tank, control, HasOtherLength, at_end, before_end}
 use Rattle.hyd_spec_laws.proofs.OneAnswer.{one_end}
 use Rattle.hyd_spec_laws.proofs.Failing.{fails-no-certificate, one-failure}
 use Rattle.hyd_spec_laws.proofs.OneRun.{one_grid}

@@ -1,5 +1,6 @@
 -- A record has one report.
-use Rattle.std.proofs.Common.{◌≡◌, ◌≢◌, ℕ, suc, ℤ, ◌-ℤ◌, Bool, true, false, MatchBool, List, [], ◌∷◌, ◌++◌, refl, sym, ap, subst, ◌∙◌, ◌+◌, map, arith}
+use Rattle.std.proofs.Common.{◌≡◌, ◌≢◌, ℕ, suc, ℤ, ◌-ℤ◌, Bool, true, false, MatchBool, List, [], ◌∷◌, ◌++◌, refl, sym}
+use Rattle.std.proofs.Common.{ap, subst, ◌∙◌, ◌+◌, map, arith}
 use Rattle.std.proofs.lemmas.Int.{ints}
 use Rattle.hyd_num.specs.Rational.{Rational}
 use Rattle.hyd_num.specs.Roots.{IsFloor, IsCeiling}
@@ -11,11 +12,15 @@ use Rattle.hyd_spec.specs.Rules.{state_of_link}
 use Rattle.hyd_spec_certificates.specs.Grid.{Grid, GridLink, GridJunction}
 use Rattle.hyd_spec_certificates.specs.Boxes.{difference, out_box}
 use Rattle.hyd_spec_certificates.specs.Record.{Record, Standing}
-use Rattle.hyd_spec_certificates.specs.Decided.{heads_below, heads_above, links_at, End, EndsBy, ByRules, WithoutRules, by_rules, rule_is_open, by_clock, event_is_open}
+use Rattle.hyd_spec_certificates.specs.Decided.{heads_below, heads_above, links_at, End, EndsBy, ByRules, WithoutRules}
+use Rattle.hyd_spec_certificates.specs.Decided.{by_rules, rule_is_open, by_clock, event_is_open}
 use Rattle.hyd_spec.specs.declared.Change.{Change}
 use Rattle.hyd_spec_reports.specs.declared.Event.{Event}
 use Rattle.hyd_spec_reports.specs.ReportLine.{ReportLine, TimeLine, JunctionLine, ReservoirLine, TankLine, LinkLine}
-use Rattle.hyd_spec_reports.specs.Report.{Prints, LineEach, IsJunctionLine, IsReservoirLine, IsTankLine, IsLinkLine, status_of, AreStateLines, is_report_time, control_lines, EndBrings, at_end, by_rules as ended_by_rules, by_clock as ended_by_clock, AreEndLines, event_line, change_line, IsReport}
+use Rattle.hyd_spec_reports.specs.Report.{Prints, LineEach, IsJunctionLine, IsReservoirLine, IsTankLine, IsLinkLine}
+use Rattle.hyd_spec_reports.specs.Report.{status_of, AreStateLines, is_report_time, control_lines, EndBrings, at_end}
+use Rattle.hyd_spec_reports.specs.Report.{by_rules as ended_by_rules, by_clock as ended_by_clock, AreEndLines}
+use Rattle.hyd_spec_reports.specs.Report.{event_line, change_line, IsReport}
 use Rattle.hyd_spec_laws.proofs.OneAnswer.{one_end}
 
 -- ---- printed numbers
@@ -35,7 +40,8 @@ one_print quantity ticks a b x y =
 -- ---- lines
 
 one_each : (X : Type 0) (P : ℕ → X → ReportLine → Type 0) (k : ℕ) (xs : List X) (ls ms : List ReportLine)
-    → ((j : ℕ) (x : X) (l m : ReportLine) → P j x l → P j x m → l ≡ m) → LineEach P k xs ls → LineEach P k xs ms → ls ≡ ms
+    → ((j : ℕ) (x : X) (l m : ReportLine) → P j x l → P j x m → l ≡ m) → LineEach P k xs ls → LineEach P k xs ms
+    → ls ≡ ms
 one_each X P k [] [] [] one a b = refl
 one_each X P k [] [] (m ∷ ms) one a b = absurd b
 one_each X P k [] (l ∷ ls) ms one a b = absurd a
@@ -53,42 +59,58 @@ module _ (network : Project) (grid : Grid) (standing : Standing) (row : Record) 
       let head = one_print (head_quantity (is_us network)) x.heads x.head y.head x.head_is
       (subst (λ (h : Interval). Prints (head_quantity (is_us network)) h y.head) heads y.head_is) in
       let pressure = one_print (pressure_quantity (is_us network)) _ x.pressure y.pressure x.pressure_is
-      (subst (λ (h : Interval). Prints (pressure_quantity (is_us network)) (record { lo = h.lo -ℤ junction.elevation; hi = h.hi -ℤ junction.elevation }) y.pressure) heads y.pressure_is) in
+      (subst (λ (h : Interval). Prints (pressure_quantity (is_us network)) (record {
+        lo = h.lo -ℤ junction.elevation;
+        hi = h.hi -ℤ junction.elevation;
+      }) y.pressure) heads y.pressure_is) in
       let outflow = one_print (flow_quantity network.options.unit) _ x.outflow y.outflow x.outflow_is
-      (subst (λ (h : Interval). Prints (flow_quantity network.options.unit) (out_box junction h.lo h.hi) y.outflow) heads y.outflow_is) in
-      let same : JunctionLine j x.head x.pressure x.outflow ≡ JunctionLine j y.head y.pressure y.outflow = λ i. JunctionLine j (head i) (pressure i) (outflow i) in
+      (subst (λ (h : Interval). Prints (flow_quantity network.options.unit) (out_box junction h.lo h.hi) y.outflow)
+      heads y.outflow_is) in
+      let same : JunctionLine j x.head x.pressure x.outflow ≡ JunctionLine j y.head y.pressure y.outflow =
+      λ i. JunctionLine j (head i) (pressure i) (outflow i) in
       x.is_line ∙ (same ∙ sym y.is_line)
 
-  one_reservoir : (r : ℕ) (height : ℤ) (l m : ReportLine) → IsReservoirLine network r height l → IsReservoirLine network r height m → l ≡ m
+  one_reservoir : (r : ℕ) (height : ℤ) (l m : ReportLine) → IsReservoirLine network r height l
+      → IsReservoirLine network r height m → l ≡ m
   one_reservoir r height l m x y =
-      x.is_line ∙ (ap (ReservoirLine r) (one_print (head_quantity (is_us network)) _ x.head y.head x.head_is y.head_is) ∙ sym y.is_line)
+      x.is_line ∙ (ap (ReservoirLine r) (one_print (head_quantity (is_us network)) _ x.head y.head x.head_is
+      y.head_is) ∙ sym y.is_line)
 
-  one_tank : (k : ℕ) (tank : Tank) (l m : ReportLine) → IsTankLine network grid standing row k tank l → IsTankLine network grid standing row k tank m → l ≡ m
+  one_tank : (k : ℕ) (tank : Tank) (l m : ReportLine) → IsTankLine network grid standing row k tank l
+      → IsTankLine network grid standing row k tank m → l ≡ m
   one_tank k tank l m x y =
       let head = one_print (head_quantity (is_us network)) _ x.head y.head x.head_is y.head_is in
       let level = one_print (head_quantity (is_us network)) _ x.level y.level x.level_is y.level_is in
       let inflow = one_print (flow_quantity network.options.unit) _ x.inflow y.inflow x.inflow_is y.inflow_is in
       let state : x.state ≡ y.state = (let p = x.state_is in let q = y.state_is in cc) in
-      let same : TankLine k x.head x.level x.inflow x.state ≡ TankLine k y.head y.level y.inflow y.state = λ i. TankLine k (head i) (level i) (inflow i) (state i) in
+      let same : TankLine k x.head x.level x.inflow x.state ≡ TankLine k y.head y.level y.inflow y.state =
+      λ i. TankLine k (head i) (level i) (inflow i) (state i) in
       x.is_line ∙ (same ∙ sym y.is_line)
 
-  one_link : (k : ℕ) (link : Link) (l m : ReportLine) → IsLinkLine network grid standing row k link l → IsLinkLine network grid standing row k link m → l ≡ m
+  one_link : (k : ℕ) (link : Link) (l m : ReportLine) → IsLinkLine network grid standing row k link l
+      → IsLinkLine network grid standing row k link m → l ≡ m
   one_link k link l m x y =
       let place : x.place ≡ y.place = (let p = x.place_is in let q = y.place_is in cc) in
       let box : y.box ≡ x.box = (let p = x.box_is in let q = y.box_is in cc) in
       let flow = one_print (flow_quantity network.options.unit) x.box x.flow y.flow x.flow_is
       (subst (λ (b : Interval). Prints (flow_quantity network.options.unit) b y.flow) box y.flow_is) in
-      let line = λ (f : Interval) (p : GridLink). LinkLine k f (status_of (is_us network) network.bends.list link.kind (state_of_link (links_at network standing) k)
+      let line = λ (f : Interval) (p : GridLink). LinkLine k f (status_of (is_us network) network.bends.list link.kind
+      (state_of_link (links_at network standing) k)
       (difference p (heads_below grid row) (heads_above grid row))) in
       let same : line x.flow x.place ≡ line y.flow y.place = λ i. line (flow i) (place i) in
       x.is_line ∙ (same ∙ sym y.is_line)
 
-  one_state : (ls ms : List ReportLine) → AreStateLines network grid standing row ls → AreStateLines network grid standing row ms → ls ≡ ms
+  one_state : (ls ms : List ReportLine) → AreStateLines network grid standing row ls
+      → AreStateLines network grid standing row ms → ls ≡ ms
   one_state ls ms x y =
-      let junctions = one_each GridJunction (IsJunctionLine network grid row) 0 grid.junctions x.junctions y.junctions one_junction x.junctions_are y.junctions_are in
-      let reservoirs = one_each ℤ (IsReservoirLine network) 0 grid.reservoirs x.reservoirs y.reservoirs one_reservoir x.reservoirs_are y.reservoirs_are in
-      let tanks = one_each Tank (IsTankLine network grid standing row) 0 network.tanks.list x.tanks y.tanks one_tank x.tanks_are y.tanks_are in
-      let links = one_each Link (IsLinkLine network grid standing row) 0 network.links.list x.links y.links one_link x.links_are y.links_are in
+      let junctions = one_each GridJunction (IsJunctionLine network grid row) 0 grid.junctions x.junctions y.junctions
+      one_junction x.junctions_are y.junctions_are in
+      let reservoirs = one_each ℤ (IsReservoirLine network) 0 grid.reservoirs x.reservoirs y.reservoirs one_reservoir
+      x.reservoirs_are y.reservoirs_are in
+      let tanks = one_each Tank (IsTankLine network grid standing row) 0 network.tanks.list x.tanks y.tanks one_tank
+      x.tanks_are y.tanks_are in
+      let links = one_each Link (IsLinkLine network grid standing row) 0 network.links.list x.links y.links one_link
+      x.links_are y.links_are in
       let lines = λ (a b c d : List ReportLine). TimeLine standing.time ∷ (a ++ (b ++ (c ++ d))) in
       let same : lines x.junctions x.reservoirs x.tanks x.links ≡ lines y.junctions y.reservoirs y.tanks y.links =
       λ i. lines (junctions i) (reservoirs i) (tanks i) (links i) in
@@ -102,7 +124,8 @@ module _ (network : Project) (grid : Grid) (standing : Standing) (row : Record) 
   not_last _ (by_clock n l) = n.not_last
   not_last _ (event_is_open n l ne) = n.not_last
 
-  differ : (n : ℕ) → EndsBy network grid standing row (ByRules n) → EndsBy network grid standing row (WithoutRules n) → ⊥
+  differ : (n : ℕ) → EndsBy network grid standing row (ByRules n) → EndsBy network grid standing row (WithoutRules n)
+      → ⊥
   differ n e f = let same = one_end network grid standing row (ByRules n) (WithoutRules n) e f in cc
 
   abbrev AreSame : List Event → List Event → List Change → List Change → Type 0
@@ -131,12 +154,14 @@ module _ (network : Project) (grid : Grid) (standing : Standing) (row : Record) 
 
   -- ---- the report
 
-  by_time : (reported : Bool) (s t : List ReportLine) → MatchBool reported (AreStateLines network grid standing row s) (s ≡ [])
+  by_time : (reported : Bool) (s t : List ReportLine) → MatchBool reported (AreStateLines network grid standing row s)
+      (s ≡ [])
       → MatchBool reported (AreStateLines network grid standing row t) (t ≡ []) → s ≡ t
   by_time true s t x y = one_state s t x y
   by_time false s t x y = x ∙ sym y
 
-  pub one_report : (ls ms : List ReportLine) → IsReport network grid standing row ls → IsReport network grid standing row ms → ls ≡ ms
+  pub one_report : (ls ms : List ReportLine) → IsReport network grid standing row ls
+      → IsReport network grid standing row ms → ls ≡ ms
   one_report ls ms x y =
       let state = by_time (is_report_time network standing.time) x.state y.state x.state_are y.state_are in
       let ends = one_end_lines x.at_end y.at_end x.at_end_are y.at_end_are in

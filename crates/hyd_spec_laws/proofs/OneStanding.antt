@@ -28,22 +28,35 @@ some_of X (x ∷ a) (y ∷ b) e =
     let others = some_of X a b rest in cc
 
 module _ (network : Project) (grid : Grid) (standing : Standing) (row : Record) where
-  one_command : (n : ℕ) (a b : List LinkState) → LeavesLinks network grid standing row n a → LeavesLinks network grid standing row n b → a ≡ b
+  one_command : (n : ℕ) (a b : List LinkState) → LeavesLinks network grid standing row n a
+      → LeavesLinks network grid standing row n b → a ≡ b
   one_command n _ _ (by_rules e) (by_rules f) = refl
-  one_command n _ _ (by_rules e) (by_clock f) = absurd (let same = one_end network grid standing row (ByRules n) (WithoutRules n) e f in cc)
-  one_command n _ _ (by_clock e) (by_rules f) = absurd (let same = one_end network grid standing row (ByRules n) (WithoutRules n) f e in cc)
+  one_command n _ _ (by_rules e) (by_clock f) = absurd (let same = one_end network grid standing row (ByRules n)
+      (WithoutRules n) e f in cc)
+  one_command n _ _ (by_clock e) (by_rules f) = absurd (let same = one_end network grid standing row (ByRules n)
+      (WithoutRules n) f e in cc)
   one_command n _ _ (by_clock e) (by_clock f) = refl
 
-  pub one_standing : (a b : Standing) → LeadsOn network grid standing row a → LeadsOn network grid standing row b → a ≡ b
+  pub one_standing : (a b : Standing) → LeadsOn network grid standing row a → LeadsOn network grid standing row b
+      → a ≡ b
   one_standing a b (continues c) (continues d) =
       let commanded = one_command row.length a.commanded b.commanded c.leaves_links d.leaves_links in
       let levels = c.levels ∙ sym d.levels in
       let volumes = c.volumes ∙ sym d.volumes in
-      let tanks = some_of TankState a.tanks b.tanks (sym c.tanks ∙ subst (λ (ls : List Interval). AreStates network ls b.tanks) (sym levels) d.tanks) in
+      let tanks = some_of TankState a.tanks b.tanks (sym c.tanks
+      ∙ subst (λ (ls : List Interval). AreStates network ls b.tanks) (sym levels) d.tanks) in
       let number = c.number ∙ sym d.number in
       let time = c.time ∙ sym d.time in
       let finished = c.unfinished ∙ sym d.unfinished in
-      λ i. record { number = number i; time = time i; levels = levels i; volumes = volumes i; tanks = tanks i; commanded = commanded i; finished = finished i }
+      λ i. record {
+        number = number i;
+        time = time i;
+        levels = levels i;
+        volumes = volumes i;
+        tanks = tanks i;
+        commanded = commanded i;
+        finished = finished i;
+      }
   one_standing a b (continues c) (finishes f) = absurd (c.not_last f.is_last)
   one_standing a b (finishes f) (continues c) = absurd (c.not_last f.is_last)
   one_standing a b (finishes f) (finishes g) = f.next_is ∙ sym g.next_is
@@ -72,10 +85,12 @@ both_beyond : (side : Side) (x y : ℤ) → IsBeyond side x y → IsBeyond side 
 both_beyond Upper x y l m = omega (arith, ints, l, m)
 both_beyond Lower x y l m = omega (arith, ints, l, m)
 
-pub one_vector : (grid : Grid) (problem : Problem) (side : Side) (u v : List ℤ) → IsTight grid problem side u → IsTight grid problem side v → u ≡ v
+pub one_vector : (grid : Grid) (problem : Problem) (side : Side) (u v : List ℤ) → IsTight grid problem side u
+    → IsTight grid problem side v → u ≡ v
 one_vector grid problem side u v a b =
     let own = a.is_certificate.one_each in
     let other = b.is_certificate.one_each in
     same_heads u v (own ∙ sym other) (λ j le.
     let t = there GridJunction grid.junctions j (omega (arith, own, le)) in
-    both_beyond side (head_at u j) (head_at v j) (a.nearest v b.is_certificate j t.item t.is_item) (b.nearest u a.is_certificate j t.item t.is_item))
+    both_beyond side (head_at u j) (head_at v j) (a.nearest v b.is_certificate j t.item t.is_item)
+    (b.nearest u a.is_certificate j t.item t.is_item))

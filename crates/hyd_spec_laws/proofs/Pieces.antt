@@ -35,13 +35,16 @@ AreWords parts = AllByRecursion IsWord parts
 pub line-same : (p q : List ℕ) (ps qs : List (List ℕ)) (r s : List ℕ) → AreWords (p ∷ ps) → AreWords (q ∷ qs)
     → line (p ∷ ps) ++ r ≡ line (q ∷ qs) ++ s → ((p ∷ ps) ≡ (q ∷ qs)) × (r ≡ s)
 line-same p q [] [] r s is_p is_q e =
-    let k = word-same p q r s 10 10 (omega arith) (omega arith) is_p.0 is_q.0 (sym (line-one p r) ∙ (e ∙ line-one q s)) in
+    let k = word-same p q r s 10 10 (omega arith) (omega arith) is_p.0 is_q.0
+    (sym (line-one p r) ∙ (e ∙ line-one q s)) in
     (ap (λ w. w ∷ []) k.0, k.1.1)
 line-same p q [] (y ∷ qs) r s is_p is_q e =
-    let k = word-same p q r (line (y ∷ qs) ++ s) 10 32 (omega arith) (omega arith) is_p.0 is_q.0 (sym (line-one p r) ∙ (e ∙ line-more q y qs s)) in
+    let k = word-same p q r (line (y ∷ qs) ++ s) 10 32 (omega arith) (omega arith) is_p.0 is_q.0
+    (sym (line-one p r) ∙ (e ∙ line-more q y qs s)) in
     let h = k.1.0 in absurd (omega arith)
 line-same p q (x ∷ ps) [] r s is_p is_q e =
-    let k = word-same p q (line (x ∷ ps) ++ r) s 32 10 (omega arith) (omega arith) is_p.0 is_q.0 (sym (line-more p x ps r) ∙ (e ∙ line-one q s)) in
+    let k = word-same p q (line (x ∷ ps) ++ r) s 32 10 (omega arith) (omega arith) is_p.0 is_q.0
+    (sym (line-more p x ps r) ∙ (e ∙ line-one q s)) in
     let h = k.1.0 in absurd (omega arith)
 line-same p q (x ∷ ps) (y ∷ qs) r s is_p is_q e =
     let k = word-same p q (line (x ∷ ps) ++ r) (line (y ∷ qs) ++ s) 32 32 (omega arith) (omega arith) is_p.0 is_q.0

@@ -1,5 +1,6 @@
 -- Whole roots: the greatest number whose square is at most a fraction, and the least whose square is at least it.
-use Rattle.std.proofs.Common.{◌≡◌, ℕ, zero, suc, ◌+◌, ◌*◌, ◌/◌, ◌^◌, ◌<◌, ◌≤◌, Bool, ◌&&◌, if◌then◌else◌, refl, sym, subst, arith, inl, inr}
+use Rattle.std.proofs.Common.{◌≡◌, ℕ, zero, suc, ◌+◌, ◌*◌, ◌/◌, ◌^◌, ◌<◌, ◌≤◌, Bool, ◌&&◌, if◌then◌else◌, refl, sym}
+use Rattle.std.proofs.Common.{subst, arith, inl, inr}
 use Rattle.std.specs.Prelude.{nat_le}
 use Rattle.std.proofs.Math.Nat.{mul-le-mul_right, le_of_mul-le-mul_right}
 use Rattle.std.proofs.lemmas.Bool.{cases_lt, cases_eq, cond_both, and_parts, leb-true, leb-false, eqb-true, eqb-false}
@@ -27,7 +28,9 @@ greatest_is (suc bound) p q = cond_both _ _ _ (λ r. IsGreatest (suc bound) p q 
 
 square_at_least : (k q : ℕ) → 0 < q → k ≤ k * k * q
 square_at_least zero q above = omega arith
-square_at_least (suc k) q above = let l : suc k * 1 ≤ suc k * (suc k * q) = mul-le (suc k) 1 (suc k) (suc k * q) (omega arith) (let m : 1 * 1 ≤ suc k * q = mul-le 1 1 (suc k) q (omega arith) above in omega arith) in omega (arith, l)
+square_at_least (suc k) q above = let l : suc k * 1 ≤ suc k * (suc k * q) = mul-le (suc k) 1 (suc k) (suc k * q)
+    (omega arith) (let m : 1 * 1 ≤ suc k * q = mul-le 1 1 (suc k) q (omega arith) above in omega arith) in
+    omega (arith, l)
 
 pub root_down-is : (p q : ℕ) → 0 < q → IsSquareRootDown p q (root_down p q)
 unfolding root_down
@@ -50,7 +53,8 @@ unfolding root_up
 root_up-is p q above = cond_both _ _ _ (λ r. IsSquareRootUp p q r)
     (λ yes. let e : root_down p q * root_down p q * q ≡ p = eqb-true _ _ yes in record {
       at_least = omega (arith, e);
-      least = λ k fits. square_reflects _ k (le_of_mul-le-mul_right (let l : root_down p q * root_down p q * q ≤ k * k * q = omega (arith, e, fits) in l) above);
+      least = λ k fits. square_reflects _ k (le_of_mul-le-mul_right (let l : root_down p q * root_down p q * q ≤ k * k
+          * q = omega (arith, e, fits) in l) above);
     })
     (λ no. let d = root_down-is p q above in record {
       at_least = elim (cases_lt p ((root_down p q + 1) * (root_down p q + 1) * q)) [
@@ -59,7 +63,8 @@ root_up-is p q above = cond_both _ _ _ (λ r. IsSquareRootUp p q r)
       ];
       least = λ k fits. elim (cases_lt k (root_down p q + 1)) [
         | inl lt ↦ absurd (
-            let l : k * k * q ≤ root_down p q * root_down p q * q = mul-le-mul_right q (square_grows k (root_down p q) (omega arith)) in
+            let l : k * k * q ≤ root_down p q * root_down p q * q = mul-le-mul_right q
+            (square_grows k (root_down p q) (omega arith)) in
             eqb-false _ _ no (let m : root_down p q * root_down p q * q ≤ p = d.at_most in omega arith))
         | inr ge ↦ ge
       ];
@@ -85,7 +90,8 @@ up_is p q r above root =
 square_below : (j k p q : ℕ) → j * j * q ≤ p → p < k * k * q → j < k
 square_below j k p q at_most beyond = elim (cases_lt j k) [
   | inl lt ↦ lt
-  | inr ge ↦ absurd (let l : k * k * q ≤ j * j * q = mul-le-mul_right q (square_grows k j ge) in omega (arith, l, at_most, beyond))
+  | inr ge ↦ absurd (let l : k * k * q ≤ j * j * q = mul-le-mul_right q (square_grows k j ge) in
+      omega (arith, l, at_most, beyond))
 ]
 
 pub root_down_at : (p q k : ℕ) → 0 < q → k * k * q ≤ p → p < (k + 1) * (k + 1) * q → root_down p q ≡ k
@@ -102,7 +108,8 @@ root_up_at p q k above beyond at_least = sym (up_is p q (k + 1) above (record {
   at_least = at_least;
   least = λ j fits. elim (cases_lt k j) [
     | inl lt ↦ omega (arith, lt)
-    | inr ge ↦ absurd (let l : j * j * q ≤ k * k * q = mul-le-mul_right q (square_grows j k ge) in omega (arith, l, fits, beyond))
+    | inr ge ↦ absurd (let l : j * j * q ≤ k * k * q = mul-le-mul_right q (square_grows j k ge) in
+        omega (arith, l, fits, beyond))
   ];
 }))
 

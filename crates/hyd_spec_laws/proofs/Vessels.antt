@@ -1,5 +1,6 @@
 -- The tanks of a sound network hold water, and their levels and contents have bounds in order.
-use Rattle.std.proofs.Common.{◌≡◌, ℕ, ◌*◌, ◌^◌, ◌<◌, ◌≤◌, ℤ, pos, negsuc, ◌*ℤ◌, ◌≤ℤ◌, refl, sym, ap, subst, arith, Bool, true, false, List, []}
+use Rattle.std.proofs.Common.{◌≡◌, ℕ, ◌*◌, ◌^◌, ◌<◌, ◌≤◌, ℤ, pos, negsuc, ◌*ℤ◌, ◌≤ℤ◌, refl, sym, ap, subst, arith, Bool}
+use Rattle.std.proofs.Common.{true, false, List, []}
 use Rattle.std.specs.Prelude.{unsigned_abs, Option, Some, None, is_some, if◌then◌else◌, slice_get, IfSome}
 use Rattle.std.specs.Option.{option_map_or}
 use Rattle.std.proofs.lemmas.Int.{ints}
@@ -50,34 +51,41 @@ some-area : (z : ℤ) → pos 1 ≤ℤ z → 0 < unsigned_abs z
 some-area (pos n) h = omega (arith, ints, h)
 some-area (negsuc n) h = absurd (omega (arith, ints, h))
 
-cylinder : (network : Project) (tank : Tank) → tank.shape ≡ None → IsSoundTank network tank → IsVessel (Cylinder (unsigned_abs tank.area)) tank
+cylinder : (network : Project) (tank : Tank) → tank.shape ≡ None → IsSoundTank network tank
+    → IsVessel (Cylinder (unsigned_abs tank.area)) tank
 cylinder network tank none is =
     let across = head_ticks (is_us_unit network.options.unit) tank.diameter.nano in
     let wide : pos (10 ^ 8) ≤ℤ tank.diameter.nano =
-    subst (λ (o : Option ℕ). pos (if is_some o then 0 else 10 ^ 8) ≤ℤ tank.diameter.nano) none is.ranges.diameter.at_least in
+    subst (λ (o : Option ℕ). pos (if is_some o then 0 else 10 ^ 8) ≤ℤ tank.diameter.nano) none
+    is.ranges.diameter.at_least in
     let big = square-above across (across-above (is_us_unit network.options.unit) tank.diameter.nano wide) in
     let apart = is.ranges.apart in
     record {
-      holds_water = some-area tank.area (is.area.greatest (pos 1) (omega (arith, ints, big, one_times (pos (4 * 10 ^ 26)))));
+      holds_water = some-area tank.area (is.area.greatest (pos 1)
+          (omega (arith, ints, big, one_times (pos (4 * 10 ^ 26)))));
       ordered = omega (arith, ints, apart);
       contents_ordered = omega (arith, ints, apart);
     }
 
 -- ---- a tank with a curve
 
-points-are : (shapes : List (ListView VolumePoint)) (n : ℕ) (shape : ListView VolumePoint) → slice_get shapes n ≡ Some shape
+points-are : (shapes : List (ListView VolumePoint)) (n : ℕ) (shape : ListView VolumePoint)
+    → slice_get shapes n ≡ Some shape
     → option_map_or (λ (points : ListView VolumePoint). points.list) (slice_get shapes n) [] ≡ shape.list
 points-are shapes n shape at = ap (λ (o : Option (ListView VolumePoint)). option_map_or (λ points. points.list) o []) at
 
-pub shape_of : (network : Project) (tank : Tank) (n : ℕ) → tank.shape ≡ Some n → IsSoundTank network tank → IsShapeOf tank (shape_points network n)
+pub shape_of : (network : Project) (tank : Tank) (n : ℕ) → tank.shape ≡ Some n → IsSoundTank network tank
+    → IsShapeOf tank (shape_points network n)
 shape_of network tank n some is =
-    let named = subst (λ (o : Option ℕ). IfSome o (Numbers (λ (shape : ListView VolumePoint). IsShapeOf tank shape.list) network.shapes.list)) some is.ranges.shape in
+    let named = subst (λ (o : Option ℕ). IfSome o (Numbers (λ (shape : ListView VolumePoint). IsShapeOf tank
+    shape.list) network.shapes.list)) some is.ranges.shape in
     let found = there (ListView VolumePoint) network.shapes.list n named.in_range in
     let e = get_or_from_slice_get network.shapes.list n found.item found.item found.is_item in
     subst (IsShapeOf tank) (sym (points-are network.shapes.list n found.item found.is_item))
     (subst (λ (shape : ListView VolumePoint). IsShapeOf tank shape.list) e (named.holds found.item))
 
-curve : (network : Project) (tank : Tank) (n : ℕ) → tank.shape ≡ Some n → IsSoundTank network tank → IsVessel (Curve (shape_points network n)) tank
+curve : (network : Project) (tank : Tank) (n : ℕ) → tank.shape ≡ Some n → IsSoundTank network tank
+    → IsVessel (Curve (shape_points network n)) tank
 curve network tank n some is =
     let shape = shape_of network tank n some is in
     let apart = is.ranges.apart in
@@ -93,5 +101,6 @@ by-shape : (network : Project) (tank : Tank) (shape : Option ℕ) → tank.shape
 by-shape network tank None e is = cylinder network tank e is
 by-shape network tank (Some n) e is = curve network tank n e is
 
-pub vessels : (network : Project) → Sound network → Each network.tanks.list (λ k tank. IsVessel (walls_of network tank) tank)
+pub vessels : (network : Project) → Sound network → Each network.tanks.list
+    (λ k tank. IsVessel (walls_of network tank) tank)
 vessels network sound k tank at = by-shape network tank tank.shape refl (sound_tank network sound k tank at)

@@ -1,5 +1,6 @@
 -- What the comparison of heads uses of the laws of links, demands and emitters.
-use Rattle.std.specs.Prelude.{map, Some, slice_get, Contains, ℕ, ◌<◌, ◌≤◌, ℤ, ◌-ℤ◌, ◌≤ℤ◌, unsigned_abs, ⊤, List, All, AllPairs, ◌≡◌, ◌*ℤ◌, Bool, true, false, pos}
+use Rattle.std.specs.Prelude.{map, Some, slice_get, Contains, ℕ, ◌<◌, ◌≤◌, ℤ, ◌-ℤ◌, ◌≤ℤ◌, unsigned_abs, ⊤, List, All}
+use Rattle.std.specs.Prelude.{AllPairs, ◌≡◌, ◌*ℤ◌, Bool, true, false, pos}
 use Rattle.std.specs.List.{AllByRecursion, AllZip}
 use Rattle.std.specs.Option.{IfSome}
 use Rattle.hyd_num.specs.Quantity.{billionths}
@@ -8,7 +9,8 @@ use Rattle.hyd_num.specs.Chain.{IsMade}
 use Rattle.hyd_net.specs.Curves.{Knot}
 use Rattle.hyd_net.specs.Sizes.{HasSizes}
 use Rattle.hyd_net.specs.Made.{IsKindMade, IsStateMade}
-use Rattle.hyd_spec.specs.Types.{Project, LinkState, Tank, VolumePoint, Relation as Comparison, Less, NotMore, More, NotLess, Equal, Unequal, Origin, Pipe, Valve, Pump, Emitter, PressureDemand, Capacity}
+use Rattle.hyd_spec.specs.Types.{Project, LinkState, Tank, VolumePoint, Relation as Comparison, Less, NotMore, More}
+use Rattle.hyd_spec.specs.Types.{NotLess, Equal, Unequal, Origin, Pipe, Valve, Pump, Emitter, PressureDemand, Capacity}
 use Rattle.hyd_spec_certificates.specs.Interval.{Interval}
 use Rattle.hyd_net.specs.Curves.{AreRising as AreRisingNumbers}
 use Rattle.hyd_spec.specs.Tank.{Walls, Cylinder, Curve, Stock, Bounds, content_bounds, walls_of}
@@ -24,12 +26,13 @@ use Rattle.hyd_spec.specs.Scale.{at_scale}
 use Rattle.hyd_spec_certificates.specs.Verdict.{Verdict, Yes, No, Unknown}
 use Rattle.hyd_spec_certificates.specs.Enclosing.{DemandLaw, Fixed, Driven}
 use Rattle.hyd_spec.specs.Enclosure.{IsEnclosure}
-use Rattle.hyd_spec.specs.Law.{Relation, Loss, Law, Shut, QuadraticLaw, LinearLaw, Lifted, ForwardOnly, ReverseOnly, Capped, Bent, Held}
+use Rattle.hyd_spec.specs.Law.{Relation, Loss, Law, Shut, QuadraticLaw, LinearLaw, Lifted, ForwardOnly, ReverseOnly}
+use Rattle.hyd_spec.specs.Law.{Capped, Bent, Held}
 
 -- ---- losses
 
--- A loss: a lesser flow loses no more, a greater one no less; a flow that loses at most some head is at most one that loses at
--- least that head; and each flow loses at least 0.
+-- A loss: a lesser flow loses no more, a greater one no less; a flow that loses at most some head is at most one that
+-- loses at least that head; and each flow loses at least 0.
 pub record IsLossLaw (at_most at_least : Loss) : Type 0 where
   pub falls : (S p q y : ℕ) → 0 < S → p ≤ q → at_most S q y → at_most S p y
   pub rises : (S p q y : ℕ) → 0 < S → p ≤ q → at_least S p y → at_least S q y
@@ -52,9 +55,10 @@ pub record IsSoundCapacity (capacity : Capacity) : Type 0 where
 
 -- ---- laws
 
--- An exact law, as its two relations, with its enclosing functions. Neither function falls; at a head difference of at least d
--- ticks the exact flow is at least the low flow at d, at one of at most d ticks at most the high flow at d; what the exact flow
--- is at least is at most what it is at most, and both relations go on, the one downward, the other upward.
+-- An exact law, as its two relations, with its enclosing functions. Neither function falls; at a head difference of at
+-- least d ticks the exact flow is at least the low flow at d, at one of at most d ticks at most the high flow at d;
+-- what the exact flow is at least is at most what it is at most, and both relations go on, the one downward, the other
+-- upward.
 pub record IsLaw (at_least at_most : Relation) (low high : ℤ → ℤ) : Type 0 where
   pub low_rises : (c d : ℤ) → c ≤ℤ d → low c ≤ℤ low d
   pub high_rises : (c d : ℤ) → c ≤ℤ d → high c ≤ℤ high d
@@ -69,8 +73,8 @@ pub record IsLaw (at_least at_most : Relation) (low high : ℤ → ℤ) : Type 0
 abbrev pub AreInOrder : List Knot → Type 0
 AreInOrder knots = AllPairs (λ (a b : Knot). (a.place ≤ℤ b.place) × (a.value ≤ℤ b.value)) knots
 
--- Each capacity in a law is sound, each lift has a denominator above 0, the knots of straight lines are in order, and a least
--- flow is at most the greatest one.
+-- Each capacity in a law is sound, each lift has a denominator above 0, the knots of straight lines are in order, and a
+-- least flow is at most the greatest one.
 abbrev pub IsSoundLaw : Law → Type 0
 IsSoundLaw Shut = ⊤
 IsSoundLaw (QuadraticLaw capacity) = IsSoundCapacity capacity
@@ -89,12 +93,13 @@ pub record IsSoundGrid (grid : Grid) : Type 0 where
   pub links : AllByRecursion (λ link. IsSoundLaw link.law) grid.links
   pub emitters : AllByRecursion (λ junction. IfSome junction.emitter IsSoundCapacity) grid.junctions
 
--- The capacities of emitters, of links and of the states that links are in are made of the file's numbers, and the quantities of
--- links are in range, the points of their curves among them.
+-- The capacities of emitters, of links and of the states that links are in are made of the file's numbers, and the
+-- quantities of links are in range, the points of their curves among them.
 pub record AreCapacitiesMade (network : Project) (links : List LinkState) : Type 0 where
   pub emitters : All (λ j. IfSome j.emitter IsMade) network.junctions.list
   pub kinds : All (λ l. IsKindMade network.options.unit l.kind) network.links.list
-  pub sizes : All (λ l. HasSizes network.options.unit network.patterns.list network.bends.list l.kind) network.links.list
+  pub sizes : All (λ l. HasSizes network.options.unit network.patterns.list network.bends.list l.kind)
+      network.links.list
   pub states : All (IsStateMade network.options.unit) links
 
 -- A number of S-th parts of a tick lies in an interval of ticks.
@@ -106,8 +111,10 @@ pub record LiesIn (S : ℕ) (interval : Interval) (z : ℤ) : Type 0 where
 abbrev pub LevelsLie : ℕ → List Interval → List ℤ → Type 0
 LevelsLie S intervals levels = AllZip (LiesIn S) intervals levels
 
--- An assignment of a period, and the grid of that period: the laws are sound, and each tank's level lies in its interval.
-pub record IsCompared (network : Project) (S time : ℕ) (intervals : List Interval) (levels : List ℤ) (tanks : List TankState)
+-- An assignment of a period, and the grid of that period: the laws are sound, and each tank's level lies in its
+-- interval.
+pub record IsCompared (network : Project) (S time : ℕ) (intervals : List Interval) (levels : List ℤ)
+    (tanks : List TankState)
     (links : List LinkState) (assignment : Assignment) (grid : Grid) : Type 0 where
   pub some : 0 < S
   pub is_grid : IsGrid network time intervals tanks links grid
@@ -117,7 +124,8 @@ pub record IsCompared (network : Project) (S time : ℕ) (intervals : List Inter
 
 -- The same of an assignment in which q S-th parts of a flow tick are drawn at junction number `place` besides.
 pub record IsComparedDrawing (network : Project) (S time : ℕ) (intervals : List Interval) (levels : List ℤ)
-    (tanks : List TankState) (links : List LinkState) (place : ℕ) (q : ℤ) (assignment : Assignment) (grid : Grid) : Type 0 where
+    (tanks : List TankState) (links : List LinkState) (place : ℕ) (q : ℤ) (assignment : Assignment)
+    (grid : Grid) : Type 0 where
   pub some : 0 < S
   pub is_grid : IsGrid network time intervals tanks links grid
   pub sound : IsSoundGrid grid
@@ -135,7 +143,8 @@ LieBetween S below above heads =
 abbrev pub HoldWater : Walls → Type 0
 HoldWater (Cylinder area) = 0 < area
 HoldWater (Curve points) =
-    AreRisingNumbers (map (λ (p : VolumePoint). p.level) points) × AreRisingNumbers (map (λ (p : VolumePoint). p.volume) points)
+    AreRisingNumbers (map (λ (p : VolumePoint). p.level) points)
+    × AreRisingNumbers (map (λ (p : VolumePoint). p.volume) points)
 
 -- A tank's walls hold water; its minimum is at most its maximum, and so is the content there.
 pub record IsVessel (walls : Walls) (tank : Tank) : Type 0 where
@@ -208,7 +217,8 @@ TellEach truths tests = AllZip Tells truths tests
 -- ---- watched levels
 
 -- Some watched level passes a test first at this second, up to a cap.
-pub record SomeReachesFirst (test : Walls → Tank → Stocks → Interval → ℤ → Bool → ℕ → Bool) (network : Project) (grid : Grid)
+pub record SomeReachesFirst (test : Walls → Tank → Stocks → Interval → ℤ → Bool → ℕ → Bool) (network : Project)
+    (grid : Grid)
     (standing : Standing) (row : Record) (cap second : ℕ) : Type 0 where
   pub watch : Watch
   pub is_watched : Contains (watches network standing) watch
@@ -218,7 +228,8 @@ pub record SomeReachesFirst (test : Walls → Tank → Stocks → Interval → �
       (inflow_of_tank network grid row watch.tank) watch.target watch.rising) cap second
 
 -- The second isn't after the cap, nor after the first second at which any watched level passes the test.
-pub record NoneReachesBefore (test : Walls → Tank → Stocks → Interval → ℤ → Bool → ℕ → Bool) (network : Project) (grid : Grid)
+pub record NoneReachesBefore (test : Walls → Tank → Stocks → Interval → ℤ → Bool → ℕ → Bool) (network : Project)
+    (grid : Grid)
     (standing : Standing) (row : Record) (cap second : ℕ) : Type 0 where
   pub by_clock : second ≤ cap
   pub each : (watch : Watch) → Contains (watches network standing) watch → (tank : Tank)

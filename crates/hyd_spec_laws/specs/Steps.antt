@@ -1,5 +1,5 @@
--- The exact flow of a demand that depends on the pressure, as two relations: nothing up to a minimum pressure, all from a
--- required one on, and an inner relation between. Pressures are S-th parts of a head tick, flows of a flow tick.
+-- The exact flow of a demand that depends on the pressure, as two relations: nothing up to a minimum pressure, all from
+-- a required one on, and an inner relation between. Pressures are S-th parts of a head tick, flows of a flow tick.
 -- Source: EPANET 2.2 User Manual, chapter 3 (pressure-driven demand).
 use Rattle.std.specs.Prelude.{ℤ, pos, ◌≤ℤ◌, MatchBool}
 use Rattle.hyd_num.specs.Rational.{Rational, is_at_most}

@@ -17,7 +17,8 @@ ghost use Rattle.hyd_spec_certificates.specs.Boxes.{flow_box, out_box, inflow_bo
 ghost use Rattle.hyd_spec_certificates.specs.declared.HeldJunction.{HeldJunction};
 ghost use Rattle.hyd_spec_certificates.specs.Certificate.{IsCertificate, IsCertificateHolding};
 ghost use Rattle.hyd_spec_certificates.specs.HeldBoxes.{held_in, held_flow_box, passing_draw};
-ghost use Rattle.hyd_spec_laws.specs.Laws.{IsCompared, IsComparedDrawing, LiesIn, LieBetween, IsSoundGrid, AreCapacitiesMade};
+ghost use Rattle.hyd_spec_laws.specs.Laws.{IsCompared, IsComparedDrawing, LiesIn, LieBetween, IsSoundGrid};
+ghost use Rattle.hyd_spec_laws.specs.Laws.{AreCapacitiesMade};
 
 /// At every scale a certificate with all tanks alike lies strictly on its side of the heads of
 /// each assignment whose tank levels lie in the intervals (supersolutions and subsolutions of
@@ -46,7 +47,8 @@ pub fn boxes()
         (tanks : List TankState) (links : List LinkState) (assignment : Assignment) (grid : Grid)
         (below above : List ℤ) → IsCompared network S time intervals levels tanks links assignment grid
         → IsCertificate grid Main Lower below → IsCertificate grid Main Upper above
-        → LieBetween S (all_heads grid Main Lower below) (all_heads grid Main Upper above) (node_heads network S time levels assignment.heads) }
+        → LieBetween S (all_heads grid Main Lower below) (all_heads grid Main Upper above)
+        (node_heads network S time levels assignment.heads) }
     ensures flows { (network : Project) (S time : ℕ) (intervals : List Interval) (levels : List ℤ)
         (tanks : List TankState) (links : List LinkState) (assignment : Assignment) (grid : Grid)
         (below above : List ℤ) → IsCompared network S time intervals levels tanks links assignment grid
@@ -58,7 +60,8 @@ pub fn boxes()
         (below above : List ℤ) → IsCompared network S time intervals levels tanks links assignment grid
         → IsCertificate grid Main Lower below → IsCertificate grid Main Upper above
         → (j : ℕ) (here : GridJunction) → slice_get grid.junctions j ≡ Some here
-        → LiesIn S (out_box here (head_at below j) (head_at above j)) (flow_at assignment.demands j +ℤ flow_at assignment.emitters j) }
+        → LiesIn S (out_box here (head_at below j) (head_at above j)) (flow_at assignment.demands j
+        +ℤ flow_at assignment.emitters j) }
 {}
 
 /// The inflow of a tank lies in the box of the certificates that pin it.

@@ -56,7 +56,8 @@ pub fn refusals()
 /// A record that leads on has one length.
 pub fn lengths()
     ensures { (network : Project) (grid : Grid) (standing : Standing) (row : Record) (other : ℕ) (a b : Standing)
-        → LeadsOn network grid standing row a → LeadsOn network grid standing (record row { length = other }) b → row.length ≡ other }
+        → LeadsOn network grid standing row a → LeadsOn network grid standing (record row { length = other }) b
+        → row.length ≡ other }
 {}
 
 /// Given numbers have one capacity.

@@ -23,10 +23,12 @@ pub fn valve()
 /// A pipe of 1000 feet, one foot across, of roughness 0.01 and without minor losses loses 0.466
 /// feet at one cubic foot a second. At scale 125 that flow is a whole number.
 pub fn pipe()
-    ensures at_most { (length diameter roughness minor : Decimal) → length.nano ≡ pos (1000 * 10 ^ 9) → diameter.nano ≡ pos (12 * 10 ^ 9)
+    ensures at_most { (length diameter roughness minor : Decimal) → length.nano ≡ pos (1000 * 10 ^ 9)
+        → diameter.nano ≡ pos (12 * 10 ^ 9)
         → roughness.nano ≡ pos (10 ^ 7) → minor.nano ≡ pos 0
         → PipeLossAtMost true length diameter roughness minor 125 3058219431936 (466 * 3048 * 125 * 10 ^ 6) }
-    ensures at_least { (length diameter roughness minor : Decimal) → length.nano ≡ pos (1000 * 10 ^ 9) → diameter.nano ≡ pos (12 * 10 ^ 9)
+    ensures at_least { (length diameter roughness minor : Decimal) → length.nano ≡ pos (1000 * 10 ^ 9)
+        → diameter.nano ≡ pos (12 * 10 ^ 9)
         → roughness.nano ≡ pos (10 ^ 7) → minor.nano ≡ pos 0
         → PipeLossAtLeast true length diameter roughness minor 125 3058219431936 (466 * 3048 * 125 * 10 ^ 6) }
 {}
@@ -41,7 +43,10 @@ pub fn filling()
 
 /// A premise `a OR b AND c` is (a or b) and c.
 pub fn premise()
-    ensures { (a b c : Clause) → groups_in (parts_of (record { joined = And; clause = a } ∷ (record { joined = Or; clause = b } ∷ (record { joined = And; clause = c } ∷ []))))
+    ensures { (a b c : Clause) → groups_in (parts_of (record { joined = And; clause = a } ∷ (record {
+      joined = Or;
+      clause = b;
+    } ∷ (record { joined = And; clause = c } ∷ []))))
         ≡ (a ∷ (b ∷ [])) ∷ ((c ∷ []) ∷ []) }
 {}
 
@@ -49,7 +54,8 @@ pub fn premise()
 pub fn control_valve()
     ensures at_least { (setting : ℤ) (valve : Law) (S : ℕ) (x : ℤ) → flow_at_least valve S x (at_scale S setting)
         → flow_at_least (Capped setting valve) S x (at_scale S setting) }
-    ensures at_most { (setting : ℤ) (valve : Law) (S : ℕ) (x : ℤ) → flow_at_most (Capped setting valve) S x (at_scale S setting) }
+    ensures at_most { (setting : ℤ) (valve : Law) (S : ℕ) (x : ℤ)
+        → flow_at_most (Capped setting valve) S x (at_scale S setting) }
 {}
 
 /// A base demand of 10 cubic metres a day under a demand multiplier of 0.5 and a pattern of the
@@ -57,7 +63,8 @@ pub fn control_valve()
 /// and 5 again at that of the fourth.
 pub fn demands()
     ensures { (network : Project) (category : Demand) → category.base ≡ pos (10 ^ 8) → category.pattern ≡ Some 0
-        → network.options.multiplier.nano ≡ pos (5 * 10 ^ 8) → network.times.pattern ≡ 3600 → network.times.pattern_start ≡ 0
+        → network.options.multiplier.nano ≡ pos (5 * 10 ^ 8) → network.times.pattern ≡ 3600
+        → network.times.pattern_start ≡ 0
         → multipliers_of network 0 ≡ pos (10 ^ 9) ∷ (pos (2 * 10 ^ 9) ∷ (pos 0 ∷ []))
         → (category_demand network 0 category ≡ pos 50000000) × ((category_demand network 3600 category ≡ pos 100000000)
         × ((category_demand network 7200 category ≡ pos 0) × (category_demand network 10800 category ≡ pos 50000000))) }

@@ -11,14 +11,18 @@ ghost use Rattle.hyd_spec.specs.Types.{Origin, Capacity, Pattern, HeadPoint, Lin
 ghost use Rattle.hyd_spec_certificates.specs.Interval.{Interval};
 ghost use Rattle.hyd_spec_reports.specs.Report.{status_of};
 ghost use Rattle.hyd_spec_reports.specs.Claims.{StatusHolds};
-ghost use Rattle.hyd_spec.specs.Law.{Law, ForwardOnly, ReverseOnly, Held, loss_at_most, loss_at_least, flow_at_least, flow_at_most};
-ghost use Rattle.hyd_spec_certificates.specs.Enclosing.{low, high, root_down, root_up, DemandLaw, demand_low, demand_high, emitter_low, emitter_high};
-ghost use Rattle.hyd_spec_laws.specs.Laws.{IsLossLaw, HasPositiveNumbers, IsLaw, IsSoundLaw, AreRising, IsSoundDemand, LiesIn};
+ghost use Rattle.hyd_spec.specs.Law.{Law, ForwardOnly, ReverseOnly, Held, loss_at_most, loss_at_least, flow_at_least};
+ghost use Rattle.hyd_spec.specs.Law.{flow_at_most};
+ghost use Rattle.hyd_spec_certificates.specs.Enclosing.{low, high, root_down, root_up, DemandLaw, demand_low};
+ghost use Rattle.hyd_spec_certificates.specs.Enclosing.{demand_high, emitter_low, emitter_high};
+ghost use Rattle.hyd_spec_laws.specs.Laws.{IsLossLaw, HasPositiveNumbers, IsLaw, IsSoundLaw, AreRising, IsSoundDemand};
+ghost use Rattle.hyd_spec_laws.specs.Laws.{LiesIn};
 
 /// What is lost in pipes, valves, pumps, emitters and by demands that depend on the pressure
 /// rises with the flow: one that loses at most a head is at most one that loses at least it.
 pub fn losses()
-    ensures each { (origin : Origin) → HasPositiveNumbers origin → IsLossLaw (loss_at_most origin) (loss_at_least origin) }
+    ensures each { (origin : Origin) → HasPositiveNumbers origin
+        → IsLossLaw (loss_at_most origin) (loss_at_least origin) }
 {}
 
 /// Each sound law of a link is a law, and its enclosing functions enclose it.
@@ -42,7 +46,8 @@ pub fn held_ends()
     ensures reverse_at_most { (least greatest : ℤ) (law : Law) (S : ℕ) (x a : ℤ) → least ≤ℤ pos 0 → pos 0 ≤ℤ greatest
         → flow_at_most (ReverseOnly (Held least greatest law)) S x a ↔ flow_at_most (Held least (pos 0) law) S x a }
     ensures forward_at_least { (least greatest : ℤ) (law : Law) (S : ℕ) (x a : ℤ) → least ≤ℤ pos 0 → pos 0 ≤ℤ greatest
-        → flow_at_least (ForwardOnly (Held least greatest law)) S x a ↔ flow_at_least (Held (pos 0) greatest law) S x a }
+        → flow_at_least (ForwardOnly (Held least greatest law)) S x a ↔ flow_at_least (Held (pos 0) greatest law) S x
+        a }
     ensures forward_at_most { (least greatest : ℤ) (law : Law) (S : ℕ) (x a : ℤ) → least ≤ℤ pos 0 → pos 0 ≤ℤ greatest
         → flow_at_most (ForwardOnly (Held least greatest law)) S x a ↔ flow_at_most (Held (pos 0) greatest law) S x a }
 {}
@@ -50,7 +55,8 @@ pub fn held_ends()
 /// The status word of a link holds at each head difference of the interval by which it was chosen.
 pub fn status_words()
     ensures each { (unit : FlowUnit) (us : Bool) (patterns : List Pattern) (bends : List (ListView HeadPoint)) (kind : LinkKind)
-        (state : LinkState) (S : ℕ) (d : Interval) (x : ℤ) → 0 < S → IsKindMade unit kind → HasSizes unit patterns bends kind
+        (state : LinkState) (S : ℕ) (d : Interval) (x : ℤ) → 0 < S → IsKindMade unit kind
+        → HasSizes unit patterns bends kind
         → LiesIn S d x → StatusHolds us bends (status_of us bends kind state d) kind state S x }
 {}
 

@@ -9,7 +9,8 @@ ghost use Rattle.hyd_spec_certificates.specs.Grid.{Grid};
 ghost use Rattle.hyd_spec_certificates.specs.Record.{Record, Standing};
 ghost use Rattle.hyd_spec_certificates.specs.Valid.{IsValid, AreValid};
 ghost use Rattle.hyd_spec_reports.specs.ReportLine.{report_text};
-ghost use Rattle.hyd_spec_reports.specs.Headline.{Found, IsFound, IsRun, rows_of, lines_of, Sharpness, Outcome, RunWrites, RunBreaksOff, CheckAccepts, accepted_line};
+ghost use Rattle.hyd_spec_reports.specs.Headline.{Found, IsFound, IsRun, rows_of, lines_of, Sharpness, Outcome};
+ghost use Rattle.hyd_spec_reports.specs.Headline.{RunWrites, RunBreaksOff, CheckAccepts, accepted_line};
 
 /// The records of a run are valid one after another, from its start to the standing that it leaves.
 pub fn records()
@@ -47,7 +48,8 @@ pub fn histories()
 /// What is found at the standing that a run leaves makes the run longer by one, and so does a record that is valid
 /// there with the records of a run.
 pub fn longer_runs()
-    ensures runs { (network : Project) (founds : List Found) (last : Standing) (found : Found) → IsRun network founds last
+    ensures runs { (network : Project) (founds : List Found) (last : Standing) (found : Found)
+        → IsRun network founds last
         → found.standing ≡ last → IsFound network found → IsRun network (founds ++ (found ∷ [])) found.next }
     ensures records { (network : Project) (rows : List Record) (last next : Standing) (grid : Grid) (row : Record)
         → AreValid network rows last → IsValid network last grid row next → AreValid network (rows ++ (row ∷ [])) next }

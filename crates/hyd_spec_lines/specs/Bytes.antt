@@ -1,6 +1,7 @@
 -- Lines and words of a text, as bytes.
 -- Source: EPANET 2.2 User Manual, appendix C (input file format).
-use Rattle.std.specs.Prelude.{ℕ, Bool, ◌==◌, ◌||◌, ◌&&◌, nat_le, List, [], ◌∷◌, length, map, filter, if◌then◌else◌, Option}
+use Rattle.std.specs.Prelude.{ℕ, Bool, ◌==◌, ◌||◌, ◌&&◌, nat_le, List, [], ◌∷◌, length, map, filter, if◌then◌else◌}
+use Rattle.std.specs.Prelude.{Option}
 use Rattle.std.specs.List.{slice_split, before_first}
 use Rattle.std.specs.Option.{option_map}
 use Rattle.std.specs.Str.{bytes_eq}

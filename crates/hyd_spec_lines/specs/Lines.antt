@@ -1,7 +1,9 @@
 -- The rows of a file: for each line of a section that is read and that has a word, its number, section and words, up
 -- to the first line that breaks a rule of lines.
 -- Source: EPANET 2.2 User Manual, appendix C; that a line has at most 1,024 bytes is this program's.
-use Rattle.std.specs.Prelude.{ℕ, Bool, true, false, ◌≡◌, ◌⊎◌, ◌+◌, ◌-◌, ◌==◌, filter, take, slice_get, nat_le, List, [], ◌∷◌, ◌++◌, length, Option, Some, None, Result, Ok, Err, if◌then◌else◌, slice_index, slice_range, ◌≤◌}
+use Rattle.std.specs.Prelude.{ℕ, Bool, true, false, ◌≡◌, ◌⊎◌, ◌+◌, ◌-◌, ◌==◌, filter, take, slice_get, nat_le, List, []}
+use Rattle.std.specs.Prelude.{◌∷◌, ◌++◌, length, Option, Some, None, Result, Ok, Err, if◌then◌else◌, slice_index}
+use Rattle.std.specs.Prelude.{slice_range, ◌≤◌}
 use Rattle.std.specs.List.{list_all, before_first}
 use Rattle.hyd_spec_lines.specs.Bytes.{text_lines, body, words_in, is_plain, is_line_feed}
 use Rattle.hyd_spec_lines.specs.Headings.{heading_kind}

@@ -1,5 +1,6 @@
 -- Boxes of an inner record lie inside those of an outer one, and each has a number.
-use Rattle.std.proofs.Common.{◌≡◌, ℕ, zero, suc, ◌+◌, ◌<◌, ℤ, pos, ◌+ℤ◌, ◌-ℤ◌, ◌≤ℤ◌, refl, sym, ap, subst, ◌∙◌, arith, Bool, true, false, ◌==◌, List, [], ◌∷◌, ◌++◌, length, map}
+use Rattle.std.proofs.Common.{◌≡◌, ℕ, zero, suc, ◌+◌, ◌<◌, ℤ, pos, ◌+ℤ◌, ◌-ℤ◌, ◌≤ℤ◌, refl, sym, ap, subst, ◌∙◌, arith}
+use Rattle.std.proofs.Common.{Bool, true, false, ◌==◌, List, [], ◌∷◌, ◌++◌, length, map}
 use Rattle.std.specs.Prelude.{Some, slice_get, slice_index_or, if◌then◌else◌}
 use Rattle.std.specs.List.{AllByRecursion}
 use Rattle.std.proofs.lemmas.Int.{ints}
@@ -15,7 +16,8 @@ use Rattle.hyd_spec_certificates.specs.Interval.{Interval, shifted}
 use Rattle.hyd_spec.specs.Network.{tank_node, tank_count, junction_count, reservoir_count}
 use Rattle.hyd_spec.specs.Quantity.{reservoir_head}
 use Rattle.hyd_spec.specs.Assignment.{head_at}
-use Rattle.hyd_spec_certificates.specs.Grid.{Grid, GridLink, IsJunctionOf, all_heads, fixed_heads, end_on, opposite, tank_side, tank_intervals}
+use Rattle.hyd_spec_certificates.specs.Grid.{Grid, GridLink, IsJunctionOf, all_heads, fixed_heads, end_on, opposite}
+use Rattle.hyd_spec_certificates.specs.Grid.{tank_side, tank_intervals}
 use Rattle.hyd_spec_certificates.specs.Boxes.{flow_box, inflow_box}
 use Rattle.hyd_spec_certificates.specs.Certificate.{IsCertificate}
 use Rattle.hyd_spec_certificates.specs.Record.{Record, Standing, Vectors, no_vectors, vector_of}

@@ -1,5 +1,6 @@
 -- Each period that doesn't begin at the end of the run ends in some way under each record.
-use Rattle.std.proofs.Common.{◌≡◌, ◌≢◌, ℕ, suc, ◌+◌, ◌%◌, ◌≤◌, refl, sym, ap, subst, ◌∙◌, arith, Bool, true, false, List, [], ◌∷◌, map, ◌⊎◌, inl, inr}
+use Rattle.std.proofs.Common.{◌≡◌, ◌≢◌, ℕ, suc, ◌+◌, ◌%◌, ◌≤◌, refl, sym, ap, subst, ◌∙◌, arith, Bool, true, false}
+use Rattle.std.proofs.Common.{List, [], ◌∷◌, map, ◌⊎◌, inl, inr}
 use Rattle.std.specs.List.{AllByRecursion, list_any}
 use Rattle.std.proofs.lemmas.Bool.{cases_Bool, cases_lt, cases_eq}
 use Rattle.hyd_num.specs.Rational.{floor, ceiling}
@@ -8,8 +9,13 @@ use Rattle.hyd_spec.specs.declared.Change.{Change}
 use Rattle.hyd_spec.specs.Rules.{groups_of, measured}
 use Rattle.hyd_spec_certificates.specs.Grid.{Grid}
 use Rattle.hyd_spec_certificates.specs.Record.{Record, Standing}
-use Rattle.hyd_spec_certificates.specs.Verdict.{Verdict, Yes, No, Unknown, is_unknown, either, both, some_holds, all_hold}
-use Rattle.hyd_spec_certificates.specs.Decided.{readings_below, readings_above, clause_between, rule_truth, rule_truths, decided_changes, IsTried, RulesMatter, OpenRule, IsOpenRule, End, ByRules, WithoutRules, RuleIsOpen, EventIsOpen, IsEarliestEnd, IsLatestEnd, IsFirstMatter, NoRuleMatters, EndsBy, by_rules, rule_is_open, by_clock, event_is_open}
+use Rattle.hyd_spec_certificates.specs.Verdict.{Verdict, Yes, No, Unknown, is_unknown, either, both, some_holds}
+use Rattle.hyd_spec_certificates.specs.Verdict.{all_hold}
+use Rattle.hyd_spec_certificates.specs.Decided.{readings_below, readings_above, clause_between, rule_truth, rule_truths}
+use Rattle.hyd_spec_certificates.specs.Decided.{decided_changes, IsTried, RulesMatter, OpenRule, IsOpenRule, End}
+use Rattle.hyd_spec_certificates.specs.Decided.{ByRules, WithoutRules, RuleIsOpen, EventIsOpen, IsEarliestEnd}
+use Rattle.hyd_spec_certificates.specs.Decided.{IsLatestEnd, IsFirstMatter, NoRuleMatters, EndsBy, by_rules}
+use Rattle.hyd_spec_certificates.specs.Decided.{rule_is_open, by_clock, event_is_open}
 use Rattle.hyd_spec_raises.proofs.Searching.{first-below}
 use Rattle.hyd_spec_histories.proofs.Judging.{in-groups}
 use Rattle.hyd_spec_histories.proofs.Lasting.{is-empty}

@@ -1,5 +1,6 @@
 -- Where a record is valid, no cause of a stop holds but spent rounds.
-use Rattle.std.proofs.Common.{◌≡◌, ◌≢◌, ℕ, zero, suc, ◌<◌, ◌≤◌, ℤ, refl, sym, ap, subst, ◌∙◌, arith, true, false, List, [], ◌∷◌, length, map}
+use Rattle.std.proofs.Common.{◌≡◌, ◌≢◌, ℕ, zero, suc, ◌<◌, ◌≤◌, ℤ, refl, sym, ap, subst, ◌∙◌, arith, true, false, List}
+use Rattle.std.proofs.Common.{[], ◌∷◌, length, map}
 use Rattle.std.specs.Prelude.{Option, Some, slice_get, slice_index_or, is_none, unsigned_abs}
 use Rattle.std.proofs.lemmas.List.Quantifiers.{position-Some}
 use Rattle.std.proofs.lemmas.Option.{slice_get_within, get_or_from_slice_get}
@@ -15,12 +16,20 @@ use Rattle.hyd_spec_certificates.specs.Verdict.{is_unknown}
 use Rattle.hyd_spec.specs.Quantity.{demand_of}
 use Rattle.hyd_spec_certificates.specs.Grid.{Grid}
 use Rattle.hyd_spec_certificates.specs.Record.{Record, Standing, vector_of}
-use Rattle.hyd_spec_certificates.specs.Decided.{nowhere, control_truth, OpenRule, End, ByRules, WithoutRules, RuleIsOpen, EventIsOpen, EndsBy, by_rules as decided_by_rules, rule_is_open, by_clock as decided_by_clock, event_is_open}
-use Rattle.hyd_spec_certificates.specs.Valid.{IsGridAt, IsValid, Continues, continues, finishes, LeadsOn, LeavesLinks, by_rules as left_by_rules, by_clock as left_by_clock, AreStates, ControlsAreDecided, levels_next, volumes_next, demand_limit}
+use Rattle.hyd_spec_certificates.specs.Decided.{nowhere, control_truth, OpenRule, End, ByRules, WithoutRules}
+use Rattle.hyd_spec_certificates.specs.Decided.{RuleIsOpen, EventIsOpen, EndsBy, by_rules as decided_by_rules}
+use Rattle.hyd_spec_certificates.specs.Decided.{rule_is_open, by_clock as decided_by_clock, event_is_open}
+use Rattle.hyd_spec_certificates.specs.Valid.{IsGridAt, IsValid, Continues, continues, finishes, LeadsOn, LeavesLinks}
+use Rattle.hyd_spec_certificates.specs.Valid.{by_rules as left_by_rules, by_clock as left_by_clock, AreStates}
+use Rattle.hyd_spec_certificates.specs.Valid.{ControlsAreDecided, levels_next, volumes_next, demand_limit}
 use Rattle.hyd_spec_laws.proofs.OneAnswer.{one_end}
 use Rattle.hyd_spec_reports.specs.declared.StopCause.{StopCause}
-use Rattle.hyd_spec_reports.specs.declared.StopCause.TheVariants.{Demand as DemandOutOfRange, NoCertificate, RoundsSpent, RuleOpen, EventOpen, TankOpen, ControlOpen}
-use Rattle.hyd_spec_reports.specs.Stops.{IsFirstDemand, HasNoCertificate, IsTightRow, LeavesRuleOpen, LeavesEventOpen, EndsAtLevels, open_states, LeavesTankOpen, is_open_control, LeavesControlOpen, Stops}
+use Rattle.hyd_spec_reports.specs.declared.StopCause.TheVariants.{Demand as DemandOutOfRange, NoCertificate}
+use Rattle.hyd_spec_reports.specs.declared.StopCause.TheVariants.{RoundsSpent, RuleOpen, EventOpen, TankOpen}
+use Rattle.hyd_spec_reports.specs.declared.StopCause.TheVariants.{ControlOpen}
+use Rattle.hyd_spec_reports.specs.Stops.{IsFirstDemand, HasNoCertificate, IsTightRow, LeavesRuleOpen, LeavesEventOpen}
+use Rattle.hyd_spec_reports.specs.Stops.{EndsAtLevels, open_states, LeavesTankOpen, is_open_control, LeavesControlOpen}
+use Rattle.hyd_spec_reports.specs.Stops.{Stops}
 use Rattle.hyd_spec_certificates.specs.Certificate.{IsCertificate}
 use Rattle.hyd_spec_laws.proofs.OneRun.{one_grid}
 use Rattle.hyd_spec_histories.specs.Agreement.{IsKept}

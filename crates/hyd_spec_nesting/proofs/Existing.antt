@@ -1,5 +1,6 @@
 -- The clock allows each period some length, and under each record there is an earliest and a latest end.
-use Rattle.std.proofs.Common.{◌≡◌, ℕ, zero, suc, ◌+◌, ◌-◌, ◌%◌, ◌<◌, ◌≤◌, refl, sym, ap, subst, ◌∙◌, arith, Bool, true, false, ◌&&◌, ◌||◌, ◌==◌, List, [], ◌∷◌, ◌⊎◌, inl, inr}
+use Rattle.std.proofs.Common.{◌≡◌, ℕ, zero, suc, ◌+◌, ◌-◌, ◌%◌, ◌<◌, ◌≤◌, refl, sym, ap, subst, ◌∙◌, arith, Bool, true}
+use Rattle.std.proofs.Common.{false, ◌&&◌, ◌||◌, ◌==◌, List, [], ◌∷◌, ◌⊎◌, inl, inr}
 use Rattle.std.specs.Prelude.{Option, Some, None, slice_get, Contains, nat_lt, nat_le}
 use Rattle.std.specs.List.{list_any}
 use Rattle.std.specs.Option.{option_map_or}
@@ -11,7 +12,8 @@ use Rattle.hyd_spec_certificates.specs.Stocks.{may_reach, must_reach}
 use Rattle.hyd_spec.specs.Length.{IsLeast, EndsByClock, step, duration, pattern, report, control_time, control_clock}
 use Rattle.hyd_spec_certificates.specs.Grid.{Grid}
 use Rattle.hyd_spec_certificates.specs.Record.{Record, Standing}
-use Rattle.hyd_spec_certificates.specs.Decided.{Watch, watches, stocks_of_tank, inflow_of_tank, SomeReaches, IsClockLength, IsEarliestEnd, IsLatestEnd}
+use Rattle.hyd_spec_certificates.specs.Decided.{Watch, watches, stocks_of_tank, inflow_of_tank, SomeReaches}
+use Rattle.hyd_spec_certificates.specs.Decided.{IsClockLength, IsEarliestEnd, IsLatestEnd}
 use Rattle.hyd_spec_nesting.specs.Nesting.{ReachTest, watch_passes}
 use Rattle.hyd_lemmas.proofs.Trials.{both-first, both-second, or-left, or-right, and-true, any_of}
 use Rattle.hyd_spec_histories.proofs.Watching.{contains-here, contains-later}

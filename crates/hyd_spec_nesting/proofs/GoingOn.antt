@@ -1,5 +1,6 @@
 -- At each unfinished standing of a run a valid record leads on, or a cause of a stop holds.
-use Rattle.std.proofs.Common.{◌≡◌, ◌≢◌, ℕ, zero, suc, ◌+◌, ◌<◌, ◌≤◌, ℤ, refl, subst, arith, Bool, true, false, List, [], ◌∷◌, length, map, ◌⊎◌, inl, inr}
+use Rattle.std.proofs.Common.{◌≡◌, ◌≢◌, ℕ, zero, suc, ◌+◌, ◌<◌, ◌≤◌, ℤ, refl, subst, arith, Bool, true, false, List, []}
+use Rattle.std.proofs.Common.{◌∷◌, length, map, ◌⊎◌, inl, inr}
 use Rattle.std.specs.Prelude.{Option, Some, None, slice_index_or, nat_lt, unsigned_abs, is_none, Contains}
 use Rattle.std.proofs.lemmas.Bool.{cases_eq, cases_lt}
 use Rattle.std.proofs.lemmas.List.Elements.{All-from_recursion}
@@ -22,11 +23,16 @@ use Rattle.hyd_spec_certificates.specs.Verdict.{is_yes, is_unknown}
 use Rattle.hyd_spec_certificates.specs.Grid.{Grid, IsJunctionOf}
 use Rattle.hyd_spec_certificates.specs.Certificate.{IsCertificate, IsTight}
 use Rattle.hyd_spec_certificates.specs.Record.{Record, Standing, Vectors, no_vectors, vector_of}
-use Rattle.hyd_spec_certificates.specs.Decided.{links_at, nowhere, control_truth, rule_truths, End, ByRules, WithoutRules, RuleIsOpen, EventIsOpen, EndsBy}
-use Rattle.hyd_spec_certificates.specs.Valid.{IsProblem, IsGridAt, DemandsAreInRange, demand_limit, AreCertificates, LeavesLinks, by_rules, by_clock, levels_next, volumes_next, stocks_next, AreStates, ControlsAreDecided, continues, finishes, LeadsOn}
+use Rattle.hyd_spec_certificates.specs.Decided.{links_at, nowhere, control_truth, rule_truths, End, ByRules}
+use Rattle.hyd_spec_certificates.specs.Decided.{WithoutRules, RuleIsOpen, EventIsOpen, EndsBy}
+use Rattle.hyd_spec_certificates.specs.Valid.{IsProblem, IsGridAt, DemandsAreInRange, demand_limit, AreCertificates}
+use Rattle.hyd_spec_certificates.specs.Valid.{LeavesLinks, by_rules, by_clock, levels_next, volumes_next, stocks_next}
+use Rattle.hyd_spec_certificates.specs.Valid.{AreStates, ControlsAreDecided, continues, finishes, LeadsOn}
 use Rattle.hyd_spec_reports.specs.declared.StopCause.{StopCause}
-use Rattle.hyd_spec_reports.specs.declared.StopCause.TheVariants.{Demand as DemandOutOfRange, NoCertificate, RuleOpen, EventOpen, TankOpen, ControlOpen}
-use Rattle.hyd_spec_reports.specs.Stops.{EarlierHaveCertificates, beginning, IsTightRow, open_states, is_open_control, Stops}
+use Rattle.hyd_spec_reports.specs.declared.StopCause.TheVariants.{Demand as DemandOutOfRange, NoCertificate, RuleOpen}
+use Rattle.hyd_spec_reports.specs.declared.StopCause.TheVariants.{EventOpen, TankOpen, ControlOpen}
+use Rattle.hyd_spec_reports.specs.Stops.{EarlierHaveCertificates, beginning, IsTightRow, open_states, is_open_control}
+use Rattle.hyd_spec_reports.specs.Stops.{Stops}
 use Rattle.hyd_spec_laws.specs.Laws.{IsSteady}
 use Rattle.hyd_spec_laws.proofs.Comparison.{place_long}
 use Rattle.hyd_spec_laws.proofs.OneLength.{ends_again}

@@ -1,5 +1,6 @@
 -- What a valid record decides the tight vectors of its standing decide in the same way.
-use Rattle.std.proofs.Common.{◌≡◌, ◌≢◌, ℕ, zero, suc, ◌+◌, ◌<◌, ◌≤◌, ℤ, pos, ◌≤ℤ◌, refl, sym, ap, subst, ◌∙◌, arith, Bool, true, false, List, [], ◌∷◌, length, map, inl, inr, MatchBool}
+use Rattle.std.proofs.Common.{◌≡◌, ◌≢◌, ℕ, zero, suc, ◌+◌, ◌<◌, ◌≤◌, ℤ, pos, ◌≤ℤ◌, refl, sym, ap, subst, ◌∙◌, arith}
+use Rattle.std.proofs.Common.{Bool, true, false, List, [], ◌∷◌, length, map, inl, inr, MatchBool}
 use Rattle.std.specs.Prelude.{Option, Some, None, slice_get, slice_index_or, int_le, if◌then◌else◌}
 use Rattle.std.specs.List.{AllByRecursion, AllZip}
 use Rattle.std.proofs.lemmas.Int.{ints}
@@ -18,8 +19,11 @@ use Rattle.hyd_spec_certificates.specs.Stocks.{state_of}
 use Rattle.hyd_spec_certificates.specs.Verdict.{is_unknown}
 use Rattle.hyd_spec_certificates.specs.Grid.{Grid, GridJunction, IsJunctionOf, IsDemandLaw, IsDriven}
 use Rattle.hyd_spec_certificates.specs.Record.{Record, Standing, initial_standing, vector_of}
-use Rattle.hyd_spec_certificates.specs.Decided.{links_at, acts_on, nowhere, control_truth, IsClockLength, by_rules as decided_by_rules, by_clock as decided_by_clock}
-use Rattle.hyd_spec_certificates.specs.Valid.{IsGridAt, IsValid, Continues, continues, LeavesLinks, by_rules as left_by_rules, by_clock as left_by_clock, AreStates, ControlsAreDecided, stocks_next, levels_next, volumes_next}
+use Rattle.hyd_spec_certificates.specs.Decided.{links_at, acts_on, nowhere, control_truth, IsClockLength}
+use Rattle.hyd_spec_certificates.specs.Decided.{by_rules as decided_by_rules, by_clock as decided_by_clock}
+use Rattle.hyd_spec_certificates.specs.Valid.{IsGridAt, IsValid, Continues, continues, LeavesLinks}
+use Rattle.hyd_spec_certificates.specs.Valid.{by_rules as left_by_rules, by_clock as left_by_clock, AreStates}
+use Rattle.hyd_spec_certificates.specs.Valid.{ControlsAreDecided, stocks_next, levels_next, volumes_next}
 use Rattle.hyd_spec_laws.specs.Laws.{IsInside, IsSoundDemand, IsSteady}
 use Rattle.hyd_spec_laws.proofs.Grids.{IsSoundGrid-made}
 use Rattle.hyd_spec_laws.proofs.Levelling.{state_nests}
@@ -32,7 +36,8 @@ use Rattle.hyd_spec_histories.proofs.Stepping.{made-states}
 use Rattle.hyd_spec_histories.proofs.Commanding.{started_own}
 use Rattle.hyd_spec_nesting.specs.Nesting.{IsOrdered, AreNested, IsTidy, IsTightened}
 use Rattle.hyd_spec_nesting.proofs.Existing.{clock_length_is, earliest_is}
-use Rattle.hyd_spec_nesting.proofs.Refining.{lies-one, widened-lies, stocks_within, stocks_there, ends-refine, known-same, leaves_so}
+use Rattle.hyd_spec_nesting.proofs.Refining.{lies-one, widened-lies, stocks_within, stocks_there, ends-refine}
+use Rattle.hyd_spec_nesting.proofs.Refining.{known-same, leaves_so}
 
 -- ---- demands
 

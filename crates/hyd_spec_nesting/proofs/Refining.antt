@@ -1,5 +1,6 @@
 -- What an outer record decides an inner one decides in the same way.
-use Rattle.std.proofs.Common.{◌≡◌, ◌≢◌, ℕ, zero, suc, ◌+◌, ◌*◌, ◌≤◌, ℤ, pos, negsuc, neg_ℤ, ◌≤ℤ◌, refl, sym, ap, subst, ◌∙◌, arith, Bool, true, false, ◌||◌, List, [], ◌∷◌, map, ◌⊎◌, inl, inr}
+use Rattle.std.proofs.Common.{◌≡◌, ◌≢◌, ℕ, zero, suc, ◌+◌, ◌*◌, ◌≤◌, ℤ, pos, negsuc, neg_ℤ, ◌≤ℤ◌, refl, sym, ap, subst}
+use Rattle.std.proofs.Common.{◌∙◌, arith, Bool, true, false, ◌||◌, List, [], ◌∷◌, map, ◌⊎◌, inl, inr}
 use Rattle.std.specs.Prelude.{Some, slice_get, slice_index_or, unsigned_abs, int_le, if◌then◌else◌, ⊤}
 use Rattle.std.specs.List.{AllByRecursion, list_any}
 use Rattle.std.proofs.lemmas.Int.{ints}
@@ -13,12 +14,19 @@ use Rattle.hyd_spec_certificates.specs.Interval.{Interval}
 use Rattle.hyd_spec.specs.Tank.{walls_of}
 use Rattle.hyd_spec.specs.Rules.{groups_of, rule_changes, acted}
 use Rattle.hyd_spec_certificates.specs.Stocks.{carried_levels}
-use Rattle.hyd_spec_certificates.specs.Verdict.{Verdict, Yes, No, Unknown, at_both_ends, is_yes, is_unknown, either, both, some_holds, all_hold}
+use Rattle.hyd_spec_certificates.specs.Verdict.{Verdict, Yes, No, Unknown, at_both_ends, is_yes, is_unknown, either}
+use Rattle.hyd_spec_certificates.specs.Verdict.{both, some_holds, all_hold}
 use Rattle.hyd_spec_certificates.specs.Grid.{Grid, GridLink}
 use Rattle.hyd_spec_certificates.specs.Boxes.{flow_box}
 use Rattle.hyd_spec_certificates.specs.Record.{Record, Standing}
-use Rattle.hyd_spec_certificates.specs.Decided.{links_at, stocks_of_tank, inflow_of_tank, least_magnitude, greatest_magnitude, heads_below, heads_above, readings_below, readings_above, clause_truth, rule_truth, rule_truths, decided_changes, SomeMayReach, SomeMustReach, IsClockLength, IsEarliestEnd, RulesMatter, EndsBy, ByRules, WithoutRules, by_rules as decided_by_rules, by_clock as decided_by_clock}
-use Rattle.hyd_spec_certificates.specs.Valid.{LeavesLinks, by_rules as left_by_rules, by_clock as left_by_clock, stocks_next}
+use Rattle.hyd_spec_certificates.specs.Decided.{links_at, stocks_of_tank, inflow_of_tank, least_magnitude}
+use Rattle.hyd_spec_certificates.specs.Decided.{greatest_magnitude, heads_below, heads_above, readings_below}
+use Rattle.hyd_spec_certificates.specs.Decided.{readings_above, clause_truth, rule_truth, rule_truths, decided_changes}
+use Rattle.hyd_spec_certificates.specs.Decided.{SomeMayReach, SomeMustReach, IsClockLength, IsEarliestEnd, RulesMatter}
+use Rattle.hyd_spec_certificates.specs.Decided.{EndsBy, ByRules, WithoutRules, by_rules as decided_by_rules}
+use Rattle.hyd_spec_certificates.specs.Decided.{by_clock as decided_by_clock}
+use Rattle.hyd_spec_certificates.specs.Valid.{LeavesLinks, by_rules as left_by_rules, by_clock as left_by_clock}
+use Rattle.hyd_spec_certificates.specs.Valid.{stocks_next}
 use Rattle.hyd_spec_laws.specs.Laws.{LiesIn, IsInside, AreInside, HasStock, Tells}
 use Rattle.hyd_lemmas.proofs.Integers.{max_is}
 use Rattle.hyd_spec_laws.proofs.Outflows.{le-no}
@@ -30,7 +38,8 @@ use Rattle.hyd_spec_nesting.specs.Nesting.{IsOrdered, AreNested}
 use Rattle.hyd_spec_histories.proofs.Clauses.{clause_tells, whole-between}
 use Rattle.hyd_spec_histories.proofs.Looks.{least-within, greatest-beyond}
 use Rattle.hyd_spec_histories.proofs.Judging.{each_of, in-groups}
-use Rattle.hyd_spec_nesting.proofs.Boxing.{above_within, below_within, inner_ordered, flow_inside, flow_ordered, inflow_inside, inflow_ordered}
+use Rattle.hyd_spec_nesting.proofs.Boxing.{above_within, below_within, inner_ordered, flow_inside, flow_ordered}
+use Rattle.hyd_spec_nesting.proofs.Boxing.{inflow_inside, inflow_ordered}
 
 -- ---- magnitudes
 

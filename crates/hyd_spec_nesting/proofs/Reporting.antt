@@ -1,5 +1,6 @@
 -- Each record that leads on from a standing of a run has a report.
-use Rattle.std.proofs.Common.{◌≡◌, ℕ, zero, suc, ◌+◌, ◌^◌, ◌<◌, ℤ, pos, ◌*ℤ◌, ◌-ℤ◌, ◌<ℤ◌, neg_ℤ, refl, ap, subst, ◌∙◌, arith, Bool, true, false, MatchBool, List, [], ◌∷◌, map}
+use Rattle.std.proofs.Common.{◌≡◌, ℕ, zero, suc, ◌+◌, ◌^◌, ◌<◌, ℤ, pos, ◌*ℤ◌, ◌-ℤ◌, ◌<ℤ◌, neg_ℤ, refl, ap, subst, ◌∙◌}
+use Rattle.std.proofs.Common.{arith, Bool, true, false, MatchBool, List, [], ◌∷◌, map}
 use Rattle.std.specs.Prelude.{Some, slice_get}
 use Rattle.std.specs.List.{AllZip}
 use Rattle.std.specs.Int.{int_div_euclid}
@@ -19,12 +20,16 @@ use Rattle.hyd_spec_certificates.specs.Interval.{Interval, exactly, shifted}
 use Rattle.hyd_spec_certificates.specs.Grid.{Grid, GridLink, GridJunction, grid_links}
 use Rattle.hyd_spec_certificates.specs.Boxes.{flow_box, out_box}
 use Rattle.hyd_spec_certificates.specs.Record.{Record, Standing}
-use Rattle.hyd_spec_certificates.specs.Decided.{heads_below, heads_above, links_at, acts_on, level_of_tank, inflow_of_tank, decided_changes}
-use Rattle.hyd_spec_certificates.specs.Valid.{IsGridAt, LeavesLinks, by_rules as left_by_rules, by_clock as left_by_clock, LeadsOn, continues, finishes}
+use Rattle.hyd_spec_certificates.specs.Decided.{heads_below, heads_above, links_at, acts_on, level_of_tank}
+use Rattle.hyd_spec_certificates.specs.Decided.{inflow_of_tank, decided_changes}
+use Rattle.hyd_spec_certificates.specs.Valid.{IsGridAt, LeavesLinks, by_rules as left_by_rules}
+use Rattle.hyd_spec_certificates.specs.Valid.{by_clock as left_by_clock, LeadsOn, continues, finishes}
 use Rattle.hyd_spec_reports.specs.declared.Event.{Event}
 use Rattle.hyd_spec.specs.declared.Change.{Change}
 use Rattle.hyd_spec_reports.specs.ReportLine.{ReportLine}
-use Rattle.hyd_spec_reports.specs.Report.{Prints, is_report_time, LineEach, IsJunctionLine, IsReservoirLine, IsTankLine, IsLinkLine, AreStateLines, events_of, EndBrings, at_end, by_rules, by_clock, IsReport}
+use Rattle.hyd_spec_reports.specs.Report.{Prints, is_report_time, LineEach, IsJunctionLine, IsReservoirLine, IsTankLine}
+use Rattle.hyd_spec_reports.specs.Report.{IsLinkLine, AreStateLines, events_of, EndBrings, at_end, by_rules, by_clock}
+use Rattle.hyd_spec_reports.specs.Report.{IsReport}
 use Rattle.hyd_spec_laws.proofs.OneStanding.{there}
 use Rattle.hyd_spec_histories.specs.Agreement.{IsOwnState, IsKept}
 use Rattle.hyd_spec_histories.proofs.Commanding.{started_own}

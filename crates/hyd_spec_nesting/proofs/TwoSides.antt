@@ -8,7 +8,8 @@ use Rattle.hyd_spec_certificates.specs.Enclosing.{low, high}
 use Rattle.hyd_spec_certificates.specs.Grid.{Grid, all_heads, fixed_heads}
 use Rattle.hyd_spec_certificates.specs.Certificate.{IsCertificate}
 use Rattle.hyd_spec_laws.specs.Laws.{IsSteady}
-use Rattle.hyd_spec_laws.proofs.NetRising.{low-rises, high-rises, IsTop, net-rises, net-ordered, outflow-rises, demand-at, item-at}
+use Rattle.hyd_spec_laws.proofs.NetRising.{low-rises, high-rises, IsTop, net-rises, net-ordered, outflow-rises}
+use Rattle.hyd_spec_laws.proofs.NetRising.{demand-at, item-at}
 use Rattle.hyd_spec_laws.proofs.Leading.{one_times}
 use Rattle.hyd_spec_laws.proofs.Nodes.{excess, excess_after, head_front, IsGreatestBelow, greatest_below}
 

@@ -1,7 +1,8 @@
 -- Records inside others: what is asked of two records so that what the outer one decides the inner one decides in the
 -- same way.
 -- Source: this program's; intervals that lie inside others are those of Moore 1966.
-use Rattle.std.specs.Prelude.{◌≡◌, ℕ, ◌≤◌, ℤ, ◌≤ℤ◌, List, [], ◌∷◌, ◌++◌, ⊤, length, ◌⊎◌, Bool, false, IsTrue, Contains, slice_get}
+use Rattle.std.specs.Prelude.{◌≡◌, ℕ, ◌≤◌, ℤ, ◌≤ℤ◌, List, [], ◌∷◌, ◌++◌, ⊤, length, ◌⊎◌, Bool, false, IsTrue, Contains}
+use Rattle.std.specs.Prelude.{slice_get}
 use Rattle.std.specs.Option.{option_map_or}
 use Rattle.hyd_spec.specs.Types.{Project, Tank}
 use Rattle.hyd_spec.specs.Lists.{Each}
@@ -19,7 +20,9 @@ use Rattle.hyd_spec_certificates.specs.Stocks.{Stocks}
 use Rattle.hyd_spec_certificates.specs.Decided.{Watch, stocks_of_tank, inflow_of_tank, RulesMatter}
 use Rattle.hyd_spec_certificates.specs.Valid.{AreCertificates, IsProblem, IsGridAt, IsValid}
 use Rattle.hyd_spec_reports.specs.declared.StopCause.{StopCause}
-use Rattle.hyd_spec_reports.specs.declared.StopCause.TheVariants.{Demand as DemandOutOfRange, NoCertificate, RoundsSpent, RuleOpen, EventOpen, TankOpen, ControlOpen}
+use Rattle.hyd_spec_reports.specs.declared.StopCause.TheVariants.{Demand as DemandOutOfRange, NoCertificate}
+use Rattle.hyd_spec_reports.specs.declared.StopCause.TheVariants.{RoundsSpent, RuleOpen, EventOpen, TankOpen}
+use Rattle.hyd_spec_reports.specs.declared.StopCause.TheVariants.{ControlOpen}
 use Rattle.hyd_spec_reports.specs.Stops.{Stops}
 use Rattle.hyd_spec_reports.specs.Headline.{Found, IsRun}
 use Rattle.hyd_spec_laws.specs.Laws.{HasStock, IsVessel, IsSteady}

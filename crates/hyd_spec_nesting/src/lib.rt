@@ -3,7 +3,8 @@
 //! leads on or a stop holds. Each statement is the contract of a small function.
 #![tactic(auto)]
 
-ghost use Rattle.std.specs.Prelude.{◌⊎◌, false, ◌≡◌, ◌≢◌, ◌<◌, ◌≤◌, ◌%◌, ◌+◌, ◌-◌, ◌≤ℤ◌, ◌<ℤ◌, ◌+ℤ◌, ◌-ℤ◌, ℕ, ℤ, pos, List, [], length, slice_get, Some, ◌∷◌, min};
+ghost use Rattle.std.specs.Prelude.{◌⊎◌, false, ◌≡◌, ◌≢◌, ◌<◌, ◌≤◌, ◌%◌, ◌+◌, ◌-◌, ◌≤ℤ◌, ◌<ℤ◌, ◌+ℤ◌, ◌-ℤ◌, ℕ, ℤ, pos};
+ghost use Rattle.std.specs.Prelude.{List, [], length, slice_get, Some, ◌∷◌, min};
 ghost use Rattle.hyd_net.specs.Sound.{Sound};
 ghost use Rattle.hyd_spec.specs.Types.{Project, Tank, LinkState};
 ghost use Rattle.hyd_spec.specs.Assignment.{head_at};
@@ -17,8 +18,11 @@ ghost use Rattle.hyd_spec_certificates.specs.Grid.{Grid, GridLink, fixed_heads};
 ghost use Rattle.hyd_spec_certificates.specs.Boxes.{flow_box};
 ghost use Rattle.hyd_spec_certificates.specs.Certificate.{IsCertificate};
 ghost use Rattle.hyd_spec_certificates.specs.Record.{Record, Standing, initial_standing};
-ghost use Rattle.hyd_spec_certificates.specs.Decided.{Watch, watches, stocks_of_tank, inflow_of_tank, heads_below, heads_above, IsClockLength, IsEarliestEnd, IsLatestEnd, RulesMatter, End, EndsBy};
-ghost use Rattle.hyd_spec_certificates.specs.Valid.{DemandsAreInRange, IsGridAt, LeavesLinks, LeadsOn, IsValid, Continues, stocks_next, levels_next, volumes_next};
+ghost use Rattle.hyd_spec_certificates.specs.Decided.{Watch, watches, stocks_of_tank, inflow_of_tank, heads_below};
+ghost use Rattle.hyd_spec_certificates.specs.Decided.{heads_above, IsClockLength, IsEarliestEnd, IsLatestEnd};
+ghost use Rattle.hyd_spec_certificates.specs.Decided.{RulesMatter, End, EndsBy};
+ghost use Rattle.hyd_spec_certificates.specs.Valid.{DemandsAreInRange, IsGridAt, LeavesLinks, LeadsOn, IsValid};
+ghost use Rattle.hyd_spec_certificates.specs.Valid.{Continues, stocks_next, levels_next, volumes_next};
 ghost use Rattle.hyd_spec_reports.specs.declared.StopCause.{StopCause};
 ghost use Rattle.hyd_spec_reports.specs.Stops.{Stops};
 ghost use Rattle.hyd_spec_reports.specs.ReportLine.{ReportLine};
@@ -26,7 +30,8 @@ ghost use Rattle.hyd_spec_reports.specs.Report.{IsReport};
 ghost use Rattle.hyd_spec_reports.specs.Headline.{Found, IsRun};
 ghost use Rattle.hyd_spec_laws.specs.Laws.{IsInside, AreInside, HasStock, IsSteady};
 ghost use Rattle.hyd_spec_histories.specs.Agreement.{IsKept};
-ghost use Rattle.hyd_spec_nesting.specs.Nesting.{IsOrdered, AreNested, IsTightened, IsTidy, ReachTest, watch_passes, IsFirstAmong, IsWalked, IsReason, LeadsSomewhere, IsStopped, IsLonger};
+ghost use Rattle.hyd_spec_nesting.specs.Nesting.{IsOrdered, AreNested, IsTightened, IsTidy, ReachTest, watch_passes};
+ghost use Rattle.hyd_spec_nesting.specs.Nesting.{IsFirstAmong, IsWalked, IsReason, LeadsSomewhere, IsStopped, IsLonger};
 
 // ---- certificates of two sides
 

@@ -1,5 +1,6 @@
 -- Controls of a file without a fault: each sets a link that is there to a state that it can have, at a moment in range.
-use Rattle.std.proofs.Common.{◌≡◌, ℕ, ◌<◌, true, false, List, [], ◌∷◌, length, Option, Some, None, refl, sym, ap, ◌∙◌, subst, arith, inl, inr, true≢false}
+use Rattle.std.proofs.Common.{◌≡◌, ℕ, ◌<◌, true, false, List, [], ◌∷◌, length, Option, Some, None, refl, sym, ap, ◌∙◌}
+use Rattle.std.proofs.Common.{subst, arith, inl, inr, true≢false}
 use Rattle.std.specs.Prelude.{slice_get, not, All, codes, if◌then◌else◌}
 use Rattle.std.proofs.lemmas.Bool.{cases_Bool, and_parts, and_from, not-true}
 use Rattle.std.proofs.lemmas.List.{length-map}

@@ -1,5 +1,6 @@
 -- The example text has no fault, and the example network is its project.
-use Rattle.std.proofs.Common.{◌≡◌, ℕ, ◌+◌, ◌*◌, ◌^◌, ◌<◌, zero, suc, Bool, true, List, [], ◌∷◌, codes, take, Option, Some, None, refl, sym, subst, arith, inl, inr, true≢false, lit≤}
+use Rattle.std.proofs.Common.{◌≡◌, ℕ, ◌+◌, ◌*◌, ◌^◌, ◌<◌, zero, suc, Bool, true, List, [], ◌∷◌, codes, take, Option}
+use Rattle.std.proofs.Common.{Some, None, refl, sym, subst, arith, inl, inr, true≢false, lit≤}
 use Rattle.std.specs.Prelude.{slice_get, ◌&&◌, is_none, ℤ, pos, ◌<ℤ◌, ◌*ℤ◌}
 use Rattle.std.specs.List.{AllByRecursion}
 use Rattle.std.proofs.lemmas.Bool.{and_parts}
@@ -11,9 +12,12 @@ use Rattle.hyd_num.specs.Roots.{IsFloor, IsCeiling}
 use Rattle.hyd_spec_lines.specs.Bytes.{words_in, is_keyword}
 use Rattle.hyd_spec_lines.specs.Headings.{read_section, is_passed_over, heading_kind}
 use Rattle.hyd_spec_lines.specs.Lines.{Row, items_of, rows_in, fault_in, kind_of}
-use Rattle.hyd_spec_lines.specs.declared.section.Section.TheVariants.{Junctions, Reservoirs, Tanks, Pumps, Valves, Demands, Curves, Patterns, Status, Controls, Rules, Options, Times}
+use Rattle.hyd_spec_lines.specs.declared.section.Section.TheVariants.{Junctions, Reservoirs, Tanks, Pumps, Valves}
+use Rattle.hyd_spec_lines.specs.declared.section.Section.TheVariants.{Demands, Curves, Patterns, Status, Controls}
+use Rattle.hyd_spec_lines.specs.declared.section.Section.TheVariants.{Rules, Options, Times}
 use Rattle.hyd_net.specs.declared.cause.Cause.{Cause}
-use Rattle.hyd_spec_input.specs.Keywords.{flow_unit, option_word, time_word, link_word, node_word, object_word, attribute_word, relation_word, rule_word}
+use Rattle.hyd_spec_input.specs.Keywords.{flow_unit, option_word, time_word, link_word, node_word, object_word}
+use Rattle.hyd_spec_input.specs.Keywords.{attribute_word, relation_word, rule_word}
 use Rattle.hyd_spec_input.specs.Moments.{unit_seconds}
 use Rattle.hyd_spec_input.specs.ByItself as itself
 use Rattle.hyd_spec_input.specs.ByItself.{IsWrongByItself}

@@ -1,5 +1,6 @@
 -- A row of a text without a fault: it is right by itself and with the others, and each thing that is asked of it holds.
-use Rattle.std.proofs.Common.{◌≡◌, ℕ, ◌+◌, ◌≤◌, Bool, true, false, List, [], ◌∷◌, length, take, drop, Option, Some, None, refl, sym, ap, ◌∙◌, subst, arith, inl}
+use Rattle.std.proofs.Common.{◌≡◌, ℕ, ◌+◌, ◌≤◌, Bool, true, false, List, [], ◌∷◌, length, take, drop, Option, Some}
+use Rattle.std.proofs.Common.{None, refl, sym, ap, ◌∙◌, subst, arith, inl}
 use Rattle.std.specs.Prelude.{slice_get, ◌&&◌, ◌==◌, ℤ, ◌≤ℤ◌, ◌<ℤ◌, if◌then◌else◌}
 use Rattle.std.specs.List.{All, AllByRecursion}
 use Rattle.std.proofs.lemmas.Bool.{and_parts, eqb-true}
@@ -10,10 +11,13 @@ use Rattle.hyd_num.specs.Numeral.{nano_of}
 use Rattle.hyd_spec_lines.specs.Lines.{Row, items_of, rows_in}
 use Rattle.hyd_lex.proofs.NotEmpty.{HasWords, not_empty}
 use Rattle.hyd_spec_lines.specs.declared.section.Section.{Section}
-use Rattle.hyd_spec_lines.specs.declared.section.Section.TheVariants.{Junctions, Reservoirs, Tanks, Pipes, Pumps, Valves, Demands, Emitters, Curves, Patterns, Status, Controls, Rules, Options, Times}
+use Rattle.hyd_spec_lines.specs.declared.section.Section.TheVariants.{Junctions, Reservoirs, Tanks, Pipes, Pumps}
+use Rattle.hyd_spec_lines.specs.declared.section.Section.TheVariants.{Valves, Demands, Emitters, Curves, Patterns}
+use Rattle.hyd_spec_lines.specs.declared.section.Section.TheVariants.{Status, Controls, Rules, Options, Times}
 use Rattle.hyd_net.specs.Ranges.{Lies}
 use Rattle.hyd_net.specs.declared.cause.Cause.{Cause}
-use Rattle.hyd_spec_input.specs.Columns.{Column, or_else, first, unless, of_needed, needed, of_word, optional, or_empty, word, number, number_where, number_within, nano_or, amount_or}
+use Rattle.hyd_spec_input.specs.Columns.{Column, or_else, first, unless, of_needed, needed, of_word, optional, or_empty}
+use Rattle.hyd_spec_input.specs.Columns.{word, number, number_where, number_within, nano_or, amount_or}
 use Rattle.hyd_spec_input.specs.Tables.{place, is_of, words_of}
 use Rattle.hyd_spec_input.specs.ByItself as itself
 use Rattle.hyd_spec_input.specs.WithOthers as others

@@ -1,5 +1,6 @@
 -- Links of a file without a fault: their ends, and what they are made of.
-use Rattle.std.proofs.Common.{◌≡◌, ℕ, ◌^◌, Bool, true, false, List, [], ◌∷◌, length, drop, Option, Some, None, refl, sym, ap, ◌∙◌, subst, arith, inl, inr, true≢false}
+use Rattle.std.proofs.Common.{◌≡◌, ℕ, ◌^◌, Bool, true, false, List, [], ◌∷◌, length, drop, Option, Some, None, refl}
+use Rattle.std.proofs.Common.{sym, ap, ◌∙◌, subst, arith, inl, inr, true≢false}
 use Rattle.std.specs.Prelude.{slice_get, ◌&&◌, ◌==◌, All, ℤ, pos, ◌-ℤ◌, ◌*ℤ◌, ◌≤ℤ◌}
 use Rattle.std.specs.List.{list_all}
 use Rattle.std.specs.Ordering.{int_eq}
@@ -32,19 +33,24 @@ use Rattle.hyd_net.specs.declared.links.OpenValve.TheVariants.{Quadratic, Linear
 use Rattle.hyd_net.specs.declared.links.ShutoffHead.{ShutoffHead}
 use Rattle.hyd_net.specs.declared.links.ShutoffHead.TheVariants.{FourThirds, Given}
 use Rattle.hyd_net.specs.declared.project.Project.{Project}
-use Rattle.hyd_spec_input.specs.Columns.{unless, needed, optional, ends, id, one_of, is_there, up_to, above_0_to, supported, word, or_empty, amount, units}
+use Rattle.hyd_spec_input.specs.Columns.{unless, needed, optional, ends, id, one_of, is_there, up_to, above_0_to}
+use Rattle.hyd_spec_input.specs.Columns.{supported, word, or_empty, amount, units}
 use Rattle.hyd_spec_input.specs.NetworkRows as alone
 use Rattle.hyd_spec_input.specs.Tables.{Point, place, is_of, is_link, curve_named}
 use Rattle.hyd_spec_input.specs.InForce.{unit}
-use Rattle.hyd_spec_input.specs.Curves.{drop_of, is_bent, is_within, is_flow, is_pump_curve, square, are_flows, has_shutoff, is_pump_bend, head_point, head_points, begins_at_0, is_valve_bend}
+use Rattle.hyd_spec_input.specs.Curves.{drop_of, is_bent, is_within, is_flow, is_pump_curve, square, are_flows}
+use Rattle.hyd_spec_input.specs.Curves.{has_shutoff, is_pump_bend, head_point, head_points, begins_at_0, is_valve_bend}
 use Rattle.hyd_spec_input.specs.Network.{node_ids}
 use Rattle.hyd_spec_input.specs.WithOthers as others
 use Rattle.hyd_spec_input.specs.WithOthers.{us, is_speed, multipliers_of}
 use Rattle.hyd_spec_input.specs.Project as project
-use Rattle.hyd_spec_input.specs.Project.{Where, IsProject, IsLink, IsKind, IsPipeKind, IsPumpKind, IsValveKind, IsOpenValve, IsLaw, IsShutoffOf, pump_points, bend_points, numbered_links}
+use Rattle.hyd_spec_input.specs.Project.{Where, IsProject, IsLink, IsKind, IsPipeKind, IsPumpKind, IsValveKind}
+use Rattle.hyd_spec_input.specs.Project.{IsOpenValve, IsLaw, IsShutoffOf, pump_points, bend_points, numbered_links}
 use Rattle.hyd_lemmas.proofs.Each.{all_by}
 use Rattle.hyd_spec_networks.proofs.Places.{match_all}
-use Rattle.hyd_spec_networks.proofs.Faultless.{AreRight, right_alone, right_among, or_none, all_none, unless_none, needed_none, optional_none, at_most, below, lies, within, amount_or_is, section_is}
+use Rattle.hyd_spec_networks.proofs.Faultless.{AreRight, right_alone, right_among, or_none, all_none, unless_none}
+use Rattle.hyd_spec_networks.proofs.Faultless.{needed_none, optional_none, at_most, below, lies, within, amount_or_is}
+use Rattle.hyd_spec_networks.proofs.Faultless.{section_is}
 use Rattle.hyd_spec_networks.proofs.Occurs.{number_inside, number_names, itself}
 use Rattle.hyd_spec_networks.proofs.Names.{First, Second, Third, one_of_three, link_stands, link_alone, node_length}
 use Rattle.hyd_spec_networks.proofs.Numbered.{may_have_pattern, has_bend}

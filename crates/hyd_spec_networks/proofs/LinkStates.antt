@@ -1,5 +1,6 @@
 -- States of links in a file without a fault: each is one that its link can have, made of its numbers.
-use Rattle.std.proofs.Common.{◌≡◌, ℕ, ◌^◌, ◌<◌, zero, suc, Bool, true, false, List, [], ◌∷◌, length, drop, Option, Some, None, refl, sym, ap, ◌∙◌, subst, arith, inl, inr, true≢false}
+use Rattle.std.proofs.Common.{◌≡◌, ℕ, ◌^◌, ◌<◌, zero, suc, Bool, true, false, List, [], ◌∷◌, length, drop, Option, Some}
+use Rattle.std.proofs.Common.{None, refl, sym, ap, ◌∙◌, subst, arith, inl, inr, true≢false}
 use Rattle.std.specs.Prelude.{slice_get, ◌&&◌, ◌||◌, not, All, ℤ, pos, negsuc, ◌≤ℤ◌, ⊤, codes, if◌then◌else◌}
 use Rattle.std.specs.Ordering.{int_eq}
 use Rattle.std.specs.Str.{bytes_eq}
@@ -31,21 +32,29 @@ use Rattle.hyd_net.specs.declared.links.OpenValve.TheVariants.{Quadratic, Linear
 use Rattle.hyd_net.specs.declared.project.Project.{Project}
 use Rattle.hyd_spec_input.specs.Columns.{or_else, unless, is_there, up_to, not_negative, word, amount, units}
 use Rattle.hyd_spec_input.specs.NetworkRows as alone
-use Rattle.hyd_spec_input.specs.NetworkRows.{is_throttle, is_general, has_check_valve, is_closed_pipe, pump_speed, pump_speed_word, speed_of, pair_value, pump_pairs, pump_key, pump_value, and_key}
+use Rattle.hyd_spec_input.specs.NetworkRows.{is_throttle, is_general, has_check_valve, is_closed_pipe, pump_speed}
+use Rattle.hyd_spec_input.specs.NetworkRows.{pump_speed_word, speed_of, pair_value, pump_pairs, pump_key, pump_value}
+use Rattle.hyd_spec_input.specs.NetworkRows.{and_key}
 use Rattle.hyd_spec_input.specs.declared.EarlierKeys.{EarlierKeys}
 use Rattle.hyd_spec_input.specs.Tables.{is_of, is_link, own_id, link_rows, row_with, link_named}
 use Rattle.hyd_spec_input.specs.InForce.{unit}
 use Rattle.hyd_spec_input.specs.Network.{link_ids, number_in, status_of}
 use Rattle.hyd_spec_input.specs.WithOthers as others
-use Rattle.hyd_spec_input.specs.WithOthers.{us, flow, is_speed, state_range, is_status, takes_number, is_check_valve, set_link, flow_setting}
-use Rattle.hyd_spec_input.specs.Project.{Where, IsProject, IsLink, IsKind, IsPipeKind, IsPumpKind, IsValveKind, IsOpenValve, IsLaw, IsThrottle, IsNumberState, IsState, IsStateOf, IsOwnState, IsStart, speed_state, open_state, numbered_links}
+use Rattle.hyd_spec_input.specs.WithOthers.{us, flow, is_speed, state_range, is_status, takes_number, is_check_valve}
+use Rattle.hyd_spec_input.specs.WithOthers.{set_link, flow_setting}
+use Rattle.hyd_spec_input.specs.Project.{Where, IsProject, IsLink, IsKind, IsPipeKind, IsPumpKind, IsValveKind}
+use Rattle.hyd_spec_input.specs.Project.{IsOpenValve, IsLaw, IsThrottle, IsNumberState, IsState, IsStateOf, IsOwnState}
+use Rattle.hyd_spec_input.specs.Project.{IsStart, speed_state, open_state, numbered_links}
 use Rattle.hyd_spec_networks.proofs.Places.{match_all, item_at, partner}
-use Rattle.hyd_spec_networks.proofs.Faultless.{AreRight, right_alone, right_among, or_none, all_none, unless_none, needed_none, at_most, lies, in_range}
+use Rattle.hyd_spec_networks.proofs.Faultless.{AreRight, right_alone, right_among, or_none, all_none, unless_none}
+use Rattle.hyd_spec_networks.proofs.Faultless.{needed_none, at_most, lies, in_range}
 use Rattle.hyd_spec_networks.proofs.Occurs.{number_names, number_inside, same_name}
 use Rattle.hyd_spec_networks.proofs.InForce.{in_force}
-use Rattle.hyd_spec_networks.proofs.Names.{First, Second, Third, one_of_three, own_ids, link_stands, link_new, row_named, link_ids_are, link_length}
+use Rattle.hyd_spec_networks.proofs.Names.{First, Second, Third, one_of_three, own_ids, link_stands, link_new}
+use Rattle.hyd_spec_networks.proofs.Names.{row_named, link_ids_are, link_length}
 use Rattle.hyd_spec_networks.proofs.NodeRanges.{flow_right}
-use Rattle.hyd_spec_networks.proofs.LinkKinds.{where_true, where_false, to_where, not_of, as_pipe, as_pump, as_valve, law_right, law_made, valve_numbers}
+use Rattle.hyd_spec_networks.proofs.LinkKinds.{where_true, where_false, to_where, not_of, as_pipe, as_pump, as_valve}
+use Rattle.hyd_spec_networks.proofs.LinkKinds.{law_right, law_made, valve_numbers}
 
 -- ---- what is asked of a link
 

@@ -1,5 +1,6 @@
 -- Times and times of day of a file without a fault are in range.
-use Rattle.std.proofs.Common.{◌≡◌, ℕ, ◌+◌, ◌*◌, ◌/◌, ◌%◌, ◌^◌, ◌<◌, ◌≤◌, true, List, [], ◌∷◌, Option, Some, None, refl, ◌∙◌, subst, arith}
+use Rattle.std.proofs.Common.{◌≡◌, ℕ, ◌+◌, ◌*◌, ◌/◌, ◌%◌, ◌^◌, ◌<◌, ◌≤◌, true, List, [], ◌∷◌, Option, Some, None, refl}
+use Rattle.std.proofs.Common.{◌∙◌, subst, arith}
 use Rattle.std.specs.Prelude.{slice_get, nat_le, codes, min, max, ℤ, pos, negsuc, ◌<ℤ◌, if◌then◌else◌}
 use Rattle.std.proofs.lemmas.Bool.{and_parts, leb-true, cond_both}
 use Rattle.std.proofs.lemmas.Int.{ints}
@@ -13,9 +14,11 @@ use Rattle.hyd_spec_input.specs.Columns.{first, needed, optional, ends, one_of, 
 use Rattle.hyd_spec_input.specs.Keywords.{time_word, time_words, more_time_words}
 use Rattle.hyd_spec_input.specs.declared.TimeWord.{TimeWord}
 use Rattle.hyd_spec_input.specs.declared.TimeWord.TheVariants as at
-use Rattle.hyd_spec_input.specs.Moments.{moment_word, unit_word, time_nano, whole_seconds, time_range, time, time_seconds, half_day, clock_nano, clock_range, clock, of_half, clock_seconds}
+use Rattle.hyd_spec_input.specs.Moments.{moment_word, unit_word, time_nano, whole_seconds, time_range, time}
+use Rattle.hyd_spec_input.specs.Moments.{time_seconds, half_day, clock_nano, clock_range, clock, of_half, clock_seconds}
 use Rattle.hyd_spec_input.specs.OptionRows.{step_line, step_or_start_line, start_line, time_about, time_line}
-use Rattle.hyd_spec_input.specs.InForce.{begins, begins_both, time_row, time_row_of, duration, seconds_of, written_step, pattern_step, report_step, pattern_start, report_start, start_clock}
+use Rattle.hyd_spec_input.specs.InForce.{begins, begins_both, time_row, time_row_of, duration, seconds_of, written_step}
+use Rattle.hyd_spec_input.specs.InForce.{pattern_step, report_step, pattern_start, report_start, start_clock}
 use Rattle.hyd_spec_input.specs.Project.{IsTimes}
 use Rattle.hyd_spec_networks.proofs.Faultless.{AreRight, right_alone, or_none, all_none, unless_none, below}
 use Rattle.hyd_spec_networks.proofs.InForce.{in_force, say_is, word_is_keyword, first_named_same}

@@ -1,5 +1,6 @@
 -- The IDs of nodes and links: the row of a name, names that occur once.
-use Rattle.std.proofs.Common.{◌≡◌, ℕ, ◌+◌, ◌≤◌, zero, suc, Bool, true, false, List, [], ◌∷◌, ◌++◌, map, length, take, drop, Some, None, refl, sym, ap, ◌∙◌, subst, arith, inl, inr, true≢false}
+use Rattle.std.proofs.Common.{◌≡◌, ℕ, ◌+◌, ◌≤◌, zero, suc, Bool, true, false, List, [], ◌∷◌, ◌++◌, map, length, take}
+use Rattle.std.proofs.Common.{drop, Some, None, refl, sym, ap, ◌∙◌, subst, arith, inl, inr, true≢false}
 use Rattle.std.specs.Prelude.{slice_get, filter, ◌||◌, ◌==◌, All}
 use Rattle.std.specs.Str.{bytes_eq}
 use Rattle.std.proofs.lemmas.Bool.{cases_Bool, or_parts, or_left, or_right, not-true, leb-true}
@@ -7,20 +8,24 @@ use Rattle.std.proofs.lemmas.List.{map-append, length-append, length-map, take_a
 use Rattle.std.proofs.lemmas.List.Elements.{filter-append}
 use Rattle.hyd_spec_lines.specs.Lines.{Row}
 use Rattle.hyd_spec_lines.specs.declared.section.Section.{Section}
-use Rattle.hyd_spec_lines.specs.declared.section.Section.TheVariants.{Junctions, Reservoirs, Tanks, Pipes, Pumps, Valves}
+use Rattle.hyd_spec_lines.specs.declared.section.Section.TheVariants.{Junctions, Reservoirs, Tanks, Pipes, Pumps}
+use Rattle.hyd_spec_lines.specs.declared.section.Section.TheVariants.{Valves}
 use Rattle.hyd_net.specs.Ids.{IsId, AreDistinct}
 use Rattle.hyd_net.specs.Sound.{HasIds}
 use Rattle.hyd_net.specs.Commands.{node_count}
 use Rattle.hyd_net.specs.declared.project.Project.{Project}
 use Rattle.hyd_spec_input.specs.Columns.{needed, id}
 use Rattle.hyd_spec_input.specs.NetworkRows as alone
-use Rattle.hyd_spec_input.specs.Tables.{is_of, rows_of, words_of_row, own_id, is_node, is_link, node_rows, link_rows, row_with, has_id, place}
+use Rattle.hyd_spec_input.specs.Tables.{is_of, rows_of, words_of_row, own_id, is_node, is_link, node_rows, link_rows}
+use Rattle.hyd_spec_input.specs.Tables.{row_with, has_id, place}
 use Rattle.hyd_spec_input.specs.Network.{first_word, node_ids, tank_ids, link_ids}
 use Rattle.hyd_spec_input.specs.WithOthers as others
 use Rattle.hyd_spec_input.specs.WithOthers.{passes, new_in}
 use Rattle.hyd_spec_input.specs.Project.{IsProject, IsJunction, IsReservoir, IsTank, IsLink, numbered_links}
-use Rattle.hyd_spec_networks.proofs.Places.{all_from, all_at, Stands, item_at, kept_stands, kept_passes, of_either, kept_more, kept_same, split_at, match_length, source}
-use Rattle.hyd_spec_networks.proofs.Faultless.{AreRight, right_alone, right_among, or_none, all_none, unless_none, needed_none}
+use Rattle.hyd_spec_networks.proofs.Places.{all_from, all_at, Stands, item_at, kept_stands, kept_passes, of_either}
+use Rattle.hyd_spec_networks.proofs.Places.{kept_more, kept_same, split_at, match_length, source}
+use Rattle.hyd_spec_networks.proofs.Faultless.{AreRight, right_alone, right_among, or_none, all_none, unless_none}
+use Rattle.hyd_spec_networks.proofs.Faultless.{needed_none}
 use Rattle.hyd_spec_networks.proofs.Occurs.{same_name, itself, when, occurs, Once, occurs_append, distinct}
 
 -- ---- one row of a name

@@ -1,6 +1,8 @@
 -- Junctions, reservoirs and tanks of a file without a fault are in range.
-use Rattle.std.proofs.Common.{◌≡◌, ℕ, ◌*◌, ◌^◌, zero, suc, Bool, true, false, List, [], ◌∷◌, ◌++◌, Option, Some, None, refl, sym, ap, ◌∙◌, subst, arith}
-use Rattle.std.specs.Prelude.{slice_get, ◌&&◌, All, is_some, IfSome, ℤ, pos, ◌+ℤ◌, ◌-ℤ◌, ◌*ℤ◌, ◌≤ℤ◌, ⊤, codes, if◌then◌else◌}
+use Rattle.std.proofs.Common.{◌≡◌, ℕ, ◌*◌, ◌^◌, zero, suc, Bool, true, false, List, [], ◌∷◌, ◌++◌, Option, Some, None}
+use Rattle.std.proofs.Common.{refl, sym, ap, ◌∙◌, subst, arith}
+use Rattle.std.specs.Prelude.{slice_get, ◌&&◌, All, is_some, IfSome, ℤ, pos, ◌+ℤ◌, ◌-ℤ◌, ◌*ℤ◌, ◌≤ℤ◌, ⊤, codes}
+use Rattle.std.specs.Prelude.{if◌then◌else◌}
 use Rattle.std.specs.List.{list_all, flat_map}
 use Rattle.std.specs.Str.{bytes_eq}
 use Rattle.std.proofs.lemmas.Bool.{and_parts, or_left, or_right}
@@ -24,18 +26,21 @@ use Rattle.hyd_net.specs.declared.nodes.Junction.{Junction}
 use Rattle.hyd_net.specs.declared.nodes.Reservoir.{Reservoir}
 use Rattle.hyd_net.specs.declared.nodes.Tank.{Tank}
 use Rattle.hyd_net.specs.declared.project.Project.{Project}
-use Rattle.hyd_spec_input.specs.Columns.{needed, optional, ends, id, number, not_negative, up_to, one_of, word, amount, amount_or, units}
+use Rattle.hyd_spec_input.specs.Columns.{needed, optional, ends, id, number, not_negative, up_to, one_of, word, amount}
+use Rattle.hyd_spec_input.specs.Columns.{amount_or, units}
 use Rattle.hyd_spec_input.specs.NetworkRows as alone
 use Rattle.hyd_spec_input.specs.Tables.{is_of, rows_of, rows_with, own_id}
 use Rattle.hyd_spec_input.specs.InForce.{unit}
-use Rattle.hyd_spec_input.specs.Network.{number_in, pattern_number, shape_names, as_list, is_among, demand_of_row, own_demand, or_own, demands_of, coefficient, last_naming, emitter_of}
+use Rattle.hyd_spec_input.specs.Network.{number_in, pattern_number, shape_names, as_list, is_among, demand_of_row}
+use Rattle.hyd_spec_input.specs.Network.{own_demand, or_own, demands_of, coefficient, last_naming, emitter_of}
 use Rattle.hyd_spec_input.specs.WithOthers as others
 use Rattle.hyd_spec_input.specs.WithOthers.{us, head, flow, multipliers_of, is_head_times}
 use Rattle.hyd_spec_input.specs.Project as project
 use Rattle.hyd_spec_input.specs.Project.{IsProject, shape_number, shape_points}
 use Rattle.hyd_lemmas.proofs.Each.{all_by}
 use Rattle.hyd_spec_networks.proofs.Places.{all_from, kept_stands, kept_passes, match_all}
-use Rattle.hyd_spec_networks.proofs.Faultless.{AreRight, right_alone, right_among, all_none, unless_none, needed_none, at_most, lies, within, in_range}
+use Rattle.hyd_spec_networks.proofs.Faultless.{AreRight, right_alone, right_among, all_none, unless_none, needed_none}
+use Rattle.hyd_spec_networks.proofs.Faultless.{at_most, lies, within, in_range}
 use Rattle.hyd_spec_networks.proofs.Occurs.{kept_once, has_number, itself}
 use Rattle.hyd_spec_networks.proofs.InForce.{in_force}
 use Rattle.hyd_spec_networks.proofs.Numbered.{may_have_pattern, numbers_from, found_by}

@@ -1,6 +1,7 @@
 -- Rows describe one network: two projects of them are the same, apart from what the comparison of projects leaves
 -- aside.
-use Rattle.std.proofs.Common.{◌≡◌, ℕ, ◌+◌, ◌*◌, ◌^◌, ℤ, pos, Bool, true, false, List, [], ◌∷◌, map, Option, Some, None, refl, sym, ap, ap₂, ◌∙◌, subst, arith, true≢false}
+use Rattle.std.proofs.Common.{◌≡◌, ℕ, ◌+◌, ◌*◌, ◌^◌, ℤ, pos, Bool, true, false, List, [], ◌∷◌, map, Option, Some, None}
+use Rattle.std.proofs.Common.{refl, sym, ap, ap₂, ◌∙◌, subst, arith, true≢false}
 use Rattle.std.specs.Prelude.{slice_get, codes, not, ◌&&◌, ◌<ℤ◌, ◌*ℤ◌, if◌then◌else◌}
 use Rattle.std.specs.Option.{option_map}
 use Rattle.std.proofs.lemmas.Bool.{and_parts, not-true}
@@ -10,16 +11,20 @@ use Rattle.hyd_num.specs.declared.decimals.Decimal.{Decimal}
 use Rattle.hyd_num.specs.declared.decimals.Span.{Span}
 use Rattle.hyd_num.specs.declared.units.FlowUnit.{FlowUnit}
 use Rattle.hyd_num.specs.declared.capacities.Capacity.{Capacity}
-use Rattle.hyd_num.specs.declared.capacities.Origin.TheVariants.{Pipe as PipeOrigin, Valve as ValveOrigin, Pump as PumpOrigin, Emitter as EmitterOrigin}
+use Rattle.hyd_num.specs.declared.capacities.Origin.TheVariants.{Pipe as PipeOrigin, Valve as ValveOrigin}
+use Rattle.hyd_num.specs.declared.capacities.Origin.TheVariants.{Pump as PumpOrigin, Emitter as EmitterOrigin}
 use Rattle.hyd_num.specs.Numeral.{nano_of}
 use Rattle.hyd_num.specs.Roots.{IsFloor, IsCeiling}
 use Rattle.hyd_num.specs.Quantity.{is_us_unit, head_ticks, flow_ticks}
 use Rattle.hyd_spec_lines.specs.Bytes.{is_keyword}
 use Rattle.hyd_spec_lines.specs.Lines.{Row}
-use Rattle.hyd_spec_lines.specs.declared.section.Section.TheVariants.{Junctions, Reservoirs, Tanks, Pipes, Pumps, Controls, Rules}
+use Rattle.hyd_spec_lines.specs.declared.section.Section.TheVariants.{Junctions, Reservoirs, Tanks, Pipes, Pumps}
+use Rattle.hyd_spec_lines.specs.declared.section.Section.TheVariants.{Controls, Rules}
 use Rattle.hyd_net.proofs.Equal.{Decimal-equal, Span-equal}
 use Rattle.hyd_net.specs.Made.{IsRounded, IsExactly, IsSeconds, IsAmount, IsAreaMade, IsShutoffMade}
-use Rattle.hyd_net.specs.Views.{no_number, no_head, bare_list, plain_capacity, plain_valve, plain_kind, plain_state, plain_link, plain_junction, plain_tank, plain_pattern, plain_control, plain_value, plain_rule_clause, plain_action, plain_rule, plain_project}
+use Rattle.hyd_net.specs.Views.{no_number, no_head, bare_list, plain_capacity, plain_valve, plain_kind, plain_state}
+use Rattle.hyd_net.specs.Views.{plain_link, plain_junction, plain_tank, plain_pattern, plain_control, plain_value}
+use Rattle.hyd_net.specs.Views.{plain_rule_clause, plain_action, plain_rule, plain_project}
 use Rattle.hyd_net.specs.declared.options.Options.{Options}
 use Rattle.hyd_net.specs.declared.options.Times.{Times}
 use Rattle.hyd_net.specs.declared.nodes.Junction.{Junction}
@@ -47,14 +52,21 @@ use Rattle.hyd_net.specs.declared.rules.Action.{Action}
 use Rattle.hyd_net.specs.declared.rules.Rule.{Rule}
 use Rattle.hyd_net.specs.declared.project.Project.{Project}
 use Rattle.hyd_spec_input.specs.Columns.{word, amount, word_is}
-use Rattle.hyd_spec_input.specs.NetworkRows.{is_throttle, is_general, is_closed_pipe, pump_speed, pump_pattern, valve_minor}
+use Rattle.hyd_spec_input.specs.NetworkRows.{is_throttle, is_general, is_closed_pipe, pump_speed, pump_pattern}
+use Rattle.hyd_spec_input.specs.NetworkRows.{valve_minor}
 use Rattle.hyd_spec_input.specs.Tables.{Point, is_of, rows_of, words_of, link_named}
 use Rattle.hyd_spec_input.specs.InForce.{unit}
 use Rattle.hyd_spec_input.specs.Curves.{Drop, drop_of}
-use Rattle.hyd_spec_input.specs.Network.{emitter_of, status_of, pattern_ids, pattern_number, shape_names, bend_names, rule_groups, clause_lines, then_lines, else_lines}
+use Rattle.hyd_spec_input.specs.Network.{emitter_of, status_of, pattern_ids, pattern_number, shape_names, bend_names}
+use Rattle.hyd_spec_input.specs.Network.{rule_groups, clause_lines, then_lines, else_lines}
 use Rattle.hyd_spec_input.specs.WithOthers.{us}
 use Rattle.hyd_spec_input.specs.Project as project
-use Rattle.hyd_spec_input.specs.Project.{Match, Where, IsOptions, IsTimes, IsEmitter, IsEmitterOf, HasEnds, IsPipeOf, IsPipeKind, IsPumpOf, IsShutoffOf, pump_points, IsPumpKind, IsValveOf, IsOpenValve, IsLaw, IsValveKind, speed_state, open_state, IsThrottle, IsNumberState, IsState, IsStateOf, IsOwnState, IsStart, IsKind, IsLink, IsWhen, joined_by, IsWhat, compared, status_value, IsValue, place_of, IsClauseAt, IsClause, IsAction, numbered_links, shape_points, bend_points, IsProject}
+use Rattle.hyd_spec_input.specs.Project.{Match, Where, IsOptions, IsTimes, IsEmitter, IsEmitterOf, HasEnds, IsPipeOf}
+use Rattle.hyd_spec_input.specs.Project.{IsPipeKind, IsPumpOf, IsShutoffOf, pump_points, IsPumpKind, IsValveOf}
+use Rattle.hyd_spec_input.specs.Project.{IsOpenValve, IsLaw, IsValveKind, speed_state, open_state, IsThrottle}
+use Rattle.hyd_spec_input.specs.Project.{IsNumberState, IsState, IsStateOf, IsOwnState, IsStart, IsKind, IsLink, IsWhen}
+use Rattle.hyd_spec_input.specs.Project.{joined_by, IsWhat, compared, status_value, IsValue, place_of, IsClauseAt}
+use Rattle.hyd_spec_input.specs.Project.{IsClause, IsAction, numbered_links, shape_points, bend_points, IsProject}
 use Rattle.hyd_spec_input.specs.declared.Attribute.{Attribute}
 use Rattle.hyd_spec_input.specs.declared.Attribute.TheVariants as attribute
 use Rattle.hyd_spec_networks.proofs.OneCapacity.{one_capacity}
@@ -524,7 +536,8 @@ one_rule rows group r s f g =
     let id = f.id ∙ sym g.id in
     let clauses = one_image (IsClause rows) plain_rule_clause (clause_lines group) r.clauses.list s.clauses.list
     (λ words c d x y. one_clause_at rows _ words c d x y) f.clauses g.clauses in
-    let actions = one_image (IsAction rows) plain_action (then_lines group) r.yes.list s.yes.list (one_action rows) f.yes
+    let actions = one_image (IsAction rows) plain_action (then_lines group) r.yes.list s.yes.list (one_action rows)
+    f.yes
     g.yes in
     let otherwise = one_image (IsAction rows) plain_action (else_lines group) r.no.list s.no.list (one_action rows) f.no
     g.no in

@@ -1,5 +1,6 @@
 -- Options of a file without a fault are in range.
-use Rattle.std.proofs.Common.{◌≡◌, ℕ, ◌*◌, ◌^◌, Bool, true, false, List, [], ◌∷◌, Option, Some, None, refl, sym, ◌∙◌, subst, arith, inl, inr}
+use Rattle.std.proofs.Common.{◌≡◌, ℕ, ◌*◌, ◌^◌, Bool, true, false, List, [], ◌∷◌, Option, Some, None, refl, sym, ◌∙◌}
+use Rattle.std.proofs.Common.{subst, arith, inl, inr}
 use Rattle.std.specs.Prelude.{slice_get, ◌==◌, codes, ℤ, pos, ◌+ℤ◌, ◌≤ℤ◌, ⊤}
 use Rattle.std.proofs.lemmas.Bool.{and_parts, eq-eqb, cases_lt}
 use Rattle.std.proofs.lemmas.Int.{ints}
@@ -15,18 +16,24 @@ use Rattle.hyd_net.specs.declared.cause.Cause.TheVariants.{Range}
 use Rattle.hyd_net.specs.Sizes.{IsPressure, HasOptions}
 use Rattle.hyd_net.specs.declared.options.Options.{Options}
 use Rattle.hyd_net.specs.declared.project.Project.{Project}
-use Rattle.hyd_spec_input.specs.Columns.{first, or_else, unless, needed, ends, one_of, not_negative, up_to, word, amount, units, word_is, word_is_of, is_option_of, is_option_keyword}
-use Rattle.hyd_spec_input.specs.Keywords.{option_word, option_words, more_option_words, unused_option, unused_words, more_unused_words, last_unused_words}
+use Rattle.hyd_spec_input.specs.Columns.{first, or_else, unless, needed, ends, one_of, not_negative, up_to, word}
+use Rattle.hyd_spec_input.specs.Columns.{amount, units, word_is, word_is_of, is_option_of, is_option_keyword}
+use Rattle.hyd_spec_input.specs.Keywords.{option_word, option_words, more_option_words, unused_option, unused_words}
+use Rattle.hyd_spec_input.specs.Keywords.{more_unused_words, last_unused_words}
 use Rattle.hyd_spec_input.specs.declared.OptionWord.{OptionWord}
 use Rattle.hyd_spec_input.specs.declared.OptionWord.TheVariants as at
 use Rattle.hyd_spec_input.specs.OptionRows.{demand_words, demand_value, demand_line, bound_line, option_about, option}
-use Rattle.hyd_spec_input.specs.InForce.{begins, begins_both, option_row, option_row_of, depends_on_pressure, demand_multiplier, minimum_pressure, required_pressure, default_pattern, pressure_line}
+use Rattle.hyd_spec_input.specs.InForce.{begins, begins_both, option_row, option_row_of, depends_on_pressure}
+use Rattle.hyd_spec_input.specs.InForce.{demand_multiplier, minimum_pressure, required_pressure, default_pattern}
+use Rattle.hyd_spec_input.specs.InForce.{pressure_line}
 use Rattle.hyd_spec_input.specs.WithOthers.{us, pressure, pressures_apart}
 use Rattle.hyd_spec_input.specs.Tables.{pattern_named}
 use Rattle.hyd_spec_input.specs.Project.{IsOptions, IsProject}
 use Rattle.hyd_spec_networks.proofs.Places.{all_from}
-use Rattle.hyd_spec_networks.proofs.Faultless.{AreRight, right_alone, right_among, or_none, all_none, unless_none, needed_none, at_most, within, in_range}
-use Rattle.hyd_spec_networks.proofs.InForce.{IsInForce, in_force, say_is, word_is_keyword, first_named_same, is_one_of_same}
+use Rattle.hyd_spec_networks.proofs.Faultless.{AreRight, right_alone, right_among, or_none, all_none, unless_none}
+use Rattle.hyd_spec_networks.proofs.Faultless.{needed_none, at_most, within, in_range}
+use Rattle.hyd_spec_networks.proofs.InForce.{IsInForce, in_force, say_is, word_is_keyword, first_named_same}
+use Rattle.hyd_spec_networks.proofs.InForce.{is_one_of_same}
 use Rattle.hyd_spec_networks.proofs.Numbered.{has_pattern}
 
 -- ---- lines

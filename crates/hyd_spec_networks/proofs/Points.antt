@@ -1,5 +1,6 @@
 -- Curves of a file without a fault: what is asked of neighbours holds of all points.
-use Rattle.std.proofs.Common.{◌≡◌, ◌-◌, ◌^◌, ◌≤◌, zero, suc, Bool, true, false, List, [], ◌∷◌, length, get_or, refl, sym, ap, ◌∙◌, subst, arith, true≢false, map}
+use Rattle.std.proofs.Common.{◌≡◌, ◌-◌, ◌^◌, ◌≤◌, zero, suc, Bool, true, false, List, [], ◌∷◌, length, get_or, refl}
+use Rattle.std.proofs.Common.{sym, ap, ◌∙◌, subst, arith, true≢false, map}
 use Rattle.std.specs.Prelude.{◌&&◌, nat_le, All, AllPairs, HoldsAt, ℤ, pos, ◌≤ℤ◌, ◌<ℤ◌, ◌-ℤ◌}
 use Rattle.std.specs.List.{list_all}
 use Rattle.std.specs.Ordering.{int_eq}
@@ -13,11 +14,13 @@ use Rattle.hyd_num.specs.Rational.{whole, is_at_most}
 use Rattle.hyd_num.specs.declared.units.FlowUnit.{FlowUnit}
 use Rattle.hyd_num.specs.declared.units.FlowUnit.TheVariants.{Cfs, Gpm, Mgd, Imgd, Afd, Lps, Lpm, Mld, Cmh, Cmd}
 use Rattle.hyd_net.specs.Ranges.{IsHead, IsFlow}
-use Rattle.hyd_net.specs.Curves.{AreRising, AreFalling, IsVolumeCurve, IsPumpCurve, IsLossCurve, value_at, head_knots, volume_at}
+use Rattle.hyd_net.specs.Curves.{AreRising, AreFalling, IsVolumeCurve, IsPumpCurve, IsLossCurve, value_at, head_knots}
+use Rattle.hyd_net.specs.Curves.{volume_at}
 use Rattle.hyd_net.specs.declared.curves.VolumePoint.{VolumePoint}
 use Rattle.hyd_net.specs.declared.curves.HeadPoint.{HeadPoint}
 use Rattle.hyd_spec_input.specs.Tables.{Point}
-use Rattle.hyd_spec_input.specs.Curves.{is_head, in_turn, at_start, at_end, head_points, is_slower, is_faster, has_flow, is_pump_bend, begins_at_0, is_valve_bend, is_fuller, covers, is_volume_curve}
+use Rattle.hyd_spec_input.specs.Curves.{is_head, in_turn, at_start, at_end, head_points, is_slower, is_faster, has_flow}
+use Rattle.hyd_spec_input.specs.Curves.{is_pump_bend, begins_at_0, is_valve_bend, is_fuller, covers, is_volume_curve}
 use Rattle.hyd_lemmas.proofs.Each.{all_by}
 use Rattle.hyd_spec_networks.proofs.Faultless.{at_most, below, lies}
 

@@ -1,5 +1,6 @@
 -- In a file without a fault each rounded form is made of its numbers, and each valve has one diameter.
-use Rattle.std.proofs.Common.{◌≡◌, ℕ, ◌<◌, Bool, true, false, List, length, Option, Some, None, refl, sym, ap, ◌∙◌, subst}
+use Rattle.std.proofs.Common.{◌≡◌, ℕ, ◌<◌, Bool, true, false, List, length, Option, Some, None, refl, sym, ap, ◌∙◌}
+use Rattle.std.proofs.Common.{subst}
 use Rattle.std.specs.Prelude.{slice_get, All, IfSome, ℤ}
 use Rattle.std.proofs.lemmas.Option.{get_or_from_slice_get}
 use Rattle.hyd_num.specs.Chain.{IsMade}

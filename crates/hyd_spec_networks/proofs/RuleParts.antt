@@ -1,6 +1,8 @@
 -- Rules of a file without a fault: what their clauses speak of, and what their actions set.
-use Rattle.std.proofs.Common.{◌≡◌, ℕ, ◌+◌, ◌^◌, ◌<◌, ◌≤◌, zero, suc, Bool, true, false, List, [], ◌∷◌, ◌++◌, length, Option, Some, None, refl, sym, ap, ◌∙◌, subst, arith, inl, inr, true≢false}
-use Rattle.std.specs.Prelude.{slice_get, filter, ◌&&◌, ◌||◌, not, nat_le, All, IfSome, ℤ, pos, ◌*ℤ◌, ⊤, codes, if◌then◌else◌}
+use Rattle.std.proofs.Common.{◌≡◌, ℕ, ◌+◌, ◌^◌, ◌<◌, ◌≤◌, zero, suc, Bool, true, false, List, [], ◌∷◌, ◌++◌, length}
+use Rattle.std.proofs.Common.{Option, Some, None, refl, sym, ap, ◌∙◌, subst, arith, inl, inr, true≢false}
+use Rattle.std.specs.Prelude.{slice_get, filter, ◌&&◌, ◌||◌, not, nat_le, All, IfSome, ℤ, pos, ◌*ℤ◌, ⊤, codes}
+use Rattle.std.specs.Prelude.{if◌then◌else◌}
 use Rattle.std.specs.List.{AllByRecursion}
 use Rattle.std.specs.Option.{option_map}
 use Rattle.std.proofs.lemmas.Bool.{cases_Bool, and_parts, or_left, or_right, not-true, leb-true, cond_both}
@@ -12,7 +14,8 @@ use Rattle.hyd_num.specs.declared.units.FlowUnit.{FlowUnit}
 use Rattle.hyd_spec_lines.specs.Lines.{Row}
 use Rattle.hyd_spec_lines.specs.Bytes.{is_keyword}
 use Rattle.hyd_spec_lines.specs.Headings.{is_one_of}
-use Rattle.hyd_spec_lines.specs.declared.section.Section.TheVariants.{Junctions, Reservoirs, Tanks, Pumps, Valves, Rules as RulesSection}
+use Rattle.hyd_spec_lines.specs.declared.section.Section.TheVariants.{Junctions, Reservoirs, Tanks, Pumps, Valves}
+use Rattle.hyd_spec_lines.specs.declared.section.Section.TheVariants.{Rules as RulesSection}
 use Rattle.hyd_net.specs.Ids.{IsId}
 use Rattle.hyd_net.specs.Ranges.{LiesWithin, Numbers}
 use Rattle.hyd_net.specs.Made.{IsValueMade}
@@ -45,23 +48,32 @@ use Rattle.hyd_spec_input.specs.declared.RuleWord.TheVariants as rule
 use Rattle.hyd_spec_input.specs.declared.Stage.TheVariants.{Outside}
 use Rattle.hyd_spec_input.specs.Moments.{time_seconds, clock_seconds}
 use Rattle.hyd_spec_input.specs.RuleRows as alone
-use Rattle.hyd_spec_input.specs.RuleRows.{begins_with, stage_by, is_acting, words_about, line_words, can_have, attribute_of, is_equality, relates, relation_of, comparison, clause_about, attribute_place, is_rule}
-use Rattle.hyd_spec_input.specs.Tables.{is_of, is_node, is_link, rows_of, words_of, own_id, node_rows, link_rows, row_with, node_named, link_named, allows_node, allows_link}
+use Rattle.hyd_spec_input.specs.RuleRows.{begins_with, stage_by, is_acting, words_about, line_words, can_have}
+use Rattle.hyd_spec_input.specs.RuleRows.{attribute_of, is_equality, relates, relation_of, comparison, clause_about}
+use Rattle.hyd_spec_input.specs.RuleRows.{attribute_place, is_rule}
+use Rattle.hyd_spec_input.specs.Tables.{is_of, is_node, is_link, rows_of, words_of, own_id, node_rows, link_rows}
+use Rattle.hyd_spec_input.specs.Tables.{row_with, node_named, link_named, allows_node, allows_link}
 use Rattle.hyd_spec_input.specs.InForce.{unit}
-use Rattle.hyd_spec_input.specs.Network.{node_ids, link_ids, number_in, rule_groups, clause_lines, then_lines, else_lines, rule_id, is_priority, first_amount, priority_of, is_asking, is_doing, is_otherwise}
+use Rattle.hyd_spec_input.specs.Network.{node_ids, link_ids, number_in, rule_groups, clause_lines, then_lines}
+use Rattle.hyd_spec_input.specs.Network.{else_lines, rule_id, is_priority, first_amount, priority_of, is_asking}
+use Rattle.hyd_spec_input.specs.Network.{is_doing, is_otherwise}
 use Rattle.hyd_spec_input.specs.WithOthers.{known_as, link_by_word, can_show, object_known, set_link}
 use Rattle.hyd_spec_input.specs.Project as project
-use Rattle.hyd_spec_input.specs.Project.{IsProject, IsLink, IsKind, IsPumpKind, IsValveKind, IsWhat, IsNumber, compared, status_value, IsValue, place_of, IsClauseAt, numbered_links}
+use Rattle.hyd_spec_input.specs.Project.{IsProject, IsLink, IsKind, IsPumpKind, IsValveKind, IsWhat, IsNumber, compared}
+use Rattle.hyd_spec_input.specs.Project.{status_value, IsValue, place_of, IsClauseAt, numbered_links}
 use Rattle.hyd_spec_networks.proofs.Places.{all_at, match_all, match_length, of_either, item_at, partner, kept_passes}
 use Rattle.hyd_spec_networks.proofs.Faultless.{AreRight, or_none, all_none, unless_none, needed_none}
 use Rattle.hyd_spec_networks.proofs.Occurs.{number_inside, number_names}
 use Rattle.hyd_spec_networks.proofs.Moments.{time_right, clock_right}
-use Rattle.hyd_spec_networks.proofs.Names.{own_ids, numbered_nodes, node_stands, link_stands, node_new, link_new, row_named, node_ids_are, link_ids_are, node_length, link_length}
+use Rattle.hyd_spec_networks.proofs.Names.{own_ids, numbered_nodes, node_stands, link_stands, node_new, link_new}
+use Rattle.hyd_spec_networks.proofs.Names.{row_named, node_ids_are, link_ids_are, node_length, link_length}
 use Rattle.hyd_spec_networks.proofs.Numbered.{numbers_from}
 use Rattle.hyd_spec_networks.proofs.LinkKinds.{as_pump, as_valve}
 use Rattle.hyd_spec_networks.proofs.LinkStates.{Command, command}
 use Rattle.hyd_spec_networks.proofs.ControlLines.{can_command, tank_inside}
-use Rattle.hyd_spec_networks.proofs.RuleLines.{LineRight, RightFrom, rule_is, all_lines, GroupRight, group_right, line_at, each_line, ClauseLine, ActionLine, clause_line, then_line, else_line}
+use Rattle.hyd_spec_networks.proofs.RuleLines.{LineRight, RightFrom, rule_is, all_lines, GroupRight, group_right}
+use Rattle.hyd_spec_networks.proofs.RuleLines.{line_at, each_line, ClauseLine, ActionLine, clause_line, then_line}
+use Rattle.hyd_spec_networks.proofs.RuleLines.{else_line}
 
 -- ---- the row that a number and a name have
 

@@ -1,5 +1,6 @@
 -- Counts of a file without a fault: no table is longer than its limit.
-use Rattle.std.proofs.Common.{◌≡◌, ℕ, ◌+◌, ◌≤◌, zero, suc, Bool, true, false, List, [], ◌∷◌, ◌++◌, map, length, take, Option, Some, None, refl, sym, ap, ◌∙◌, subst, arith, inl, inr, true≢false, append-nil}
+use Rattle.std.proofs.Common.{◌≡◌, ℕ, ◌+◌, ◌≤◌, zero, suc, Bool, true, false, List, [], ◌∷◌, ◌++◌, map, length, take}
+use Rattle.std.proofs.Common.{Option, Some, None, refl, sym, ap, ◌∙◌, subst, arith, inl, inr, true≢false, append-nil}
 use Rattle.std.specs.Prelude.{slice_get, filter, sum_by, ◌||◌, ◌⊎◌, nat_lt, All, if◌then◌else◌}
 use Rattle.std.specs.List.{flat_map}
 use Rattle.std.specs.Str.{bytes_eq}
@@ -8,7 +9,10 @@ use Rattle.std.proofs.lemmas.List.{length-append, length-map, map-append, take_a
 use Rattle.std.proofs.lemmas.List.Elements.{All-nil, All-cons, All-head, All-tail, All-append, filter-append}
 use Rattle.hyd_spec_lines.specs.Lines.{Row}
 use Rattle.hyd_spec_lines.specs.declared.section.Section.{Section}
-use Rattle.hyd_spec_lines.specs.declared.section.Section.TheVariants.{Junctions, Reservoirs, Tanks, Pipes, Pumps, Valves, Demands, Curves, Patterns, Controls as ControlsSection, Rules as RulesSection}
+use Rattle.hyd_spec_lines.specs.declared.section.Section.TheVariants.{Junctions, Reservoirs, Tanks, Pipes, Pumps}
+use Rattle.hyd_spec_lines.specs.declared.section.Section.TheVariants.{Valves, Demands, Curves, Patterns}
+use Rattle.hyd_spec_lines.specs.declared.section.Section.TheVariants.{Controls as ControlsSection}
+use Rattle.hyd_spec_lines.specs.declared.section.Section.TheVariants.{Rules as RulesSection}
 use Rattle.hyd_net.specs.Sound.{IsWithinLimits, demand_rows, part_count}
 use Rattle.hyd_net.specs.ListView.{ListView}
 use Rattle.hyd_net.specs.declared.curves.VolumePoint.{VolumePoint}
@@ -26,17 +30,22 @@ use Rattle.hyd_spec_input.specs.declared.RuleWord.TheVariants.{Rule, If, And, Or
 use Rattle.hyd_spec_input.specs.declared.Stage.{Stage}
 use Rattle.hyd_spec_input.specs.declared.Stage.TheVariants.{Outside, Named, Asking, Acting, Otherwise, Closed}
 use Rattle.hyd_spec_input.specs.RuleRows.{stage_by, begins_with, is_rule, until_rule}
-use Rattle.hyd_spec_input.specs.Tables.{point_of, is_of, is_link, rows_of, words_of, words_of_row, own_id, link_rows, has_id, rows_with, distinct_after, distinct, row_multipliers, curve_named}
+use Rattle.hyd_spec_input.specs.Tables.{point_of, is_of, is_link, rows_of, words_of, words_of_row, own_id, link_rows}
+use Rattle.hyd_spec_input.specs.Tables.{has_id, rows_with, distinct_after, distinct, row_multipliers, curve_named}
 use Rattle.hyd_spec_input.specs.InForce.{unit}
 use Rattle.hyd_spec_input.specs.Curves.{is_bent, head_point, volume_point}
-use Rattle.hyd_spec_input.specs.Network.{is_among, new_names, pattern_ids, as_list, shape_names, bent_name, bend_names, demand_of_row, own_demand, or_own, rule_groups, lines_at, is_asking, is_doing, is_otherwise}
+use Rattle.hyd_spec_input.specs.Network.{is_among, new_names, pattern_ids, as_list, shape_names, bent_name, bend_names}
+use Rattle.hyd_spec_input.specs.Network.{demand_of_row, own_demand, or_own, rule_groups, lines_at, is_asking, is_doing}
+use Rattle.hyd_spec_input.specs.Network.{is_otherwise}
 use Rattle.hyd_spec_input.specs.WithOthers as others
-use Rattle.hyd_spec_input.specs.WithOthers.{us, passes, known_curve, multiplier_count, names_rule, is_part_word, is_part, rules_in, parts_in}
+use Rattle.hyd_spec_input.specs.WithOthers.{us, passes, known_curve, multiplier_count, names_rule, is_part_word}
+use Rattle.hyd_spec_input.specs.WithOthers.{is_part, rules_in, parts_in}
 use Rattle.hyd_spec_input.specs.Project as project
 use Rattle.hyd_spec_input.specs.Project.{Match, IsProject, IsLink, IsPattern, shape_points, bend_points, numbered_links}
 use Rattle.hyd_spec_networks.proofs.Places.{item_at, match_length, kept_more, kept_same}
 use Rattle.hyd_spec_networks.proofs.Faultless.{AreRight, right_among, all_none, unless_none}
-use Rattle.hyd_spec_networks.proofs.Occurs.{same_name, when, occurs, Once, occurs_append, kept_once, names_once, fewer_names, total, total_is, total_at, grouped}
+use Rattle.hyd_spec_networks.proofs.Occurs.{same_name, when, occurs, Once, occurs_append, kept_once, names_once}
+use Rattle.hyd_spec_networks.proofs.Occurs.{fewer_names, total, total_is, total_at, grouped}
 use Rattle.hyd_spec_networks.proofs.Names.{own_ids, link_part, nodes_once, node_ids_are, ends_right}
 use Rattle.hyd_spec_networks.proofs.NodeRanges.{each_row}
 use Rattle.hyd_spec_networks.proofs.RuleLines.{not_rule}

@@ -114,8 +114,8 @@ pub fn no_fault_beside()
     ensures { (text : List ℕ) (line : ℕ) (cause : Cause) → IsFault text line cause → HasNoFault text → ⊥ }
 {}
 
-/// Rows describe one network: two projects of the same rows are the same, as projects are compared (apart from the spare
-/// of their lists and from the numbers beside a rounded form, of which it is made).
+/// Rows describe one network: two projects of the same rows are the same, as projects are compared (apart from the
+/// spare of their lists and from the numbers beside a rounded form, of which it is made).
 pub fn one_project()
     ensures { (rows : List Row) (p q : Project) → IsProject rows p → IsProject rows q
         → plain_project p ≡ plain_project q }

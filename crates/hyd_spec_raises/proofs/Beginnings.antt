@@ -1,6 +1,7 @@
 -- Where a search may begin: at the near end of the box, at a certificate of the other side, and with a held junction at
 -- its head.
-use Rattle.std.proofs.Common.{◌≡◌, ℕ, zero, suc, ◌<◌, ℤ, pos, ◌-ℤ◌, ◌≤ℤ◌, ◌<ℤ◌, neg_ℤ, refl, sym, ap, subst, ◌∙◌, arith, Bool, true, false, ◌==◌, List, [], ◌∷◌, ◌++◌, length}
+use Rattle.std.proofs.Common.{◌≡◌, ℕ, zero, suc, ◌<◌, ℤ, pos, ◌-ℤ◌, ◌≤ℤ◌, ◌<ℤ◌, neg_ℤ, refl, sym, ap, subst, ◌∙◌, arith}
+use Rattle.std.proofs.Common.{Bool, true, false, ◌==◌, List, [], ◌∷◌, ◌++◌, length}
 use Rattle.std.specs.Prelude.{Some, None, Option, slice_get, slice_set, slice_index_or, replicate, MatchBool}
 use Rattle.std.proofs.lemmas.Int.{ints}
 use Rattle.std.proofs.lemmas.Option.{slice_get_within}
@@ -16,14 +17,17 @@ use Rattle.hyd_spec_certificates.specs.Grid.{Grid, GridJunction, all_heads, fixe
 use Rattle.hyd_spec_certificates.specs.Enclosing.{low, high}
 use Rattle.hyd_spec_reports.specs.Stops.{beginning}
 use Rattle.hyd_spec_certificates.specs.declared.HeldJunction.{HeldJunction}
-use Rattle.hyd_spec_certificates.specs.Certificate.{box_limit, IsInBox, Passes, Suits, IsBeyond, IsCertificate, IsCertificateHolding}
+use Rattle.hyd_spec_certificates.specs.Certificate.{box_limit, IsInBox, Passes, Suits, IsBeyond, IsCertificate}
+use Rattle.hyd_spec_certificates.specs.Certificate.{IsCertificateHolding}
 use Rattle.hyd_spec_laws.proofs.Nodes.{head_front, IsGreatestBelow, greatest_below}
 use Rattle.hyd_spec_laws.specs.Laws.{IsSteady}
-use Rattle.hyd_spec_laws.proofs.NetRising.{item-at, IsTop, net-rises, low-rises, high-rises, net-ordered, outflow-rises, demand-at}
+use Rattle.hyd_spec_laws.proofs.NetRising.{item-at, IsTop, net-rises, low-rises, high-rises, net-ordered, outflow-rises}
+use Rattle.hyd_spec_laws.proofs.NetRising.{demand-at}
 use Rattle.hyd_spec_certificates.specs.Climbing.{LiesBeyond, IsStart, IsOrderedHolding}
 use Rattle.hyd_spec_laws.specs.Sides.{along}
 use Rattle.hyd_spec_raises.proofs.Leading.{beyond-is, is-beyond, lead, suits-nearer}
-use Rattle.hyd_spec_raises.proofs.Raising.{beyond-self, by-beyond, set-here, set-there, set-one, set-in-box, along-floor}
+use Rattle.hyd_spec_raises.proofs.Raising.{beyond-self, by-beyond, set-here, set-there, set-one, set-in-box}
+use Rattle.hyd_spec_raises.proofs.Raising.{along-floor}
 use Rattle.hyd_spec_raises.proofs.Sweeping.{vector-self}
 
 -- ---- the near end of the box

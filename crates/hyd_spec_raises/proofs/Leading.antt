@@ -1,5 +1,6 @@
 -- Where one vector lies beyond another by most, whatever passes there under the other passes under it.
-use Rattle.std.proofs.Common.{◌≡◌, ℕ, zero, suc, ◌<◌, ℤ, pos, ◌-ℤ◌, ◌≤ℤ◌, refl, arith, Bool, true, false, ◌==◌, List, [], ◌∷◌, ◌++◌, length}
+use Rattle.std.proofs.Common.{◌≡◌, ℕ, zero, suc, ◌<◌, ℤ, pos, ◌-ℤ◌, ◌≤ℤ◌, refl, arith, Bool, true, false, ◌==◌, List}
+use Rattle.std.proofs.Common.{[], ◌∷◌, ◌++◌, length}
 use Rattle.std.specs.Prelude.{Some, None, Option, slice_get, MatchBool}
 use Rattle.std.proofs.lemmas.Int.{ints}
 use Rattle.hyd_spec_certificates.specs.declared.Side.{Side}
@@ -13,7 +14,8 @@ use Rattle.hyd_spec_certificates.specs.Certificate.{Passes, Suits, IsBeyond}
 use Rattle.hyd_spec_certificates.specs.Climbing.{LiesBeyond, Fails}
 use Rattle.hyd_spec_laws.specs.Laws.{IsSteady}
 use Rattle.hyd_spec_laws.proofs.Nodes.{head_front}
-use Rattle.hyd_spec_laws.proofs.NetRising.{IsTop, net-rises, low-rises, high-rises, outflow-low-rises, outflow-high-rises, demand-at}
+use Rattle.hyd_spec_laws.proofs.NetRising.{IsTop, net-rises, low-rises, high-rises, outflow-low-rises}
+use Rattle.hyd_spec_laws.proofs.NetRising.{outflow-high-rises, demand-at}
 use Rattle.hyd_spec_laws.specs.Sides.{along}
 
 -- ---- the two sides

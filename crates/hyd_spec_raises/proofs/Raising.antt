@@ -1,5 +1,6 @@
 -- Raises, rounds and leaps, on both sides and with or without a junction held.
-use Rattle.std.proofs.Common.{◌≡◌, ℕ, zero, suc, ◌*◌, ◌<◌, ℤ, pos, ◌+ℤ◌, ◌-ℤ◌, ◌≤ℤ◌, ◌<ℤ◌, neg_ℤ, refl, sym, ap, subst, ◌∙◌, arith, Bool, true, false, ◌==◌, List, [], ◌∷◌, length, inl, inr, ◌⊎◌}
+use Rattle.std.proofs.Common.{◌≡◌, ℕ, zero, suc, ◌*◌, ◌<◌, ℤ, pos, ◌+ℤ◌, ◌-ℤ◌, ◌≤ℤ◌, ◌<ℤ◌, neg_ℤ, refl, sym, ap, subst}
+use Rattle.std.proofs.Common.{◌∙◌, arith, Bool, true, false, ◌==◌, List, [], ◌∷◌, length, inl, inr, ◌⊎◌}
 use Rattle.std.specs.Prelude.{Some, None, Option, slice_get, slice_set, slice_index_or, MatchBool, All, unsigned_abs}
 use Rattle.std.proofs.lemmas.Int.{ints, by_lt_z}
 use Rattle.std.proofs.lemmas.Bool.{cases_eq}
@@ -13,7 +14,8 @@ use Rattle.hyd_spec.specs.Assignment.{head_at}
 use Rattle.hyd_spec_certificates.specs.Grid.{Grid, GridJunction}
 use Rattle.hyd_spec_certificates.specs.NetOutflow.{net_low, net_high, margin}
 use Rattle.hyd_spec_certificates.specs.declared.HeldJunction.{HeldJunction}
-use Rattle.hyd_spec_certificates.specs.Certificate.{box_limit, IsInBox, Passes, Suits, IsBeyond, IsCertificateHolding, IsCandidateHolding, IsRaisedHolding, IsTightHolding}
+use Rattle.hyd_spec_certificates.specs.Certificate.{box_limit, IsInBox, Passes, Suits, IsBeyond, IsCertificateHolding}
+use Rattle.hyd_spec_certificates.specs.Certificate.{IsCandidateHolding, IsRaisedHolding, IsTightHolding}
 use Rattle.hyd_spec_laws.specs.Laws.{IsSteady}
 use Rattle.hyd_spec_certificates.specs.Climbing.{LiesBeyond, IsStart}
 use Rattle.hyd_spec_laws.specs.Sides.{along}

@@ -1,5 +1,6 @@
 -- Raises in any order, with leaps between them, against rounds.
-use Rattle.std.proofs.Common.{◌≡◌, ℕ, zero, suc, ◌+◌, ◌<◌, ℤ, pos, ◌<ℤ◌, refl, sym, ap, subst, ◌∙◌, arith, List, [], ◌∷◌, ◌++◌, length, inl, inr, ◌⊎◌}
+use Rattle.std.proofs.Common.{◌≡◌, ℕ, zero, suc, ◌+◌, ◌<◌, ℤ, pos, ◌<ℤ◌, refl, sym, ap, subst, ◌∙◌, arith, List, []}
+use Rattle.std.proofs.Common.{◌∷◌, ◌++◌, length, inl, inr, ◌⊎◌}
 use Rattle.std.specs.Prelude.{Some, Option, slice_get, slice_set, Contains}
 use Rattle.std.proofs.lemmas.Int.{ints}
 use Rattle.std.proofs.lemmas.List.{length-set, get_or_default}
@@ -8,15 +9,19 @@ use Rattle.hyd_spec_certificates.specs.declared.Problem.{Problem}
 use Rattle.hyd_spec.specs.Assignment.{head_at}
 use Rattle.hyd_spec_certificates.specs.Grid.{Grid, GridJunction}
 use Rattle.hyd_spec_certificates.specs.declared.HeldJunction.{HeldJunction}
-use Rattle.hyd_spec_certificates.specs.Certificate.{IsInBox, IsBeyond, IsCertificateHolding, IsRaisedHolding, IsRoundHolding, AreRoundsHolding, none, more}
+use Rattle.hyd_spec_certificates.specs.Certificate.{IsInBox, IsBeyond, IsCertificateHolding, IsRaisedHolding}
+use Rattle.hyd_spec_certificates.specs.Certificate.{IsRoundHolding, AreRoundsHolding, none, more}
 use Rattle.hyd_spec_laws.proofs.Nodes.{greatest_below}
 use Rattle.hyd_spec_laws.specs.Laws.{IsSteady}
-use Rattle.hyd_spec_certificates.specs.Climbing.{LiesBeyond, IsStart, IsLeap, Climbs, done, raised, leapt, HasParts, no_more, part, HasRounds}
+use Rattle.hyd_spec_certificates.specs.Climbing.{LiesBeyond, IsStart, IsLeap, Climbs, done, raised, leapt, HasParts}
+use Rattle.hyd_spec_certificates.specs.Climbing.{no_more, part, HasRounds}
 use Rattle.hyd_spec_laws.proofs.NetRising.{item-at}
 use Rattle.hyd_spec_laws.specs.Sides.{along}
 use Rattle.hyd_spec_raises.proofs.Leading.{beyond-is, lead, fails-leading, suits-nearer}
 use Rattle.hyd_spec_raises.proofs.Searching.{choose}
-use Rattle.hyd_spec_raises.proofs.Raising.{beyond-trans, beyond-self, along-one, by-beyond, set-here, set-on, raise-or-none, one-raise, candidate-of, candidate-nearer, inside-of, start-raised}
+use Rattle.hyd_spec_raises.proofs.Raising.{beyond-trans, beyond-self, along-one, by-beyond, set-here, set-on}
+use Rattle.hyd_spec_raises.proofs.Raising.{raise-or-none, one-raise, candidate-of, candidate-nearer, inside-of}
+use Rattle.hyd_spec_raises.proofs.Raising.{start-raised}
 
 -- ---- vectors
 

@@ -12,8 +12,11 @@ ghost use Rattle.hyd_spec_certificates.specs.declared.Side.{Side};
 ghost use Rattle.hyd_spec_certificates.specs.declared.HeldJunction.{HeldJunction};
 ghost use Rattle.hyd_spec_certificates.specs.Interval.{Interval};
 ghost use Rattle.hyd_spec_certificates.specs.Grid.{Grid, GridJunction, opposite};
-ghost use Rattle.hyd_spec_certificates.specs.Certificate.{Suits, FailsFirst, IsCandidateHolding, IsRaisedHolding, AreRoundsHolding, IsCertificate, IsCertificateHolding, IsTightHolding, IsRoundHolding, IsInBox, IsBeyond};
-ghost use Rattle.hyd_spec_certificates.specs.Climbing.{LiesBeyond, IsStart, IsLeap, Climbs, HasParts, HasRounds, IsOrderedHolding, JoinsNone};
+ghost use Rattle.hyd_spec_certificates.specs.Certificate.{Suits, FailsFirst, IsCandidateHolding, IsRaisedHolding};
+ghost use Rattle.hyd_spec_certificates.specs.Certificate.{AreRoundsHolding, IsCertificate, IsCertificateHolding};
+ghost use Rattle.hyd_spec_certificates.specs.Certificate.{IsTightHolding, IsRoundHolding, IsInBox, IsBeyond};
+ghost use Rattle.hyd_spec_certificates.specs.Climbing.{LiesBeyond, IsStart, IsLeap, Climbs, HasParts, HasRounds};
+ghost use Rattle.hyd_spec_certificates.specs.Climbing.{IsOrderedHolding, JoinsNone};
 ghost use Rattle.hyd_spec_reports.specs.Stops.{beginning};
 ghost use Rattle.hyd_spec_laws.specs.Laws.{IsSteady};
 

@@ -1,6 +1,7 @@
 -- The text of a certificate: a header, the records in order, and an end line. Each line ends by a line feed.
 -- Source: this program's format.
-use Rattle.std.specs.Prelude.{◌≡◌, ℕ, ◌+◌, ◌<◌, ◌≤◌, ◌^◌, ◌==◌, ℤ, Bool, ◌||◌, ◌⊎◌, is_some, List, [], ◌∷◌, ◌++◌, length, map, All, codes, if◌then◌else◌}
+use Rattle.std.specs.Prelude.{◌≡◌, ℕ, ◌+◌, ◌<◌, ◌≤◌, ◌^◌, ◌==◌, ℤ, Bool, ◌||◌, ◌⊎◌, is_some, List, [], ◌∷◌, ◌++◌}
+use Rattle.std.specs.Prelude.{length, map, All, codes, if◌then◌else◌}
 use Rattle.std.specs.Fmt.{decimal, signed_decimal}
 use Rattle.std.specs.List.{list_any}
 use Rattle.hyd_spec.specs.Types.{Project, Tank}
@@ -83,9 +84,9 @@ pub record IsRow (junctions tanks : ℕ) (row : Record) : Type 0 where
   pub pinned_upper : All (λ vectors. IsVector junctions vectors.upper) row.pinned
   pub pinned_lower : All (λ vectors. IsVector junctions vectors.lower) row.pinned
 
--- The text is that of this version, 1 or 2, of these counts and records, and of an end line with this number and word. No
--- line has more than 64 bytes with its line feed: of a header that says it (a count below 10^64 has at most 64 digits), of
--- the others it follows, as their numbers are below 2^32 and their heads in the box.
+-- The text is that of this version, 1 or 2, of these counts and records, and of an end line with this number and word.
+-- No line has more than 64 bytes with its line feed: of a header that says it (a count below 10^64 has at most 64
+-- digits), of the others it follows, as their numbers are below 2^32 and their heads in the box.
 pub record IsCertificateText (text : List ℕ) (version junctions tanks : ℕ) (rows : List Record) (periods : ℕ)
     (finished : Bool) : Type 0 where
   pub known : (version ≡ 1) ⊎ (version ≡ 2)

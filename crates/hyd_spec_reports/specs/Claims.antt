@@ -1,17 +1,21 @@
 -- What a line of the report claims of a period of a history.
 -- Source: this program's; the quantities are those that EPANET prints (2.2 User Manual, chapter on viewing results).
-use Rattle.std.specs.Prelude.{◌≡◌, ℕ, ◌+◌, ◌*◌, ◌^◌, ℤ, pos, ◌+ℤ◌, ◌-ℤ◌, ◌<ℤ◌, ◌≤ℤ◌, ◌*ℤ◌, IsTrue, Bool, true, false, List, Some, slice_get, ⊤, Contains, ◌≢◌, ◌%◌, IsFalse}
+use Rattle.std.specs.Prelude.{◌≡◌, ℕ, ◌+◌, ◌*◌, ◌^◌, ℤ, pos, ◌+ℤ◌, ◌-ℤ◌, ◌<ℤ◌, ◌≤ℤ◌, ◌*ℤ◌, IsTrue, Bool, true, false}
+use Rattle.std.specs.Prelude.{List, Some, slice_get, ⊤, Contains, ◌≢◌, ◌%◌, IsFalse}
 use Rattle.hyd_num.specs.Rational.{Rational, is_at_most, whole}
 use Rattle.hyd_num.specs.Decimals.{head_quantity, pressure_quantity, flow_quantity}
 use Rattle.hyd_net.specs.ListView.{ListView}
 use Rattle.hyd_net.specs.Curves.{value_at}
-use Rattle.hyd_spec.specs.Types.{Project, Junction, Reservoir, Tank, Link, LinkKind, PipeLink, CheckPipe, PumpLink, CurvePump, Tcv, Fcv, Gpv, HeadPoint, OpenValve, LinkState, Open, Closed, Speed, Throttle, Limit, Control, AtLevel}
+use Rattle.hyd_spec.specs.Types.{Project, Junction, Reservoir, Tank, Link, LinkKind, PipeLink, CheckPipe, PumpLink}
+use Rattle.hyd_spec.specs.Types.{CurvePump, Tcv, Fcv, Gpv, HeadPoint, OpenValve, LinkState, Open, Closed, Speed}
+use Rattle.hyd_spec.specs.Types.{Throttle, Limit, Control, AtLevel}
 use Rattle.hyd_spec.specs.declared.TankState.{TankState}
 use Rattle.hyd_spec.specs.declared.TankState.TheVariants.{Full, Empty}
 use Rattle.hyd_spec.specs.declared.Change.{Change}
 use Rattle.hyd_spec.specs.declared.Source.TheVariants.{Control as ByControl, Rule as ByRule}
 use Rattle.hyd_spec_reports.specs.declared.StatusWord.{StatusWord}
-use Rattle.hyd_spec_reports.specs.declared.StatusWord.TheVariants.{Open as WordOpen, Closed as WordClosed, Active as WordActive, Unsure as WordUnsure}
+use Rattle.hyd_spec_reports.specs.declared.StatusWord.TheVariants.{Open as WordOpen, Closed as WordClosed}
+use Rattle.hyd_spec_reports.specs.declared.StatusWord.TheVariants.{Active as WordActive, Unsure as WordUnsure}
 use Rattle.hyd_spec_certificates.specs.Interval.{Interval}
 use Rattle.hyd_spec.specs.Scale.{at_scale}
 use Rattle.hyd_spec.specs.Quantity.{is_us, lift_of, points_of, pump_knots, reservoir_head}
@@ -23,7 +27,8 @@ use Rattle.hyd_spec.specs.Start.{acts_at}
 use Rattle.hyd_spec.specs.Rules.{rule_changes}
 use Rattle.hyd_spec.specs.Length.{Period, level_at_start, watched_after, values_at}
 use Rattle.hyd_spec_reports.specs.Report.{start_changes}
-use Rattle.hyd_spec_reports.specs.ReportLine.{ReportLine, ControlLine, TimeLine, JunctionLine, ReservoirLine, TankLine, LinkLine, FilledLine, EmptiedLine, ReachedLine, RuleLine}
+use Rattle.hyd_spec_reports.specs.ReportLine.{ReportLine, ControlLine, TimeLine, JunctionLine, ReservoirLine, TankLine}
+use Rattle.hyd_spec_reports.specs.ReportLine.{LinkLine, FilledLine, EmptiedLine, ReachedLine, RuleLine}
 
 -- ---- values between printed ends
 
@@ -52,12 +57,15 @@ FlowLies network S ends q = LiesBetween ends (at_part S (flow_quantity network.o
 
 -- Junction number j: its head, its pressure and its outflow (demand and emitter together) lie between the printed
 -- ends.
-pub record JunctionLies (network : Project) (S : ℕ) (period : Period) (j : ℕ) (head pressure outflow : Interval) : Type 0 where
+pub record JunctionLies (network : Project) (S : ℕ) (period : Period) (j : ℕ)
+    (head pressure outflow : Interval) : Type 0 where
   pub junction : Junction
   pub is_junction : slice_get network.junctions.list j ≡ Some junction
   pub head_lies : HeadLies network S head (head_at period.assignment.heads j)
-  pub pressure_lies : PressureLies network S pressure (head_at period.assignment.heads j -ℤ at_scale S junction.elevation)
-  pub outflow_lies : FlowLies network S outflow (flow_at period.assignment.demands j +ℤ flow_at period.assignment.emitters j)
+  pub pressure_lies : PressureLies network S pressure (head_at period.assignment.heads j
+      -ℤ at_scale S junction.elevation)
+  pub outflow_lies : FlowLies network S outflow (flow_at period.assignment.demands j
+      +ℤ flow_at period.assignment.emitters j)
 
 -- Reservoir number r: its head at the start of the period lies between the printed ends.
 pub record ReservoirLies (network : Project) (S : ℕ) (period : Period) (r : ℕ) (head : Interval) : Type 0 where
@@ -66,7 +74,8 @@ pub record ReservoirLies (network : Project) (S : ℕ) (period : Period) (r : �
   pub head_lies : HeadLies network S head (at_scale S (reservoir_head network period.time reservoir))
 
 -- Tank number k: its head, its level and its inflow lie between the printed ends, and its state is the printed one.
-pub record TankLies (network : Project) (S : ℕ) (period : Period) (k : ℕ) (head level inflow : Interval) (state : TankState) : Type 0 where
+pub record TankLies (network : Project) (S : ℕ) (period : Period) (k : ℕ) (head level inflow : Interval)
+    (state : TankState) : Type 0 where
   pub tank : Tank
   pub is_tank : slice_get network.tanks.list k ≡ Some tank
   pub head_lies : HeadLies network S head (at_scale S tank.bottom +ℤ level_at_start period k)
@@ -120,9 +129,9 @@ StateIs WordActive (Throttle setting law) = ⊤
 StateIs WordActive (Limit setting ticks) = ⊥
 StateIs WordUnsure state = ⊤
 
--- What a status word says of a link in its state, at the head difference x. UNSURE says nothing, and so it is with a kind and a
--- state that don't go together. Of a running pump whose curve is one by straight lines OPEN and CLOSED tell the sign of the
--- value on them, as of other running pumps that of the driving difference.
+-- What a status word says of a link in its state, at the head difference x. UNSURE says nothing, and so it is with a
+-- kind and a state that don't go together. Of a running pump whose curve is one by straight lines OPEN and CLOSED tell
+-- the sign of the value on them, as of other running pumps that of the driving difference.
 abbrev pub StatusHolds : Bool → List (ListView HeadPoint) → StatusWord → LinkKind → LinkState → ℕ → ℤ → Type 0
 StatusHolds us bends word (PipeLink capacity) Open S x = StateIs word Open
 StatusHolds us bends word (PipeLink capacity) Closed S x = StateIs word Closed
@@ -130,10 +139,12 @@ StatusHolds us bends word (PipeLink capacity) other S x = StateIs word other
 StatusHolds us bends word (CheckPipe capacity) Open S x = DriveIs word x
 StatusHolds us bends word (CheckPipe capacity) Closed S x = StateIs word Closed
 StatusHolds us bends word (CheckPipe capacity) other S x = StateIs word other
-StatusHolds us bends word (PumpLink capacity shutoff head pattern) (Speed speed) S x = DriveIs word (drive_of S (lift_of us head speed) x)
+StatusHolds us bends word (PumpLink capacity shutoff head pattern) (Speed speed) S x = DriveIs word
+    (drive_of S (lift_of us head speed) x)
 StatusHolds us bends word (PumpLink capacity shutoff head pattern) Closed S x = StateIs word Closed
 StatusHolds us bends word (PumpLink capacity shutoff head pattern) other S x = StateIs word other
-StatusHolds us bends word (CurvePump bend pattern) (Speed speed) S x = DriveIs word (value_at S (pump_knots (points_of bends bend) speed) x).num
+StatusHolds us bends word (CurvePump bend pattern) (Speed speed) S x = DriveIs word
+    (value_at S (pump_knots (points_of bends bend) speed) x).num
 StatusHolds us bends word (CurvePump bend pattern) Closed S x = StateIs word Closed
 StatusHolds us bends word (CurvePump bend pattern) other S x = StateIs word other
 StatusHolds us bends word (Tcv valve) Open S x = StateIs word Open
@@ -149,19 +160,22 @@ StatusHolds us bends word (Gpv bend) Closed S x = StateIs word Closed
 StatusHolds us bends word (Gpv bend) other S x = StateIs word other
 
 -- Link number l: its flow lies between the printed ends, and its status word holds.
-pub record LinkLies (network : Project) (S : ℕ) (period : Period) (l : ℕ) (flow : Interval) (word : StatusWord) : Type 0 where
+pub record LinkLies (network : Project) (S : ℕ) (period : Period) (l : ℕ) (flow : Interval) (word : StatusWord) : Type
+    0 where
   pub link : Link
   pub is_link : slice_get network.links.list l ≡ Some link
   pub state : LinkState
   pub is_state : slice_get period.links l ≡ Some state
   pub flow_lies : FlowLies network S flow (flow_at period.assignment.flows l)
-  pub status_holds : StatusHolds (is_us network) network.bends.list word link.kind state S (difference_along network S period link)
+  pub status_holds : StatusHolds (is_us network) network.bends.list word link.kind state S
+      (difference_along network S period link)
 
 -- ---- events, controls, rules
 
--- At the second of the period's end the tank's level, the exact one of a cylinder and the carried one of a tank with a curve, is
--- at or beyond a target.
-pub record ReachesAtEnd (network : Project) (S : ℕ) (period : Period) (time k : ℕ) (above : Bool) (target : ℤ) : Type 0 where
+-- At the second of the period's end the tank's level, the exact one of a cylinder and the carried one of a tank with a
+-- curve, is at or beyond a target.
+pub record ReachesAtEnd (network : Project) (S : ℕ) (period : Period) (time k : ℕ) (above : Bool) (target : ℤ) : Type
+    0 where
   pub at_end : time ≡ period.time + period.length
   pub tank : Tank
   pub is_tank : slice_get network.tanks.list k ≡ Some tank
@@ -192,7 +206,8 @@ pub record ReachesControl (network : Project) (S : ℕ) (period : Period) (time 
   pub reaches_it : ReachesAtEnd network S period time k above ticks
 
 -- At the start of the period, from the states commanded before, the control changes the link to the state.
-pub record IsStartChange (network : Project) (S : ℕ) (commanded : List LinkState) (period : Period) (time : ℕ) (change : Change) : Type 0 where
+pub record IsStartChange (network : Project) (S : ℕ) (commanded : List LinkState) (period : Period) (time : ℕ)
+    (change : Change) : Type 0 where
   pub at_start : time ≡ period.time
   pub is_change : Contains (start_changes network period.time (acts_at S period.levels) commanded) change
 
@@ -209,9 +224,11 @@ abbrev pub LineHolds : Project → ℕ → List LinkState → Period → ReportL
 LineHolds network S commanded period (ControlLine time number link state) =
     IsStartChange network S commanded period time (record { source = ByControl number; link = link; to = state })
 LineHolds network S commanded period (TimeLine time) = period.time ≡ time
-LineHolds network S commanded period (JunctionLine j head pressure outflow) = JunctionLies network S period j head pressure outflow
+LineHolds network S commanded period (JunctionLine j head pressure outflow) = JunctionLies network S period j head
+    pressure outflow
 LineHolds network S commanded period (ReservoirLine r head) = ReservoirLies network S period r head
-LineHolds network S commanded period (TankLine k head level inflow state) = TankLies network S period k head level inflow state
+LineHolds network S commanded period (TankLine k head level inflow state) = TankLies network S period k head level
+    inflow state
 LineHolds network S commanded period (LinkLine l flow word) = LinkLies network S period l flow word
 LineHolds network S commanded period (FilledLine time k) = Fills network S period time k
 LineHolds network S commanded period (EmptiedLine time k) = Empties network S period time k

@@ -1,6 +1,7 @@
 -- The headline: what a run's certificate and report promise of every history.
 -- Source: this program's.
-use Rattle.std.specs.Prelude.{◌≡◌, ℕ, ◌≤◌, ℤ, ◌<ℤ◌, ◌⊎◌, Bool, true, false, MatchBool, List, [], ◌∷◌, ◌++◌, length, map, All, ⊤, Option, MatchOption}
+use Rattle.std.specs.Prelude.{◌≡◌, ℕ, ◌≤◌, ℤ, ◌<ℤ◌, ◌⊎◌, Bool, true, false, MatchBool, List, [], ◌∷◌, ◌++◌, length, map}
+use Rattle.std.specs.Prelude.{All, ⊤, Option, MatchOption}
 use Rattle.std.specs.Option.{option_map_or}
 use Rattle.std.specs.List.{AllByRecursion}
 use Rattle.hyd_spec.specs.Types.{Project, LinkState}
@@ -18,20 +19,22 @@ use Rattle.hyd_spec_certificates.specs.Record.{Record, Standing, initial_standin
 use Rattle.hyd_spec_certificates.specs.Decided.{links_at}
 use Rattle.hyd_spec_certificates.specs.Valid.{IsValid, IsProblem}
 use Rattle.hyd_spec_certificates.specs.Narrow.{IsNarrow}
-use Rattle.hyd_spec_reports.specs.CertificateText.{IsCertificateText, IsRow, version_of, header_line, record_text, end_line, line_feeds}
+use Rattle.hyd_spec_reports.specs.CertificateText.{IsCertificateText, IsRow, version_of, header_line, record_text}
+use Rattle.hyd_spec_reports.specs.CertificateText.{end_line, line_feeds}
 use Rattle.hyd_spec_reports.specs.declared.StopCause.{StopCause}
 use Rattle.hyd_spec_reports.specs.declared.StopCause.TheVariants.{Demand as DemandOutOfRange, RoundsSpent}
 use Rattle.hyd_spec_reports.specs.declared.CertRefused.{CertRefused}
 use Rattle.hyd_spec_reports.specs.Stops.{Stops}
 use Rattle.hyd_spec_reports.specs.Refusals.{IsRefused}
 use Rattle.hyd_spec_reports.specs.Report.{IsReport}
-use Rattle.hyd_spec_reports.specs.ReportLine.{ReportLine, report_text, stop_line, done_line, partial_line, refused_line, refused_end_line}
+use Rattle.hyd_spec_reports.specs.ReportLine.{ReportLine, report_text, stop_line, done_line, partial_line, refused_line}
+use Rattle.hyd_spec_reports.specs.ReportLine.{refused_end_line}
 use Rattle.hyd_spec_reports.specs.Claims.{LineHolds}
 
 -- ---- a run
 
--- A period of a run, and what is known of it: the standing at its start, its grid and its record, the lines of its report, and the
--- standing that it leaves.
+-- A period of a run, and what is known of it: the standing at its start, its grid and its record, the lines of its
+-- report, and the standing that it leaves.
 pub record Found : Type 0 where
   pub standing : Standing
   pub grid : Grid
@@ -83,14 +86,15 @@ IsSharpFound network sharpness found =
 
 -- A period of a history agrees with what was found: it begins at the record's time, has its length and its states,
 -- has its heads strictly between the record's vectors, and each line of its report holds.
-pub record Agrees (network : Project) (S : ℕ) (commanded : List LinkState) (period : Period) (found : Found) : Type 0 where
-  pub time : period.time ≡ found.row.time
-  pub length_is : period.length ≡ found.row.length
-  pub tanks : period.tanks ≡ found.standing.tanks
-  pub links : period.links ≡ links_at network found.standing
-  pub above_lower : Each period.assignment.heads (λ j h. at_scale S (head_at found.row.main.lower j) <ℤ h)
-  pub below_upper : Each period.assignment.heads (λ j h. h <ℤ at_scale S (head_at found.row.main.upper j))
-  pub lines_hold : AllByRecursion (LineHolds network S commanded period) found.lines
+pub record Agrees (network : Project) (S : ℕ) (commanded : List LinkState) (period : Period) (found : Found) : Type 0
+  where
+    pub time : period.time ≡ found.row.time
+    pub length_is : period.length ≡ found.row.length
+    pub tanks : period.tanks ≡ found.standing.tanks
+    pub links : period.links ≡ links_at network found.standing
+    pub above_lower : Each period.assignment.heads (λ j h. at_scale S (head_at found.row.main.lower j) <ℤ h)
+    pub below_upper : Each period.assignment.heads (λ j h. h <ℤ at_scale S (head_at found.row.main.upper j))
+    pub lines_hold : AllByRecursion (LineHolds network S commanded period) found.lines
 
 -- The periods agree with what was found, one after another, as far as both go.
 abbrev pub AllAgree : Project → ℕ → List LinkState → List Period → List Found → Type 0
@@ -130,7 +134,8 @@ EndsSo network standing rounds Finished = standing.finished ≡ true
 EndsSo network standing rounds (Stopped cause) = (standing.finished ≡ false) × Stops network standing rounds cause
 
 -- What was written is the certificate of a run, what was printed its report, and every history agrees with it.
-pub record RunWrites (network : Project) (rounds : ℕ) (sharpness : Sharpness) (outcome : Outcome) (written printed : List ℕ) : Type 0 where
+pub record RunWrites (network : Project) (rounds : ℕ) (sharpness : Sharpness) (outcome : Outcome)
+    (written printed : List ℕ) : Type 0 where
   pub founds : List Found
   pub left : Standing
   pub is_run : IsRun network founds left
@@ -141,8 +146,8 @@ pub record RunWrites (network : Project) (rounds : ℕ) (sharpness : Sharpness) 
   pub report : printed ≡ report_text network (lines_of founds) (last_line network left (length founds) outcome)
   pub every_history : EveryHistoryAgrees network founds
 
--- The exit status of a run that ends so: 0 where it finished, 7 where rounds were spent, 8 where a demand is out of range,
--- 6 for every other cause.
+-- The exit status of a run that ends so: 0 where it finished, 7 where rounds were spent, 8 where a demand is out of
+-- range, 6 for every other cause.
 abbrev pub outcome_number : Outcome → ℕ
 outcome_number Finished = 0
 outcome_number (Stopped (RoundsSpent period problem side spent)) = 7
@@ -163,20 +168,21 @@ abbrev pub report_so_far : Project → Standing → List Found → Option Outcom
 report_so_far network left founds last =
     report_text network (lines_of founds) (option_map_or (last_line network left (length founds)) last [])
 
--- A fault of the outside ended the work: what was written and printed are fronts of the certificate and of the report of a
--- run, as far as it went, and every history agrees with it.
-pub record RunBreaksOff (network : Project) (rounds : ℕ) (sharpness : Sharpness) (written printed : List ℕ) : Type 0 where
-  pub founds : List Found
-  pub left : Standing
-  pub is_run : IsRun network founds left
-  pub sharp : AllByRecursion (IsSharpFound network sharpness) founds
-  pub last : Option Outcome
-  pub ends_so : MatchOption last ⊤ (EndsSo network left rounds)
-  pub unwritten : List ℕ
-  pub front_of_certificate : written ++ unwritten ≡ certificate_so_far network founds last
-  pub unprinted : List ℕ
-  pub front_of_report : printed ++ unprinted ≡ report_so_far network left founds last
-  pub every_history : EveryHistoryAgrees network founds
+-- A fault of the outside ended the work: what was written and printed are fronts of the certificate and of the report
+-- of a run, as far as it went, and every history agrees with it.
+pub record RunBreaksOff (network : Project) (rounds : ℕ) (sharpness : Sharpness) (written printed : List ℕ) : Type 0
+  where
+    pub founds : List Found
+    pub left : Standing
+    pub is_run : IsRun network founds left
+    pub sharp : AllByRecursion (IsSharpFound network sharpness) founds
+    pub last : Option Outcome
+    pub ends_so : MatchOption last ⊤ (EndsSo network left rounds)
+    pub unwritten : List ℕ
+    pub front_of_certificate : written ++ unwritten ≡ certificate_so_far network founds last
+    pub unprinted : List ℕ
+    pub front_of_report : printed ++ unprinted ≡ report_so_far network left founds last
+    pub every_history : EveryHistoryAgrees network founds
 
 -- ---- what a check accepts
 
@@ -197,8 +203,8 @@ pub record CheckAccepts (network : Project) (text printed : List ℕ) : Type 0 w
 
 -- ---- what a check refuses
 
--- What was read begins as a certificate of a run, with one more record that is refused, whatever comes after it; what was
--- printed is the report of the records before it, with the refusal as its last line.
+-- What was read begins as a certificate of a run, with one more record that is refused, whatever comes after it; what
+-- was printed is the report of the records before it, with the refusal as its last line.
 pub record CheckRefuses (network : Project) (text printed : List ℕ) (cause : CertRefused) : Type 0 where
   pub founds : List Found
   pub left : Standing
@@ -212,8 +218,9 @@ pub record CheckRefuses (network : Project) (text printed : List ℕ) (cause : C
   pub report : printed ≡ report_text network (lines_of founds) (refused_line network cause)
   pub every_history : EveryHistoryAgrees network founds
 
--- What was read is the certificate text of a run but for its end line, which doesn't have the number of its records or doesn't
--- say whether it is finished; what was printed is the report of all its records, with that refusal as its last line.
+-- What was read is the certificate text of a run but for its end line, which doesn't have the number of its records or
+-- doesn't say whether it is finished; what was printed is the report of all its records, with that refusal as its last
+-- line.
 pub record CheckRefusesEnd (network : Project) (text printed : List ℕ) : Type 0 where
   pub founds : List Found
   pub left : Standing

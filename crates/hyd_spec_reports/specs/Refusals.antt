@@ -5,12 +5,14 @@ use Rattle.hyd_spec.specs.Types.{Project, LinkState}
 use Rattle.hyd_spec_certificates.specs.declared.Problem.{Problem}
 use Rattle.hyd_spec_certificates.specs.declared.Side.{Side}
 use Rattle.hyd_spec_reports.specs.declared.CertRefused.{CertRefused}
-use Rattle.hyd_spec_reports.specs.declared.CertRefused.TheVariants.{Place, Demand, Fails, Open as MatterOpen, Length, After}
+use Rattle.hyd_spec_reports.specs.declared.CertRefused.TheVariants.{Place, Demand, Fails, Open as MatterOpen, Length}
+use Rattle.hyd_spec_reports.specs.declared.CertRefused.TheVariants.{After}
 use Rattle.hyd_spec_certificates.specs.Grid.{Grid}
 use Rattle.hyd_spec_certificates.specs.Certificate.{IsCertificate, FailsFirst}
 use Rattle.hyd_spec_certificates.specs.Record.{Record, Standing, vector_of}
 use Rattle.hyd_spec_certificates.specs.Decided.{OpenRule, EndsBy, RuleIsOpen, EventIsOpen}
-use Rattle.hyd_spec_certificates.specs.Valid.{IsProblem, IsGridAt, DemandsAreInRange, AreCertificates, LeavesLinks, levels_next}
+use Rattle.hyd_spec_certificates.specs.Valid.{IsProblem, IsGridAt, DemandsAreInRange, AreCertificates, LeavesLinks}
+use Rattle.hyd_spec_certificates.specs.Valid.{levels_next}
 use Rattle.hyd_spec_reports.specs.ReportLine.{refused_period}
 use Rattle.hyd_spec_reports.specs.Stops.{turn, open_states, is_open_control}
 

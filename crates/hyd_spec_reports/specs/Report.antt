@@ -1,21 +1,27 @@
 -- The report of a period: which lines it has and what numbers stand in them. A lower end is the
 -- greatest number of four decimals at most the value, an upper end the least at least it.
 -- Source: this program's format.
-use Rattle.std.specs.Prelude.{◌≡◌, ℕ, suc, ◌+◌, ◌-◌, ◌%◌, ℤ, pos, ◌+ℤ◌, ◌-ℤ◌, Bool, ◌&&◌, not, ◌==◌, nat_le, List, [], ◌∷◌, ◌++◌, Option, Some, None, map, slice_get, slice_set, slice_index_or, if◌then◌else◌, int_le, int_lt, ⊤, MatchBool}
+use Rattle.std.specs.Prelude.{◌≡◌, ℕ, suc, ◌+◌, ◌-◌, ◌%◌, ℤ, pos, ◌+ℤ◌, ◌-ℤ◌, Bool, ◌&&◌, not, ◌==◌, nat_le, List, []}
+use Rattle.std.specs.Prelude.{◌∷◌, ◌++◌, Option, Some, None, map, slice_get, slice_set, slice_index_or, if◌then◌else◌}
+use Rattle.std.specs.Prelude.{int_le, int_lt, ⊤, MatchBool}
 use Rattle.hyd_num.specs.Rational.{Rational, floor, ceiling}
 use Rattle.hyd_num.specs.Decimals.{head_quantity, pressure_quantity, flow_quantity, IsRoundedDown, IsRoundedUp}
 use Rattle.hyd_net.specs.ListView.{ListView}
 use Rattle.hyd_net.specs.Curves.{Knot, value_at}
-use Rattle.hyd_spec.specs.Types.{Project, Link, LinkKind, PipeLink, CheckPipe, PumpLink, CurvePump, Tcv, Fcv, Gpv, HeadPoint, LinkState, Open, Closed, Speed, Throttle, Limit, Tank, Control, When, AtLevel}
+use Rattle.hyd_spec.specs.Types.{Project, Link, LinkKind, PipeLink, CheckPipe, PumpLink, CurvePump, Tcv, Fcv, Gpv}
+use Rattle.hyd_spec.specs.Types.{HeadPoint, LinkState, Open, Closed, Speed, Throttle, Limit, Tank, Control, When}
+use Rattle.hyd_spec.specs.Types.{AtLevel}
 use Rattle.hyd_spec.specs.declared.TankState.{TankState}
 use Rattle.hyd_spec.specs.declared.Change.{Change}
 use Rattle.hyd_spec.specs.declared.Source.{Source}
 use Rattle.hyd_spec.specs.declared.Source.TheVariants.{Control as ByControl, Rule as ByRule}
 use Rattle.hyd_spec_reports.specs.declared.Event.{Event}
 use Rattle.hyd_spec_reports.specs.declared.EventKind.{EventKind}
-use Rattle.hyd_spec_reports.specs.declared.EventKind.TheVariants.{Full as BecomesFull, Empty as BecomesEmpty, Control as ReachesLevel}
+use Rattle.hyd_spec_reports.specs.declared.EventKind.TheVariants.{Full as BecomesFull, Empty as BecomesEmpty}
+use Rattle.hyd_spec_reports.specs.declared.EventKind.TheVariants.{Control as ReachesLevel}
 use Rattle.hyd_spec_reports.specs.declared.StatusWord.{StatusWord}
-use Rattle.hyd_spec_reports.specs.declared.StatusWord.TheVariants.{Open as WordOpen, Closed as WordClosed, Active as WordActive, Unsure as WordUnsure}
+use Rattle.hyd_spec_reports.specs.declared.StatusWord.TheVariants.{Open as WordOpen, Closed as WordClosed}
+use Rattle.hyd_spec_reports.specs.declared.StatusWord.TheVariants.{Active as WordActive, Unsure as WordUnsure}
 use Rattle.hyd_spec.specs.Lists.{map_from, present}
 use Rattle.hyd_spec_certificates.specs.Interval.{Interval, exactly, shifted}
 use Rattle.hyd_spec.specs.Quantity.{is_us, lift_of, points_of, pump_knots}
@@ -28,8 +34,11 @@ use Rattle.hyd_spec_certificates.specs.Grid.{Grid, GridLink, GridJunction}
 use Rattle.hyd_spec_certificates.specs.Boxes.{difference, out_box}
 use Rattle.hyd_spec_certificates.specs.Record.{Record, Standing}
 use Rattle.hyd_spec_certificates.specs.Verdict.{is_yes}
-use Rattle.hyd_spec_certificates.specs.Decided.{heads_below, heads_above, flow_boxes, carried_at, level_of_tank, inflow_of_tank, links_at, acts_on, control_truth, nowhere, decided_changes, EndsBy, ByRules, WithoutRules}
-use Rattle.hyd_spec_reports.specs.ReportLine.{ReportLine, ControlLine, TimeLine, JunctionLine, ReservoirLine, TankLine, LinkLine, FilledLine, EmptiedLine, ReachedLine, RuleLine}
+use Rattle.hyd_spec_certificates.specs.Decided.{heads_below, heads_above, flow_boxes, carried_at, level_of_tank}
+use Rattle.hyd_spec_certificates.specs.Decided.{inflow_of_tank, links_at, acts_on, control_truth, nowhere}
+use Rattle.hyd_spec_certificates.specs.Decided.{decided_changes, EndsBy, ByRules, WithoutRules}
+use Rattle.hyd_spec_reports.specs.ReportLine.{ReportLine, ControlLine, TimeLine, JunctionLine, ReservoirLine, TankLine}
+use Rattle.hyd_spec_reports.specs.ReportLine.{LinkLine, FilledLine, EmptiedLine, ReachedLine, RuleLine}
 
 -- ---- printed intervals
 
@@ -79,8 +88,8 @@ abbrev pub is_report_time : Project → ℕ → Bool
 is_report_time network time =
     nat_le network.times.report_start time && ((time - network.times.report_start) % network.times.report == 0)
 
--- There is one line for each item of a list, in order: P holds of the item's number, the item and its line. The first item has
--- the number k.
+-- There is one line for each item of a list, in order: P holds of the item's number, the item and its line. The first
+-- item has the number k.
 abbrev pub LineEach : {X : Type 0} → (ℕ → X → ReportLine → Type 0) → ℕ → List X → List ReportLine → Type 0
 LineEach P k [] [] = ⊤
 LineEach P k (x ∷ xs) (l ∷ ls) = P k x l × LineEach P (suc k) xs ls
@@ -88,7 +97,8 @@ LineEach P k [] (l ∷ ls) = ⊥
 LineEach P k (x ∷ xs) [] = ⊥
 
 -- The line of junction number j: its head by the record, its pressure above the elevation, its outflow box.
-pub record IsJunctionLine (network : Project) (grid : Grid) (row : Record) (j : ℕ) (junction : GridJunction) (each : ReportLine) : Type 0 where
+pub record IsJunctionLine (network : Project) (grid : Grid) (row : Record) (j : ℕ) (junction : GridJunction)
+    (each : ReportLine) : Type 0 where
   pub heads : Interval
   pub heads_are : heads ≡ record { lo = head_at row.main.lower j; hi = head_at row.main.upper j }
   pub head : Interval
@@ -107,7 +117,8 @@ pub record IsReservoirLine (network : Project) (r : ℕ) (height : ℤ) (each : 
   pub head_is : Prints (head_quantity (is_us network)) (exactly height) head
 
 -- The line of tank number k: its level interval at the start, its head by it, its inflow and its state.
-pub record IsTankLine (network : Project) (grid : Grid) (standing : Standing) (row : Record) (k : ℕ) (tank : Tank) (each : ReportLine) : Type 0 where
+pub record IsTankLine (network : Project) (grid : Grid) (standing : Standing) (row : Record) (k : ℕ) (tank : Tank)
+    (each : ReportLine) : Type 0 where
   pub head : Interval
   pub level : Interval
   pub inflow : Interval
@@ -136,8 +147,8 @@ by_setting setting flow =
 abbrev pub by_knots : List Knot → Interval → StatusWord
 by_knots knots d = by_drive (record { lo = (value_at 1 knots d.lo).num; hi = (value_at 1 knots d.hi).num })
 
--- The status word of a link in its state, by the interval of its head difference. It speaks of the link's own law. A kind and
--- a state that don't go together have the word UNSURE.
+-- The status word of a link in its state, by the interval of its head difference. It speaks of the link's own law. A
+-- kind and a state that don't go together have the word UNSURE.
 abbrev pub status_of : Bool → List (ListView HeadPoint) → LinkKind → LinkState → Interval → StatusWord
 status_of us bends (PipeLink capacity) Open d = WordOpen
 status_of us bends (PipeLink capacity) Closed d = WordClosed
@@ -166,7 +177,8 @@ status_of us bends (Gpv bend) Closed d = WordClosed
 status_of us bends (Gpv bend) other d = WordUnsure
 
 -- The line of link number l: its flow box and its status word.
-pub record IsLinkLine (network : Project) (grid : Grid) (standing : Standing) (row : Record) (l : ℕ) (link : Link) (each : ReportLine) : Type 0 where
+pub record IsLinkLine (network : Project) (grid : Grid) (standing : Standing) (row : Record) (l : ℕ) (link : Link)
+    (each : ReportLine) : Type 0 where
   pub place : GridLink
   pub place_is : slice_get grid.links l ≡ Some place
   pub box : Interval
@@ -178,7 +190,8 @@ pub record IsLinkLine (network : Project) (grid : Grid) (standing : Standing) (r
       (difference place (heads_below grid row) (heads_above grid row)))
 
 -- The lines of a report time: the time, junctions, reservoirs, tanks and links in order.
-pub record AreStateLines (network : Project) (grid : Grid) (standing : Standing) (row : Record) (lines : List ReportLine) : Type 0 where
+pub record AreStateLines (network : Project) (grid : Grid) (standing : Standing) (row : Record)
+    (lines : List ReportLine) : Type 0 where
   pub junctions : List ReportLine
   pub reservoirs : List ReportLine
   pub tanks : List ReportLine
@@ -210,7 +223,8 @@ control_event before carried number control = by_when control.when
   where
     by_when : When → Option Event
     by_when (AtLevel tank above ticks) =
-        if not (acts_on before tank above ticks) && is_yes (control_truth (slice_index_or carried tank nowhere) above ticks)
+        if not (acts_on before tank above ticks) && is_yes (control_truth (slice_index_or carried tank nowhere) above
+        ticks)
         then Some (record { tank = tank; what = ReachesLevel number })
         else None
     by_when when = None
@@ -222,8 +236,8 @@ events_of network grid standing row =
     tank_events 0 network.tanks.list standing.tanks carried
     ++ present (map_from (control_event standing.levels carried) 0 network.controls.list)
 
--- What a period's end brings: its events, and what rules change there. The period at the end of the run brings nothing, one
--- that the clock or an event ends no changes.
+-- What a period's end brings: its events, and what rules change there. The period at the end of the run brings nothing,
+-- one that the clock or an event ends no changes.
 pub data EndBrings (network : Project) (grid : Grid) (standing : Standing) (row : Record) : List Event → List Change
     → Type 0 where
   at_end : standing.time ≡ network.times.duration → EndBrings network grid standing row [] []
@@ -254,9 +268,11 @@ pub record AreEndLines (network : Project) (grid : Grid) (standing : Standing) (
 -- ---- a period's lines
 
 -- The lines of a period: changes by controls, the state where it is a report time, then what its end brings.
-pub record IsReport (network : Project) (grid : Grid) (standing : Standing) (row : Record) (lines : List ReportLine) : Type 0 where
+pub record IsReport (network : Project) (grid : Grid) (standing : Standing) (row : Record)
+    (lines : List ReportLine) : Type 0 where
   pub state : List ReportLine
-  pub state_are : MatchBool (is_report_time network standing.time) (AreStateLines network grid standing row state) (state ≡ [])
+  pub state_are : MatchBool (is_report_time network standing.time) (AreStateLines network grid standing row state)
+      (state ≡ [])
   pub at_end : List ReportLine
   pub at_end_are : AreEndLines network grid standing row at_end
   pub lines_are : lines ≡ control_lines network standing ++ (state ++ at_end)

@@ -13,11 +13,15 @@ use Rattle.hyd_spec_certificates.specs.declared.Problem.TheVariants.{Main, Pinne
 use Rattle.hyd_spec_certificates.specs.declared.Side.{Side}
 use Rattle.hyd_spec_certificates.specs.declared.Side.TheVariants.{Upper, Lower}
 use Rattle.hyd_spec_reports.specs.declared.StatusWord.{StatusWord}
-use Rattle.hyd_spec_reports.specs.declared.StatusWord.TheVariants.{Open as WordOpen, Closed as WordClosed, Active as WordActive, Unsure as WordUnsure}
+use Rattle.hyd_spec_reports.specs.declared.StatusWord.TheVariants.{Open as WordOpen, Closed as WordClosed}
+use Rattle.hyd_spec_reports.specs.declared.StatusWord.TheVariants.{Active as WordActive, Unsure as WordUnsure}
 use Rattle.hyd_spec_reports.specs.declared.StopCause.{StopCause}
-use Rattle.hyd_spec_reports.specs.declared.StopCause.TheVariants.{Demand as DemandOutOfRange, NoCertificate, RoundsSpent, RuleOpen, EventOpen, TankOpen, ControlOpen}
+use Rattle.hyd_spec_reports.specs.declared.StopCause.TheVariants.{Demand as DemandOutOfRange, NoCertificate}
+use Rattle.hyd_spec_reports.specs.declared.StopCause.TheVariants.{RoundsSpent, RuleOpen, EventOpen, TankOpen}
+use Rattle.hyd_spec_reports.specs.declared.StopCause.TheVariants.{ControlOpen}
 use Rattle.hyd_spec_reports.specs.declared.CertRefused.{CertRefused}
-use Rattle.hyd_spec_reports.specs.declared.CertRefused.TheVariants.{Place, Demand, Fails, Open as MatterOpen, Length, After}
+use Rattle.hyd_spec_reports.specs.declared.CertRefused.TheVariants.{Place, Demand, Fails, Open as MatterOpen, Length}
+use Rattle.hyd_spec_reports.specs.declared.CertRefused.TheVariants.{After}
 use Rattle.hyd_spec.specs.Lists.{joined}
 use Rattle.hyd_spec_certificates.specs.Interval.{Interval}
 use Rattle.hyd_spec.specs.Network.{tank_node, junction_count}
@@ -122,12 +126,14 @@ reservoir_words id head = codes "RESERVOIR" ∷ (id ∷ with_ends (codes "head")
 -- A tank's ID, head, level, inflow and state.
 abbrev pub tank_words : List ℕ → Interval → Interval → Interval → TankState → List (List ℕ)
 tank_words id head level inflow state =
-    codes "TANK" ∷ (id ∷ with_ends (codes "head") head (with_ends (codes "level") level (with_ends (codes "inflow") inflow
+    codes "TANK" ∷ (id ∷ with_ends (codes "head") head (with_ends (codes "level") level
+    (with_ends (codes "inflow") inflow
     (codes "state" ∷ (tank_word state ∷ [])))))
 
 -- A link's ID, flow and status.
 abbrev pub link_words : List ℕ → Interval → StatusWord → List (List ℕ)
-link_words id flow status = codes "LINK" ∷ (id ∷ with_ends (codes "flow") flow (codes "status" ∷ (status_text status ∷ [])))
+link_words id flow status = codes "LINK" ∷ (id ∷ with_ends (codes "flow") flow
+    (codes "status" ∷ (status_text status ∷ [])))
 
 -- The words of a line.
 abbrev pub line_words : Project → ReportLine → List (List ℕ)
@@ -164,7 +170,8 @@ side_word Lower = codes "LOWER"
 -- The words of a stop's cause; clauses and controls are counted from 1 in print.
 abbrev pub cause_words : Project → StopCause → List (List ℕ)
 cause_words network (NoCertificate period problem side junction) =
-    codes "NOCERT" ∷ (problem_words network problem ++ (side_word side ∷ (codes "JUNCTION" ∷ (node_id network junction ∷ []))))
+    codes "NOCERT" ∷ (problem_words network problem ++ (side_word side
+    ∷ (codes "JUNCTION" ∷ (node_id network junction ∷ []))))
 cause_words network (TankOpen period tank lo hi) =
     codes "TANK" ∷ (tank_id network tank ∷ (signed_decimal lo ∷ (signed_decimal hi ∷ [])))
 cause_words network (RuleOpen period rule clause lo hi) =

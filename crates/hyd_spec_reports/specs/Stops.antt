@@ -1,13 +1,16 @@
 -- Stop conditions: why a run can't go on from a standing.
 -- Source: this program's.
-use Rattle.std.specs.Prelude.{◌≡◌, ℕ, ◌+◌, ◌*◌, ◌<◌, ◌≤◌, ℤ, pos, neg_ℤ, Bool, List, Some, None, length, replicate, slice_get, slice_index_or, unsigned_abs, position, is_none, false}
+use Rattle.std.specs.Prelude.{◌≡◌, ℕ, ◌+◌, ◌*◌, ◌<◌, ◌≤◌, ℤ, pos, neg_ℤ, Bool, List, Some, None, length, replicate}
+use Rattle.std.specs.Prelude.{slice_get, slice_index_or, unsigned_abs, position, is_none, false}
 use Rattle.hyd_spec.specs.Types.{Project, Junction, LinkState, Control, When, AtLevel}
 use Rattle.hyd_spec_certificates.specs.declared.Problem.{Problem}
 use Rattle.hyd_spec_certificates.specs.declared.Problem.TheVariants.{Main, Pinned}
 use Rattle.hyd_spec_certificates.specs.declared.Side.{Side}
 use Rattle.hyd_spec_certificates.specs.declared.Side.TheVariants.{Upper, Lower}
 use Rattle.hyd_spec_reports.specs.declared.StopCause.{StopCause}
-use Rattle.hyd_spec_reports.specs.declared.StopCause.TheVariants.{Demand as DemandOutOfRange, NoCertificate, RoundsSpent, RuleOpen, EventOpen, TankOpen, ControlOpen}
+use Rattle.hyd_spec_reports.specs.declared.StopCause.TheVariants.{Demand as DemandOutOfRange, NoCertificate}
+use Rattle.hyd_spec_reports.specs.declared.StopCause.TheVariants.{RoundsSpent, RuleOpen, EventOpen, TankOpen}
+use Rattle.hyd_spec_reports.specs.declared.StopCause.TheVariants.{ControlOpen}
 use Rattle.hyd_spec.specs.Lists.{map_from}
 use Rattle.hyd_spec_certificates.specs.Interval.{Interval}
 use Rattle.hyd_spec.specs.Network.{junction_count}
@@ -18,7 +21,8 @@ use Rattle.hyd_spec_certificates.specs.Record.{Record, Standing, vector_of}
 use Rattle.hyd_spec_certificates.specs.Stocks.{state_of}
 use Rattle.hyd_spec_certificates.specs.Verdict.{is_unknown}
 use Rattle.hyd_spec_certificates.specs.Decided.{OpenRule, EndsBy, RuleIsOpen, EventIsOpen, nowhere, control_truth}
-use Rattle.hyd_spec_certificates.specs.Valid.{IsProblem, IsGridAt, DemandsAreInRange, demand_limit, LeavesLinks, levels_next}
+use Rattle.hyd_spec_certificates.specs.Valid.{IsProblem, IsGridAt, DemandsAreInRange, demand_limit, LeavesLinks}
+use Rattle.hyd_spec_certificates.specs.Valid.{levels_next}
 
 -- ---- demands
 
@@ -62,9 +66,10 @@ pub record HasNoCertificate (network : Project) (standing : Standing) (problem :
   pub earlier : EarlierHaveCertificates network grid problem side
   pub none : (u : List ℤ) → IsCertificate grid problem side u → ⊥
 
--- At a standing with demands in range so many plain rounds from the beginning exist, and their result is no certificate;
--- every problem and side before has one.
-pub record SpendsRounds (network : Project) (standing : Standing) (problem : Problem) (side : Side) (rounds : ℕ) : Type 0 where
+-- At a standing with demands in range so many plain rounds from the beginning exist, and their result is no
+-- certificate; every problem and side before has one.
+pub record SpendsRounds (network : Project) (standing : Standing) (problem : Problem) (side : Side)
+    (rounds : ℕ) : Type 0 where
   pub in_range : DemandsAreInRange network standing.time
   pub is_problem : IsProblem network problem
   pub grid : Grid
@@ -170,9 +175,9 @@ HoldsAt network standing rounds (TankOpen period tank lo hi) =
 HoldsAt network standing rounds (ControlOpen period control lo hi) =
     LeavesControlOpen network standing control (record { lo = lo; hi = hi })
 
--- The cause holds at a standing: it names the period that begins there, and what it says is so. Every problem and side before
--- one that is named has a certificate; where a matter is named, all have tight vectors and it is the first open one (that so
--- many rounds find them isn't said). Whether the run is over there is said elsewhere.
+-- The cause holds at a standing: it names the period that begins there, and what it says is so. Every problem and side
+-- before one that is named has a certificate; where a matter is named, all have tight vectors and it is the first open
+-- one (that so many rounds find them isn't said). Whether the run is over there is said elsewhere.
 pub record Stops (network : Project) (standing : Standing) (rounds : ℕ) (cause : StopCause) : Type 0 where
   pub period_is : period_of cause ≡ standing.number
   pub holds : HoldsAt network standing rounds cause

@@ -35,7 +35,8 @@ pub struct Event {
     pub what: EventKind,
 }
 
-/// Why a run stops at a period (this program's own). Periods, junctions, tanks, rules, clauses and controls count from 0.
+/// Why a run stops at a period (this program's own). Periods, junctions, tanks, rules, clauses and controls count from
+/// 0.
 #[derive(Debug, Clone, Copy, PartialEq, Eq, Drop)]
 pub enum StopCause {
     /// No vector is a certificate of the problem and side; a junction is named.

@@ -1,5 +1,6 @@
 -- The runs of the two basins: records, lines and texts.
-use Rattle.std.proofs.Common.{◌≡◌, ◌≢◌, ℕ, zero, suc, ◌+◌, ◌%◌, ◌<◌, ◌≤◌, Bool, true, false, List, [], ◌∷◌, ◌⊎◌, inl, inr, refl, sym, ap, subst, arith, lit<}
+use Rattle.std.proofs.Common.{◌≡◌, ◌≢◌, ℕ, zero, suc, ◌+◌, ◌%◌, ◌<◌, ◌≤◌, Bool, true, false, List, [], ◌∷◌, ◌⊎◌, inl}
+use Rattle.std.proofs.Common.{inr, refl, sym, ap, subst, arith, lit<}
 use Rattle.std.specs.Prelude.{slice_get, Some, ◌^◌, All, Contains, pos, ◌++◌, unsigned_abs}
 use Rattle.std.proofs.lemmas.List.Elements.{All-nil, All-cons}
 use Rattle.hyd_spec_certificates.specs.declared.Problem.{Problem}
@@ -24,25 +25,36 @@ use Rattle.hyd_spec_certificates.specs.Grid.{Grid, GridLink, GridJunction, tank_
 use Rattle.hyd_spec_certificates.specs.Boxes.{difference}
 use Rattle.hyd_spec_certificates.specs.Certificate.{IsInBox, IsCertificate}
 use Rattle.hyd_spec_certificates.specs.Record.{Record, Standing, Vectors, no_vectors, vector_of}
-use Rattle.hyd_spec_certificates.specs.Decided.{heads_below, heads_above, flow_boxes, level_of_tank, links_at, Watch, watches, stocks_of_tank, inflow_of_tank, SomeMayReach, SomeMustReach, RulesMatter, NoRuleMatters, IsClockLength, IsEarliestEnd, IsLatestEnd, EndsBy, WithoutRules, by_clock}
-use Rattle.hyd_spec_certificates.specs.Valid.{IsProblem, IsGridAt, AreCertificates, demand_limit, LeavesLinks, levels_next, volumes_next, AreStates, IsValid, continues, finishes, by_clock as left_by_clock}
+use Rattle.hyd_spec_certificates.specs.Decided.{heads_below, heads_above, flow_boxes, level_of_tank, links_at, Watch}
+use Rattle.hyd_spec_certificates.specs.Decided.{watches, stocks_of_tank, inflow_of_tank, SomeMayReach, SomeMustReach}
+use Rattle.hyd_spec_certificates.specs.Decided.{RulesMatter, NoRuleMatters, IsClockLength, IsEarliestEnd, IsLatestEnd}
+use Rattle.hyd_spec_certificates.specs.Decided.{EndsBy, WithoutRules, by_clock}
+use Rattle.hyd_spec_certificates.specs.Valid.{IsProblem, IsGridAt, AreCertificates, demand_limit, LeavesLinks}
+use Rattle.hyd_spec_certificates.specs.Valid.{levels_next, volumes_next, AreStates, IsValid, continues, finishes}
+use Rattle.hyd_spec_certificates.specs.Valid.{by_clock as left_by_clock}
 use Rattle.hyd_spec_reports.specs.CertificateText.{IsVector, IsRow}
 use Rattle.hyd_spec_reports.specs.ReportLine.{ReservoirLine, TankLine, LinkLine, FilledLine}
-use Rattle.hyd_spec_reports.specs.Report.{IsReservoirLine, IsTankLine, IsLinkLine, status_of, AreStateLines, at_end, by_clock as ended_by_clock}
+use Rattle.hyd_spec_reports.specs.Report.{IsReservoirLine, IsTankLine, IsLinkLine, status_of, AreStateLines, at_end}
+use Rattle.hyd_spec_reports.specs.Report.{by_clock as ended_by_clock}
 use Rattle.hyd_spec_reports.specs.Headline.{IsFound, IsRun, none as nothing_more, more}
-use Rattle.hyd_spec_towns.specs.Basin.{Basin, basin_network, feed, basin_grid, basin_row, state_lines, found_of, slow, fast, curved, curved_0, curved_1, curved_2, curved_left, curved_founds, spilling, spilling_0, spilling_1, spilling_2, spilling_left, spilling_founds}
+use Rattle.hyd_spec_towns.specs.Basin.{Basin, basin_network, feed, basin_grid, basin_row, state_lines, found_of, slow}
+use Rattle.hyd_spec_towns.specs.Basin.{fast, curved, curved_0, curved_1, curved_2, curved_left, curved_founds, spilling}
+use Rattle.hyd_spec_towns.specs.Basin.{spilling_0, spilling_1, spilling_2, spilling_left, spilling_founds}
 use Rattle.hyd_spec_towns.proofs.VillageReports.{rounds, prints_heads, prints_flows}
 
 module _ (basin : Basin) where
   -- no record of an empty vector fails
-  pub empty_passes : (grid : Grid) (problem : Problem) (side : Side) → grid.junctions ≡ [] → IsCertificate grid problem side []
+  pub empty_passes : (grid : Grid) (problem : Problem) (side : Side) → grid.junctions ≡ []
+      → IsCertificate grid problem side []
   empty_passes grid problem side none = record {
     one_each = rw none refl;
     in_box = All-nil IsInBox;
-    passes = λ j junction at. absurd (let e : slice_get {X = GridJunction} [] j ≡ Some junction = subst (λ (js : List GridJunction). slice_get js j ≡ Some junction) none at in cc);
+    passes = λ j junction at. absurd (let e : slice_get {X = GridJunction} [] j ≡ Some junction =
+        subst (λ (js : List GridJunction). slice_get js j ≡ Some junction) none at in cc);
   }
 
-  pub certificates : (level : Interval) (number time length : ℕ) → AreCertificates (basin_network basin) (basin_grid basin level) (basin_row number time length)
+  pub certificates : (level : Interval) (number time length : ℕ)
+      → AreCertificates (basin_network basin) (basin_grid basin level) (basin_row number time length)
   certificates level number time length = record { pinned_each = refl; each = each }
     where
       each : (problem : Problem) (side : Side) → IsProblem (basin_network basin) problem
@@ -58,22 +70,30 @@ module _ (basin : Basin) where
   pub no_control : (each : Control) → Contains {X = Control} [] each → ⊥
   no_control each is = omega (arith, is.1)
 
-  pub not_before : (time end k : ℕ) → end ≤ time + 3600 → end ≤ basin.duration → ((m : ℕ) → time < m → m % 3600 ≡ 0 → end ≤ m)
+  pub not_before : (time end k : ℕ) → end ≤ time + 3600 → end ≤ basin.duration
+      → ((m : ℕ) → time < m → m % 3600 ≡ 0 → end ≤ m)
       → EndsByClock (basin_network basin) time k → end ≤ k
   not_before time end k after last boundary (step later e) = omega (arith, after, e)
   not_before time end k after last boundary (duration later e) = omega (arith, last, e)
-  not_before time end k after last boundary (pattern later e) = boundary k later (let m : k % 3600 ≡ 0 = omega (arith, e) in m)
-  not_before time end k after last boundary (report later begun e) = boundary k later (let m : k % 3600 ≡ 0 = omega (arith, e) in m)
+  not_before time end k after last boundary (pattern later e) = boundary k later
+      (let m : k % 3600 ≡ 0 = omega (arith, e) in m)
+  not_before time end k after last boundary (report later begun e) = boundary k later
+      (let m : k % 3600 ≡ 0 = omega (arith, e) in m)
   not_before time end k after last boundary (control_time each is at later) = absurd (no_control each is)
   not_before time end k after last boundary (control_clock each at is when shown later) = absurd (no_control each is)
 
-  pub clock_length : (time cap : ℕ) → EndsByClock (basin_network basin) time (time + cap) → time + cap ≤ time + 3600 → time + cap ≤ basin.duration
+  pub clock_length : (time cap : ℕ) → EndsByClock (basin_network basin) time (time + cap) → time + cap ≤ time + 3600
+      → time + cap ≤ basin.duration
       → ((m : ℕ) → time < m → m % 3600 ≡ 0 → time + cap ≤ m) → IsClockLength (basin_network basin) time cap
-  clock_length time cap ends after last boundary = record { holds = ends; least = λ k is. not_before time (time + cap) k after last boundary is }
+  clock_length time cap ends after last boundary = record {
+    holds = ends;
+    least = λ k is. not_before time (time + cap) k after last boundary is;
+  }
 
   -- ---- rules
 
-  nothing_changes : (values : List Bool) (k : ℕ) (links : List LinkState) → present (map_from (change_of (basin_network basin) values) k links) ≡ []
+  nothing_changes : (values : List Bool) (k : ℕ) (links : List LinkState)
+      → present (map_from (change_of (basin_network basin) values) k links) ≡ []
   nothing_changes values k [] = refl
   nothing_changes values k (state ∷ links) = nothing_changes values (suc k) links
 
@@ -82,10 +102,18 @@ module _ (basin : Basin) where
 
   module _ (grid : Grid) (standing : Standing) (row : Record) where
     pub no_rule : (seconds : ℕ) → RulesMatter (basin_network basin) grid standing row seconds → ⊥
-    no_rule seconds is = elim is.matters [ inl unknown ↦ absurd (cc) | inr changes ↦ changes (no_changes [] (links_at (basin_network basin) standing)) ]
+    no_rule seconds is = elim is.matters [
+      | inl unknown ↦ absurd (cc)
+      | inr changes ↦ changes (no_changes [] (links_at (basin_network basin) standing))
+    ]
 
-    pub no_rules : (e : ℕ) → standing.time ≢ basin.duration → IsEarliestEnd (basin_network basin) grid standing row e → NoRuleMatters (basin_network basin) grid standing row e
-    no_rules e before earliest = record { not_last = before; is_earliest = earliest; none = λ s is. absurd (no_rule s is) }
+    pub no_rules : (e : ℕ) → standing.time ≢ basin.duration → IsEarliestEnd (basin_network basin) grid standing row e
+        → NoRuleMatters (basin_network basin) grid standing row e
+    no_rules e before earliest = record {
+      not_last = before;
+      is_earliest = earliest;
+      none = λ s is. absurd (no_rule s is);
+    }
 
   -- ---- levels
 
@@ -121,37 +149,47 @@ module _ (basin : Basin) where
         (inflow_of_tank (basin_network basin) grid row is.watch.tank) is.watch.target is.watch.rising s ≡ true)
         (only_tank is.watch.tank is.tank is.is_tank) is.reached)
 
-    pub earliest_end : (cap e : ℕ) → IsClockLength (basin_network basin) standing.time cap → e ≤ cap → none_below may e ≡ true
-        → IsClockLength (basin_network basin) standing.time e ⊎ ((1 ≤ e) × SomeMayReach (basin_network basin) grid standing row e)
+    pub earliest_end : (cap e : ℕ) → IsClockLength (basin_network basin) standing.time cap → e ≤ cap
+        → none_below may e ≡ true
+        → IsClockLength (basin_network basin) standing.time e
+        ⊎ ((1 ≤ e) × SomeMayReach (basin_network basin) grid standing row e)
         → IsEarliestEnd (basin_network basin) grid standing row e
     earliest_end cap e clock within none ends = record { holds = ends; least = least }
       where
-        least : (k : ℕ) → IsClockLength (basin_network basin) standing.time k ⊎ ((1 ≤ k) × SomeMayReach (basin_network basin) grid standing row k) → e ≤ k
+        least : (k : ℕ) → IsClockLength (basin_network basin) standing.time k
+            ⊎ ((1 ≤ k) × SomeMayReach (basin_network basin) grid standing row k) → e ≤ k
         least k (inl c) = let l = clock.least (standing.time + k) c.holds in omega (arith, l, within)
         least k (inr m) = from may e none k (may_test k m.1)
 
-    pub latest_end : (cap e : ℕ) → IsClockLength (basin_network basin) standing.time cap → e ≤ cap → none_below must e ≡ true
-        → IsClockLength (basin_network basin) standing.time e ⊎ ((1 ≤ e) × SomeMustReach (basin_network basin) grid standing row e)
+    pub latest_end : (cap e : ℕ) → IsClockLength (basin_network basin) standing.time cap → e ≤ cap
+        → none_below must e ≡ true
+        → IsClockLength (basin_network basin) standing.time e
+        ⊎ ((1 ≤ e) × SomeMustReach (basin_network basin) grid standing row e)
         → IsLatestEnd (basin_network basin) grid standing row e
     latest_end cap e clock within none ends = record { holds = ends; least = least }
       where
-        least : (k : ℕ) → IsClockLength (basin_network basin) standing.time k ⊎ ((1 ≤ k) × SomeMustReach (basin_network basin) grid standing row k) → e ≤ k
+        least : (k : ℕ) → IsClockLength (basin_network basin) standing.time k
+            ⊎ ((1 ≤ k) × SomeMustReach (basin_network basin) grid standing row k) → e ≤ k
         least k (inl c) = let l = clock.least (standing.time + k) c.holds in omega (arith, l, within)
         least k (inr m) = from must e none k (must_test k m.1)
 
 -- ---- lines
 
 module _ (basin : Basin) (grid : Grid) (standing : Standing) (row : Record) where
-  reservoir_line : (network : Project) → network.options.unit ≡ Cmd → IsReservoirLine network 0 (pos 1000000000000000) (ReservoirLine 0 (exactly (pos 1000000)))
+  reservoir_line : (network : Project) → network.options.unit ≡ Cmd
+      → IsReservoirLine network 0 (pos 1000000000000000) (ReservoirLine 0 (exactly (pos 1000000)))
   reservoir_line network unit = record {
     head = exactly (pos 1000000);
     is_line = refl;
     head_is = rw unit (prints_heads (exactly (pos 1000000000000000)) (exactly (pos 1000000)) refl);
   }
 
-  pub tank_line : (level inflow : Interval) (state : TankState) → rounds (pos (10 ^ 9)) (shifted basin.tank.bottom (level_of_tank standing 0)) level ≡ true
-      → rounds (pos (10 ^ 9)) (level_of_tank standing 0) level ≡ true → rounds (pos 1000) (inflow_of_tank (basin_network basin) grid row 0) inflow ≡ true
-      → slice_get standing.tanks 0 ≡ Some state → IsTankLine (basin_network basin) grid standing row 0 basin.tank (TankLine 0 level level inflow state)
+  pub tank_line : (level inflow : Interval) (state : TankState)
+      → rounds (pos (10 ^ 9)) (shifted basin.tank.bottom (level_of_tank standing 0)) level ≡ true
+      → rounds (pos (10 ^ 9)) (level_of_tank standing 0) level ≡ true
+      → rounds (pos 1000) (inflow_of_tank (basin_network basin) grid row 0) inflow ≡ true
+      → slice_get standing.tanks 0 ≡ Some state → IsTankLine (basin_network basin) grid standing row 0 basin.tank
+      (TankLine 0 level level inflow state)
   tank_line level inflow state a b c at = record {
     head = level;
     level = level;
@@ -166,7 +204,8 @@ module _ (basin : Basin) (grid : Grid) (standing : Standing) (row : Record) wher
 
   pub link_line : (place : GridLink) (box flow : Interval) (word : StatusWord) → slice_get grid.links 0 ≡ Some place
       → slice_get (flow_boxes grid row) 0 ≡ Some box → rounds (pos 1000) box flow ≡ true
-      → status_of false [] (feed basin).kind (state_of_link (links_at (basin_network basin) standing) 0) (difference place (heads_below grid row) (heads_above grid row)) ≡ word
+      → status_of false [] (feed basin).kind (state_of_link (links_at (basin_network basin) standing) 0)
+      (difference place (heads_below grid row) (heads_above grid row)) ≡ word
       → IsLinkLine (basin_network basin) grid standing row 0 (feed basin) (LinkLine 0 flow word)
   link_line place box flow word at boxed e is = record {
     place = place;
@@ -186,7 +225,8 @@ module _ (basin : Basin) (standing : Standing) (level : Interval) (number length
   abbrev grid : Grid
   grid = basin_grid basin level
 
-  pub state_at : (shown flow : Interval) (state : TankState) → IsTankLine (basin_network basin) grid standing row 0 basin.tank (TankLine 0 shown shown flow state)
+  pub state_at : (shown flow : Interval) (state : TankState) → IsTankLine (basin_network basin) grid standing row 0
+      basin.tank (TankLine 0 shown shown flow state)
       → IsLinkLine (basin_network basin) grid standing row 0 (feed basin) (LinkLine 0 flow WordActive)
       → AreStateLines (basin_network basin) grid standing row (state_lines standing.time shown flow state)
   state_at shown flow state tank link = record {
@@ -203,22 +243,28 @@ module _ (basin : Basin) (standing : Standing) (level : Interval) (number length
 
   -- ---- a record that isn't the last one
 
-  pub valid_at : (next : Standing) → standing.finished ≡ false → number ≡ standing.number → standing.time ≢ basin.duration
-      → IsGridAt (basin_network basin) standing grid → EndsBy (basin_network basin) grid standing row (WithoutRules length)
+  pub valid_at : (next : Standing) → standing.finished ≡ false → number ≡ standing.number
+      → standing.time ≢ basin.duration
+      → IsGridAt (basin_network basin) standing grid → EndsBy (basin_network basin) grid standing row
+      (WithoutRules length)
       → next.commanded ≡ links_at (basin_network basin) standing
-      → next.levels ≡ levels_next (basin_network basin) grid standing row length → next.volumes ≡ volumes_next (basin_network basin) grid standing row length
-      → AreStates (basin_network basin) next.levels next.tanks → next.number ≡ suc standing.number → next.time ≡ standing.time + length
+      → next.levels ≡ levels_next (basin_network basin) grid standing row length
+      → next.volumes ≡ volumes_next (basin_network basin) grid standing row length
+      → AreStates (basin_network basin) next.levels next.tanks → next.number ≡ suc standing.number
+      → next.time ≡ standing.time + length
       → next.finished ≡ false → IsValid (basin_network basin) standing grid row next
   valid_at next begun numbered early is_grid ends commanded levels volumes tanks following later unfinished = record {
     unfinished = begun;
     number = numbered;
     time = refl;
-    demands = All-nil (λ (junction : Junction). unsigned_abs (demand_of (basin_network basin) standing.time junction) ≤ demand_limit);
+    demands = All-nil (λ (junction : Junction). unsigned_abs (demand_of (basin_network basin) standing.time junction)
+        ≤ demand_limit);
     is_grid = is_grid;
     certificates = certificates basin level number standing.time length;
     leads_on = continues (record {
       not_last = early;
-      leaves_links = subst (λ (ls : List LinkState). LeavesLinks (basin_network basin) grid standing row length ls) (sym commanded) (left_by_clock ends);
+      leaves_links = subst (λ (ls : List LinkState). LeavesLinks (basin_network basin) grid standing row length ls)
+          (sym commanded) (left_by_clock ends);
       levels = levels;
       volumes = volumes;
       tanks = tanks;
@@ -229,14 +275,19 @@ module _ (basin : Basin) (standing : Standing) (level : Interval) (number length
     });
   }
 
-  pub last_valid : (next : Standing) → standing.finished ≡ false → number ≡ standing.number → standing.time ≡ basin.duration → length ≡ 0
-      → IsGridAt (basin_network basin) standing grid → next ≡ record standing { number = suc standing.number; finished = true }
+  pub last_valid : (next : Standing) → standing.finished ≡ false → number ≡ standing.number
+      → standing.time ≡ basin.duration → length ≡ 0
+      → IsGridAt (basin_network basin) standing grid → next ≡ record standing {
+        number = suc standing.number;
+        finished = true;
+      }
       → IsValid (basin_network basin) standing grid row next
   last_valid next begun numbered late none is_grid next_is = record {
     unfinished = begun;
     number = numbered;
     time = refl;
-    demands = All-nil (λ (junction : Junction). unsigned_abs (demand_of (basin_network basin) standing.time junction) ≤ demand_limit);
+    demands = All-nil (λ (junction : Junction). unsigned_abs (demand_of (basin_network basin) standing.time junction)
+        ≤ demand_limit);
     is_grid = is_grid;
     certificates = certificates basin level number standing.time length;
     leads_on = finishes (record { is_last = late; no_length = none; next_is = next_is });
@@ -253,67 +304,102 @@ curved_level_1 = record { lo = pos 53611111109356; hi = pos 53611111112844 }
 abbrev curved_level_2 : Interval
 curved_level_2 = record { lo = pos 60555555552056; hi = pos 60555555559010 }
 
-grid_parts : (basin : Basin) (standing : Standing) (level : Interval) → level ∷ [] ≡ tank_intervals (basin.tank ∷ []) standing.levels
-    → (basin_grid basin level).links ≡ grid_links (basin_network basin) standing.tanks (basin_network basin).links.list (links_at (basin_network basin) standing)
+grid_parts : (basin : Basin) (standing : Standing) (level : Interval)
+    → level ∷ [] ≡ tank_intervals (basin.tank ∷ []) standing.levels
+    → (basin_grid basin level).links ≡ grid_links (basin_network basin) standing.tanks
+    (basin_network basin).links.list (links_at (basin_network basin) standing)
     → IsGridAt (basin_network basin) standing (basin_grid basin level)
-grid_parts basin standing level heads laws = record { junctions = tt; reservoirs = refl; tank_heads = heads; links_are = laws }
+grid_parts basin standing level heads laws = record {
+  junctions = tt;
+  reservoirs = refl;
+  tank_heads = heads;
+  links_are = laws;
+}
 
 curved_clock_0 : IsClockLength (basin_network curved) 0 3600
-curved_clock_0 = clock_length curved 0 3600 (step (omega arith) refl) (omega arith) (omega arith) (λ m later e. omega arith)
+curved_clock_0 = clock_length curved 0 3600 (step (omega arith) refl) (omega arith) (omega arith)
+    (λ m later e. omega arith)
 
-curved_ends_0 : EndsBy (basin_network curved) (basin_grid curved curved_level_0) curved_0 (basin_row 0 0 3600) (WithoutRules 3600)
+curved_ends_0 : EndsBy (basin_network curved) (basin_grid curved curved_level_0) curved_0 (basin_row 0 0 3600)
+    (WithoutRules 3600)
 curved_ends_0 = by_clock
     (no_rules curved (basin_grid curved curved_level_0) curved_0 (basin_row 0 0 3600) 3600 (λ e. omega (arith, e))
-    (earliest_end curved (basin_grid curved curved_level_0) curved_0 (basin_row 0 0 3600) 3600 3600 curved_clock_0 (omega arith) refl (inl curved_clock_0)))
-    (latest_end curved (basin_grid curved curved_level_0) curved_0 (basin_row 0 0 3600) 3600 3600 curved_clock_0 (omega arith) refl (inl curved_clock_0))
+    (earliest_end curved (basin_grid curved curved_level_0) curved_0 (basin_row 0 0 3600) 3600 3600 curved_clock_0
+    (omega arith) refl (inl curved_clock_0)))
+    (latest_end curved (basin_grid curved curved_level_0) curved_0 (basin_row 0 0 3600) 3600 3600 curved_clock_0
+    (omega arith) refl (inl curved_clock_0))
 
 curved_clock_1 : IsClockLength (basin_network curved) 3600 3600
-curved_clock_1 = clock_length curved 3600 3600 (step (omega arith) refl) (omega arith) (omega arith) (λ m later e. omega arith)
+curved_clock_1 = clock_length curved 3600 3600 (step (omega arith) refl) (omega arith) (omega arith)
+    (λ m later e. omega arith)
 
-curved_ends_1 : EndsBy (basin_network curved) (basin_grid curved curved_level_1) curved_1 (basin_row 1 3600 3600) (WithoutRules 3600)
+curved_ends_1 : EndsBy (basin_network curved) (basin_grid curved curved_level_1) curved_1 (basin_row 1 3600 3600)
+    (WithoutRules 3600)
 curved_ends_1 = by_clock
     (no_rules curved (basin_grid curved curved_level_1) curved_1 (basin_row 1 3600 3600) 3600 (λ e. omega (arith, e))
-    (earliest_end curved (basin_grid curved curved_level_1) curved_1 (basin_row 1 3600 3600) 3600 3600 curved_clock_1 (omega arith) refl (inl curved_clock_1)))
-    (latest_end curved (basin_grid curved curved_level_1) curved_1 (basin_row 1 3600 3600) 3600 3600 curved_clock_1 (omega arith) refl (inl curved_clock_1))
+    (earliest_end curved (basin_grid curved curved_level_1) curved_1 (basin_row 1 3600 3600) 3600 3600 curved_clock_1
+    (omega arith) refl (inl curved_clock_1)))
+    (latest_end curved (basin_grid curved curved_level_1) curved_1 (basin_row 1 3600 3600) 3600 3600 curved_clock_1
+    (omega arith) refl (inl curved_clock_1))
 
-curved_found_0 : IsFound (basin_network curved) (found_of curved curved_0 3600 (state_lines 0 (exactly (pos 40000)) slow Between) curved_1)
+curved_found_0 : IsFound (basin_network curved) (found_of curved curved_0 3600
+    (state_lines 0 (exactly (pos 40000)) slow Between) curved_1)
 curved_found_0 = record {
-  valid = valid_at curved curved_0 curved_level_0 0 3600 curved_1 refl refl (λ e. omega (arith, e)) (grid_parts curved curved_0 curved_level_0 refl refl) curved_ends_0
+  valid = valid_at curved curved_0 curved_level_0 0 3600 curved_1 refl refl (λ e. omega (arith, e))
+      (grid_parts curved curved_0 curved_level_0 refl refl) curved_ends_0
       refl refl refl refl refl refl refl;
   report = record {
     state = state_lines 0 (exactly (pos 40000)) slow Between;
     state_are = state_at curved curved_0 curved_level_0 0 3600 (exactly (pos 40000)) slow Between
-        (tank_line curved (basin_grid curved curved_level_0) curved_0 (basin_row 0 0 3600) (exactly (pos 40000)) slow Between refl refl refl refl)
-        (link_line curved (basin_grid curved curved_level_0) curved_0 (basin_row 0 0 3600) _ _ slow WordActive refl refl refl refl);
+        (tank_line curved (basin_grid curved curved_level_0) curved_0 (basin_row 0 0 3600) (exactly (pos 40000)) slow
+        Between refl refl refl refl)
+        (link_line curved (basin_grid curved curved_level_0) curved_0 (basin_row 0 0 3600) _ _ slow WordActive refl
+        refl refl refl);
     at_end = [];
     at_end_are = record { events = _; changes = _; brings = ended_by_clock curved_ends_0; lines_are = refl };
     lines_are = refl;
   };
 }
 
-curved_found_1 : IsFound (basin_network curved) (found_of curved curved_1 3600 (state_lines 3600 (record { lo = pos 53611; hi = pos 53612 }) slow Between) curved_2)
+curved_found_1 : IsFound (basin_network curved) (found_of curved curved_1 3600 (state_lines 3600 (record {
+  lo = pos 53611;
+  hi = pos 53612;
+}) slow Between) curved_2)
 curved_found_1 = record {
-  valid = valid_at curved curved_1 curved_level_1 1 3600 curved_2 refl refl (λ e. omega (arith, e)) (grid_parts curved curved_1 curved_level_1 refl refl) curved_ends_1
+  valid = valid_at curved curved_1 curved_level_1 1 3600 curved_2 refl refl (λ e. omega (arith, e))
+      (grid_parts curved curved_1 curved_level_1 refl refl) curved_ends_1
       refl refl refl refl refl refl refl;
   report = record {
     state = state_lines 3600 (record { lo = pos 53611; hi = pos 53612 }) slow Between;
     state_are = state_at curved curved_1 curved_level_1 1 3600 (record { lo = pos 53611; hi = pos 53612 }) slow Between
-        (tank_line curved (basin_grid curved curved_level_1) curved_1 (basin_row 1 3600 3600) (record { lo = pos 53611; hi = pos 53612 }) slow Between refl refl refl refl)
-        (link_line curved (basin_grid curved curved_level_1) curved_1 (basin_row 1 3600 3600) _ _ slow WordActive refl refl refl refl);
+        (tank_line curved (basin_grid curved curved_level_1) curved_1 (basin_row 1 3600 3600) (record {
+          lo = pos 53611;
+          hi = pos 53612;
+        }) slow Between refl refl refl refl)
+        (link_line curved (basin_grid curved curved_level_1) curved_1 (basin_row 1 3600 3600) _ _ slow WordActive refl
+        refl refl refl);
     at_end = [];
     at_end_are = record { events = _; changes = _; brings = ended_by_clock curved_ends_1; lines_are = refl };
     lines_are = refl;
   };
 }
 
-curved_found_2 : IsFound (basin_network curved) (found_of curved curved_2 0 (state_lines 7200 (record { lo = pos 60555; hi = pos 60556 }) slow Between) curved_left)
+curved_found_2 : IsFound (basin_network curved) (found_of curved curved_2 0 (state_lines 7200 (record {
+  lo = pos 60555;
+  hi = pos 60556;
+}) slow Between) curved_left)
 curved_found_2 = record {
-  valid = last_valid curved curved_2 curved_level_2 2 0 curved_left refl refl refl refl (grid_parts curved curved_2 curved_level_2 refl refl) refl;
+  valid = last_valid curved curved_2 curved_level_2 2 0 curved_left refl refl refl refl
+      (grid_parts curved curved_2 curved_level_2 refl refl) refl;
   report = record {
     state = state_lines 7200 (record { lo = pos 60555; hi = pos 60556 }) slow Between;
     state_are = state_at curved curved_2 curved_level_2 2 0 (record { lo = pos 60555; hi = pos 60556 }) slow Between
-        (tank_line curved (basin_grid curved curved_level_2) curved_2 (basin_row 2 7200 0) (record { lo = pos 60555; hi = pos 60556 }) slow Between refl refl refl refl)
-        (link_line curved (basin_grid curved curved_level_2) curved_2 (basin_row 2 7200 0) _ _ slow WordActive refl refl refl refl);
+        (tank_line curved (basin_grid curved curved_level_2) curved_2 (basin_row 2 7200 0) (record {
+          lo = pos 60555;
+          hi = pos 60556;
+        }) slow Between refl refl refl refl)
+        (link_line curved (basin_grid curved curved_level_2) curved_2 (basin_row 2 7200 0) _ _ slow WordActive refl
+        refl refl refl);
     at_end = [];
     at_end_are = record { events = _; changes = _; brings = at_end refl; lines_are = refl };
     lines_are = refl;
@@ -335,38 +421,65 @@ abbrev filled : Watch
 filled = record { tank = 0; target = pos 100000000000000; rising = true }
 
 spilling_clock_0 : IsClockLength (basin_network spilling) 0 3600
-spilling_clock_0 = clock_length spilling 0 3600 (step (omega arith) refl) (omega arith) (omega arith) (λ m later e. omega arith)
+spilling_clock_0 = clock_length spilling 0 3600 (step (omega arith) refl) (omega arith) (omega arith)
+    (λ m later e. omega arith)
 
-may_fill : SomeMayReach (basin_network spilling) (basin_grid spilling spilling_level_0) spilling_0 (basin_row 0 0 543) 543
-may_fill = record { watch = filled; is_watched = (0, lit< tt, refl); tank = spilling.tank; is_tank = refl; reached = refl }
+may_fill : SomeMayReach (basin_network spilling) (basin_grid spilling spilling_level_0) spilling_0 (basin_row 0 0 543)
+    543
+may_fill = record {
+  watch = filled;
+  is_watched = (0, lit< tt, refl);
+  tank = spilling.tank;
+  is_tank = refl;
+  reached = refl;
+}
 
-must_fill : SomeMustReach (basin_network spilling) (basin_grid spilling spilling_level_0) spilling_0 (basin_row 0 0 543) 543
-must_fill = record { watch = filled; is_watched = (0, lit< tt, refl); tank = spilling.tank; is_tank = refl; reached = refl }
+must_fill : SomeMustReach (basin_network spilling) (basin_grid spilling spilling_level_0) spilling_0
+    (basin_row 0 0 543) 543
+must_fill = record {
+  watch = filled;
+  is_watched = (0, lit< tt, refl);
+  tank = spilling.tank;
+  is_tank = refl;
+  reached = refl;
+}
 
-spilling_ends_0 : EndsBy (basin_network spilling) (basin_grid spilling spilling_level_0) spilling_0 (basin_row 0 0 543) (WithoutRules 543)
+spilling_ends_0 : EndsBy (basin_network spilling) (basin_grid spilling spilling_level_0) spilling_0
+    (basin_row 0 0 543) (WithoutRules 543)
 spilling_ends_0 = by_clock
     (no_rules spilling (basin_grid spilling spilling_level_0) spilling_0 (basin_row 0 0 543) 543 (λ e. omega (arith, e))
-    (earliest_end spilling (basin_grid spilling spilling_level_0) spilling_0 (basin_row 0 0 543) 3600 543 spilling_clock_0 (omega arith) refl (inr (omega arith, may_fill))))
-    (latest_end spilling (basin_grid spilling spilling_level_0) spilling_0 (basin_row 0 0 543) 3600 543 spilling_clock_0 (omega arith) refl (inr (omega arith, must_fill)))
+    (earliest_end spilling (basin_grid spilling spilling_level_0) spilling_0 (basin_row 0 0 543) 3600 543
+    spilling_clock_0 (omega arith) refl (inr (omega arith, may_fill))))
+    (latest_end spilling (basin_grid spilling spilling_level_0) spilling_0 (basin_row 0 0 543) 3600 543
+    spilling_clock_0 (omega arith) refl (inr (omega arith, must_fill)))
 
 spilling_clock_1 : IsClockLength (basin_network spilling) 543 3057
-spilling_clock_1 = clock_length spilling 543 3057 (duration (omega arith) refl) (omega arith) (omega arith) (λ m later e. omega arith)
+spilling_clock_1 = clock_length spilling 543 3057 (duration (omega arith) refl) (omega arith) (omega arith)
+    (λ m later e. omega arith)
 
-spilling_ends_1 : EndsBy (basin_network spilling) (basin_grid spilling spilling_level_1) spilling_1 (basin_row 1 543 3057) (WithoutRules 3057)
+spilling_ends_1 : EndsBy (basin_network spilling) (basin_grid spilling spilling_level_1) spilling_1
+    (basin_row 1 543 3057) (WithoutRules 3057)
 spilling_ends_1 = by_clock
-    (no_rules spilling (basin_grid spilling spilling_level_1) spilling_1 (basin_row 1 543 3057) 3057 (λ e. omega (arith, e))
-    (earliest_end spilling (basin_grid spilling spilling_level_1) spilling_1 (basin_row 1 543 3057) 3057 3057 spilling_clock_1 (omega arith) refl (inl spilling_clock_1)))
-    (latest_end spilling (basin_grid spilling spilling_level_1) spilling_1 (basin_row 1 543 3057) 3057 3057 spilling_clock_1 (omega arith) refl (inl spilling_clock_1))
+    (no_rules spilling (basin_grid spilling spilling_level_1) spilling_1 (basin_row 1 543 3057) 3057
+    (λ e. omega (arith, e))
+    (earliest_end spilling (basin_grid spilling spilling_level_1) spilling_1 (basin_row 1 543 3057) 3057 3057
+    spilling_clock_1 (omega arith) refl (inl spilling_clock_1)))
+    (latest_end spilling (basin_grid spilling spilling_level_1) spilling_1 (basin_row 1 543 3057) 3057 3057
+    spilling_clock_1 (omega arith) refl (inl spilling_clock_1))
 
-spilling_found_0 : IsFound (basin_network spilling) (found_of spilling spilling_0 543 (state_lines 0 (exactly (pos 90000)) fast Between ++ (FilledLine 543 0 ∷ [])) spilling_1)
+spilling_found_0 : IsFound (basin_network spilling) (found_of spilling spilling_0 543
+    (state_lines 0 (exactly (pos 90000)) fast Between ++ (FilledLine 543 0 ∷ [])) spilling_1)
 spilling_found_0 = record {
-  valid = valid_at spilling spilling_0 spilling_level_0 0 543 spilling_1 refl refl (λ e. omega (arith, e)) (grid_parts spilling spilling_0 spilling_level_0 refl refl) spilling_ends_0
+  valid = valid_at spilling spilling_0 spilling_level_0 0 543 spilling_1 refl refl (λ e. omega (arith, e))
+      (grid_parts spilling spilling_0 spilling_level_0 refl refl) spilling_ends_0
       refl refl refl refl refl refl refl;
   report = record {
     state = state_lines 0 (exactly (pos 90000)) fast Between;
     state_are = state_at spilling spilling_0 spilling_level_0 0 543 (exactly (pos 90000)) fast Between
-        (tank_line spilling (basin_grid spilling spilling_level_0) spilling_0 (basin_row 0 0 543) (exactly (pos 90000)) fast Between refl refl refl refl)
-        (link_line spilling (basin_grid spilling spilling_level_0) spilling_0 (basin_row 0 0 543) _ _ fast WordActive refl refl refl refl);
+        (tank_line spilling (basin_grid spilling spilling_level_0) spilling_0 (basin_row 0 0 543)
+        (exactly (pos 90000)) fast Between refl refl refl refl)
+        (link_line spilling (basin_grid spilling spilling_level_0) spilling_0 (basin_row 0 0 543) _ _ fast WordActive
+        refl refl refl refl);
     at_end = FilledLine 543 0 ∷ [];
     at_end_are = record { events = _; changes = _; brings = ended_by_clock spilling_ends_0; lines_are = refl };
     lines_are = refl;
@@ -375,7 +488,8 @@ spilling_found_0 = record {
 
 spilling_found_1 : IsFound (basin_network spilling) (found_of spilling spilling_1 3057 [] spilling_2)
 spilling_found_1 = record {
-  valid = valid_at spilling spilling_1 spilling_level_1 1 3057 spilling_2 refl refl (λ e. omega (arith, e)) (grid_parts spilling spilling_1 spilling_level_1 refl refl) spilling_ends_1
+  valid = valid_at spilling spilling_1 spilling_level_1 1 3057 spilling_2 refl refl (λ e. omega (arith, e))
+      (grid_parts spilling spilling_1 spilling_level_1 refl refl) spilling_ends_1
       refl refl refl refl refl refl refl;
   report = record {
     state = [];
@@ -386,14 +500,18 @@ spilling_found_1 = record {
   };
 }
 
-spilling_found_2 : IsFound (basin_network spilling) (found_of spilling spilling_2 0 (state_lines 3600 (exactly (pos 100000)) fast Full) spilling_left)
+spilling_found_2 : IsFound (basin_network spilling) (found_of spilling spilling_2 0
+    (state_lines 3600 (exactly (pos 100000)) fast Full) spilling_left)
 spilling_found_2 = record {
-  valid = last_valid spilling spilling_2 spilling_level_1 2 0 spilling_left refl refl refl refl (grid_parts spilling spilling_2 spilling_level_1 refl refl) refl;
+  valid = last_valid spilling spilling_2 spilling_level_1 2 0 spilling_left refl refl refl refl
+      (grid_parts spilling spilling_2 spilling_level_1 refl refl) refl;
   report = record {
     state = state_lines 3600 (exactly (pos 100000)) fast Full;
     state_are = state_at spilling spilling_2 spilling_level_1 2 0 (exactly (pos 100000)) fast Full
-        (tank_line spilling (basin_grid spilling spilling_level_1) spilling_2 (basin_row 2 3600 0) (exactly (pos 100000)) fast Full refl refl refl refl)
-        (link_line spilling (basin_grid spilling spilling_level_1) spilling_2 (basin_row 2 3600 0) _ _ fast WordActive refl refl refl refl);
+        (tank_line spilling (basin_grid spilling spilling_level_1) spilling_2 (basin_row 2 3600 0)
+        (exactly (pos 100000)) fast Full refl refl refl refl)
+        (link_line spilling (basin_grid spilling spilling_level_1) spilling_2 (basin_row 2 3600 0) _ _ fast WordActive
+        refl refl refl refl);
     at_end = [];
     at_end_are = record { events = _; changes = _; brings = at_end refl; lines_are = refl };
     lines_are = refl;
@@ -405,7 +523,8 @@ spilling_run = more spilling_found_0 (more spilling_found_1 (more spilling_found
 
 -- ---- texts
 
-pub row_fits : (number time length : ℕ) → number < 2 ^ 32 → time < 2 ^ 32 → length < 2 ^ 32 → IsRow 0 1 (basin_row number time length)
+pub row_fits : (number time length : ℕ) → number < 2 ^ 32 → time < 2 ^ 32 → length < 2 ^ 32
+    → IsRow 0 1 (basin_row number time length)
 row_fits number time length a b c = record {
   number_fits = a;
   time_fits = b;
@@ -413,12 +532,15 @@ row_fits number time length a b c = record {
   main_upper = none_there;
   main_lower = none_there;
   pinned_each = refl;
-  pinned_upper = All-cons (λ (v : Vectors). IsVector 0 v.upper) no_vectors [] none_there (All-nil (λ (v : Vectors). IsVector 0 v.upper));
-  pinned_lower = All-cons (λ (v : Vectors). IsVector 0 v.lower) no_vectors [] none_there (All-nil (λ (v : Vectors). IsVector 0 v.lower));
+  pinned_upper = All-cons (λ (v : Vectors). IsVector 0 v.upper) no_vectors [] none_there
+      (All-nil (λ (v : Vectors). IsVector 0 v.upper));
+  pinned_lower = All-cons (λ (v : Vectors). IsVector 0 v.lower) no_vectors [] none_there
+      (All-nil (λ (v : Vectors). IsVector 0 v.lower));
 }
   where
     none_there : IsVector 0 []
     none_there = record { one_each = refl; in_box = All-nil IsInBox }
 
 pub three_fit : (a b c : Record) → IsRow 0 1 a → IsRow 0 1 b → IsRow 0 1 c → All (IsRow 0 1) (a ∷ b ∷ c ∷ [])
-three_fit a b c x y z = All-cons (IsRow 0 1) a (b ∷ c ∷ []) x (All-cons (IsRow 0 1) b (c ∷ []) y (All-cons (IsRow 0 1) c [] z (All-nil (IsRow 0 1))))
+three_fit a b c x y z = All-cons (IsRow 0 1) a (b ∷ c ∷ []) x
+    (All-cons (IsRow 0 1) b (c ∷ []) y (All-cons (IsRow 0 1) c [] z (All-nil (IsRow 0 1))))

@@ -13,7 +13,8 @@ use Rattle.hyd_net.specs.Sound.{HasIds, HasEnds, IsPattern, Sound}
 use Rattle.hyd_net.specs.Sizes.{IsJunction, IsReservoir, IsTank, IsShapeOf, HasSizes, HasQuantities}
 use Rattle.hyd_net.specs.States.{CanHave}
 use Rattle.hyd_net.specs.Commands.{node_count, IsControl, IsRule}
-use Rattle.hyd_net.specs.Made.{IsAreaMade, IsKindMade, IsStateMade, IsRuleMade, IsKindAcross, IsStateAcross, IsAcross, IsAllMade}
+use Rattle.hyd_net.specs.Made.{IsAreaMade, IsKindMade, IsStateMade, IsRuleMade, IsKindAcross, IsStateAcross, IsAcross}
+use Rattle.hyd_net.specs.Made.{IsAllMade}
 use Rattle.hyd_spec.specs.Types.{Cmd, VolumePoint}
 use Rattle.hyd_num.specs.Chain.{IsMade}
 use Rattle.std.specs.Option.{IfSome}
@@ -27,10 +28,13 @@ module _ (basin : Basin) where
     each_node = refl;
     each_link = refl;
     distinct_nodes =
-        AllPairs-cons (λ a b. a ≢ b) (codes "Lake") (codes "Pool" ∷ []) (All-from_recursion (λ b. codes "Lake" ≢ b) (codes "Pool" ∷ []) (differ _ _ (λ e. omega (arith, e)), tt))
+        AllPairs-cons (λ a b. a ≢ b) (codes "Lake") (codes "Pool" ∷ [])
+        (All-from_recursion (λ b. codes "Lake" ≢ b) (codes "Pool" ∷ []) (differ _ _ (λ e. omega (arith, e)), tt))
         (AllPairs-cons (λ a b. a ≢ b) (codes "Pool") [] (All-from_recursion (λ b. codes "Pool" ≢ b) [] tt) nothing);
-    distinct_links = AllPairs-cons (λ a b. a ≢ b) (codes "Feed") [] (All-from_recursion (λ b. codes "Feed" ≢ b) [] tt) nothing;
-    node_ids = All-from_recursion IsId (basin_network basin).node_ids ((omega arith, omega arith), ((omega arith, omega arith), tt));
+    distinct_links = AllPairs-cons (λ a b. a ≢ b) (codes "Feed") [] (All-from_recursion (λ b. codes "Feed" ≢ b) [] tt)
+        nothing;
+    node_ids = All-from_recursion IsId (basin_network basin).node_ids
+        ((omega arith, omega arith), ((omega arith, omega arith), tt));
     link_ids = All-from_recursion IsId (basin_network basin).link_ids ((omega arith, omega arith), tt);
   }
 
@@ -44,7 +48,16 @@ module _ (basin : Basin) where
       default_pattern = tt;
     };
     junctions = All-from_recursion (IsJunction Cmd []) [] tt;
-    reservoirs = All-from_recursion (IsReservoir []) (basin_network basin).reservoirs.list (record { head = record { at_least = omega (arith, ints); at_most = omega (arith, ints) }; pattern = tt }, tt);
+    reservoirs = All-from_recursion (IsReservoir []) (basin_network basin).reservoirs.list (
+      record {
+        head = record {
+          at_least = omega (arith, ints);
+          at_most = omega (arith, ints);
+        };
+        pattern = tt;
+      },
+      tt,
+    );
     tanks = All-from_recursion (IsTank basin.shapes) (basin_network basin).tanks.list (tank, tt);
     links = All-from_recursion (λ l. HasSizes Cmd [] [] l.kind) (basin_network basin).links.list (tt, tt);
   }
@@ -57,7 +70,8 @@ module _ (basin : Basin) where
     no = All-from_recursion (λ r. All (λ a. a.link ≡ number → IsStateAcross (pos 0) a.to) r.no.list) [] tt;
   }
     where
-      link : (n : ℕ) → n < 1 → HoldsAt (λ l. IsKindAcross (pos 0) l.kind × IsStateAcross (pos 0) l.start) (basin_network basin).links.list n
+      link : (n : ℕ) → n < 1 → HoldsAt (λ l. IsKindAcross (pos 0) l.kind × IsStateAcross (pos 0) l.start)
+          (basin_network basin).links.list n
       link zero le d = (tt, tt)
       link (suc n) le d = absurd (omega (arith, le))
 
@@ -72,8 +86,10 @@ module _ (basin : Basin) where
     diameters = λ number below. (pos 0, across number below);
   }
 
-  sound_basin : basin.duration ≤ 10 ^ 8 → length basin.shapes ≤ 1000 → sum_by (λ (shape : ListView VolumePoint). length shape.list) basin.shapes ≤ 100000
-      → IsTank basin.shapes basin.tank → IsAreaMade Cmd basin.tank → IsStateMade Cmd (open_to basin) → CanHave (feed basin).kind (open_to basin) → Sound (basin_network basin)
+  sound_basin : basin.duration ≤ 10 ^ 8 → length basin.shapes ≤ 1000
+      → sum_by (λ (shape : ListView VolumePoint). length shape.list) basin.shapes ≤ 100000
+      → IsTank basin.shapes basin.tank → IsAreaMade Cmd basin.tank → IsStateMade Cmd (open_to basin)
+      → CanHave (feed basin).kind (open_to basin) → Sound (basin_network basin)
   sound_basin long few short tank area state can = record {
     ids = ids;
     counts = record {
@@ -92,7 +108,14 @@ module _ (basin : Basin) where
       rules = omega arith;
       parts = omega arith;
     };
-    links = All-from_recursion (HasEnds (node_count (basin_network basin))) (basin_network basin).links.list (record { from_node = omega arith; to_node = omega arith; apart = λ e. omega (arith, e) }, tt);
+    links = All-from_recursion (HasEnds (node_count (basin_network basin))) (basin_network basin).links.list (
+      record {
+        from_node = omega arith;
+        to_node = omega arith;
+        apart = λ e. omega (arith, e);
+      },
+      tt,
+    );
     states = All-from_recursion (λ l. CanHave l.kind l.start) (basin_network basin).links.list (can, tt);
     quantities = quantities tank;
     patterns = All-from_recursion IsPattern [] tt;
@@ -136,18 +159,41 @@ is_curve = record {
   two = omega arith;
   levels = All-from_recursion (λ (p : VolumePoint). IsHead p.level) points (
     record { at_least = omega (arith, ints); at_most = omega (arith, ints) },
-    (record { at_least = omega (arith, ints); at_most = omega (arith, ints) }, (record { at_least = omega (arith, ints); at_most = omega (arith, ints) }, tt)),
+    (
+      record { at_least = omega (arith, ints); at_most = omega (arith, ints) },
+      (
+        record {
+          at_least = omega (arith, ints);
+          at_most = omega (arith, ints);
+        },
+        tt,
+      ),
+    ),
   );
   volumes = All-from_recursion (λ (p : VolumePoint). Lies (pos 0) (pos (10 ^ 18)) p.volume) points (
     record { at_least = omega (arith, ints); at_most = omega (arith, ints) },
-    (record { at_least = omega (arith, ints); at_most = omega (arith, ints) }, (record { at_least = omega (arith, ints); at_most = omega (arith, ints) }, tt)),
+    (
+      record { at_least = omega (arith, ints); at_most = omega (arith, ints) },
+      (
+        record {
+          at_least = omega (arith, ints);
+          at_most = omega (arith, ints);
+        },
+        tt,
+      ),
+    ),
   );
   levels_rise = three-rise _ _ _ (omega (arith, ints)) (omega (arith, ints)) (omega (arith, ints));
   volumes_rise = three-rise _ _ _ (omega (arith, ints)) (omega (arith, ints)) (omega (arith, ints));
 }
 
 is_shape : IsShapeOf curved.tank points
-is_shape = record { curve = is_curve; from_minimum = λ d. omega (arith, ints); to_maximum = λ d. omega (arith, ints); apart = le-yes _ _ refl }
+is_shape = record {
+  curve = is_curve;
+  from_minimum = λ d. omega (arith, ints);
+  to_maximum = λ d. omega (arith, ints);
+  apart = le-yes _ _ refl;
+}
 
 pub curved_sound : Sound (basin_network curved)
 curved_sound = sound_basin curved (omega arith) (omega arith) (omega arith)
@@ -161,7 +207,13 @@ curved_sound = sound_basin curved (omega arith) (omega arith) (omega arith)
       shape = record { in_range = omega arith; holds = λ d. is_shape };
     })
     (record { at_most = omega (arith, ints); greatest = λ k le. omega (arith, ints, le) }) refl
-    (record { not_negative = omega (arith, ints); flow = record { at_least = omega (arith, ints); at_most = omega (arith, ints) } })
+    (record {
+      not_negative = omega (arith, ints);
+      flow = record {
+        at_least = omega (arith, ints);
+        at_most = omega (arith, ints);
+      };
+    })
 
 pub spilling_sound : Sound (basin_network spilling)
 spilling_sound = sound_basin spilling (omega arith) (omega arith) (omega arith)
@@ -175,4 +227,10 @@ spilling_sound = sound_basin spilling (omega arith) (omega arith) (omega arith)
       shape = tt;
     })
     (record { at_most = omega (arith, ints); greatest = λ k le. omega (arith, ints, le) }) refl
-    (record { not_negative = omega (arith, ints); flow = record { at_least = omega (arith, ints); at_most = omega (arith, ints) } })
+    (record {
+      not_negative = omega (arith, ints);
+      flow = record {
+        at_least = omega (arith, ints);
+        at_most = omega (arith, ints);
+      };
+    })

@@ -7,14 +7,16 @@ use Rattle.hyd_spec.specs.Law.{LinearLaw, ForwardOnly, ReverseOnly, Capped}
 use Rattle.hyd_spec.specs.Length.{pattern, step}
 use Rattle.hyd_spec_certificates.specs.Grid.{Grid}
 use Rattle.hyd_spec_certificates.specs.Certificate.{IsCertificate, Passes}
-use Rattle.hyd_spec_certificates.specs.Decided.{Watch, SomeMayReach, SomeMustReach, IsClockLength, EndsBy, WithoutRules, by_clock}
+use Rattle.hyd_spec_certificates.specs.Decided.{Watch, SomeMayReach, SomeMustReach, IsClockLength, EndsBy, WithoutRules}
+use Rattle.hyd_spec_certificates.specs.Decided.{by_clock}
 use Rattle.hyd_spec_certificates.specs.Valid.{by_clock as left_by_clock, IsValid}
 use Rattle.hyd_spec_reports.specs.Stops.{HasNoCertificate}
 use Rattle.hyd_spec_reports.specs.Report.{AreStateLines, by_clock as ended_by_clock, IsReport}
 use Rattle.hyd_spec_reports.specs.Headline.{IsRun, none, more}
 use Rattle.hyd_spec_towns.specs.Village.{village_with}
 use Rattle.hyd_spec_towns.specs.VillageParts.{village_grid, grid_farm}
-use Rattle.hyd_spec_towns.specs.Shallow.{shallow, standing_0, standing_1, left, grid_0, grid_1, row_0, row_1, lines_0, lines_1, found_0, found_1, founds}
+use Rattle.hyd_spec_towns.specs.Shallow.{shallow, standing_0, standing_1, left, grid_0, grid_1, row_0, row_1, lines_0}
+use Rattle.hyd_spec_towns.specs.Shallow.{lines_1, found_0, found_1, founds}
 use Rattle.hyd_spec_towns.proofs.VillageGrids.{grid_at}
 use Rattle.hyd_spec_towns.proofs.VillageCertificates.{certificates, before_lower}
 use Rattle.hyd_spec_towns.proofs.VillageSeconds.{clock_length, no_rule, earliest_end, latest_end}
@@ -31,10 +33,22 @@ abbrev filled : Watch
 filled = record { tank = 0; target = pos 20225000000000; rising = true }
 
 may_fill : SomeMayReach (village_with shallow) grid_0 standing_0 row_0 1
-may_fill = record { watch = filled; is_watched = (0, lit< tt, refl); tank = shallow.tank; is_tank = refl; reached = refl }
+may_fill = record {
+  watch = filled;
+  is_watched = (0, lit< tt, refl);
+  tank = shallow.tank;
+  is_tank = refl;
+  reached = refl;
+}
 
 must_fill : SomeMustReach (village_with shallow) grid_0 standing_0 row_0 1
-must_fill = record { watch = filled; is_watched = (0, lit< tt, refl); tank = shallow.tank; is_tank = refl; reached = refl }
+must_fill = record {
+  watch = filled;
+  is_watched = (0, lit< tt, refl);
+  tank = shallow.tank;
+  is_tank = refl;
+  reached = refl;
+}
 
 first_ends : EndsBy (village_with shallow) grid_0 standing_0 row_0 (WithoutRules 1)
 first_ends = by_clock
@@ -43,8 +57,10 @@ first_ends = by_clock
     (latest_end shallow grid_0 standing_0 row_0 8 1 clock_0 (omega arith) refl (inr (omega arith, must_fill)))
 
 first_valid : IsValid (village_with shallow) standing_0 grid_0 row_0 standing_1
-first_valid = valid_at shallow standing_0 grid_0 row_0 standing_1 refl (omega arith) refl refl (in_range shallow 0 (lit≤ tt) (lit≤ tt))
-    (grid_at shallow standing_0 _ _ _ _ refl refl refl refl) (certificates shallow grid_0 row_0 _ refl refl refl refl refl) (left_by_clock first_ends)
+first_valid = valid_at shallow standing_0 grid_0 row_0 standing_1 refl (omega arith) refl refl
+    (in_range shallow 0 (lit≤ tt) (lit≤ tt))
+    (grid_at shallow standing_0 _ _ _ _ refl refl refl refl) (certificates shallow grid_0 row_0 _ refl refl refl refl
+    refl) (left_by_clock first_ends)
     refl refl refl (controls_decided shallow _ refl) refl refl refl
 
 first_state : AreStateLines (village_with shallow) grid_0 standing_0 row_0 (take 8 lines_0)
@@ -53,18 +69,35 @@ first_state = record {
   reservoirs = take 1 (drop 3 lines_0);
   tanks = take 1 (drop 4 lines_0);
   links = take 3 (drop 5 lines_0);
-  junctions_are = (junction_line shallow grid_0 standing_0 row_0 0 _ _ _ _ refl refl refl, (junction_line shallow grid_0 standing_0 row_0 1 _ _ _ _ refl refl refl, tt));
+  junctions_are = (
+    junction_line shallow grid_0 standing_0 row_0 0 _ _ _ _ refl refl refl,
+    (junction_line shallow grid_0 standing_0 row_0 1 _ _ _ _ refl refl refl, tt),
+  );
   reservoirs_are = (reservoir_line shallow 0 _ _ refl, tt);
   tanks_are = (tank_line shallow grid_0 standing_0 row_0 _ _ _ _ refl refl refl refl, tt);
   links_are = (
     link_line shallow grid_0 standing_0 row_0 0 _ _ _ _ _ refl refl refl refl,
-    (link_line shallow grid_0 standing_0 row_0 1 _ _ _ _ _ refl refl refl refl, (link_line shallow grid_0 standing_0 row_0 2 _ _ _ _ _ refl refl refl refl, tt)),
+    (
+      link_line shallow grid_0 standing_0 row_0 1 _ _ _ _ _ refl refl refl refl,
+      (link_line shallow grid_0 standing_0 row_0 2 _ _ _ _ _ refl refl refl refl, tt),
+    ),
   );
   lines_are = refl;
 }
 
 first_report : IsReport (village_with shallow) grid_0 standing_0 row_0 lines_0
-first_report = record { state = take 8 lines_0; state_are = first_state; at_end = drop 8 lines_0; at_end_are = record { events = _; changes = _; brings = ended_by_clock first_ends; lines_are = refl }; lines_are = refl }
+first_report = record {
+  state = take 8 lines_0;
+  state_are = first_state;
+  at_end = drop 8 lines_0;
+  at_end_are = record {
+    events = _;
+    changes = _;
+    brings = ended_by_clock first_ends;
+    lines_are = refl;
+  };
+  lines_are = refl;
+}
 
 -- ---- the tank empties
 
@@ -75,10 +108,22 @@ abbrev emptied : Watch
 emptied = record { tank = 0; target = pos 20105000000000; rising = false }
 
 may_empty : SomeMayReach (village_with shallow) grid_1 standing_1 row_1 5
-may_empty = record { watch = emptied; is_watched = (0, lit< tt, refl); tank = shallow.tank; is_tank = refl; reached = refl }
+may_empty = record {
+  watch = emptied;
+  is_watched = (0, lit< tt, refl);
+  tank = shallow.tank;
+  is_tank = refl;
+  reached = refl;
+}
 
 must_empty : SomeMustReach (village_with shallow) grid_1 standing_1 row_1 5
-must_empty = record { watch = emptied; is_watched = (0, lit< tt, refl); tank = shallow.tank; is_tank = refl; reached = refl }
+must_empty = record {
+  watch = emptied;
+  is_watched = (0, lit< tt, refl);
+  tank = shallow.tank;
+  is_tank = refl;
+  reached = refl;
+}
 
 second_ends : EndsBy (village_with shallow) grid_1 standing_1 row_1 (WithoutRules 5)
 second_ends = by_clock
@@ -87,12 +132,25 @@ second_ends = by_clock
     (latest_end shallow grid_1 standing_1 row_1 7 5 clock_1 (omega arith) refl (inr (omega arith, must_empty)))
 
 second_valid : IsValid (village_with shallow) standing_1 grid_1 row_1 left
-second_valid = valid_at shallow standing_1 grid_1 row_1 left refl (omega arith) refl refl (in_range shallow 1 (lit≤ tt) (lit≤ tt))
-    (grid_at shallow standing_1 _ _ _ _ refl refl refl refl) (certificates shallow grid_1 row_1 _ refl refl refl refl refl) (left_by_clock second_ends)
+second_valid = valid_at shallow standing_1 grid_1 row_1 left refl (omega arith) refl refl
+    (in_range shallow 1 (lit≤ tt) (lit≤ tt))
+    (grid_at shallow standing_1 _ _ _ _ refl refl refl refl) (certificates shallow grid_1 row_1 _ refl refl refl refl
+    refl) (left_by_clock second_ends)
     refl refl refl (controls_decided shallow _ refl) refl refl refl
 
 second_report : IsReport (village_with shallow) grid_1 standing_1 row_1 lines_1
-second_report = record { state = []; state_are = refl; at_end = lines_1; at_end_are = record { events = _; changes = _; brings = ended_by_clock second_ends; lines_are = refl }; lines_are = refl }
+second_report = record {
+  state = [];
+  state_are = refl;
+  at_end = lines_1;
+  at_end_are = record {
+    events = _;
+    changes = _;
+    brings = ended_by_clock second_ends;
+    lines_are = refl;
+  };
+  lines_are = refl;
+}
 
 pub is_run : IsRun (village_with shallow) founds left
 is_run =
@@ -118,6 +176,7 @@ has_none = record {
   earlier = before_lower shallow last_grid (pos (10 ^ 18) ∷ (pos (10 ^ 18) ∷ [])) refl;
   none = λ u is.
       let heads = two_heads u is.one_each in
-      let two : IsCertificate last_grid Main Lower (heads.first ∷ heads.second ∷ []) = subst (IsCertificate last_grid Main Lower) heads.is is in
+      let two : IsCertificate last_grid Main Lower (heads.first ∷ heads.second ∷ []) =
+      subst (IsCertificate last_grid Main Lower) heads.is is in
       no_net_inflow heads.first heads.second (two.passes 1 grid_farm refl);
 }

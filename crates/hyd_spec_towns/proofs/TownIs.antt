@@ -2,7 +2,8 @@
 use Rattle.std.proofs.Common.{◌≡◌, [], ◌∷◌}
 use Rattle.std.specs.Prelude.{codes}
 use Rattle.hyd_spec.specs.Types.{Project}
-use Rattle.hyd_spec_towns.specs.Town.{IsTown, options, times, east, west, spring, north, south, links, speeds, controls, low, night, rest, idle}
+use Rattle.hyd_spec_towns.specs.Town.{IsTown, options, times, east, west, spring, north, south, links, speeds, controls}
+use Rattle.hyd_spec_towns.specs.Town.{low, night, rest, idle}
 
 -- the lists keep their room
 abbrev pub written : {network : Project} → IsTown network → Project

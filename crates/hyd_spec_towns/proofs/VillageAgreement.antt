@@ -17,23 +17,84 @@ first_agrees = record {
   length_is = refl;
   tanks = refl;
   links = refl;
-  above_lower = each_two ℤ (λ j h. at_scale 1000 (head_at found_0.row.main.lower j) <ℤ h) _ _ (omega (arith, ints)) (omega (arith, ints));
-  below_upper = each_two ℤ (λ j h. h <ℤ at_scale 1000 (head_at found_0.row.main.upper j)) _ _ (omega (arith, ints)) (omega (arith, ints));
+  above_lower = each_two ℤ (λ j h. at_scale 1000 (head_at found_0.row.main.lower j) <ℤ h) _ _ (omega (arith, ints))
+      (omega (arith, ints));
+  below_upper = each_two ℤ (λ j h. h <ℤ at_scale 1000 (head_at found_0.row.main.upper j)) _ _ (omega (arith, ints))
+      (omega (arith, ints));
   lines_hold = (
     refl,
     (
-      record { junction = mill; is_junction = refl; head_lies = record { at_least = refl; at_most = refl }; pressure_lies = record { at_least = refl; at_most = refl }; outflow_lies = record { at_least = refl; at_most = refl } },
+      record {
+        junction = mill;
+        is_junction = refl;
+        head_lies = record { at_least = refl; at_most = refl };
+        pressure_lies = record { at_least = refl; at_most = refl };
+        outflow_lies = record {
+          at_least = refl;
+          at_most = refl;
+        };
+      },
       (
-        record { junction = farm; is_junction = refl; head_lies = record { at_least = refl; at_most = refl }; pressure_lies = record { at_least = refl; at_most = refl }; outflow_lies = record { at_least = refl; at_most = refl } },
+        record {
+          junction = farm;
+          is_junction = refl;
+          head_lies = record { at_least = refl; at_most = refl };
+          pressure_lies = record { at_least = refl; at_most = refl };
+          outflow_lies = record {
+            at_least = refl;
+            at_most = refl;
+          };
+        },
         (
-          record { reservoir = record { head = pos 1000000000000000; pattern = None }; is_reservoir = refl; head_lies = record { at_least = refl; at_most = refl } },
+          record {
+            reservoir = record { head = pos 1000000000000000; pattern = None };
+            is_reservoir = refl;
+            head_lies = record { at_least = refl; at_most = refl };
+          },
           (
-            record { tank = tower; is_tank = refl; head_lies = record { at_least = refl; at_most = refl }; level_lies = record { at_least = refl; at_most = refl }; inflow_lies = record { at_least = refl; at_most = refl }; state_is = refl },
+            record {
+              tank = tower;
+              is_tank = refl;
+              head_lies = record { at_least = refl; at_most = refl };
+              level_lies = record { at_least = refl; at_most = refl };
+              inflow_lies = record {
+                at_least = refl;
+                at_most = refl;
+              };
+              state_is = refl;
+            },
             (
-              record { link = main_link; is_link = refl; state = Throttle (pos 0) Linear; is_state = refl; flow_lies = record { at_least = refl; at_most = refl }; status_holds = tt },
+              record {
+                link = main_link;
+                is_link = refl;
+                state = Throttle (pos 0) Linear;
+                is_state = refl;
+                flow_lies = record { at_least = refl; at_most = refl };
+                status_holds = tt;
+              },
               (
-                record { link = feed_link; is_link = refl; state = Limit (pos 1000000000000) (pos 10000000000); is_state = refl; flow_lies = record { at_least = refl; at_most = refl }; status_holds = omega (arith, ints) },
-                (record { link = drop_link (Throttle (pos 0) Linear); is_link = refl; state = Throttle (pos 0) Linear; is_state = refl; flow_lies = record { at_least = refl; at_most = refl }; status_holds = tt }, tt),
+                record {
+                  link = feed_link;
+                  is_link = refl;
+                  state = Limit (pos 1000000000000) (pos 10000000000);
+                  is_state = refl;
+                  flow_lies = record {
+                    at_least = refl;
+                    at_most = refl;
+                  };
+                  status_holds = omega (arith, ints);
+                },
+                (
+                  record {
+                    link = drop_link (Throttle (pos 0) Linear);
+                    is_link = refl;
+                    state = Throttle (pos 0) Linear;
+                    is_state = refl;
+                    flow_lies = record { at_least = refl; at_most = refl };
+                    status_holds = tt;
+                  },
+                  tt,
+                ),
               ),
             ),
           ),
@@ -49,8 +110,10 @@ second_agrees = record {
   length_is = refl;
   tanks = refl;
   links = refl;
-  above_lower = each_two ℤ (λ j h. at_scale 1000 (head_at found_1.row.main.lower j) <ℤ h) _ _ (omega (arith, ints)) (omega (arith, ints));
-  below_upper = each_two ℤ (λ j h. h <ℤ at_scale 1000 (head_at found_1.row.main.upper j)) _ _ (omega (arith, ints)) (omega (arith, ints));
+  above_lower = each_two ℤ (λ j h. at_scale 1000 (head_at found_1.row.main.lower j) <ℤ h) _ _ (omega (arith, ints))
+      (omega (arith, ints));
+  below_upper = each_two ℤ (λ j h. h <ℤ at_scale 1000 (head_at found_1.row.main.upper j)) _ _ (omega (arith, ints))
+      (omega (arith, ints));
   lines_hold = (
     record {
       control = level_control (pos 20080000000000);
@@ -71,8 +134,10 @@ third_agrees = record {
   length_is = refl;
   tanks = refl;
   links = refl;
-  above_lower = each_two ℤ (λ j h. at_scale 1000 (head_at found_2.row.main.lower j) <ℤ h) _ _ (omega (arith, ints)) (omega (arith, ints));
-  below_upper = each_two ℤ (λ j h. h <ℤ at_scale 1000 (head_at found_2.row.main.upper j)) _ _ (omega (arith, ints)) (omega (arith, ints));
+  above_lower = each_two ℤ (λ j h. at_scale 1000 (head_at found_2.row.main.lower j) <ℤ h) _ _ (omega (arith, ints))
+      (omega (arith, ints));
+  below_upper = each_two ℤ (λ j h. h <ℤ at_scale 1000 (head_at found_2.row.main.upper j)) _ _ (omega (arith, ints))
+      (omega (arith, ints));
   lines_hold = (
     record { at_start = refl; is_change = (0, lit< tt, refl) },
     (record { at_end = refl; is_tried = refl; is_change = (0, lit< tt, refl) }, tt),
@@ -85,8 +150,10 @@ fourth_agrees = record {
   length_is = refl;
   tanks = refl;
   links = refl;
-  above_lower = each_two ℤ (λ j h. at_scale 1000 (head_at found_3.row.main.lower j) <ℤ h) _ _ (omega (arith, ints)) (omega (arith, ints));
-  below_upper = each_two ℤ (λ j h. h <ℤ at_scale 1000 (head_at found_3.row.main.upper j)) _ _ (omega (arith, ints)) (omega (arith, ints));
+  above_lower = each_two ℤ (λ j h. at_scale 1000 (head_at found_3.row.main.lower j) <ℤ h) _ _ (omega (arith, ints))
+      (omega (arith, ints));
+  below_upper = each_two ℤ (λ j h. h <ℤ at_scale 1000 (head_at found_3.row.main.upper j)) _ _ (omega (arith, ints))
+      (omega (arith, ints));
   lines_hold = tt;
 }
 
@@ -96,23 +163,84 @@ fifth_agrees = record {
   length_is = refl;
   tanks = refl;
   links = refl;
-  above_lower = each_two ℤ (λ j h. at_scale 1000 (head_at found_4.row.main.lower j) <ℤ h) _ _ (omega (arith, ints)) (omega (arith, ints));
-  below_upper = each_two ℤ (λ j h. h <ℤ at_scale 1000 (head_at found_4.row.main.upper j)) _ _ (omega (arith, ints)) (omega (arith, ints));
+  above_lower = each_two ℤ (λ j h. at_scale 1000 (head_at found_4.row.main.lower j) <ℤ h) _ _ (omega (arith, ints))
+      (omega (arith, ints));
+  below_upper = each_two ℤ (λ j h. h <ℤ at_scale 1000 (head_at found_4.row.main.upper j)) _ _ (omega (arith, ints))
+      (omega (arith, ints));
   lines_hold = (
     refl,
     (
-      record { junction = mill; is_junction = refl; head_lies = record { at_least = refl; at_most = refl }; pressure_lies = record { at_least = refl; at_most = refl }; outflow_lies = record { at_least = refl; at_most = refl } },
+      record {
+        junction = mill;
+        is_junction = refl;
+        head_lies = record { at_least = refl; at_most = refl };
+        pressure_lies = record { at_least = refl; at_most = refl };
+        outflow_lies = record {
+          at_least = refl;
+          at_most = refl;
+        };
+      },
       (
-        record { junction = farm; is_junction = refl; head_lies = record { at_least = refl; at_most = refl }; pressure_lies = record { at_least = refl; at_most = refl }; outflow_lies = record { at_least = refl; at_most = refl } },
+        record {
+          junction = farm;
+          is_junction = refl;
+          head_lies = record { at_least = refl; at_most = refl };
+          pressure_lies = record { at_least = refl; at_most = refl };
+          outflow_lies = record {
+            at_least = refl;
+            at_most = refl;
+          };
+        },
         (
-          record { reservoir = record { head = pos 1000000000000000; pattern = None }; is_reservoir = refl; head_lies = record { at_least = refl; at_most = refl } },
+          record {
+            reservoir = record { head = pos 1000000000000000; pattern = None };
+            is_reservoir = refl;
+            head_lies = record { at_least = refl; at_most = refl };
+          },
           (
-            record { tank = tower; is_tank = refl; head_lies = record { at_least = refl; at_most = refl }; level_lies = record { at_least = refl; at_most = refl }; inflow_lies = record { at_least = refl; at_most = refl }; state_is = refl },
+            record {
+              tank = tower;
+              is_tank = refl;
+              head_lies = record { at_least = refl; at_most = refl };
+              level_lies = record { at_least = refl; at_most = refl };
+              inflow_lies = record {
+                at_least = refl;
+                at_most = refl;
+              };
+              state_is = refl;
+            },
             (
-              record { link = main_link; is_link = refl; state = Throttle (pos 0) Linear; is_state = refl; flow_lies = record { at_least = refl; at_most = refl }; status_holds = tt },
+              record {
+                link = main_link;
+                is_link = refl;
+                state = Throttle (pos 0) Linear;
+                is_state = refl;
+                flow_lies = record { at_least = refl; at_most = refl };
+                status_holds = tt;
+              },
               (
-                record { link = feed_link; is_link = refl; state = Limit (pos 300000000000) (pos 3000000000); is_state = refl; flow_lies = record { at_least = refl; at_most = refl }; status_holds = omega (arith, ints) },
-                (record { link = drop_link (Throttle (pos 0) Linear); is_link = refl; state = Throttle (pos 0) Linear; is_state = refl; flow_lies = record { at_least = refl; at_most = refl }; status_holds = tt }, tt),
+                record {
+                  link = feed_link;
+                  is_link = refl;
+                  state = Limit (pos 300000000000) (pos 3000000000);
+                  is_state = refl;
+                  flow_lies = record {
+                    at_least = refl;
+                    at_most = refl;
+                  };
+                  status_holds = omega (arith, ints);
+                },
+                (
+                  record {
+                    link = drop_link (Throttle (pos 0) Linear);
+                    is_link = refl;
+                    state = Throttle (pos 0) Linear;
+                    is_state = refl;
+                    flow_lies = record { at_least = refl; at_most = refl };
+                    status_holds = tt;
+                  },
+                  tt,
+                ),
               ),
             ),
           ),

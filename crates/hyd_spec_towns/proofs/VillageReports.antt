@@ -1,5 +1,6 @@
 -- The lines of the report are those of each period of the village.
-use Rattle.std.proofs.Common.{◌≡◌, ℕ, ℤ, pos, ◌+ℤ◌, ◌-ℤ◌, ◌*ℤ◌, ◌≤ℤ◌, Bool, true, false, ◌&&◌, [], int_le, take, drop, refl, sym, ap, arith}
+use Rattle.std.proofs.Common.{◌≡◌, ℕ, ℤ, pos, ◌+ℤ◌, ◌-ℤ◌, ◌*ℤ◌, ◌≤ℤ◌, Bool, true, false, ◌&&◌, [], int_le, take, drop}
+use Rattle.std.proofs.Common.{refl, sym, ap, arith}
 use Rattle.std.specs.Prelude.{◌^◌, slice_get, Some}
 use Rattle.std.proofs.lemmas.Int.{ints}
 use Rattle.hyd_num.specs.Decimals.{head_quantity, flow_quantity}
@@ -12,11 +13,15 @@ use Rattle.hyd_spec.specs.Rules.{state_of_link}
 use Rattle.hyd_spec_certificates.specs.Grid.{Grid, GridLink, GridJunction}
 use Rattle.hyd_spec_certificates.specs.Boxes.{difference, out_box}
 use Rattle.hyd_spec_certificates.specs.Record.{Record, Standing}
-use Rattle.hyd_spec_certificates.specs.Decided.{heads_below, heads_above, flow_boxes, level_of_tank, inflow_of_tank, links_at}
+use Rattle.hyd_spec_certificates.specs.Decided.{heads_below, heads_above, flow_boxes, level_of_tank, inflow_of_tank}
+use Rattle.hyd_spec_certificates.specs.Decided.{links_at}
 use Rattle.hyd_spec_reports.specs.ReportLine.{JunctionLine, ReservoirLine, TankLine, LinkLine}
-use Rattle.hyd_spec_reports.specs.Report.{Prints, IsJunctionLine, IsReservoirLine, IsTankLine, IsLinkLine, status_of, AreStateLines, at_end, by_rules, by_clock, IsReport}
+use Rattle.hyd_spec_reports.specs.Report.{Prints, IsJunctionLine, IsReservoirLine, IsTankLine, IsLinkLine, status_of}
+use Rattle.hyd_spec_reports.specs.Report.{AreStateLines, at_end, by_rules, by_clock, IsReport}
 use Rattle.hyd_spec_towns.specs.Village.{Choice, village_with, village, usual}
-use Rattle.hyd_spec_towns.specs.VillageRun.{standing_0, standing_1, standing_2, standing_3, standing_4, grid_0, grid_1, grid_2, grid_3, grid_4, row_0, row_1, row_2, row_3, row_4, lines_0, lines_1, lines_2, lines_3, lines_4}
+use Rattle.hyd_spec_towns.specs.VillageRun.{standing_0, standing_1, standing_2, standing_3, standing_4, grid_0, grid_1}
+use Rattle.hyd_spec_towns.specs.VillageRun.{grid_2, grid_3, grid_4, row_0, row_1, row_2, row_3, row_4, lines_0, lines_1}
+use Rattle.hyd_spec_towns.specs.VillageRun.{lines_2, lines_3, lines_4}
 use Rattle.hyd_spec_towns.proofs.VillageEnds.{first_ends, second_ends, third_ends, fourth_ends}
 use Rattle.hyd_lemmas.proofs.Trials.{le-yes, both-first, both-second}
 
@@ -50,7 +55,8 @@ rounded unit ticks ends e =
       no_lower = le-yes (((ends.hi -ℤ pos 1) *ℤ unit) +ℤ pos 1) ticks.hi (both-second c d above);
     }
 
-pub prints_heads : (ticks ends : Interval) → rounds (pos (10 ^ 9)) ticks ends ≡ true → Prints (head_quantity false) ticks ends
+pub prints_heads : (ticks ends : Interval) → rounds (pos (10 ^ 9)) ticks ends ≡ true
+    → Prints (head_quantity false) ticks ends
 prints_heads ticks ends e =
     let r = rounded (pos (10 ^ 9)) ticks ends e in
     record {
@@ -68,22 +74,32 @@ prints_flows ticks ends e =
 
 -- ---- lines
 
-pub reservoir_line : (choice : Choice) (r : ℕ) (height : ℤ) (head : Interval) → rounds (pos (10 ^ 9)) (exactly height) head ≡ true
+pub reservoir_line : (choice : Choice) (r : ℕ) (height : ℤ) (head : Interval)
+    → rounds (pos (10 ^ 9)) (exactly height) head ≡ true
     → IsReservoirLine (village_with choice) r height (ReservoirLine r head)
-reservoir_line choice r height head e = record { head = head; is_line = refl; head_is = prints_heads (exactly height) head e }
+reservoir_line choice r height head e = record {
+  head = head;
+  is_line = refl;
+  head_is = prints_heads (exactly height) head e;
+}
 
 module _ (choice : Choice) (grid : Grid) (standing : Standing) (row : Record) where
   abbrev heads_of : ℕ → Interval
   heads_of j = record { lo = head_at row.main.lower j; hi = head_at row.main.upper j }
 
   abbrev pressures_of : ℕ → GridJunction → Interval
-  pressures_of j junction = record { lo = head_at row.main.lower j -ℤ junction.elevation; hi = head_at row.main.upper j -ℤ junction.elevation }
+  pressures_of j junction = record {
+    lo = head_at row.main.lower j -ℤ junction.elevation;
+    hi = head_at row.main.upper j -ℤ junction.elevation;
+  }
 
   abbrev outflow_of : ℕ → GridJunction → Interval
   outflow_of j junction = out_box junction (head_at row.main.lower j) (head_at row.main.upper j)
 
-  pub junction_line : (j : ℕ) (junction : GridJunction) (head pressure outflow : Interval) → rounds (pos (10 ^ 9)) (heads_of j) head ≡ true
-      → rounds (pos (10 ^ 9)) (pressures_of j junction) pressure ≡ true → rounds (pos 1000) (outflow_of j junction) outflow ≡ true
+  pub junction_line : (j : ℕ) (junction : GridJunction) (head pressure outflow : Interval)
+      → rounds (pos (10 ^ 9)) (heads_of j) head ≡ true
+      → rounds (pos (10 ^ 9)) (pressures_of j junction) pressure ≡ true
+      → rounds (pos 1000) (outflow_of j junction) outflow ≡ true
       → IsJunctionLine (village_with choice) grid row j junction (JunctionLine j head pressure outflow)
   junction_line j junction head pressure outflow a b c = record {
     heads = heads_of j;
@@ -97,9 +113,12 @@ module _ (choice : Choice) (grid : Grid) (standing : Standing) (row : Record) wh
     outflow_is = prints_flows (outflow_of j junction) outflow c;
   }
 
-  pub tank_line : (head level inflow : Interval) (state : TankState) → rounds (pos (10 ^ 9)) (shifted choice.tank.bottom (level_of_tank standing 0)) head ≡ true
-      → rounds (pos (10 ^ 9)) (level_of_tank standing 0) level ≡ true → rounds (pos 1000) (inflow_of_tank (village_with choice) grid row 0) inflow ≡ true
-      → slice_get standing.tanks 0 ≡ Some state → IsTankLine (village_with choice) grid standing row 0 choice.tank (TankLine 0 head level inflow state)
+  pub tank_line : (head level inflow : Interval) (state : TankState)
+      → rounds (pos (10 ^ 9)) (shifted choice.tank.bottom (level_of_tank standing 0)) head ≡ true
+      → rounds (pos (10 ^ 9)) (level_of_tank standing 0) level ≡ true
+      → rounds (pos 1000) (inflow_of_tank (village_with choice) grid row 0) inflow ≡ true
+      → slice_get standing.tanks 0 ≡ Some state → IsTankLine (village_with choice) grid standing row 0 choice.tank
+      (TankLine 0 head level inflow state)
   tank_line head level inflow state a b c at = record {
     head = head;
     level = level;
@@ -112,9 +131,11 @@ module _ (choice : Choice) (grid : Grid) (standing : Standing) (row : Record) wh
     state_is = at;
   }
 
-  pub link_line : (l : ℕ) (link : Link) (place : GridLink) (box flow : Interval) (word : StatusWord) → slice_get grid.links l ≡ Some place
+  pub link_line : (l : ℕ) (link : Link) (place : GridLink) (box flow : Interval) (word : StatusWord)
+      → slice_get grid.links l ≡ Some place
       → slice_get (flow_boxes grid row) l ≡ Some box → rounds (pos 1000) box flow ≡ true
-      → status_of false [] link.kind (state_of_link (links_at (village_with choice) standing) l) (difference place (heads_below grid row) (heads_above grid row)) ≡ word
+      → status_of false [] link.kind (state_of_link (links_at (village_with choice) standing) l)
+      (difference place (heads_below grid row) (heads_above grid row)) ≡ word
       → IsLinkLine (village_with choice) grid standing row l link (LinkLine l flow word)
   link_line l link place box flow word at boxed e is = record {
     place = place;
@@ -134,12 +155,18 @@ first_state = record {
   reservoirs = take 1 (drop 3 lines_0);
   tanks = take 1 (drop 4 lines_0);
   links = drop 5 lines_0;
-  junctions_are = (junction_line usual grid_0 standing_0 row_0 0 _ _ _ _ refl refl refl, (junction_line usual grid_0 standing_0 row_0 1 _ _ _ _ refl refl refl, tt));
+  junctions_are = (
+    junction_line usual grid_0 standing_0 row_0 0 _ _ _ _ refl refl refl,
+    (junction_line usual grid_0 standing_0 row_0 1 _ _ _ _ refl refl refl, tt),
+  );
   reservoirs_are = (reservoir_line usual 0 _ _ refl, tt);
   tanks_are = (tank_line usual grid_0 standing_0 row_0 _ _ _ _ refl refl refl refl, tt);
   links_are = (
     link_line usual grid_0 standing_0 row_0 0 _ _ _ _ _ refl refl refl refl,
-    (link_line usual grid_0 standing_0 row_0 1 _ _ _ _ _ refl refl refl refl, (link_line usual grid_0 standing_0 row_0 2 _ _ _ _ _ refl refl refl refl, tt)),
+    (
+      link_line usual grid_0 standing_0 row_0 1 _ _ _ _ _ refl refl refl refl,
+      (link_line usual grid_0 standing_0 row_0 2 _ _ _ _ _ refl refl refl refl, tt),
+    ),
   );
   lines_are = refl;
 }
@@ -150,12 +177,18 @@ fifth_state = record {
   reservoirs = take 1 (drop 3 lines_4);
   tanks = take 1 (drop 4 lines_4);
   links = drop 5 lines_4;
-  junctions_are = (junction_line usual grid_4 standing_4 row_4 0 _ _ _ _ refl refl refl, (junction_line usual grid_4 standing_4 row_4 1 _ _ _ _ refl refl refl, tt));
+  junctions_are = (
+    junction_line usual grid_4 standing_4 row_4 0 _ _ _ _ refl refl refl,
+    (junction_line usual grid_4 standing_4 row_4 1 _ _ _ _ refl refl refl, tt),
+  );
   reservoirs_are = (reservoir_line usual 0 _ _ refl, tt);
   tanks_are = (tank_line usual grid_4 standing_4 row_4 _ _ _ _ refl refl refl refl, tt);
   links_are = (
     link_line usual grid_4 standing_4 row_4 0 _ _ _ _ _ refl refl refl refl,
-    (link_line usual grid_4 standing_4 row_4 1 _ _ _ _ _ refl refl refl refl, (link_line usual grid_4 standing_4 row_4 2 _ _ _ _ _ refl refl refl refl, tt)),
+    (
+      link_line usual grid_4 standing_4 row_4 1 _ _ _ _ _ refl refl refl refl,
+      (link_line usual grid_4 standing_4 row_4 2 _ _ _ _ _ refl refl refl refl, tt),
+    ),
   );
   lines_are = refl;
 }
@@ -163,16 +196,71 @@ fifth_state = record {
 -- ---- reports
 
 pub first_report : IsReport village grid_0 standing_0 row_0 lines_0
-first_report = record { state = lines_0; state_are = first_state; at_end = []; at_end_are = record { events = _; changes = _; brings = by_clock first_ends; lines_are = refl }; lines_are = refl }
+first_report = record {
+  state = lines_0;
+  state_are = first_state;
+  at_end = [];
+  at_end_are = record {
+    events = _;
+    changes = _;
+    brings = by_clock first_ends;
+    lines_are = refl;
+  };
+  lines_are = refl;
+}
 
 pub second_report : IsReport village grid_1 standing_1 row_1 lines_1
-second_report = record { state = []; state_are = refl; at_end = lines_1; at_end_are = record { events = _; changes = _; brings = by_clock second_ends; lines_are = refl }; lines_are = refl }
+second_report = record {
+  state = [];
+  state_are = refl;
+  at_end = lines_1;
+  at_end_are = record {
+    events = _;
+    changes = _;
+    brings = by_clock second_ends;
+    lines_are = refl;
+  };
+  lines_are = refl;
+}
 
 pub third_report : IsReport village grid_2 standing_2 row_2 lines_2
-third_report = record { state = []; state_are = refl; at_end = drop 1 lines_2; at_end_are = record { events = _; changes = _; brings = by_rules third_ends; lines_are = refl }; lines_are = refl }
+third_report = record {
+  state = [];
+  state_are = refl;
+  at_end = drop 1 lines_2;
+  at_end_are = record {
+    events = _;
+    changes = _;
+    brings = by_rules third_ends;
+    lines_are = refl;
+  };
+  lines_are = refl;
+}
 
 pub fourth_report : IsReport village grid_3 standing_3 row_3 lines_3
-fourth_report = record { state = []; state_are = refl; at_end = []; at_end_are = record { events = _; changes = _; brings = by_clock fourth_ends; lines_are = refl }; lines_are = refl }
+fourth_report = record {
+  state = [];
+  state_are = refl;
+  at_end = [];
+  at_end_are = record {
+    events = _;
+    changes = _;
+    brings = by_clock fourth_ends;
+    lines_are = refl;
+  };
+  lines_are = refl;
+}
 
 pub fifth_report : IsReport village grid_4 standing_4 row_4 lines_4
-fifth_report = record { state = lines_4; state_are = fifth_state; at_end = []; at_end_are = record { events = _; changes = _; brings = at_end refl; lines_are = refl }; lines_are = refl }
+fifth_report = record {
+  state = lines_4;
+  state_are = fifth_state;
+  at_end = [];
+  at_end_are = record {
+    events = _;
+    changes = _;
+    brings = at_end refl;
+    lines_are = refl;
+  };
+  lines_are = refl;
+}

@@ -10,7 +10,8 @@ use Rattle.hyd_net.specs.Sound.{HasIds, HasEnds, IsPattern, Sound}
 use Rattle.hyd_net.specs.Sizes.{IsJunction, IsDemand, IsReservoir, IsTank, HasSizes, HasQuantities}
 use Rattle.hyd_net.specs.States.{CanHave}
 use Rattle.hyd_net.specs.Commands.{node_count, IsControl, IsClause, CanCommand, IsRule}
-use Rattle.hyd_net.specs.Made.{IsAreaMade, IsKindMade, IsStateMade, IsValueMade, IsRuleMade, IsKindAcross, IsStateAcross, IsAcross, IsAllMade}
+use Rattle.hyd_net.specs.Made.{IsAreaMade, IsKindMade, IsStateMade, IsValueMade, IsRuleMade, IsKindAcross}
+use Rattle.hyd_net.specs.Made.{IsStateAcross, IsAcross, IsAllMade}
 use Rattle.hyd_net.specs.Ranges.{LiesWithin}
 use Rattle.hyd_spec_towns.specs.Village.{usual, village, mill, farm, refill_rule}
 use Rattle.hyd_spec.specs.Types.{Cmd, Rule}
@@ -33,16 +34,35 @@ ids = record {
   each_node = refl;
   each_link = refl;
   distinct_nodes =
-      AllPairs-cons (λ a b. a ≢ b) (codes "Mill") (codes "Farm" ∷ codes "Lake" ∷ codes "Tower" ∷ []) (All-from_recursion (λ b. codes "Mill" ≢ b) (codes "Farm" ∷ codes "Lake" ∷ codes "Tower" ∷ []) (differ _ _ (λ e. omega (arith, e)), (differ _ _ (λ e. omega (arith, e)), (differ _ _ (λ e. omega (arith, e)), tt))))
-      (AllPairs-cons (λ a b. a ≢ b) (codes "Farm") (codes "Lake" ∷ codes "Tower" ∷ []) (All-from_recursion (λ b. codes "Farm" ≢ b) (codes "Lake" ∷ codes "Tower" ∷ []) (differ _ _ (λ e. omega (arith, e)), (differ _ _ (λ e. omega (arith, e)), tt)))
-      (AllPairs-cons (λ a b. a ≢ b) (codes "Lake") (codes "Tower" ∷ []) (All-from_recursion (λ b. codes "Lake" ≢ b) (codes "Tower" ∷ []) (differ _ _ (λ e. omega (arith, e)), tt))
+      AllPairs-cons (λ a b. a ≢ b) (codes "Mill") (codes "Farm" ∷ codes "Lake" ∷ codes "Tower" ∷ [])
+      (All-from_recursion (λ b. codes "Mill" ≢ b) (codes "Farm" ∷ codes "Lake" ∷ codes "Tower" ∷ []) (
+        differ _ _ (λ e. omega (arith, e)),
+        (
+          differ _ _ (λ e. omega (arith, e)),
+          (differ _ _ (λ e. omega (arith, e)), tt),
+        ),
+      ))
+      (AllPairs-cons (λ a b. a ≢ b) (codes "Farm") (codes "Lake" ∷ codes "Tower" ∷ [])
+      (All-from_recursion (λ b. codes "Farm" ≢ b) (codes "Lake" ∷ codes "Tower" ∷ [])
+      (differ _ _ (λ e. omega (arith, e)), (differ _ _ (λ e. omega (arith, e)), tt)))
+      (AllPairs-cons (λ a b. a ≢ b) (codes "Lake") (codes "Tower" ∷ [])
+      (All-from_recursion (λ b. codes "Lake" ≢ b) (codes "Tower" ∷ []) (differ _ _ (λ e. omega (arith, e)), tt))
       (AllPairs-cons (λ a b. a ≢ b) (codes "Tower") [] (All-from_recursion (λ b. codes "Tower" ≢ b) [] tt) nothing)));
   distinct_links =
-      AllPairs-cons (λ a b. a ≢ b) (codes "Main") (codes "Feed" ∷ codes "Drop" ∷ []) (All-from_recursion (λ b. codes "Main" ≢ b) (codes "Feed" ∷ codes "Drop" ∷ []) (differ _ _ (λ e. omega (arith, e)), (differ _ _ (λ e. omega (arith, e)), tt)))
-      (AllPairs-cons (λ a b. a ≢ b) (codes "Feed") (codes "Drop" ∷ []) (All-from_recursion (λ b. codes "Feed" ≢ b) (codes "Drop" ∷ []) (differ _ _ (λ e. omega (arith, e)), tt))
+      AllPairs-cons (λ a b. a ≢ b) (codes "Main") (codes "Feed" ∷ codes "Drop" ∷ [])
+      (All-from_recursion (λ b. codes "Main" ≢ b) (codes "Feed" ∷ codes "Drop" ∷ [])
+      (differ _ _ (λ e. omega (arith, e)), (differ _ _ (λ e. omega (arith, e)), tt)))
+      (AllPairs-cons (λ a b. a ≢ b) (codes "Feed") (codes "Drop" ∷ [])
+      (All-from_recursion (λ b. codes "Feed" ≢ b) (codes "Drop" ∷ []) (differ _ _ (λ e. omega (arith, e)), tt))
       (AllPairs-cons (λ a b. a ≢ b) (codes "Drop") [] (All-from_recursion (λ b. codes "Drop" ≢ b) [] tt) nothing));
-  node_ids = All-from_recursion IsId village.node_ids ((omega arith, omega arith), ((omega arith, omega arith), ((omega arith, omega arith), ((omega arith, omega arith), tt))));
-  link_ids = All-from_recursion IsId village.link_ids ((omega arith, omega arith), ((omega arith, omega arith), ((omega arith, omega arith), tt)));
+  node_ids = All-from_recursion IsId village.node_ids (
+    (omega arith, omega arith),
+    ((omega arith, omega arith), ((omega arith, omega arith), ((omega arith, omega arith), tt))),
+  );
+  link_ids = All-from_recursion IsId village.link_ids (
+    (omega arith, omega arith),
+    ((omega arith, omega arith), ((omega arith, omega arith), tt)),
+  );
 }
 
 -- ---- parts
@@ -60,7 +80,10 @@ quantities = record {
     record {
       elevation = record { at_least = omega (arith, ints); at_most = omega (arith, ints) };
       demands = All-from_recursion (IsDemand village.patterns.list) mill.demands.list (
-        record { base = record { at_least = omega (arith, ints); at_most = omega (arith, ints) }; pattern = record { in_range = omega arith; holds = λ d k e le. tt } },
+        record {
+          base = record { at_least = omega (arith, ints); at_most = omega (arith, ints) };
+          pattern = record { in_range = omega arith; holds = λ d k e le. tt };
+        },
         tt,
       );
       emitter = tt;
@@ -68,13 +91,28 @@ quantities = record {
     (
       record {
         elevation = record { at_least = omega (arith, ints); at_most = omega (arith, ints) };
-        demands = All-from_recursion (IsDemand village.patterns.list) farm.demands.list (record { base = record { at_least = omega (arith, ints); at_most = omega (arith, ints) }; pattern = tt }, tt);
+        demands = All-from_recursion (IsDemand village.patterns.list) farm.demands.list (
+          record {
+            base = record {
+              at_least = omega (arith, ints);
+              at_most = omega (arith, ints);
+            };
+            pattern = tt;
+          },
+          tt,
+        );
         emitter = tt;
       },
       tt,
     ),
   );
-  reservoirs = All-from_recursion (IsReservoir village.patterns.list) village.reservoirs.list (record { head = record { at_least = omega (arith, ints); at_most = omega (arith, ints) }; pattern = tt }, tt);
+  reservoirs = All-from_recursion (IsReservoir village.patterns.list) village.reservoirs.list (
+    record {
+      head = record { at_least = omega (arith, ints); at_most = omega (arith, ints) };
+      pattern = tt;
+    },
+    tt,
+  );
   tanks = All-from_recursion (IsTank village.shapes.list) village.tanks.list (
     record {
       bottom = record { at_least = omega (arith, ints); at_most = omega (arith, ints) };
@@ -87,7 +125,8 @@ quantities = record {
     },
     tt,
   );
-  links = All-from_recursion (λ l. HasSizes Cmd village.patterns.list village.bends.list l.kind) village.links.list (tt, (tt, (tt, tt)));
+  links = All-from_recursion (λ l. HasSizes Cmd village.patterns.list village.bends.list l.kind) village.links.list
+      (tt, (tt, (tt, tt)));
 }
 
 -- what no state or kind of a valve without loss coefficient says
@@ -95,17 +134,19 @@ across : (number : ℕ) → number < 3 → IsAcross village number (pos 0)
 across number below = record {
   link = link number below;
   controls = All-from_recursion (λ c. c.link ≡ number → IsStateAcross (pos 0) c.to) village.controls.list (λ e. tt, tt);
-  yes = All-from_recursion (λ r. All (λ a. a.link ≡ number → IsStateAcross (pos 0) a.to) r.yes.list) village.rules.list (
-    All-from_recursion (λ a. a.link ≡ number → IsStateAcross (pos 0) a.to) the_rule.yes.list (λ e. tt, tt),
-    tt,
-  );
+  yes = All-from_recursion (λ r. All (λ a. a.link ≡ number → IsStateAcross (pos 0) a.to) r.yes.list)
+      village.rules.list (
+        All-from_recursion (λ a. a.link ≡ number → IsStateAcross (pos 0) a.to) the_rule.yes.list (λ e. tt, tt),
+        tt,
+      );
   no = All-from_recursion (λ r. All (λ a. a.link ≡ number → IsStateAcross (pos 0) a.to) r.no.list) village.rules.list (
     All-from_recursion (λ a. a.link ≡ number → IsStateAcross (pos 0) a.to) the_rule.no.list tt,
     tt,
   );
 }
   where
-    link : (n : ℕ) → n < 3 → HoldsAt (λ l. IsKindAcross (pos 0) l.kind × IsStateAcross (pos 0) l.start) village.links.list n
+    link : (n : ℕ) → n < 3 → HoldsAt (λ l. IsKindAcross (pos 0) l.kind × IsStateAcross (pos 0) l.start)
+        village.links.list n
     link zero le d = (tt, tt)
     link (suc zero) le d = (tt, tt)
     link (suc (suc zero)) le d = (tt, tt)
@@ -119,11 +160,13 @@ made = record {
     tt,
   );
   links = All-from_recursion (λ l. IsKindMade Cmd l.kind) village.links.list (tt, (tt, (tt, tt)));
-  starts = All-from_recursion (λ l. IsStateMade Cmd l.start) village.links.list ((refl, tt, tt), (refl, ((refl, tt, tt), tt)));
+  starts = All-from_recursion (λ l. IsStateMade Cmd l.start) village.links.list
+      ((refl, tt, tt), (refl, ((refl, tt, tt), tt)));
   controls = All-from_recursion (λ c. IsStateMade Cmd c.to) village.controls.list (tt, tt);
   rules = All-from_recursion (IsRuleMade Cmd) village.rules.list (
     record {
-      clauses = All-from_recursion (λ c. IsValueMade Cmd c.clause.what c.clause.value) the_rule.clauses.list (tt, (record { low = refl; high = refl }, tt));
+      clauses = All-from_recursion (λ c. IsValueMade Cmd c.clause.what c.clause.value) the_rule.clauses.list
+          (tt, (record { low = refl; high = refl }, tt));
       yes = All-from_recursion (λ a. IsStateMade Cmd a.to) the_rule.yes.list (refl, tt);
       no = All-from_recursion (λ a. IsStateMade Cmd a.to) the_rule.no.list tt;
     },
@@ -160,15 +203,45 @@ sound = record {
   );
   states = All-from_recursion (λ l. CanHave l.kind l.start) village.links.list (
     record { at_least = omega (arith, ints); at_most = omega (arith, ints) },
-    (record { not_negative = omega (arith, ints); flow = record { at_least = omega (arith, ints); at_most = omega (arith, ints) } }, (record { at_least = omega (arith, ints); at_most = omega (arith, ints) }, tt)),
+    (
+      record {
+        not_negative = omega (arith, ints);
+        flow = record {
+          at_least = omega (arith, ints);
+          at_most = omega (arith, ints);
+        };
+      },
+      (
+        record { at_least = omega (arith, ints); at_most = omega (arith, ints) },
+        tt,
+      ),
+    ),
   );
   quantities = quantities;
   patterns = All-from_recursion IsPattern village.patterns.list (
-    record { not_empty = omega arith; range = All-from_recursion (LiesWithin (10 ^ 6 * 10 ^ 9)) (pos 1000000000 ∷ pos 500000000 ∷ []) (record { at_least = omega (arith, ints); at_most = omega (arith, ints) }, (record { at_least = omega (arith, ints); at_most = omega (arith, ints) }, tt)) },
+    record {
+      not_empty = omega arith;
+      range = All-from_recursion (LiesWithin (10 ^ 6 * 10 ^ 9)) (pos 1000000000 ∷ pos 500000000 ∷ []) (
+        record {
+          at_least = omega (arith, ints);
+          at_most = omega (arith, ints);
+        },
+        (
+          record {
+            at_least = omega (arith, ints);
+            at_most = omega (arith, ints);
+          },
+          tt,
+        ),
+      );
+    },
     tt,
   );
   controls = All-from_recursion (IsControl village) village.controls.list (
-    record { command = record { in_range = omega arith; holds = λ d. tt }; moment = (omega arith, record { at_least = omega (arith, ints); at_most = omega (arith, ints) }) },
+    record {
+      command = record { in_range = omega arith; holds = λ d. tt };
+      moment = (omega arith, record { at_least = omega (arith, ints); at_most = omega (arith, ints) });
+    },
     tt,
   );
   rules = All-from_recursion (IsRule village) village.rules.list (
@@ -179,7 +252,13 @@ sound = record {
         (record { what = omega arith; relation = tt; value = tt }, tt),
       );
       yes = All-from_recursion (λ a. CanCommand village a.link a.to) the_rule.yes.list (
-        record { in_range = omega arith; holds = λ d. record { not_negative = omega (arith, ints); flow = record { at_least = omega (arith, ints); at_most = omega (arith, ints) } } },
+        record {
+          in_range = omega arith;
+          holds = λ d. record {
+            not_negative = omega (arith, ints);
+            flow = record { at_least = omega (arith, ints); at_most = omega (arith, ints) };
+          };
+        },
         tt,
       );
       no = All-from_recursion (λ a. CanCommand village a.link a.to) the_rule.no.list tt;

@@ -7,15 +7,19 @@ use Rattle.hyd_spec.specs.Length.{step}
 use Rattle.hyd_spec_certificates.specs.Grid.{Grid}
 use Rattle.hyd_spec_certificates.specs.Certificate.{IsCertificate, none}
 use Rattle.hyd_spec_certificates.specs.Record.{initial_standing}
-use Rattle.hyd_spec_certificates.specs.Decided.{IsTruthBetween, readings_below, readings_above, Watch, IsClockLength, RulesMatter, IsFirstMatter, IsOpenRule, EndsBy, WithoutRules, EventIsOpen, rule_is_open, by_clock, event_is_open}
+use Rattle.hyd_spec_certificates.specs.Decided.{IsTruthBetween, readings_below, readings_above, Watch, IsClockLength}
+use Rattle.hyd_spec_certificates.specs.Decided.{RulesMatter, IsFirstMatter, IsOpenRule, EndsBy, WithoutRules}
+use Rattle.hyd_spec_certificates.specs.Decided.{EventIsOpen, rule_is_open, by_clock, event_is_open}
 use Rattle.hyd_spec_certificates.specs.Valid.{IsGridAt, levels_next, by_clock as left_by_clock}
-use Rattle.hyd_spec_reports.specs.Stops.{IsFirstDemand, HasNoCertificate, SpendsRounds, IsTightRow, LeavesRuleOpen, LeavesEventOpen, LeavesTankOpen, LeavesControlOpen, EndsAtLevels}
+use Rattle.hyd_spec_reports.specs.Stops.{IsFirstDemand, HasNoCertificate, SpendsRounds, IsTightRow, LeavesRuleOpen}
+use Rattle.hyd_spec_reports.specs.Stops.{LeavesEventOpen, LeavesTankOpen, LeavesControlOpen, EndsAtLevels}
 use Rattle.hyd_spec_certificates.specs.declared.Truth.{Truth}
 use Rattle.hyd_spec_certificates.specs.declared.Truth.TheVariants.{True, False, Open}
 use Rattle.hyd_spec_towns.specs.Village.{Choice, usual, village, village_with, mill, farm, tower, refill_rule}
 use Rattle.hyd_spec_towns.specs.VillageRun.{standing_0, grid_0, row_0}
 use Rattle.hyd_spec_towns.specs.VillageParts.{grid_mill, grid_farm}
-use Rattle.hyd_spec_towns.specs.VillageStops.{thirsty, dry, unsure_rule, open_rule, unsure_event, unsure_control, unsure_tank, last_level}
+use Rattle.hyd_spec_towns.specs.VillageStops.{thirsty, dry, unsure_rule, open_rule, unsure_event, unsure_control}
+use Rattle.hyd_spec_towns.specs.VillageStops.{unsure_tank, last_level}
 use Rattle.hyd_spec_towns.proofs.VillageGrids.{junction_at, grid_at}
 use Rattle.hyd_spec_towns.proofs.VillageCertificates.{no_certificate, before_lower}
 use Rattle.hyd_spec_towns.proofs.VillageRecords.{in_range}
@@ -58,7 +62,13 @@ dry_grid = record grid_0 {
 
 dry_is_grid : IsGridAt (village_with dry) (initial_standing (village_with dry)) dry_grid
 dry_is_grid = record {
-  junctions = (junction_at dry 0 mill (pos 8000000000) refl refl, (junction_at dry 0 farm (pos 2000000000) refl refl, tt));
+  junctions = (
+    junction_at dry 0 mill (pos 8000000000) refl refl,
+    (
+      junction_at dry 0 farm (pos 2000000000) refl refl,
+      tt,
+    ),
+  );
   reservoirs = refl;
   tank_heads = refl;
   links_are = refl;
@@ -73,7 +83,8 @@ source_stops = record {
   earlier = before_lower dry dry_grid (pos (10 ^ 18) ∷ (pos (10 ^ 18) ∷ [])) refl;
   none = λ u is.
       let heads = two_heads u is.one_each in
-      no_certificate dry_grid Main Lower (heads.first ∷ heads.second ∷ []) 1 grid_farm refl refl (subst (IsCertificate dry_grid Main Lower) heads.is is);
+      no_certificate dry_grid Main Lower (heads.first ∷ heads.second ∷ []) 1 grid_farm refl refl
+      (subst (IsCertificate dry_grid Main Lower) heads.is is);
 }
 
 -- ---- matters
@@ -81,7 +92,12 @@ source_stops = record {
 -- The vectors don't depend on the control, the rule or the tank's maximum.
 tight_row : (choice : Choice) → IsGridAt (village_with choice) (initial_standing (village_with choice)) grid_0
     → IsTightRow (village_with choice) (initial_standing (village_with choice)) grid_0 row_0
-tight_row choice is = record { in_range = in_range choice 0 (lit≤ tt) (lit≤ tt); is_grid = is; one_each = refl; each = first_tight }
+tight_row choice is = record {
+  in_range = in_range choice 0 (lit≤ tt) (lit≤ tt);
+  is_grid = is;
+  one_each = refl;
+  each = first_tight;
+}
 
 -- eight seconds by the clock
 clock : (choice : Choice) → IsClockLength (village_with choice) 0 8
@@ -95,21 +111,35 @@ pub unsure_rule_first : IsFirstMatter (village_with unsure_rule) grid_0 standing
 unsure_rule_first = record {
   not_last = λ is. omega (arith, is);
   earliest = 8;
-  is_earliest = earliest_end unsure_rule grid_0 standing_0 row_0 8 8 (clock unsure_rule) (omega arith) refl (inl (clock unsure_rule));
+  is_earliest = earliest_end unsure_rule grid_0 standing_0 row_0 8 8 (clock unsure_rule) (omega arith) refl
+      (inl (clock unsure_rule));
   in_time = omega arith;
   first = record {
     holds = unsure_rule_matters;
-    least = λ s is. from (matter unsure_rule grid_0 standing_0 row_0) 2 refl s (matter_test unsure_rule grid_0 standing_0 row_0 s is);
+    least = λ s is. from (matter unsure_rule grid_0 standing_0 row_0) 2 refl s
+        (matter_test unsure_rule grid_0 standing_0 row_0 s is);
   };
 }
 
 pub rule_is : IsOpenRule (village_with unsure_rule) grid_0 standing_0 row_0 2 open_rule
-rule_is = record { first_rule = refl; rule = _; is_rule = refl; clause_is = record { first_clause = refl; each = _; is_clause = refl; lo_is = refl; hi_is = refl } }
+rule_is = record {
+  first_rule = refl;
+  rule = _;
+  is_rule = refl;
+  clause_is = record {
+    first_clause = refl;
+    each = _;
+    is_clause = refl;
+    lo_is = refl;
+    hi_is = refl;
+  };
+}
 
 -- the same between the two readings alone, and decided a second earlier and a second later
 abbrev pub truth_after : ℕ → Truth → Type 0
 truth_after seconds truth =
-    IsTruthBetween (village_with unsure_rule) seconds (readings_below (village_with unsure_rule) grid_0 standing_0 row_0 seconds)
+    IsTruthBetween (village_with unsure_rule) seconds (readings_below (village_with unsure_rule) grid_0 standing_0
+    row_0 seconds)
     (readings_above (village_with unsure_rule) grid_0 standing_0 row_0 seconds) (refill_rule unsure_rule.clauses) truth
 
 pub rule_truth_open : truth_after 2 (Open 1 (pos 20014736562746) (pos 20014736577608))
@@ -135,10 +165,29 @@ filled = record { tank = 0; target = pos 20036841430000; rising = true }
 
 pub event_ends : EndsBy (village_with unsure_event) grid_0 standing_0 row_0 (EventIsOpen 5 6)
 event_ends = event_is_open
-    (no_rule unsure_event grid_0 standing_0 row_0 5 (omega arith) (earliest_end unsure_event grid_0 standing_0 row_0 8 5 (clock unsure_event) (omega arith) refl
-    (inr (omega arith, record { watch = filled; is_watched = (2, lit< tt, refl); tank = tower; is_tank = refl; reached = refl }))) refl)
+    (no_rule unsure_event grid_0 standing_0 row_0 5 (omega arith) (earliest_end unsure_event grid_0 standing_0 row_0 8
+    5 (clock unsure_event) (omega arith) refl
+    (inr (
+      omega arith,
+      record {
+        watch = filled;
+        is_watched = (2, lit< tt, refl);
+        tank = tower;
+        is_tank = refl;
+        reached = refl;
+      },
+    ))) refl)
     (latest_end unsure_event grid_0 standing_0 row_0 8 6 (clock unsure_event) (omega arith) refl
-    (inr (omega arith, record { watch = filled; is_watched = (2, lit< tt, refl); tank = tower; is_tank = refl; reached = refl })))
+    (inr (
+      omega arith,
+      record {
+        watch = filled;
+        is_watched = (2, lit< tt, refl);
+        tank = tower;
+        is_tank = refl;
+        reached = refl;
+      },
+    )))
     (λ same. omega (arith, same))
 
 pub event_stops : LeavesEventOpen (village_with unsure_event) standing_0 5 6
@@ -166,8 +215,10 @@ ends_at choice is ends levels = record {
 
 pub control_ends : EndsBy (village_with unsure_control) grid_0 standing_0 row_0 (WithoutRules 8)
 control_ends = by_clock
-    (no_rule unsure_control grid_0 standing_0 row_0 8 (omega arith) (earliest_end unsure_control grid_0 standing_0 row_0 8 8 (clock unsure_control) (omega arith) refl (inl (clock unsure_control))) refl)
-    (latest_end unsure_control grid_0 standing_0 row_0 8 8 (clock unsure_control) (omega arith) refl (inl (clock unsure_control)))
+    (no_rule unsure_control grid_0 standing_0 row_0 8 (omega arith) (earliest_end unsure_control grid_0 standing_0
+    row_0 8 8 (clock unsure_control) (omega arith) refl (inl (clock unsure_control))) refl)
+    (latest_end unsure_control grid_0 standing_0 row_0 8 8 (clock unsure_control) (omega arith) refl
+    (inl (clock unsure_control)))
 
 pub control_stops : LeavesControlOpen (village_with unsure_control) standing_0 0 last_level
 control_stops = record {
@@ -186,8 +237,10 @@ control_stops = record {
 
 pub tank_ends : EndsBy (village_with unsure_tank) grid_0 standing_0 row_0 (WithoutRules 8)
 tank_ends = by_clock
-    (no_rule unsure_tank grid_0 standing_0 row_0 8 (omega arith) (earliest_end unsure_tank grid_0 standing_0 row_0 8 8 (clock unsure_tank) (omega arith) refl (inl (clock unsure_tank))) refl)
-    (latest_end unsure_tank grid_0 standing_0 row_0 8 8 (clock unsure_tank) (omega arith) refl (inl (clock unsure_tank)))
+    (no_rule unsure_tank grid_0 standing_0 row_0 8 (omega arith) (earliest_end unsure_tank grid_0 standing_0 row_0 8 8
+    (clock unsure_tank) (omega arith) refl (inl (clock unsure_tank))) refl)
+    (latest_end unsure_tank grid_0 standing_0 row_0 8 8 (clock unsure_tank) (omega arith) refl
+    (inl (clock unsure_tank)))
 
 pub tank_stops : LeavesTankOpen (village_with unsure_tank) standing_0 0 last_level
 tank_stops = record {

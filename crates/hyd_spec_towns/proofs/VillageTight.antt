@@ -1,5 +1,6 @@
 -- The vectors of the village are tight: one tick nearer a junction fails, and so it does at every head nearer still.
-use Rattle.std.proofs.Common.{◌≡◌, zero, suc, ℤ, pos, negsuc, ◌+ℤ◌, ◌-ℤ◌, ◌*ℤ◌, neg_ℤ, ◌⊎◌, inl, inr, ◌≤ℤ◌, ◌<ℤ◌, true, false, List, [], ◌∷◌, length, refl, sym, subst, arith}
+use Rattle.std.proofs.Common.{◌≡◌, zero, suc, ℤ, pos, negsuc, ◌+ℤ◌, ◌-ℤ◌, ◌*ℤ◌, neg_ℤ, ◌⊎◌, inl, inr, ◌≤ℤ◌, ◌<ℤ◌, true}
+use Rattle.std.proofs.Common.{false, List, [], ◌∷◌, length, refl, sym, subst, arith}
 use Rattle.std.specs.Int.{int_div_euclid}
 use Rattle.std.proofs.lemmas.Int.{ints, clamps, by_lt_z}
 use Rattle.hyd_spec_certificates.specs.declared.Problem.{Problem}
@@ -43,7 +44,8 @@ pub straight_rises : IsRising LinearLaw
 straight_rises = record {
   low_rises = λ c d le. quotient_rises (pos 8026822656 *ℤ c) (pos 8026822656 *ℤ d) (omega (arith, ints, le));
   high_rises = λ c d le.
-      let q = quotient_rises (neg_ℤ (pos 8026822656 *ℤ d)) (neg_ℤ (pos 8026822656 *ℤ c)) (omega (arith, ints, le)) in omega (arith, ints, q);
+      let q = quotient_rises (neg_ℤ (pos 8026822656 *ℤ d)) (neg_ℤ (pos 8026822656 *ℤ c)) (omega (arith, ints, le)) in
+      omega (arith, ints, q);
 }
 
 pub shut_rises : IsRising Shut
@@ -60,7 +62,8 @@ capped_rises cap = record {
 abbrev lake : ℤ
 lake = pos 1000000000000000
 
-module _ (demand : ℤ) (feed drop : Law) (head : Interval) (problem : Problem) (rising : IsRising feed) (dropping : IsRising drop) where
+module _ (demand : ℤ) (feed drop : Law) (head : Interval) (problem : Problem) (rising : IsRising feed)
+    (dropping : IsRising drop) where
   abbrev tower_head : Side → ℤ
   tower_head side = end_on (tank_side problem side 0) head
 
@@ -110,7 +113,8 @@ two_heads (x ∷ []) e = absurd (omega (arith, e))
 two_heads (x ∷ y ∷ []) e = record { first = x; second = y; is = refl }
 two_heads (x ∷ y ∷ z ∷ v) e = absurd (omega (arith, e))
 
-module _ (demand : ℤ) (feed drop : Law) (head : Interval) (rising : IsRising feed) (dropping : IsRising drop) (problem : Problem) (side : Side) (a b : ℤ) where
+module _ (demand : ℤ) (feed drop : Law) (head : Interval) (rising : IsRising feed) (dropping : IsRising drop)
+    (problem : Problem) (side : Side) (a b : ℤ) where
   abbrev grid : Grid
   grid = village_grid demand feed drop head
 
@@ -141,9 +145,12 @@ module _ (demand : ℤ) (feed drop : Law) (head : Interval) (rising : IsRising f
     is_certificate = certificate grid problem side (a ∷ b ∷ []) passed;
     nearest = λ v is.
         let heads = two_heads v is.one_each in
-        let two : IsCertificate grid problem side (heads.first ∷ heads.second ∷ []) = subst (IsCertificate grid problem side) heads.is is in
-        subst (λ (w : List ℤ). Each grid.junctions (λ i junction. IsBeyond side (head_at (a ∷ b ∷ []) i) (head_at w i))) (sym heads.is)
-        (each_two GridJunction (λ i junction. IsBeyond side (head_at (a ∷ b ∷ []) i) (head_at (heads.first ∷ heads.second ∷ []) i)) (grid_mill demand) grid_farm
+        let two : IsCertificate grid problem side (heads.first ∷ heads.second ∷ []) =
+        subst (IsCertificate grid problem side) heads.is is in
+        subst (λ (w : List ℤ). Each grid.junctions (λ i junction. IsBeyond side (head_at (a ∷ b ∷ []) i)
+        (head_at w i))) (sym heads.is)
+        (each_two GridJunction (λ i junction. IsBeyond side (head_at (a ∷ b ∷ []) i)
+        (head_at (heads.first ∷ heads.second ∷ []) i)) (grid_mill demand) grid_farm
         (mill_beyond mill_fails heads.first heads.second (two.passes 0 (grid_mill demand) refl))
         (farm_beyond farm_fails heads.first heads.second (two.passes 1 grid_farm refl)));
   }
@@ -154,44 +161,58 @@ module _ (demand : ℤ) (feed drop : Law) (head : Interval) (rising : IsRising f
 throughout : (grid : Grid) (row : Record) (vectors : Vectors) → row.pinned ≡ vectors ∷ []
     → IsTight grid Main Upper row.main.upper → IsTight grid Main Lower row.main.lower
     → IsTight grid (Pinned 0) Upper vectors.upper → IsTight grid (Pinned 0) Lower vectors.lower
-    → (problem : Problem) (side : Side) → IsProblem village problem → IsTight grid problem side (vector_of row problem side)
+    → (problem : Problem) (side : Side) → IsProblem village problem
+    → IsTight grid problem side (vector_of row problem side)
 throughout grid row vectors pinned a b c d Main Upper is = a
 throughout grid row vectors pinned a b c d Main Lower is = b
 throughout grid row vectors pinned a b c d (Pinned zero) Upper is = rw pinned c
 throughout grid row vectors pinned a b c d (Pinned zero) Lower is = rw pinned d
 throughout grid row vectors pinned a b c d (Pinned (suc k)) side is = absurd (omega (arith, is))
 
-pub first_tight : (problem : Problem) (side : Side) → IsProblem village problem → IsTight grid_0 problem side (vector_of row_0 problem side)
+pub first_tight : (problem : Problem) (side : Side) → IsProblem village problem
+    → IsTight grid_0 problem side (vector_of row_0 problem side)
 first_tight = throughout grid_0 row_0 _ refl
     (tight _ _ _ _ (capped_rises (pos 10000000000)) straight_rises Main Upper _ _ refl (λ other. refl) (λ other. refl))
     (tight _ _ _ _ (capped_rises (pos 10000000000)) straight_rises Main Lower _ _ refl (λ other. refl) (λ other. refl))
-    (tight _ _ _ _ (capped_rises (pos 10000000000)) straight_rises (Pinned 0) Upper _ _ refl (λ other. refl) (λ other. refl))
-    (tight _ _ _ _ (capped_rises (pos 10000000000)) straight_rises (Pinned 0) Lower _ _ refl (λ other. refl) (λ other. refl))
+    (tight _ _ _ _ (capped_rises (pos 10000000000)) straight_rises (Pinned 0) Upper _ _ refl (λ other. refl)
+    (λ other. refl))
+    (tight _ _ _ _ (capped_rises (pos 10000000000)) straight_rises (Pinned 0) Lower _ _ refl (λ other. refl)
+    (λ other. refl))
 
-pub second_tight : (problem : Problem) (side : Side) → IsProblem village problem → IsTight grid_1 problem side (vector_of row_1 problem side)
+pub second_tight : (problem : Problem) (side : Side) → IsProblem village problem
+    → IsTight grid_1 problem side (vector_of row_1 problem side)
 second_tight = throughout grid_1 row_1 _ refl
     (tight _ _ _ _ (capped_rises (pos 10000000000)) straight_rises Main Upper _ _ refl (λ other. refl) (λ other. refl))
     (tight _ _ _ _ (capped_rises (pos 10000000000)) straight_rises Main Lower _ _ refl (λ other. refl) (λ other. refl))
-    (tight _ _ _ _ (capped_rises (pos 10000000000)) straight_rises (Pinned 0) Upper _ _ refl (λ other. refl) (λ other. refl))
-    (tight _ _ _ _ (capped_rises (pos 10000000000)) straight_rises (Pinned 0) Lower _ _ refl (λ other. refl) (λ other. refl))
+    (tight _ _ _ _ (capped_rises (pos 10000000000)) straight_rises (Pinned 0) Upper _ _ refl (λ other. refl)
+    (λ other. refl))
+    (tight _ _ _ _ (capped_rises (pos 10000000000)) straight_rises (Pinned 0) Lower _ _ refl (λ other. refl)
+    (λ other. refl))
 
-pub third_tight : (problem : Problem) (side : Side) → IsProblem village problem → IsTight grid_2 problem side (vector_of row_2 problem side)
+pub third_tight : (problem : Problem) (side : Side) → IsProblem village problem
+    → IsTight grid_2 problem side (vector_of row_2 problem side)
 third_tight = throughout grid_2 row_2 _ refl
     (tight _ _ _ _ shut_rises straight_rises Main Upper _ _ refl (λ other. refl) (λ other. refl))
     (tight _ _ _ _ shut_rises straight_rises Main Lower _ _ refl (λ other. refl) (λ other. refl))
     (tight _ _ _ _ shut_rises straight_rises (Pinned 0) Upper _ _ refl (λ other. refl) (λ other. refl))
     (tight _ _ _ _ shut_rises straight_rises (Pinned 0) Lower _ _ refl (λ other. refl) (λ other. refl))
 
-pub fourth_tight : (problem : Problem) (side : Side) → IsProblem village problem → IsTight grid_3 problem side (vector_of row_3 problem side)
+pub fourth_tight : (problem : Problem) (side : Side) → IsProblem village problem
+    → IsTight grid_3 problem side (vector_of row_3 problem side)
 fourth_tight = throughout grid_3 row_3 _ refl
     (tight _ _ _ _ (capped_rises (pos 3000000000)) straight_rises Main Upper _ _ refl (λ other. refl) (λ other. refl))
     (tight _ _ _ _ (capped_rises (pos 3000000000)) straight_rises Main Lower _ _ refl (λ other. refl) (λ other. refl))
-    (tight _ _ _ _ (capped_rises (pos 3000000000)) straight_rises (Pinned 0) Upper _ _ refl (λ other. refl) (λ other. refl))
-    (tight _ _ _ _ (capped_rises (pos 3000000000)) straight_rises (Pinned 0) Lower _ _ refl (λ other. refl) (λ other. refl))
+    (tight _ _ _ _ (capped_rises (pos 3000000000)) straight_rises (Pinned 0) Upper _ _ refl (λ other. refl)
+    (λ other. refl))
+    (tight _ _ _ _ (capped_rises (pos 3000000000)) straight_rises (Pinned 0) Lower _ _ refl (λ other. refl)
+    (λ other. refl))
 
-pub fifth_tight : (problem : Problem) (side : Side) → IsProblem village problem → IsTight grid_4 problem side (vector_of row_4 problem side)
+pub fifth_tight : (problem : Problem) (side : Side) → IsProblem village problem
+    → IsTight grid_4 problem side (vector_of row_4 problem side)
 fifth_tight = throughout grid_4 row_4 _ refl
     (tight _ _ _ _ (capped_rises (pos 3000000000)) straight_rises Main Upper _ _ refl (λ other. refl) (λ other. refl))
     (tight _ _ _ _ (capped_rises (pos 3000000000)) straight_rises Main Lower _ _ refl (λ other. refl) (λ other. refl))
-    (tight _ _ _ _ (capped_rises (pos 3000000000)) straight_rises (Pinned 0) Upper _ _ refl (λ other. refl) (λ other. refl))
-    (tight _ _ _ _ (capped_rises (pos 3000000000)) straight_rises (Pinned 0) Lower _ _ refl (λ other. refl) (λ other. refl))
+    (tight _ _ _ _ (capped_rises (pos 3000000000)) straight_rises (Pinned 0) Upper _ _ refl (λ other. refl)
+    (λ other. refl))
+    (tight _ _ _ _ (capped_rises (pos 3000000000)) straight_rises (Pinned 0) Lower _ _ refl (λ other. refl)
+    (λ other. refl))

@@ -1,6 +1,6 @@
--- A lake that fills one tank through a valve without loss coefficient, without a junction: a tank with a volume curve over two
--- hours, and a cylinder that overflows over one. What an independent calculation gives for their three periods, a history of
--- each at scale 1000, and what was written and printed.
+-- A lake that fills one tank through a valve without loss coefficient, without a junction: a tank with a volume curve
+-- over two hours, and a cylinder that overflows over one. What an independent calculation gives for their three
+-- periods, a history of each at scale 1000, and what was written and printed.
 use Rattle.std.specs.Prelude.{ℕ, ℤ, pos, false, true, List, [], ◌∷◌, ◌++◌, None, Some, codes}
 use Rattle.std.proofs.Common.{lit≤}
 use Rattle.hyd_net.specs.ListView.{ListView}
@@ -20,8 +20,8 @@ use Rattle.hyd_spec_towns.specs.Village.{listed}
 
 -- ---- the network
 
--- What basins differ in: the tank, the volume curves, how long the run is, and the setting of the valve, in billionths of a cubic
--- metre a day and in flow ticks.
+-- What basins differ in: the tank, the volume curves, how long the run is, and the setting of the valve, in billionths
+-- of a cubic metre a day and in flow ticks.
 pub record Basin : Type 0 where
   pub tank : Tank
   pub shapes : List (ListView VolumePoint)
@@ -111,7 +111,8 @@ basin_period basin time length level volume state flow = record {
 -- The lines of a report time: the pool's level, its inflow, which is also the flow of the valve, and its state.
 abbrev pub state_lines : ℕ → Interval → Interval → TankState → List ReportLine
 state_lines time level flow state =
-    TimeLine time ∷ (ReservoirLine 0 (exactly (pos 1000000)) ∷ (TankLine 0 level level flow state ∷ (LinkLine 0 flow WordActive ∷ [])))
+    TimeLine time ∷ (ReservoirLine 0 (exactly (pos 1000000))
+    ∷ (TankLine 0 level level flow state ∷ (LinkLine 0 flow WordActive ∷ [])))
 
 abbrev pub found_of : Basin → Standing → ℕ → List ReportLine → Standing → Found
 found_of basin standing length lines next = record {
@@ -128,8 +129,8 @@ found_of basin standing length lines next = record {
 
 -- ---- a tank with a volume curve
 
--- The pool holds 500 cubic metres up to 5 m and 2000 up to 10 m, its level at the start being 4 m; the valve passes 5000 cubic metres
--- a day.
+-- The pool holds 500 cubic metres up to 5 m and 2000 up to 10 m, its level at the start being 4 m; the valve passes
+-- 5000 cubic metres a day.
 abbrev pub curved : Basin
 curved = record {
   tank = record {
@@ -250,7 +251,8 @@ fast = record { lo = pos 499999999; hi = pos 500000001 }
 
 abbrev pub spilling_founds : List Found
 spilling_founds =
-    found_of spilling spilling_0 543 (state_lines 0 (exactly (pos 90000)) fast Between ++ (FilledLine 543 0 ∷ [])) spilling_1
+    found_of spilling spilling_0 543 (state_lines 0 (exactly (pos 90000)) fast Between ++ (FilledLine 543 0 ∷ []))
+    spilling_1
     ∷ found_of spilling spilling_1 3057 [] spilling_2
     ∷ found_of spilling spilling_2 0 (state_lines 3600 (exactly (pos 100000)) fast Full) spilling_left
     ∷ []

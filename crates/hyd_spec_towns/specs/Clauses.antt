@@ -1,5 +1,5 @@
--- What examples of clauses speak of: the truth of a clause in the hamlet and in the town, and intervals about the numbers that
--- clauses compare with.
+-- What examples of clauses speak of: the truth of a clause in the hamlet and in the town, and intervals about the
+-- numbers that clauses compare with.
 use Rattle.std.specs.Prelude.{ℕ, pos, List, [], ◌∷◌}
 use Rattle.std.proofs.Common.{lit≤}
 use Rattle.hyd_spec.specs.Types.{Project, What, Relation, Value, Amount}
@@ -80,7 +80,12 @@ town_row head = record row_at_two {
 }
 
 abbrev pub town_standing : Interval → Standing
-town_standing level = record standing_at_two { levels = level ∷ record { lo = pos 15076805853966; hi = pos 15076814393200 } ∷ [] }
+town_standing level = record standing_at_two {
+  levels = level ∷ record {
+    lo = pos 15076805853966;
+    hi = pos 15076814393200;
+  } ∷ [];
+}
 
 -- 34.9923185 and 4.9965 m.
 abbrev pub metres_34_9923185 : Value
@@ -91,8 +96,8 @@ abbrev pub metres_4_9965 : Value
 metres_4_9965 = Amount (record { lo = pos 49965000000000; hi = pos 49965000000000; ordered = record { le = tt } })
     (record { nano = pos 4996500000; bounded = lit≤ tt })
 
--- Heads of the first junction about 34.9923185 m above its elevation, and levels of the upper tank that a minute later are
--- about 4.9965 m.
+-- Heads of the first junction about 34.9923185 m above its elevation, and levels of the upper tank that a minute later
+-- are about 4.9965 m.
 abbrev pub heads_about_34_9923185 : List Interval
 heads_about_34_9923185 =
     record { lo = pos 449923184999999; hi = pos 449923184999999 }

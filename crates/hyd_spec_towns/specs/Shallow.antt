@@ -1,5 +1,5 @@
--- The shallow village: its tank fills and empties within a few seconds, and then the farm has no source. What an independent
--- calculation gives for its two periods, a history of them at scale 1000, and what was written and printed.
+-- The shallow village: its tank fills and empties within a few seconds, and then the farm has no source. What an
+-- independent calculation gives for its two periods, a history of them at scale 1000, and what was written and printed.
 use Rattle.std.specs.Prelude.{ℕ, pos, false, None, List, [], ◌∷◌, codes}
 use Rattle.std.proofs.Common.{lit≤}
 use Rattle.hyd_spec.specs.Types.{Limit}
@@ -10,7 +10,8 @@ use Rattle.hyd_spec.specs.Law.{LinearLaw, ForwardOnly, ReverseOnly, Capped}
 use Rattle.hyd_spec.specs.Length.{Period}
 use Rattle.hyd_spec_certificates.specs.Grid.{Grid}
 use Rattle.hyd_spec_certificates.specs.Record.{Record, Standing}
-use Rattle.hyd_spec_reports.specs.ReportLine.{ReportLine, TimeLine, JunctionLine, ReservoirLine, TankLine, LinkLine, FilledLine, EmptiedLine}
+use Rattle.hyd_spec_reports.specs.ReportLine.{ReportLine, TimeLine, JunctionLine, ReservoirLine, TankLine, LinkLine}
+use Rattle.hyd_spec_reports.specs.ReportLine.{FilledLine, EmptiedLine}
 use Rattle.hyd_spec_reports.specs.Headline.{Found}
 use Rattle.hyd_spec_towns.specs.Village.{Choice, usual}
 use Rattle.hyd_spec_towns.specs.VillageParts.{village_standing, village_grid, village_row, village_period}
@@ -33,44 +34,78 @@ shallow = record usual {
 
 -- What is known when period 0 begins.
 abbrev pub standing_0 : Standing
-standing_0 = village_standing 0 0 (record { lo = pos 20120000000000; hi = pos 20120000000000 }) Between (Limit (pos 1000000000000) (pos 10000000000))
+standing_0 = village_standing 0 0 (record {
+  lo = pos 20120000000000;
+  hi = pos 20120000000000;
+}) Between (Limit (pos 1000000000000) (pos 10000000000))
 
 -- What is known when period 1 begins.
 abbrev pub standing_1 : Standing
-standing_1 = village_standing 1 1 (record { lo = pos 20225000000000; hi = pos 20225000000000 }) Full (Limit (pos 1000000000000) (pos 10000000000))
+standing_1 = village_standing 1 1 (record {
+  lo = pos 20225000000000;
+  hi = pos 20225000000000;
+}) Full (Limit (pos 1000000000000) (pos 10000000000))
 
 -- What is left after the last one.
 abbrev pub left : Standing
-left = village_standing 2 6 (record { lo = pos 20105000000000; hi = pos 20105000000000 }) Empty (Limit (pos 1000000000000) (pos 10000000000))
+left = village_standing 2 6 (record {
+  lo = pos 20105000000000;
+  hi = pos 20105000000000;
+}) Empty (Limit (pos 1000000000000) (pos 10000000000))
 
 -- The grid of period 0.
 abbrev pub grid_0 : Grid
-grid_0 = village_grid (pos 8000000000) (Capped (pos 10000000000) LinearLaw) LinearLaw (record { lo = pos 620120000000000; hi = pos 620120000000000 })
+grid_0 = village_grid (pos 8000000000) (Capped (pos 10000000000) LinearLaw) LinearLaw (record {
+  lo = pos 620120000000000;
+  hi = pos 620120000000000;
+})
 
 -- The grid of period 1.
 abbrev pub grid_1 : Grid
-grid_1 = village_grid (pos 8000000000) (ReverseOnly (Capped (pos 10000000000) LinearLaw)) (ForwardOnly LinearLaw) (record { lo = pos 620225000000000; hi = pos 620225000000000 })
+grid_1 = village_grid (pos 8000000000) (ReverseOnly (Capped (pos 10000000000) LinearLaw)) (ForwardOnly LinearLaw)
+    (record { lo = pos 620225000000000; hi = pos 620225000000000 })
 
 -- The record of period 0.
 abbrev pub row_0 : Record
 row_0 = village_row 0 0 1
-    (record { upper = pos 999999997757519 ∷ pos 620119999750836 ∷ []; lower = pos 999999997757518 ∷ pos 620119999750835 ∷ [] })
-    (record { upper = pos 999999997757519 ∷ pos 620119999750836 ∷ []; lower = pos 999999997757518 ∷ pos 620119999750835 ∷ [] })
+    (record {
+      upper = pos 999999997757519 ∷ pos 620119999750836 ∷ [];
+      lower = pos 999999997757518 ∷ pos 620119999750835 ∷ [];
+    })
+    (record {
+      upper = pos 999999997757519 ∷ pos 620119999750836 ∷ [];
+      lower = pos 999999997757518 ∷ pos 620119999750835 ∷ [];
+    })
 
 -- The record of period 1.
 abbrev pub row_1 : Record
 row_1 = village_row 1 1 5
-    (record { upper = pos 999999999003342 ∷ pos 620224999750836 ∷ []; lower = pos 999999999003341 ∷ pos 620224999750835 ∷ [] })
-    (record { upper = pos 999999999003342 ∷ pos 620224999750836 ∷ []; lower = pos 999999999003341 ∷ pos 620224999750835 ∷ [] })
+    (record {
+      upper = pos 999999999003342 ∷ pos 620224999750836 ∷ [];
+      lower = pos 999999999003341 ∷ pos 620224999750835 ∷ [];
+    })
+    (record {
+      upper = pos 999999999003342 ∷ pos 620224999750836 ∷ [];
+      lower = pos 999999999003341 ∷ pos 620224999750835 ∷ [];
+    })
 
 -- The lines of period 0.
 abbrev pub lines_0 : List ReportLine
 lines_0 =
     (TimeLine 0)
-    ∷ (JunctionLine 0 (record { lo = pos 999999; hi = pos 1000000 }) (record { lo = pos 499999; hi = pos 500000 }) (record { lo = pos 7999999; hi = pos 8000001 }))
-    ∷ (JunctionLine 1 (record { lo = pos 620119; hi = pos 620120 }) (record { lo = pos 220119; hi = pos 220120 }) (record { lo = pos 1999999; hi = pos 2000001 }))
+    ∷ (JunctionLine 0 (record { lo = pos 999999; hi = pos 1000000 }) (record {
+      lo = pos 499999;
+      hi = pos 500000;
+    }) (record { lo = pos 7999999; hi = pos 8000001 }))
+    ∷ (JunctionLine 1 (record { lo = pos 620119; hi = pos 620120 }) (record {
+      lo = pos 220119;
+      hi = pos 220120;
+    }) (record { lo = pos 1999999; hi = pos 2000001 }))
     ∷ (ReservoirLine 0 (record { lo = pos 1000000; hi = pos 1000000 }))
-    ∷ (TankLine 0 (record { lo = pos 620120; hi = pos 620120 }) (record { lo = pos 20120; hi = pos 20120 }) (record { lo = pos 7999996; hi = pos 8000005 }) Between)
+    ∷ (TankLine 0 (record { lo = pos 620120; hi = pos 620120 }) (record {
+      lo = pos 20120;
+      hi = pos 20120;
+    }) (record { lo = pos 7999996; hi = pos 8000005 }) Between)
     ∷ (LinkLine 0 (record { lo = pos 17999997; hi = pos 18000006 }) WordActive)
     ∷ (LinkLine 1 (record { lo = pos 9999999; hi = pos 10000001 }) WordActive)
     ∷ (LinkLine 2 (record { lo = pos 1999995; hi = pos 2000004 }) WordActive)
@@ -97,11 +132,15 @@ founds = found_0 ∷ found_1 ∷ []
 
 -- Period 0 of the history.
 abbrev pub period_0 : Period
-period_0 = village_period 0 1 (pos 20120000000000000) Between (Limit (pos 1000000000000) (pos 10000000000)) (pos 999999997757518663) (pos 620119999750835407) (pos 18000000000000) (pos 10000000000000) (pos 2000000000000) (pos 8000000000000)
+period_0 = village_period 0 1 (pos 20120000000000000) Between (Limit (pos 1000000000000) (pos 10000000000))
+    (pos 999999997757518663) (pos 620119999750835407) (pos 18000000000000) (pos 10000000000000) (pos 2000000000000)
+    (pos 8000000000000)
 
 -- Period 1 of the history.
 abbrev pub period_1 : Period
-period_1 = village_period 1 5 (pos 20225000000000000) Full (Limit (pos 1000000000000) (pos 10000000000)) (pos 999999999003341628) (pos 620224999750835407) (pos 8000000000000) (pos 0) (pos 2000000000000) (pos 8000000000000)
+period_1 = village_period 1 5 (pos 20225000000000000) Full (Limit (pos 1000000000000) (pos 10000000000))
+    (pos 999999999003341628) (pos 620224999750835407) (pos 8000000000000) (pos 0) (pos 2000000000000)
+    (pos 8000000000000)
 
 -- All of them, in order.
 abbrev pub periods : List Period

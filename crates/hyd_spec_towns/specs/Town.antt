@@ -1,12 +1,16 @@
--- A town of two junctions, a reservoir, two tanks, a pump and four valves, under controls and rules for three hours: what
--- the reader makes of the lines above each definition.
+-- A town of two junctions, a reservoir, two tanks, a pump and four valves, under controls and rules for three hours:
+-- what the reader makes of the lines above each definition.
 use Rattle.std.specs.Prelude.{◌≡◌, ℕ, pos, true, false, List, [], ◌∷◌, Option, Some, None, ℤ, codes}
 use Rattle.std.specs.Int.Signed.{≤ℤ_refl}
 use Rattle.std.proofs.Common.{lit≤}
 use Rattle.hyd_num.specs.declared.decimals.Span.{Span}
 use Rattle.hyd_net.specs.ListView.{ListView}
 use Rattle.hyd_spec.specs.Rules.{Offer}
-use Rattle.hyd_spec.specs.Types.{Project, Options, Times, Decimal, Cmd, Capacity, Junction, Reservoir, Tank, Link, PumpLink, Tcv, Fcv, Linear, FourThirds, LinkState, Open, Closed, Speed, Throttle, Limit, Pattern, Control, AtLevel, AtTime, AtClock, Rule, And, Or, Clause, What, Relation, Less, More, NotLess, Equal, Level, Flow, Status, Time, Clock, Value, Amount, ValueOpen}
+use Rattle.hyd_spec.specs.Types.{Project, Options, Times, Decimal, Cmd, Capacity, Junction, Reservoir, Tank, Link}
+use Rattle.hyd_spec.specs.Types.{PumpLink, Tcv, Fcv, Linear, FourThirds, LinkState, Open, Closed, Speed, Throttle}
+use Rattle.hyd_spec.specs.Types.{Limit, Pattern, Control, AtLevel, AtTime, AtClock, Rule, And, Or, Clause, What}
+use Rattle.hyd_spec.specs.Types.{Relation, Less, More, NotLess, Equal, Level, Flow, Status, Time, Clock, Value, Amount}
+use Rattle.hyd_spec.specs.Types.{ValueOpen}
 
 -- A list for which there is this much room more. No definition looks at the room.
 abbrev pub listed : {T : Type 0} → ℕ → List T → ListView T
@@ -142,7 +146,12 @@ shutoff = record { lo = pos 666666666666666; hi = pos 666666666666667; ordered =
 -- LOWER SOUTH WEST 300 TCV 0
 abbrev pub links : Capacity → List Link
 links capacity =
-    record { from = 2; to = 0; kind = PumpLink capacity shutoff (FourThirds fifty) (Some 0); start = Speed (pos 1000000000) }
+    record {
+      from = 2;
+      to = 0;
+      kind = PumpLink capacity shutoff (FourThirds fifty) (Some 0);
+      start = Speed (pos 1000000000);
+    }
     ∷ record { from = 2; to = 3; kind = Fcv Linear; start = filling }
     ∷ record { from = 3; to = 0; kind = Tcv Linear; start = Open }
     ∷ record { from = 0; to = 1; kind = Fcv Linear; start = narrow_main }

@@ -117,9 +117,18 @@ row_at_two = record {
   number = 2;
   time = 7200;
   length = 113;
-  main = record { upper = pos 449923192697818 ∷ pos 215076813815139 ∷ []; lower = pos 449923184137361 ∷ pos 215076805275904 ∷ [] };
-  pinned = record { upper = pos 449923184137362 ∷ pos 215076813815139 ∷ []; lower = pos 449923192697817 ∷ pos 215076805275904 ∷ [] }
-      ∷ record { upper = pos 449923192697818 ∷ pos 215076805275905 ∷ []; lower = pos 449923184137361 ∷ pos 215076813815138 ∷ [] }
+  main = record {
+    upper = pos 449923192697818 ∷ pos 215076813815139 ∷ [];
+    lower = pos 449923184137361 ∷ pos 215076805275904 ∷ [];
+  };
+  pinned = record {
+    upper = pos 449923184137362 ∷ pos 215076813815139 ∷ [];
+    lower = pos 449923192697817 ∷ pos 215076805275904 ∷ [];
+  }
+      ∷ record {
+        upper = pos 449923192697818 ∷ pos 215076805275905 ∷ [];
+        lower = pos 449923184137361 ∷ pos 215076813815138 ∷ [];
+      }
       ∷ [];
 }
 
@@ -143,8 +152,17 @@ row_when_full = record {
   number = 3;
   time = 7313;
   length = 1327;
-  main = record { upper = pos 449999998505013 ∷ pos 215000000044850 ∷ []; lower = pos 449999998505012 ∷ pos 215000000044849 ∷ [] };
-  pinned = record { upper = pos 449999998505013 ∷ pos 215000000044850 ∷ []; lower = pos 449999998505012 ∷ pos 215000000044849 ∷ [] }
-      ∷ record { upper = pos 449999998505013 ∷ pos 215000000044850 ∷ []; lower = pos 449999998505012 ∷ pos 215000000044849 ∷ [] }
+  main = record {
+    upper = pos 449999998505013 ∷ pos 215000000044850 ∷ [];
+    lower = pos 449999998505012 ∷ pos 215000000044849 ∷ [];
+  };
+  pinned = record {
+    upper = pos 449999998505013 ∷ pos 215000000044850 ∷ [];
+    lower = pos 449999998505012 ∷ pos 215000000044849 ∷ [];
+  }
+      ∷ record {
+        upper = pos 449999998505013 ∷ pos 215000000044850 ∷ [];
+        lower = pos 449999998505012 ∷ pos 215000000044849 ∷ [];
+      }
       ∷ [];
 }

@@ -4,7 +4,9 @@ use Rattle.std.specs.Prelude.{ℤ, pos, true, false, List, [], ◌∷◌, None, 
 use Rattle.std.specs.Int.Signed.{≤ℤ_refl}
 use Rattle.std.proofs.Common.{lit≤}
 use Rattle.hyd_net.specs.ListView.{ListView}
-use Rattle.hyd_spec.specs.Types.{Project, Junction, Tank, Link, Tcv, Fcv, Linear, Closed, Throttle, Limit, Control, AtLevel, Rule, RuleClause, And, Level, Status, Less, Equal, Amount, ValueClosed, Cmd, LinkState}
+use Rattle.hyd_spec.specs.Types.{Project, Junction, Tank, Link, Tcv, Fcv, Linear, Closed, Throttle, Limit, Control}
+use Rattle.hyd_spec.specs.Types.{AtLevel, Rule, RuleClause, And, Level, Status, Less, Equal, Amount, ValueClosed, Cmd}
+use Rattle.hyd_spec.specs.Types.{LinkState}
 
 -- A list without room for more.
 abbrev pub listed : {T : Type 0} → List T → ListView T
@@ -122,7 +124,11 @@ usual = record {
           what = Level 0;
           relation = Less;
           value =
-              Amount (record { lo = pos 20077000000000; hi = pos 20077000000000; ordered = ≤ℤ_refl (pos 20077000000000) })
+              Amount (record {
+                lo = pos 20077000000000;
+                hi = pos 20077000000000;
+                ordered = ≤ℤ_refl (pos 20077000000000);
+              })
               (record { nano = pos 2007700000; bounded = lit≤ tt });
         };
       })

@@ -47,8 +47,8 @@ abbrev pub village_row : ℕ → ℕ → ℕ → Vectors → Vectors → Record
 village_row number time length main pinned =
     record { number = number; time = time; length = length; main = main; pinned = pinned ∷ [] }
 
--- A period with the tower's level and state, the state of the valve that fills it, two heads, three flows and the mill's
--- demand.
+-- A period with the tower's level and state, the state of the valve that fills it, two heads, three flows and the
+-- mill's demand.
 abbrev pub village_period : ℕ → ℕ → ℤ → TankState → LinkState → ℤ → ℤ → ℤ → ℤ → ℤ → ℤ → Period
 village_period time length level state feed mill farm main fed dropped takes = record {
   time = time;

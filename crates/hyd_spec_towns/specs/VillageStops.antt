@@ -11,7 +11,12 @@ use Rattle.hyd_spec_towns.specs.Village.{Choice, listed, mill, farm, tower, usua
 abbrev pub thirsty : Project
 thirsty = record village {
   options = record village.options { multiplier = record { nano = pos 2000000000; bounded = lit≤ tt } };
-  junctions = listed (record mill { demands = listed (record { base = pos 600000000000000; pattern = Some 0 } ∷ []) } ∷ farm ∷ []);
+  junctions = listed (record mill {
+    demands = listed (record {
+      base = pos 600000000000000;
+      pattern = Some 0;
+    } ∷ []);
+  } ∷ farm ∷ []);
 }
 
 -- The valve to the farm begins closed.
@@ -29,7 +34,11 @@ unsure_rule = record usual {
           what = Level 0;
           relation = Less;
           value =
-              Amount (record { lo = pos 20014736570000; hi = pos 20014736570000; ordered = ≤ℤ_refl (pos 20014736570000) })
+              Amount (record {
+                lo = pos 20014736570000;
+                hi = pos 20014736570000;
+                ordered = ≤ℤ_refl (pos 20014736570000);
+              })
               (record { nano = pos 2001473657; bounded = lit≤ tt });
         };
       })

@@ -1,5 +1,6 @@
-//! A lake that fills one tank, of two kinds: one with a volume curve, over two hours, and a cylinder that overflows, over one.
-//! What an independent calculation gives for their three periods is what the definitions ask for, and they have histories.
+//! A lake that fills one tank, of two kinds: one with a volume curve, over two hours, and a cylinder that overflows,
+//! over one. What an independent calculation gives for their three periods is what the definitions ask for, and they
+//! have histories.
 #![tactic(auto)]
 
 ghost use Rattle.std.specs.Prelude.{◌≡◌, true};
@@ -9,8 +10,10 @@ ghost use Rattle.hyd_spec.specs.History.{IsHistory, initial_links};
 ghost use Rattle.hyd_spec_reports.specs.ReportLine.{report_text, done_line};
 ghost use Rattle.hyd_spec_reports.specs.CertificateText.{IsCertificateText, version_of};
 ghost use Rattle.hyd_spec_reports.specs.Headline.{IsRun, AllAgree, EveryHistoryAgrees, rows_of, lines_of};
-ghost use Rattle.hyd_spec_towns.specs.Basin.{basin_network, curved, curved_0, curved_founds, curved_left, curved_periods, curved_written, curved_printed};
-ghost use Rattle.hyd_spec_towns.specs.Basin.{spilling, spilling_0, spilling_founds, spilling_left, spilling_periods, spilling_written, spilling_printed};
+ghost use Rattle.hyd_spec_towns.specs.Basin.{basin_network, curved, curved_0, curved_founds, curved_left};
+ghost use Rattle.hyd_spec_towns.specs.Basin.{curved_periods, curved_written, curved_printed};
+ghost use Rattle.hyd_spec_towns.specs.Basin.{spilling, spilling_0, spilling_founds, spilling_left, spilling_periods};
+ghost use Rattle.hyd_spec_towns.specs.Basin.{spilling_written, spilling_printed};
 
 /// The basins are networks that a file can stand for.
 pub fn networks()
@@ -37,7 +40,8 @@ pub fn texts()
     ensures curved_report { curved_printed ≡ report_text (basin_network curved) (lines_of curved_founds) (done_line 3) }
     ensures spilling_version { version_of (basin_network spilling) ≡ 2 }
     ensures spilling_certificate { IsCertificateText spilling_written 2 0 1 (rows_of spilling_founds) 3 true }
-    ensures spilling_report { spilling_printed ≡ report_text (basin_network spilling) (lines_of spilling_founds) (done_line 3) }
+    ensures spilling_report { spilling_printed ≡ report_text (basin_network spilling) (lines_of spilling_founds)
+        (done_line 3) }
 {}
 
 /// Levels, volumes and flows that may occur, over all three periods.

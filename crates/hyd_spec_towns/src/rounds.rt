@@ -1,14 +1,17 @@
-//! Rounds on a small grid from the corners of the box: each raise, and where the rounds end, as an independent calculation
-//! has them. No function here has a body.
+//! Rounds on a small grid from the corners of the box: each raise, and where the rounds end, as an independent
+//! calculation has them. No function here has a body.
 #![tactic(auto)]
 
 ghost use Rattle.std.specs.Prelude.{pos, neg_ℤ};
 ghost use Rattle.hyd_spec_certificates.specs.declared.Problem.TheVariants.{Main};
 ghost use Rattle.hyd_spec_certificates.specs.declared.Side.TheVariants.{Upper, Lower};
-ghost use Rattle.hyd_spec_certificates.specs.Certificate.{IsCertificate, IsCandidate, IsRaised, IsRound, AreRounds, IsTight};
-ghost use Rattle.hyd_spec_towns.specs.Rounds.{chain, first_junction, second_junction, floor_heads, ceiling_heads, floor_once, floor_twice, ceiling_once, ceiling_twice};
+ghost use Rattle.hyd_spec_certificates.specs.Certificate.{IsCertificate, IsCandidate, IsRaised, IsRound, AreRounds};
+ghost use Rattle.hyd_spec_certificates.specs.Certificate.{IsTight};
+ghost use Rattle.hyd_spec_towns.specs.Rounds.{chain, first_junction, second_junction, floor_heads, ceiling_heads};
+ghost use Rattle.hyd_spec_towns.specs.Rounds.{floor_once, floor_twice, ceiling_once, ceiling_twice};
 
-/// The least head at which a junction passes is a candidate, and so is one further out. A tick short none is, nor outside the box.
+/// The least head at which a junction passes is a candidate, and so is one further out. A tick short none is, nor
+/// outside the box.
 pub fn candidates()
     ensures nearest { IsCandidate chain Main Upper floor_heads 0 first_junction (pos 999999998255848) }
     ensures further { IsCandidate chain Main Upper floor_heads 0 first_junction (pos 1000000000000000) }

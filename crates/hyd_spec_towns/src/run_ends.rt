@@ -4,19 +4,26 @@
 ghost use Rattle.std.specs.Prelude.{◌≡◌, pos, true, false, [], ◌∷◌, map, take, codes, Some, None};
 ghost use Rattle.hyd_spec_certificates.specs.declared.Problem.TheVariants.{Main};
 ghost use Rattle.hyd_spec_certificates.specs.declared.Side.TheVariants.{Upper, Lower};
-ghost use Rattle.hyd_spec_reports.specs.declared.StopCause.TheVariants.{Demand as DemandOutOfRange, NoCertificate, RoundsSpent, RuleOpen, EventOpen, TankOpen, ControlOpen};
-ghost use Rattle.hyd_spec_reports.specs.Headline.{Finished, Stopped, outcome_number, is_finished, accepted_line, certificate_so_far, report_so_far};
+ghost use Rattle.hyd_spec_reports.specs.declared.StopCause.TheVariants.{Demand as DemandOutOfRange, NoCertificate};
+ghost use Rattle.hyd_spec_reports.specs.declared.StopCause.TheVariants.{RoundsSpent, RuleOpen, EventOpen, TankOpen};
+ghost use Rattle.hyd_spec_reports.specs.declared.StopCause.TheVariants.{ControlOpen};
+ghost use Rattle.hyd_spec_reports.specs.Headline.{Finished, Stopped, outcome_number, is_finished, accepted_line};
+ghost use Rattle.hyd_spec_reports.specs.Headline.{certificate_so_far, report_so_far};
 ghost use Rattle.hyd_spec_certificates.specs.Narrow.{widest, IsNarrow};
 ghost use Rattle.hyd_spec_towns.specs.Village.{village, village_with};
-ghost use Rattle.hyd_spec_towns.specs.VillageRun.{standing_0, standing_1, standing_2, row_0, row_1, left, found_0, founds};
+ghost use Rattle.hyd_spec_towns.specs.VillageRun.{standing_0, standing_1, standing_2, row_0, row_1, left, found_0};
+ghost use Rattle.hyd_spec_towns.specs.VillageRun.{founds};
 ghost use Rattle.hyd_spec_towns.specs.VillageTexts.{written, printed};
 ghost use Rattle.hyd_spec_towns.specs.VillageStops.{last_level, open_rule};
-ghost use Rattle.hyd_spec_towns.specs.Shallow.{shallow, left as shallow_left, founds as shallow_founds, written as shallow_written, printed as shallow_printed};
+ghost use Rattle.hyd_spec_towns.specs.Shallow.{shallow, left as shallow_left, founds as shallow_founds};
+ghost use Rattle.hyd_spec_towns.specs.Shallow.{written as shallow_written, printed as shallow_printed};
 
 /// The exit statuses of the run that finishes and of each cause, as the independent program ends.
 pub fn statuses()
-    ensures { map outcome_number (Finished ∷ Stopped (NoCertificate 0 Main Lower 1) ∷ Stopped (RuleOpen 0 open_rule.rule open_rule.clause open_rule.lo open_rule.hi) ∷ Stopped (EventOpen 0 5 6)
-        ∷ Stopped (TankOpen 0 0 last_level.lo last_level.hi) ∷ Stopped (ControlOpen 0 0 last_level.lo last_level.hi) ∷ Stopped (RoundsSpent 0 Main Upper 0)
+    ensures { map outcome_number (Finished ∷ Stopped (NoCertificate 0 Main Lower 1)
+        ∷ Stopped (RuleOpen 0 open_rule.rule open_rule.clause open_rule.lo open_rule.hi) ∷ Stopped (EventOpen 0 5 6)
+        ∷ Stopped (TankOpen 0 0 last_level.lo last_level.hi) ∷ Stopped (ControlOpen 0 0 last_level.lo last_level.hi)
+        ∷ Stopped (RoundsSpent 0 Main Upper 0)
         ∷ Stopped (DemandOutOfRange 0 0 (pos 1200000000000000)) ∷ [])
         ≡ 0 ∷ 6 ∷ 6 ∷ 6 ∷ 6 ∷ 6 ∷ 7 ∷ 8 ∷ [] }
 {}
@@ -24,7 +31,8 @@ pub fn statuses()
 /// Whether a run finished, and the last lines of a check that accepts its certificate.
 pub fn last_words()
     ensures finished { map is_finished (Finished ∷ Stopped (EventOpen 0 5 6) ∷ []) ≡ true ∷ false ∷ [] }
-    ensures accepted { (accepted_line 5 true ∷ accepted_line 2 false ∷ []) ≡ codes "DONE 5\n" ∷ codes "PARTIAL 2\n" ∷ [] }
+    ensures accepted { (accepted_line 5 true ∷ accepted_line 2 false ∷ []) ≡ codes "DONE 5\n" ∷ codes "PARTIAL 2\n"
+        ∷ [] }
 {}
 
 /// The certificate and the report after the first period, and whole ones with and without a stop.

@@ -6,19 +6,22 @@ ghost use Rattle.hyd_spec.specs.Types.{Project};
 ghost use Rattle.hyd_spec_certificates.specs.declared.Side.TheVariants.{Upper, Lower};
 ghost use Rattle.hyd_spec.specs.Quantity.{demand_of, reservoir_head};
 ghost use Rattle.hyd_spec_certificates.specs.Grid.{grid_links, tank_intervals};
-ghost use Rattle.hyd_spec_certificates.specs.Decided.{links_at, flow_boxes, inflow_boxes, watch_of, tank_watches, watches, carried_at};
+ghost use Rattle.hyd_spec_certificates.specs.Decided.{links_at, flow_boxes, inflow_boxes, watch_of, tank_watches};
+ghost use Rattle.hyd_spec_certificates.specs.Decided.{watches, carried_at};
 ghost use Rattle.hyd_spec_certificates.specs.Valid.{levels_next, demand_limit};
 ghost use Rattle.hyd_spec_reports.specs.Stops.{open_states, is_open_control, beginning};
 ghost use Rattle.hyd_spec_reports.specs.Report.{tank_events, events_of, event_line};
 ghost use Rattle.hyd_spec_reports.specs.declared.EventKind.TheVariants.{Full as BecomesFull, Empty as BecomesEmpty};
 ghost use Rattle.hyd_spec_reports.specs.ReportLine.{FilledLine, EmptiedLine, ReachedLine, line_text};
 ghost use Rattle.hyd_spec_towns.specs.Town.{IsTown};
-ghost use Rattle.hyd_spec_towns.specs.TownPeriods.{standing_at_start, standing_at_two, standing_when_full, grid_at_two, grid_when_full, row_at_two, row_when_full};
+ghost use Rattle.hyd_spec_towns.specs.TownPeriods.{standing_at_start, standing_at_two, standing_when_full, grid_at_two};
+ghost use Rattle.hyd_spec_towns.specs.TownPeriods.{grid_when_full, row_at_two, row_when_full};
 
 /// The grids are those of the town: links in their states, heads of the reservoir and the tanks, and the demands.
 pub fn grids()
     ensures links_at_two { (network : Project) → IsTown network
-        → grid_links network standing_at_two.tanks network.links.list (links_at network standing_at_two) ≡ grid_at_two.links }
+        → grid_links network standing_at_two.tanks network.links.list (links_at network standing_at_two)
+        ≡ grid_at_two.links }
     ensures tanks_at_two { (network : Project) → IsTown network
         → tank_intervals network.tanks.list standing_at_two.levels ≡ grid_at_two.tanks }
     ensures reservoirs_at_two { (network : Project) → IsTown network
@@ -142,13 +145,16 @@ pub fn carried()
 /// The tanks that became full or empty, at the carried levels.
 pub fn tanks()
     ensures at_two_112 { (network : Project) → IsTown network
-        → tank_events 0 network.tanks.list standing_at_two.tanks (carried_at network grid_at_two standing_at_two row_at_two 112)
+        → tank_events 0 network.tanks.list standing_at_two.tanks (carried_at network grid_at_two standing_at_two
+        row_at_two 112)
         ≡ [] }
     ensures at_two_113 { (network : Project) → IsTown network
-        → tank_events 0 network.tanks.list standing_at_two.tanks (carried_at network grid_at_two standing_at_two row_at_two 113)
+        → tank_events 0 network.tanks.list standing_at_two.tanks (carried_at network grid_at_two standing_at_two
+        row_at_two 113)
         ≡ record { tank = 0; what = BecomesFull } ∷ record { tank = 1; what = BecomesEmpty } ∷ [] }
     ensures when_full_1327 { (network : Project) → IsTown network
-        → tank_events 0 network.tanks.list standing_when_full.tanks (carried_at network grid_when_full standing_when_full row_when_full 1327)
+        → tank_events 0 network.tanks.list standing_when_full.tanks
+        (carried_at network grid_when_full standing_when_full row_when_full 1327)
         ≡ [] }
 {}
 
@@ -160,7 +166,8 @@ pub fn lines()
     ensures when_full { (network : Project) → IsTown network
         → map (event_line 8640) (events_of network grid_when_full standing_when_full row_when_full) ≡ [] }
     ensures before { (network : Project) → IsTown network
-        → map (event_line 7312) (events_of network grid_at_two standing_at_two (record row_at_two { length = 112 })) ≡ [] }
+        → map (event_line 7312) (events_of network grid_at_two standing_at_two (record row_at_two { length = 112 }))
+        ≡ [] }
     ensures text_at_two { (network : Project) → IsTown network
         → map (line_text network) (map (event_line 7313) (events_of network grid_at_two standing_at_two row_at_two))
         ≡ codes "EVENT 2:01:53 TANK NORTH FULL\n" ∷ codes "EVENT 2:01:53 TANK SOUTH EMPTY\n"

@@ -1,4 +1,5 @@
-//! Periods of a history of the town, at a scale of a thousandth of a tick: levels, what the rules look at, and what they say.
+//! Periods of a history of the town, at a scale of a thousandth of a tick: levels, what the rules look at, and what
+//! they say.
 #![tactic(auto)]
 
 ghost use Rattle.std.specs.Prelude.{◌≡◌, pos, neg_ℤ, true, false, [], ◌∷◌, map};
@@ -9,7 +10,8 @@ ghost use Rattle.hyd_spec.specs.Tank.{tank_inflow};
 ghost use Rattle.hyd_spec.specs.Start.{started, acts_at};
 ghost use Rattle.hyd_spec.specs.Length.{level_at_start, exact_after, readings_after, values_at};
 ghost use Rattle.hyd_spec.specs.History.{tank_states, commanded_after};
-ghost use Rattle.hyd_spec_towns.specs.Town.{IsTown, north, south, filling, fast_filling, narrow_main, night_main, wide_main, unthrottled};
+ghost use Rattle.hyd_spec_towns.specs.Town.{IsTown, north, south, filling, fast_filling, narrow_main, night_main};
+ghost use Rattle.hyd_spec_towns.specs.Town.{wide_main, unthrottled};
 ghost use Rattle.hyd_spec_towns.specs.TownPeriods.{standing_at_two, standing_when_full};
 ghost use Rattle.hyd_spec_towns.specs.TownHistory.{period_at_two, period_when_full};
 
@@ -106,7 +108,8 @@ pub fn readings()
 pub fn values()
     ensures at_two { (network : Project) → IsTown network
         → map (values_at network 1000 period_at_two) (7200 ∷ 7260 ∷ 7313 ∷ [])
-        ≡ (false ∷ false ∷ true ∷ false ∷ []) ∷ (false ∷ false ∷ true ∷ false ∷ []) ∷ (false ∷ false ∷ true ∷ false ∷ []) ∷ [] }
+        ≡ (false ∷ false ∷ true ∷ false ∷ []) ∷ (false ∷ false ∷ true ∷ false ∷ [])
+        ∷ (false ∷ false ∷ true ∷ false ∷ []) ∷ [] }
     ensures when_full { (network : Project) → IsTown network
         → map (values_at network 1000 period_when_full) (7560 ∷ 8280 ∷ 8640 ∷ 9000 ∷ [])
         ≡ (false ∷ false ∷ true ∷ false ∷ []) ∷ (false ∷ false ∷ true ∷ false ∷ []) ∷ (true ∷ true ∷ false ∷ false ∷ [])

@@ -4,7 +4,8 @@
 ghost use Rattle.std.specs.Prelude.{◌≡◌, pos, neg_ℤ, true, false, [], ◌∷◌, ◌++◌, map, codes, slice_index_or};
 ghost use Rattle.hyd_spec.specs.Types.{Project, Open, Closed};
 ghost use Rattle.hyd_spec.specs.declared.TankState.TheVariants.{Empty, Between, Full};
-ghost use Rattle.hyd_spec_reports.specs.declared.StatusWord.TheVariants.{Open as WordOpen, Closed as WordClosed, Active as WordActive, Unsure as WordUnsure};
+ghost use Rattle.hyd_spec_reports.specs.declared.StatusWord.TheVariants.{Open as WordOpen, Closed as WordClosed};
+ghost use Rattle.hyd_spec_reports.specs.declared.StatusWord.TheVariants.{Active as WordActive, Unsure as WordUnsure};
 ghost use Rattle.hyd_spec.specs.Lists.{map_from, joined};
 ghost use Rattle.hyd_spec.specs.Quantity.{is_us};
 ghost use Rattle.hyd_spec.specs.Rules.{state_of_link};
@@ -13,18 +14,21 @@ ghost use Rattle.hyd_spec_certificates.specs.Decided.{links_at, heads_below, hea
 ghost use Rattle.hyd_spec_reports.specs.Report.{is_report_time, status_of, control_lines, events_of, event_line};
 ghost use Rattle.hyd_spec_reports.specs.ReportLine.{line_text, report_text, done_line};
 ghost use Rattle.hyd_spec_towns.specs.Town.{IsTown};
-ghost use Rattle.hyd_spec_towns.specs.TownPeriods.{east, west, standing_at_two, standing_when_full, grid_at_two, grid_when_full, row_at_two, row_when_full};
+ghost use Rattle.hyd_spec_towns.specs.TownPeriods.{east, west, standing_at_two, standing_when_full, grid_at_two};
+ghost use Rattle.hyd_spec_towns.specs.TownPeriods.{grid_when_full, row_at_two, row_when_full};
 ghost use Rattle.hyd_spec_towns.specs.TownReport.{lift, lines_at_two};
 
 /// The status words of all links.
 pub fn statuses()
     ensures at_two { (network : Project) → IsTown network
-        → map_from (λ l link. status_of (is_us network) network.bends.list link.kind (state_of_link (links_at network standing_at_two) l)
+        → map_from (λ l link. status_of (is_us network) network.bends.list link.kind
+        (state_of_link (links_at network standing_at_two) l)
         (difference (slice_index_or grid_at_two.links l lift) (heads_below grid_at_two row_at_two)
         (heads_above grid_at_two row_at_two))) 0 network.links.list
         ≡ WordClosed ∷ WordActive ∷ WordOpen ∷ WordActive ∷ WordActive ∷ [] }
     ensures when_full { (network : Project) → IsTown network
-        → map_from (λ l link. status_of (is_us network) network.bends.list link.kind (state_of_link (links_at network standing_when_full) l)
+        → map_from (λ l link. status_of (is_us network) network.bends.list link.kind
+        (state_of_link (links_at network standing_when_full) l)
         (difference (slice_index_or grid_when_full.links l lift) (heads_below grid_when_full row_when_full)
         (heads_above grid_when_full row_when_full))) 0 network.links.list
         ≡ WordClosed ∷ WordClosed ∷ WordOpen ∷ WordActive ∷ WordActive ∷ [] }
@@ -34,10 +38,16 @@ pub fn statuses()
 pub fn outflows()
     ensures at_two { out_box east (pos 449923184137361) (pos 449923192697818)
         ∷ out_box west (pos 215076805275904) (pos 215076813815139) ∷ []
-        ≡ record { lo = pos 2999999990; hi = pos 3000000010 } ∷ record { lo = pos 8639999990; hi = pos 8640000010 } ∷ [] }
+        ≡ record { lo = pos 2999999990; hi = pos 3000000010 } ∷ record {
+          lo = pos 8639999990;
+          hi = pos 8640000010;
+        } ∷ [] }
     ensures when_full { out_box east (pos 449999998505012) (pos 449999998505013)
         ∷ out_box west (pos 215000000044849) (pos 215000000044850) ∷ []
-        ≡ record { lo = pos 2999999990; hi = pos 3000000010 } ∷ record { lo = pos 8639999990; hi = pos 8640000010 } ∷ [] }
+        ≡ record { lo = pos 2999999990; hi = pos 3000000010 } ∷ record {
+          lo = pos 8639999990;
+          hi = pos 8640000010;
+        } ∷ [] }
 {}
 
 /// The report times among the starts of periods.

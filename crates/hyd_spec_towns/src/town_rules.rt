@@ -6,13 +6,18 @@ ghost use Rattle.hyd_num.specs.Rational.{whole};
 ghost use Rattle.hyd_spec.specs.declared.Source.TheVariants.{Rule as ByRule};
 ghost use Rattle.hyd_spec.specs.Types.{Project, Open, Closed, Speed};
 ghost use Rattle.hyd_spec_certificates.specs.Verdict.{Yes, No, Unknown, is_yes};
-ghost use Rattle.hyd_spec.specs.Rules.{head_of, pressure_of, state_of_link, rule_values, offers_from, best_offer, higher, change_of, rule_changes, acted};
-ghost use Rattle.hyd_spec_certificates.specs.Decided.{links_at, readings_below, readings_above, rule_truths, decided_changes};
+ghost use Rattle.hyd_spec.specs.Rules.{head_of, pressure_of, state_of_link, rule_values, offers_from, best_offer};
+ghost use Rattle.hyd_spec.specs.Rules.{higher, change_of, rule_changes, acted};
+ghost use Rattle.hyd_spec_certificates.specs.Decided.{links_at, readings_below, readings_above, rule_truths};
+ghost use Rattle.hyd_spec_certificates.specs.Decided.{decided_changes};
 ghost use Rattle.hyd_spec_reports.specs.Report.{change_line};
 ghost use Rattle.hyd_spec_reports.specs.ReportLine.{RuleLine, line_text};
-ghost use Rattle.hyd_spec_towns.specs.Town.{IsTown, numbers, earlier, later, filling, fast_filling, narrow_main, night_main, wide_main, unthrottled};
-ghost use Rattle.hyd_spec_towns.specs.TownPeriods.{standing_at_one, standing_at_two, standing_when_full, grid_at_two, grid_when_full, row_at_two, row_when_full};
-ghost use Rattle.hyd_spec_towns.specs.TownReadings.{readings_none, readings_three, readings_edges, readings_past_edges, readings_of_halves};
+ghost use Rattle.hyd_spec_towns.specs.Town.{IsTown, numbers, earlier, later, filling, fast_filling, narrow_main};
+ghost use Rattle.hyd_spec_towns.specs.Town.{night_main, wide_main, unthrottled};
+ghost use Rattle.hyd_spec_towns.specs.TownPeriods.{standing_at_one, standing_at_two, standing_when_full, grid_at_two};
+ghost use Rattle.hyd_spec_towns.specs.TownPeriods.{grid_when_full, row_at_two, row_when_full};
+ghost use Rattle.hyd_spec_towns.specs.TownReadings.{readings_none, readings_three, readings_edges, readings_past_edges};
+ghost use Rattle.hyd_spec_towns.specs.TownReadings.{readings_of_halves};
 
 /// What the rules look at, from below and above.
 pub fn readings()
@@ -63,7 +68,8 @@ pub fn readings()
 pub fn truths()
     ensures when_full { (network : Project) → IsTown network
         → map (rule_truths network grid_when_full standing_when_full row_when_full) (247 ∷ 967 ∷ 1327 ∷ 1687 ∷ [])
-        ≡ (No ∷ No ∷ Yes ∷ No ∷ []) ∷ (No ∷ No ∷ Yes ∷ No ∷ []) ∷ (Yes ∷ Yes ∷ No ∷ No ∷ []) ∷ (Yes ∷ Yes ∷ No ∷ No ∷ []) ∷ [] }
+        ≡ (No ∷ No ∷ Yes ∷ No ∷ []) ∷ (No ∷ No ∷ Yes ∷ No ∷ []) ∷ (Yes ∷ Yes ∷ No ∷ No ∷ [])
+        ∷ (Yes ∷ Yes ∷ No ∷ No ∷ []) ∷ [] }
     ensures at_two { (network : Project) → IsTown network
         → map (rule_truths network grid_at_two standing_at_two row_at_two) (0 ∷ 60 ∷ 360 ∷ [])
         ≡ (No ∷ No ∷ Yes ∷ No ∷ []) ∷ (No ∷ No ∷ Yes ∷ No ∷ []) ∷ (No ∷ No ∷ Yes ∷ No ∷ []) ∷ [] }
@@ -107,11 +113,19 @@ pub fn changes()
         → decided_changes network grid_when_full standing_when_full row_when_full 967 ≡ [] }
     ensures when_full_1327 { (network : Project) → IsTown network
         → decided_changes network grid_when_full standing_when_full row_when_full 1327
-        ≡ record { source = ByRule 0; link = 1; to = fast_filling } ∷ record { source = ByRule 1; link = 3; to = night_main }
+        ≡ record { source = ByRule 0; link = 1; to = fast_filling } ∷ record {
+          source = ByRule 1;
+          link = 3;
+          to = night_main;
+        }
         ∷ record { source = ByRule 2; link = 4; to = Open } ∷ [] }
     ensures when_full_1687 { (network : Project) → IsTown network
         → decided_changes network grid_when_full standing_when_full row_when_full 1687
-        ≡ record { source = ByRule 0; link = 1; to = fast_filling } ∷ record { source = ByRule 1; link = 3; to = night_main }
+        ≡ record { source = ByRule 0; link = 1; to = fast_filling } ∷ record {
+          source = ByRule 1;
+          link = 3;
+          to = night_main;
+        }
         ∷ record { source = ByRule 2; link = 4; to = Open } ∷ [] }
     ensures at_two_60 { (network : Project) → IsTown network
         → decided_changes network grid_at_two standing_at_two row_at_two 60 ≡ [] }
@@ -120,24 +134,30 @@ pub fn changes()
 /// The states of the links after the rules.
 pub fn states()
     ensures when_full_247 { (network : Project) → IsTown network
-        → acted network (map is_yes (rule_truths network grid_when_full standing_when_full row_when_full 247)) (links_at network standing_when_full)
+        → acted network (map is_yes (rule_truths network grid_when_full standing_when_full row_when_full 247))
+        (links_at network standing_when_full)
         ≡ Closed ∷ Closed ∷ Open ∷ wide_main ∷ unthrottled ∷ [] }
     ensures when_full_1327 { (network : Project) → IsTown network
-        → acted network (map is_yes (rule_truths network grid_when_full standing_when_full row_when_full 1327)) (links_at network standing_when_full)
+        → acted network (map is_yes (rule_truths network grid_when_full standing_when_full row_when_full 1327))
+        (links_at network standing_when_full)
         ≡ Closed ∷ fast_filling ∷ Open ∷ night_main ∷ Open ∷ [] }
 {}
 
 /// The lines of the rules at the end of a period, and their texts.
 pub fn lines()
     ensures when_full { (network : Project) → IsTown network
-        → map (change_line 8640) (decided_changes network grid_when_full standing_when_full row_when_full row_when_full.length)
+        → map (change_line 8640) (decided_changes network grid_when_full standing_when_full row_when_full
+        row_when_full.length)
         ≡ RuleLine 8640 0 1 fast_filling ∷ RuleLine 8640 1 3 night_main ∷ RuleLine 8640 2 4 Open ∷ [] }
     ensures before { (network : Project) → IsTown network
-        → map (change_line 8280) (decided_changes network grid_when_full standing_when_full (record row_when_full { length = 967 }) 967) ≡ [] }
+        → map (change_line 8280) (decided_changes network grid_when_full standing_when_full
+        (record row_when_full { length = 967 }) 967) ≡ [] }
     ensures text_when_full { (network : Project) → IsTown network
-        → map (line_text network) (map (change_line 8640) (decided_changes network grid_when_full standing_when_full row_when_full row_when_full.length))
+        → map (line_text network) (map (change_line 8640) (decided_changes network grid_when_full standing_when_full
+        row_when_full row_when_full.length))
         ≡ codes "RULE LOW 2:24:00 LINK FILL SETTING 1400.000000000\n"
-        ∷ codes "RULE NIGHT 2:24:00 LINK MAIN SETTING 880.000000000\n" ∷ codes "RULE REST 2:24:00 LINK LOWER OPEN\n" ∷ [] }
+        ∷ codes "RULE NIGHT 2:24:00 LINK MAIN SETTING 880.000000000\n" ∷ codes "RULE REST 2:24:00 LINK LOWER OPEN\n"
+        ∷ [] }
 {}
 
 /// The values of the rules at an instant, where all is exact.
@@ -211,10 +231,18 @@ pub fn changed()
         → map (λ link. change_of network (true ∷ true ∷ false ∷ false
         ∷ []) link (state_of_link (links_at network standing_when_full) link)) numbers
         ≡ None ∷ Some (record { source = ByRule 0; link = 1; to = fast_filling }) ∷ None
-        ∷ Some (record { source = ByRule 1; link = 3; to = night_main }) ∷ Some (record { source = ByRule 2; link = 4; to = Open }) ∷ [] }
+        ∷ Some (record { source = ByRule 1; link = 3; to = night_main }) ∷ Some (record {
+          source = ByRule 2;
+          link = 4;
+          to = Open;
+        }) ∷ [] }
     ensures three_in_order { (network : Project) → IsTown network
         → rule_changes network (true ∷ true ∷ false ∷ false ∷ []) (links_at network standing_when_full)
-        ≡ record { source = ByRule 0; link = 1; to = fast_filling } ∷ record { source = ByRule 1; link = 3; to = night_main }
+        ≡ record { source = ByRule 0; link = 1; to = fast_filling } ∷ record {
+          source = ByRule 1;
+          link = 3;
+          to = night_main;
+        }
         ∷ record { source = ByRule 2; link = 4; to = Open } ∷ [] }
     ensures all { (network : Project) → IsTown network
         → map (λ link. change_of network (true ∷ true ∷ true ∷ true
@@ -224,7 +252,11 @@ pub fn changed()
         ∷ Some (record { source = ByRule 1; link = 3; to = night_main }) ∷ None ∷ [] }
     ensures all_in_order { (network : Project) → IsTown network
         → rule_changes network (true ∷ true ∷ true ∷ true ∷ []) (links_at network standing_when_full)
-        ≡ record { source = ByRule 3; link = 0; to = Speed (pos 500000000) } ∷ record { source = ByRule 0; link = 1; to = fast_filling }
+        ≡ record { source = ByRule 3; link = 0; to = Speed (pos 500000000) } ∷ record {
+          source = ByRule 0;
+          link = 1;
+          to = fast_filling;
+        }
         ∷ record { source = ByRule 1; link = 3; to = night_main } ∷ [] }
     ensures none { (network : Project) → IsTown network
         → map (λ link. change_of network (false ∷ false ∷ false ∷ false

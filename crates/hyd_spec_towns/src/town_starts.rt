@@ -10,8 +10,10 @@ ghost use Rattle.hyd_spec_certificates.specs.Record.{initial_standing};
 ghost use Rattle.hyd_spec_certificates.specs.Decided.{links_at, acts_on};
 ghost use Rattle.hyd_spec_reports.specs.Report.{start_changes, control_lines};
 ghost use Rattle.hyd_spec_reports.specs.ReportLine.{ControlLine, line_text};
-ghost use Rattle.hyd_spec_towns.specs.Town.{IsTown, town, filling, fast_filling, narrow_main, night_main, wide_main, unthrottled};
-ghost use Rattle.hyd_spec_towns.specs.TownPeriods.{standing_at_start, standing_at_one, standing_at_two, standing_when_full, standing_after_rules, standing_at_three};
+ghost use Rattle.hyd_spec_towns.specs.Town.{IsTown, town, filling, fast_filling, narrow_main, night_main, wide_main};
+ghost use Rattle.hyd_spec_towns.specs.Town.{unthrottled};
+ghost use Rattle.hyd_spec_towns.specs.TownPeriods.{standing_at_start, standing_at_one, standing_at_two};
+ghost use Rattle.hyd_spec_towns.specs.TownPeriods.{standing_when_full, standing_after_rules, standing_at_three};
 
 /// There is such a town.
 pub fn towns()
@@ -49,12 +51,20 @@ pub fn changes()
         → start_changes network 0 (acts_on standing_at_start.levels) standing_at_start.commanded ≡ [] }
     ensures at_one { (network : Project) → IsTown network
         → start_changes network 3600 (acts_on standing_at_one.levels) standing_at_one.commanded
-        ≡ record { source = ByControl 0; link = 0; to = Speed (pos 1200000000) } ∷ record { source = ByControl 1; link = 0; to = Closed } ∷ [] }
+        ≡ record { source = ByControl 0; link = 0; to = Speed (pos 1200000000) } ∷ record {
+          source = ByControl 1;
+          link = 0;
+          to = Closed;
+        } ∷ [] }
     ensures at_two { (network : Project) → IsTown network
         → start_changes network 7200 (acts_on standing_at_two.levels) standing_at_two.commanded ≡ [] }
     ensures when_full { (network : Project) → IsTown network
         → start_changes network 7313 (acts_on standing_when_full.levels) standing_when_full.commanded
-        ≡ record { source = ByControl 2; link = 3; to = wide_main } ∷ record { source = ByControl 3; link = 1; to = Closed } ∷ [] }
+        ≡ record { source = ByControl 2; link = 3; to = wide_main } ∷ record {
+          source = ByControl 3;
+          link = 1;
+          to = Closed;
+        } ∷ [] }
     ensures after_rules { (network : Project) → IsTown network
         → start_changes network 8640 (acts_on standing_after_rules.levels) standing_after_rules.commanded ≡ [] }
     ensures at_three { (network : Project) → IsTown network
@@ -71,10 +81,12 @@ pub fn lines()
     ensures at_three { (network : Project) → IsTown network → control_lines network standing_at_three ≡ [] }
     ensures text_at_one { (network : Project) → IsTown network
         → map (line_text network) (control_lines network standing_at_one)
-        ≡ codes "CONTROL 1 1:00:00 LINK LIFT SETTING 1.200000000\n" ∷ codes "CONTROL 2 1:00:00 LINK LIFT CLOSED\n" ∷ [] }
+        ≡ codes "CONTROL 1 1:00:00 LINK LIFT SETTING 1.200000000\n" ∷ codes "CONTROL 2 1:00:00 LINK LIFT CLOSED\n"
+        ∷ [] }
     ensures text_when_full { (network : Project) → IsTown network
         → map (line_text network) (control_lines network standing_when_full)
-        ≡ codes "CONTROL 3 2:01:53 LINK MAIN SETTING 900.000000000\n" ∷ codes "CONTROL 4 2:01:53 LINK FILL CLOSED\n" ∷ [] }
+        ≡ codes "CONTROL 3 2:01:53 LINK MAIN SETTING 900.000000000\n" ∷ codes "CONTROL 4 2:01:53 LINK FILL CLOSED\n"
+        ∷ [] }
 {}
 
 /// Level controls at levels in thirds of a tick, on, above and below the control's level.
@@ -87,7 +99,8 @@ pub fn levels()
         ≡ true ∷ true ∷ false ∷ [] }
 {}
 
-/// The states of the links in a period of a history, at levels in thirds of a tick: a level control acts from its level on.
+/// The states of the links in a period of a history, at levels in thirds of a tick: a level control acts from its level
+/// on.
 pub fn histories()
     ensures reached { (network : Project) → IsTown network
         → started network 7313 (acts_at 3 (pos 150000000000000 ∷ pos 45000000000000 ∷ [])) standing_when_full.commanded

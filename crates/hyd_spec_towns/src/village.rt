@@ -11,11 +11,15 @@ ghost use Rattle.hyd_spec.specs.History.{IsHistory, initial_links};
 ghost use Rattle.hyd_spec_reports.specs.Report.{IsReport};
 ghost use Rattle.hyd_spec_reports.specs.ReportLine.{report_text, done_line};
 ghost use Rattle.hyd_spec_reports.specs.CertificateText.{IsCertificateText};
-ghost use Rattle.hyd_spec_reports.specs.Headline.{Found, IsTightThroughout, IsRun, AllAgree, EveryHistoryAgrees, rows_of, lines_of};
+ghost use Rattle.hyd_spec_reports.specs.Headline.{Found, IsTightThroughout, IsRun, AllAgree, EveryHistoryAgrees};
+ghost use Rattle.hyd_spec_reports.specs.Headline.{rows_of, lines_of};
 ghost use Rattle.hyd_spec_certificates.specs.Valid.{IsGridAt, AreCertificates, IsValid, AreValid};
 ghost use Rattle.hyd_spec_towns.specs.Village.{village};
 ghost use Rattle.hyd_spec_towns.specs.VillageHistory.{periods};
-ghost use Rattle.hyd_spec_towns.specs.VillageRun.{standing_0, standing_1, standing_2, standing_3, standing_4, left, grid_0, grid_1, grid_2, grid_3, grid_4, row_0, row_1, row_2, row_3, row_4, lines_0, lines_1, lines_2, lines_3, lines_4, found_0, found_1, found_2, found_3, found_4, founds};
+ghost use Rattle.hyd_spec_towns.specs.VillageRun.{standing_0, standing_1, standing_2, standing_3, standing_4, left};
+ghost use Rattle.hyd_spec_towns.specs.VillageRun.{grid_0, grid_1, grid_2, grid_3, grid_4, row_0, row_1, row_2, row_3};
+ghost use Rattle.hyd_spec_towns.specs.VillageRun.{row_4, lines_0, lines_1, lines_2, lines_3, lines_4, found_0, found_1};
+ghost use Rattle.hyd_spec_towns.specs.VillageRun.{found_2, found_3, found_4, founds};
 ghost use Rattle.hyd_spec_towns.specs.VillageTexts.{written, printed};
 
 /// The village is a network that a file can stand for.
@@ -90,7 +94,8 @@ pub fn run()
 
 /// No other tight run of the village has five periods.
 pub fn only_run()
-    ensures { (others : List Found) (last : Standing) → IsRun village others last → AllByRecursion (IsTightThroughout village) others
+    ensures { (others : List Found) (last : Standing) → IsRun village others last
+        → AllByRecursion (IsTightThroughout village) others
         → length others ≡ 5 → others ≡ founds }
 {}
 
@@ -100,8 +105,8 @@ pub fn texts()
     ensures report { printed ≡ report_text village (lines_of founds) (done_line 5) }
 {}
 
-/// The history agrees with the run: its heads lie strictly between the vectors, and each line holds of it. This follows from
-/// the numbers; that every other history agrees too, at every scale, from the theorem.
+/// The history agrees with the run: its heads lie strictly between the vectors, and each line holds of it. This follows
+/// from the numbers; that every other history agrees too, at every scale, from the theorem.
 pub fn agreement()
     ensures this { AllAgree village 1000 (initial_links village) periods founds }
     ensures every { EveryHistoryAgrees village founds }

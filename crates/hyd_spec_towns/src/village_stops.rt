@@ -1,19 +1,22 @@
-//! Villages whose run an independent calculation stops at its start: the cause holds by the definitions too, and the last
-//! line is the one that it prints.
+//! Villages whose run an independent calculation stops at its start: the cause holds by the definitions too, and the
+//! last line is the one that it prints.
 #![tactic(auto)]
 
 ghost use Rattle.std.specs.Prelude.{◌≡◌, pos, [], ◌∷◌, codes};
 ghost use Rattle.hyd_spec_certificates.specs.declared.Problem.TheVariants.{Main};
 ghost use Rattle.hyd_spec_certificates.specs.declared.Side.TheVariants.{Upper, Lower};
 ghost use Rattle.hyd_spec_reports.specs.Stops.{Stops};
-ghost use Rattle.hyd_spec_reports.specs.declared.StopCause.TheVariants.{Demand as DemandOutOfRange, NoCertificate, RoundsSpent, RuleOpen, EventOpen, TankOpen, ControlOpen};
+ghost use Rattle.hyd_spec_reports.specs.declared.StopCause.TheVariants.{Demand as DemandOutOfRange, NoCertificate};
+ghost use Rattle.hyd_spec_reports.specs.declared.StopCause.TheVariants.{RoundsSpent, RuleOpen, EventOpen, TankOpen};
+ghost use Rattle.hyd_spec_reports.specs.declared.StopCause.TheVariants.{ControlOpen};
 ghost use Rattle.hyd_spec_reports.specs.ReportLine.{stop_line};
 ghost use Rattle.hyd_spec_certificates.specs.Record.{initial_standing};
 ghost use Rattle.hyd_spec_certificates.specs.declared.Truth.TheVariants.{True, False, Open};
 ghost use Rattle.hyd_spec_certificates.specs.Decided.{IsTruthBetween, readings_below, readings_above};
 ghost use Rattle.hyd_spec_towns.specs.Village.{village, village_with, refill_rule};
 ghost use Rattle.hyd_spec_towns.specs.VillageRun.{standing_0, grid_0, row_0};
-ghost use Rattle.hyd_spec_towns.specs.VillageStops.{thirsty, dry, unsure_rule, open_rule, unsure_event, unsure_control, unsure_tank, last_level};
+ghost use Rattle.hyd_spec_towns.specs.VillageStops.{thirsty, dry, unsure_rule, open_rule, unsure_event, unsure_control};
+ghost use Rattle.hyd_spec_towns.specs.VillageStops.{unsure_tank, last_level};
 
 /// A demand is out of range.
 pub fn demand()
@@ -32,11 +35,12 @@ pub fn source()
 /// No rounds are allowed.
 pub fn rounds()
     ensures stops { Stops village (initial_standing village) 0 (RoundsSpent 0 Main Upper 0) }
-    ensures line { stop_line village 0 (RoundsSpent 0 Main Upper 0) ≡ codes "STOP period 0 time 0:00:00 ROUNDS MAIN UPPER 0\n" }
+    ensures line { stop_line village 0 (RoundsSpent 0 Main Upper 0)
+        ≡ codes "STOP period 0 time 0:00:00 ROUNDS MAIN UPPER 0\n" }
 {}
 
-/// What is known of a rule between two readings: one second after the start it is true, after two it is open by its second
-/// clause, after three it is false.
+/// What is known of a rule between two readings: one second after the start it is true, after two it is open by its
+/// second clause, after three it is false.
 pub fn truths()
     ensures first { IsTruthBetween (village_with unsure_rule) 1 (readings_below (village_with unsure_rule) grid_0 standing_0 row_0 1)
         (readings_above (village_with unsure_rule) grid_0 standing_0 row_0 1) (refill_rule unsure_rule.clauses) True }
@@ -57,7 +61,8 @@ pub fn rule()
 /// The end is open between two seconds.
 pub fn event()
     ensures stops { Stops (village_with unsure_event) (initial_standing (village_with unsure_event)) 200 (EventOpen 0 5 6) }
-    ensures line { stop_line (village_with unsure_event) 0 (EventOpen 0 5 6) ≡ codes "STOP period 0 time 0:00:00 EVENT 5 6\n" }
+    ensures line { stop_line (village_with unsure_event) 0 (EventOpen 0 5 6)
+        ≡ codes "STOP period 0 time 0:00:00 EVENT 5 6\n" }
 {}
 
 /// A level control is open at the end of the period.

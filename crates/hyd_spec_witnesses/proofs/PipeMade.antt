@@ -1,13 +1,15 @@
 -- The capacity of the pipe of 1000 feet is the one that its numbers stand for. The diameter is one foot, whose
 -- powers and roots are 1.
-use Rattle.std.proofs.Common.{◌≡◌, ℕ, ◌+◌, ◌*◌, ◌^◌, ◌<◌, ◌≤◌, neg_ℤ, pos, false, inl, inr, refl, sym, subst, arith, lit≤, lit<, mul-le-mul_right, mul-lt-mul_of_pos_right, lt_of_mul-lt-mul_right}
+use Rattle.std.proofs.Common.{◌≡◌, ℕ, ◌+◌, ◌*◌, ◌^◌, ◌<◌, ◌≤◌, neg_ℤ, pos, false, inl, inr, refl, sym, subst, arith}
+use Rattle.std.proofs.Common.{lit≤, lit<, mul-le-mul_right, mul-lt-mul_of_pos_right, lt_of_mul-lt-mul_right}
 use Rattle.std.proofs.lemmas.Bool.{cases_lt}
 use Rattle.std.proofs.lemmas.Nat.{pow_pos}
 use borrow.Author.Differences.{up, down}
 use Rattle.hyd_num.specs.declared.binary.Scaled.{Scaled}
 use Rattle.hyd_num.specs.declared.pairs.Pair.{Pair}
 use Rattle.hyd_num.specs.Scaled.{numerator, denominator, IsDown, IsUp}
-use Rattle.hyd_num.specs.Pairs.{IsProduct, IsPower, once as power_once, even, odd, IsOwnPower, RootsBelow, RootsAbove, IsRoot533}
+use Rattle.hyd_num.specs.Pairs.{IsProduct, IsPower, once as power_once, even, odd, IsOwnPower, RootsBelow, RootsAbove}
+use Rattle.hyd_num.specs.Pairs.{IsRoot533}
 use Rattle.hyd_num.specs.Chain.{IsMade}
 use Rattle.hyd_num.proofs.Rounding.{IsDown-from_cut, IsUp-exact, IsUp-next}
 use Rattle.hyd_spec_witnesses.specs.Spurs.{long_pipe}

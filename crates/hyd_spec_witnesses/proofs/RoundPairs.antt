@@ -1,5 +1,6 @@
 -- Capacities of numbers at which nothing is rounded: those of the pump and of the emitter.
-use Rattle.std.proofs.Common.{◌≡◌, ℕ, ◌*◌, ◌<◌, ◌≤◌, neg_ℤ, pos, refl, ap, arith, lit≤, lit<, mul-le-mul_right, le_of_mul-le-mul_right}
+use Rattle.std.proofs.Common.{◌≡◌, ℕ, ◌*◌, ◌<◌, ◌≤◌, neg_ℤ, pos, refl, ap, arith, lit≤, lit<, mul-le-mul_right}
+use Rattle.std.proofs.Common.{le_of_mul-le-mul_right}
 use Rattle.hyd_num.specs.declared.binary.Scaled.{Scaled}
 use Rattle.hyd_num.specs.declared.pairs.Pair.{Pair}
 use Rattle.hyd_num.specs.Scaled.{numerator, denominator, IsDown}

@@ -12,7 +12,8 @@ use Rattle.hyd_net.specs.Sizes.{HasOptions, IsJunction, IsReservoir, IsTank, Has
 use Rattle.hyd_net.specs.Ranges.{IsHead}
 use Rattle.hyd_net.specs.States.{CanHave}
 use Rattle.hyd_net.specs.Commands.{IsControl, IsRule}
-use Rattle.hyd_net.specs.Made.{IsAreaMade, IsKindMade, IsStateMade, IsRuleMade, IsKindAcross, IsStateAcross, IsAcross, IsAllMade}
+use Rattle.hyd_net.specs.Made.{IsAreaMade, IsKindMade, IsStateMade, IsRuleMade, IsKindAcross, IsStateAcross, IsAcross}
+use Rattle.hyd_net.specs.Made.{IsAllMade}
 use Rattle.hyd_net.specs.declared.rules.Rule.{Rule}
 use Rattle.hyd_spec_witnesses.specs.Parts.{Spur, network_of, junction_of}
 

@@ -1,8 +1,11 @@
 -- When the periods of the network with controls by time end.
-use Rattle.std.proofs.Common.{◌≡◌, ◌≢◌, ℕ, zero, suc, ◌+◌, ◌-◌, ◌%◌, ◌<◌, ◌≤◌, ◌⊎◌, inl, inr, [], ◌∷◌, refl, sym, subst, arith, lit<}
+use Rattle.std.proofs.Common.{◌≡◌, ◌≢◌, ℕ, zero, suc, ◌+◌, ◌-◌, ◌%◌, ◌<◌, ◌≤◌, ◌⊎◌, inl, inr, [], ◌∷◌, refl, sym, subst}
+use Rattle.std.proofs.Common.{arith, lit<}
 use Rattle.std.specs.Prelude.{Contains}
 use Rattle.hyd_spec.specs.Types.{Control, AtTime, AtClock, LinkState, Open, Closed}
-use Rattle.hyd_spec.specs.Length.{EndsByClock, step, duration, pattern, report, control_time, control_clock, EndsByLevel, full, empty, control as at_control, MayEnd, by_clock, by_level, by_rules, HasItsLength, before_end}
+use Rattle.hyd_spec.specs.Length.{EndsByClock, step, duration, pattern, report, control_time, control_clock}
+use Rattle.hyd_spec.specs.Length.{EndsByLevel, full, empty, control as at_control, MayEnd, by_clock, by_level, by_rules}
+use Rattle.hyd_spec.specs.Length.{HasItsLength, before_end}
 use Rattle.hyd_spec_witnesses.specs.Parts.{network_of}
 use Rattle.hyd_spec_witnesses.specs.Timed.{timed_spur, closing, opening, still}
 

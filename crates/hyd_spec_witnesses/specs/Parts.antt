@@ -2,7 +2,8 @@
 use Rattle.std.specs.Prelude.{ℕ, ℤ, pos, Bool, false, List, [], ◌∷◌, Option, None, codes}
 use Rattle.std.proofs.Common.{lit≤}
 use Rattle.hyd_net.specs.ListView.{ListView}
-use Rattle.hyd_spec.specs.Types.{Project, Junction, Link, FlowUnit, Cmd, Decimal, Capacity, LinkKind, LinkState, Tcv, Linear, Open, HeadPoint, Control}
+use Rattle.hyd_spec.specs.Types.{Project, Junction, Link, FlowUnit, Cmd, Decimal, Capacity, LinkKind, LinkState, Tcv}
+use Rattle.hyd_spec.specs.Types.{Linear, Open, HeadPoint, Control}
 use Rattle.hyd_spec.specs.Length.{Period}
 
 -- A list without room for more.

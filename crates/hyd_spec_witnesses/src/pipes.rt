@@ -1,5 +1,6 @@
 //! Histories of one period of a pipe of 1000 feet that loses 0.466 feet at one cubic foot a second, at 125 parts a
-//! tick, at which that flow is whole. They go up to the tolerance above and below the exact flow, and none goes farther.
+//! tick, at which that flow is whole. They go up to the tolerance above and below the exact flow, and none goes
+//! farther.
 #![tactic(auto)]
 
 ghost use Rattle.std.specs.Prelude.{pos, neg_ℤ, [], ◌∷◌};

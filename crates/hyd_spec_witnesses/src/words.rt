@@ -4,8 +4,10 @@
 ghost use Rattle.std.specs.Prelude.{ℕ, ℤ, pos, neg_ℤ, Bool, false, List, Option};
 ghost use Rattle.hyd_num.specs.declared.decimals.Span.{Span};
 ghost use Rattle.hyd_net.specs.ListView.{ListView};
-ghost use Rattle.hyd_spec.specs.Types.{Capacity, HeadPoint, OpenValve, PipeLink, CheckPipe, PumpLink, CurvePump, Tcv, Fcv, Gpv, Linear, FourThirds, Open, Closed, Speed, Throttle, Limit};
-ghost use Rattle.hyd_spec_reports.specs.declared.StatusWord.TheVariants.{Open as WordOpen, Closed as WordClosed, Active as WordActive};
+ghost use Rattle.hyd_spec.specs.Types.{Capacity, HeadPoint, OpenValve, PipeLink, CheckPipe, PumpLink, CurvePump, Tcv};
+ghost use Rattle.hyd_spec.specs.Types.{Fcv, Gpv, Linear, FourThirds, Open, Closed, Speed, Throttle, Limit};
+ghost use Rattle.hyd_spec_reports.specs.declared.StatusWord.TheVariants.{Open as WordOpen, Closed as WordClosed};
+ghost use Rattle.hyd_spec_reports.specs.declared.StatusWord.TheVariants.{Active as WordActive};
 ghost use Rattle.hyd_spec_witnesses.specs.Words.{HoldsAlone, thirty, falling};
 
 /// An open check valve pipe is CLOSED where the head difference is 0, OPEN one part of a head tick above it.

@@ -1,5 +1,6 @@
 -- What is asked of a link, by its type.
-use Rattle.std.proofs.Common.{◌≡◌, ℕ, Bool, true, false, not, if◌then◌else◌, List, Option, Some, None, refl, sym, ◌∙◌, subst, codes, inl, inr}
+use Rattle.std.proofs.Common.{◌≡◌, ℕ, Bool, true, false, not, if◌then◌else◌, List, Option, Some, None, refl, sym, ◌∙◌}
+use Rattle.std.proofs.Common.{subst, codes, inl, inr}
 use Rattle.std.specs.Prelude.{IfNone}
 use Rattle.std.proofs.lemmas.Bool.{cases_Bool}
 use Rattle.hyd_num.specs.Numeral.{nano_of}
@@ -21,7 +22,8 @@ use Rattle.hyd_spec_networks.proofs.Faultless.{or_none, section_is}
 use Rattle.hyd_spec_networks.proofs.Names.{First, Second, Third, one_of_three}
 use Rattle.hyd_net.specs.declared.cause.Cause.{Cause}
 use Rattle.hyd_net.specs.declared.cause.Cause.TheVariants.{Syntax, Unsupported}
-use Rattle.hyd_states.specs.States.{IsType, IsAllowed, IsSettable, IsRefusedAsked, takes, takes_number, is_check_pipe, range_fault, type_fault}
+use Rattle.hyd_states.specs.States.{IsType, IsAllowed, IsSettable, IsRefusedAsked, takes, takes_number, is_check_pipe}
+use Rattle.hyd_states.specs.States.{range_fault, type_fault}
 use Rattle.hyd_states.specs.declared.types.LinkType.{LinkType}
 use Rattle.hyd_states.specs.declared.types.LinkType.TheVariants.{Pipe, CheckPipe, Pump, Tcv, Fcv, Gpv}
 

@@ -6,7 +6,8 @@ use Rattle.hyd_spec_certificates.specs.declared.Side.TheVariants.{Upper, Lower}
 use Rattle.hyd_spec_reports.specs.Stops.{beginning}
 use Rattle.hyd_sweep.specs.Sweeps.{near_end}
 
-pub filled : (xs : List ℤ) (e : ℤ) → map (λ (x : ℤ). e) (take (length xs) xs) ++ drop (length xs) xs ≡ replicate (length xs) e
+pub filled : (xs : List ℤ) (e : ℤ) → map (λ (x : ℤ). e) (take (length xs) xs) ++ drop (length xs) xs
+    ≡ replicate (length xs) e
 filled [] e = refl
 filled (x ∷ xs) e = ap (λ (ys : List ℤ). e ∷ ys) (filled xs e)
 

@@ -1,5 +1,6 @@
 -- Leaps in turn lead from a start to a start.
-use Rattle.std.proofs.Common.{◌≡◌, ℕ, zero, suc, ◌+◌, ◌<◌, ◌≤◌, ℤ, pos, ◌-ℤ◌, ◌≤ℤ◌, ◌<ℤ◌, Bool, true, false, refl, sym, ap, subst, ◌∙◌, arith, List, [], ◌∷◌, ◌==◌, length, inl, inr, ◌⊎◌}
+use Rattle.std.proofs.Common.{◌≡◌, ℕ, zero, suc, ◌+◌, ◌<◌, ◌≤◌, ℤ, pos, ◌-ℤ◌, ◌≤ℤ◌, ◌<ℤ◌, Bool, true, false, refl, sym}
+use Rattle.std.proofs.Common.{ap, subst, ◌∙◌, arith, List, [], ◌∷◌, ◌==◌, length, inl, inr, ◌⊎◌}
 use Rattle.std.specs.Prelude.{Option, None, Some, MatchBool, slice_get, slice_set, if◌then◌else◌}
 use Rattle.std.proofs.lemmas.Int.{ints, by_lt_z}
 use Rattle.std.proofs.lemmas.Bool.{cases_eq, cases_lt}
@@ -41,7 +42,8 @@ first-greatest f (suc zero) some = (
   0,
   record {
     below = omega arith;
-    each = λ m lt. subst (λ (k : ℕ). f k ≤ℤ f 0) (let e : 0 ≡ m = omega arith in e) (let l : f 0 ≤ℤ f 0 = omega (arith, ints) in l);
+    each = λ m lt. subst (λ (k : ℕ). f k ≤ℤ f 0) (let e : 0 ≡ m = omega arith in
+        e) (let l : f 0 ≤ℤ f 0 = omega (arith, ints) in l);
     before = λ m lt. absurd (omega (arith, lt));
   },
 )
@@ -83,7 +85,15 @@ first-greatest f (suc (suc n)) some = further (first-greatest f (suc n) (omega a
 module _ (side : Side) where
   -- there are such heads
   pub turn-of : (u v : List ℤ) (i : ℕ) → length v ≡ length u → (y : List ℤ) × IsTurn side u v y i
-  turn-of [] [] i same = ([], record { one_each = refl; before = λ m lt. refl; still = λ m le e. refl; short = λ m le ne. absurd (ne refl) })
+  turn-of [] [] i same = (
+    [],
+    record {
+      one_each = refl;
+      before = λ m lt. refl;
+      still = λ m le e. refl;
+      short = λ m le ne. absurd (ne refl);
+    },
+  )
   turn-of [] (b ∷ v) i same = absurd (omega (arith, same))
   turn-of (a ∷ u) [] i same = absurd (omega (arith, same))
   turn-of (a ∷ u) (b ∷ v) (suc i) same =
@@ -102,11 +112,13 @@ module _ (side : Side) where
       by turn zero lt = refl
       by turn (suc m) lt = turn.before m (omega (arith, lt))
 
-      still : {y : List ℤ} → IsTurn side u v y i → (m : ℕ) → suc i ≤ m → head_at (b ∷ v) m ≡ head_at (a ∷ u) m → head_at (b ∷ y) m ≡ head_at (b ∷ v) m
+      still : {y : List ℤ} → IsTurn side u v y i → (m : ℕ) → suc i ≤ m → head_at (b ∷ v) m ≡ head_at (a ∷ u) m
+          → head_at (b ∷ y) m ≡ head_at (b ∷ v) m
       still turn zero le e = absurd (omega (arith, le))
       still turn (suc m) le e = turn.still m (omega (arith, le)) e
 
-      short : {y : List ℤ} → IsTurn side u v y i → (m : ℕ) → suc i ≤ m → (head_at (b ∷ v) m ≡ head_at (a ∷ u) m → ⊥) → head_at (b ∷ y) m ≡ nearer side (head_at (b ∷ v) m)
+      short : {y : List ℤ} → IsTurn side u v y i → (m : ℕ) → suc i ≤ m → (head_at (b ∷ v) m ≡ head_at (a ∷ u) m → ⊥)
+          → head_at (b ∷ y) m ≡ nearer side (head_at (b ∷ v) m)
       short turn zero le ne = absurd (omega (arith, le))
       short turn (suc m) le ne = turn.short m (omega (arith, le)) ne
   turn-of (a ∷ u) (b ∷ v) zero same =
@@ -133,19 +145,23 @@ module _ (side : Side) where
         )
       ]
     where
-      still : {y : List ℤ} → IsTurn side u v y zero → (m : ℕ) → 0 ≤ m → head_at (b ∷ v) m ≡ head_at (a ∷ u) m → head_at (b ∷ y) m ≡ head_at (b ∷ v) m
+      still : {y : List ℤ} → IsTurn side u v y zero → (m : ℕ) → 0 ≤ m → head_at (b ∷ v) m ≡ head_at (a ∷ u) m
+          → head_at (b ∷ y) m ≡ head_at (b ∷ v) m
       still turn zero le e = refl
       still turn (suc m) le e = turn.still m (omega arith) e
 
-      short-still : {y : List ℤ} → IsTurn side u v y zero → b ≡ a → (m : ℕ) → 0 ≤ m → (head_at (b ∷ v) m ≡ head_at (a ∷ u) m → ⊥) → head_at (b ∷ y) m ≡ nearer side (head_at (b ∷ v) m)
+      short-still : {y : List ℤ} → IsTurn side u v y zero → b ≡ a → (m : ℕ) → 0 ≤ m
+          → (head_at (b ∷ v) m ≡ head_at (a ∷ u) m → ⊥) → head_at (b ∷ y) m ≡ nearer side (head_at (b ∷ v) m)
       short-still turn e zero le ne = absurd (ne e)
       short-still turn e (suc m) le ne = turn.short m (omega arith) ne
 
-      still-short : {y : List ℤ} → IsTurn side u v y zero → (b ≡ a → ⊥) → (m : ℕ) → 0 ≤ m → head_at (b ∷ v) m ≡ head_at (a ∷ u) m → head_at (nearer side b ∷ y) m ≡ head_at (b ∷ v) m
+      still-short : {y : List ℤ} → IsTurn side u v y zero → (b ≡ a → ⊥) → (m : ℕ) → 0 ≤ m
+          → head_at (b ∷ v) m ≡ head_at (a ∷ u) m → head_at (nearer side b ∷ y) m ≡ head_at (b ∷ v) m
       still-short turn ne zero le e = absurd (ne e)
       still-short turn ne (suc m) le e = turn.still m (omega arith) e
 
-      short : {y : List ℤ} → IsTurn side u v y zero → (m : ℕ) → 0 ≤ m → (head_at (b ∷ v) m ≡ head_at (a ∷ u) m → ⊥) → head_at (nearer side b ∷ y) m ≡ nearer side (head_at (b ∷ v) m)
+      short : {y : List ℤ} → IsTurn side u v y zero → (m : ℕ) → 0 ≤ m → (head_at (b ∷ v) m ≡ head_at (a ∷ u) m → ⊥)
+          → head_at (nearer side b ∷ y) m ≡ nearer side (head_at (b ∷ v) m)
       short turn zero le ne = refl
       short turn (suc m) le ne = turn.short m (omega arith) ne
 
@@ -161,26 +177,34 @@ module _ (side : Side) where
   -- and one list of them
   pub one-turn : (u v y z : List ℤ) (i : ℕ) → IsTurn side u v y i → IsTurn side u v z i → y ≡ z
   one-turn u v y z i a b = one-vector side y z (a.one_each ∙ sym b.one_each)
-      (λ m lt. subst (λ (h : ℤ). IsBeyond side (head_at y m) h) (turn-at u v y z i a b m) (beyond-self side (head_at y m)))
-      (λ m lt. subst (λ (h : ℤ). IsBeyond side (head_at z m) h) (sym (turn-at u v y z i a b m)) (beyond-self side (head_at z m)))
+      (λ m lt. subst (λ (h : ℤ). IsBeyond side (head_at y m) h) (turn-at u v y z i a b m)
+      (beyond-self side (head_at y m)))
+      (λ m lt. subst (λ (h : ℤ). IsBeyond side (head_at z m) h) (sym (turn-at u v y z i a b m))
+      (beyond-self side (head_at z m)))
 
   -- the next turn
-  pub turn-more : (u v y : List ℤ) (i : ℕ) → i < length v → IsTurn side u v y i → IsTurn side u v (slice_set y i (head_at v i)) (i + 1)
+  pub turn-more : (u v y : List ℤ) (i : ℕ) → i < length v → IsTurn side u v y i
+      → IsTurn side u v (slice_set y i (head_at v i)) (i + 1)
   turn-more u v y i inside turn = record {
     one_each = length-set y i (head_at v i) ∙ turn.one_each;
     before = λ m lt. elim (cases_eq m i) [
-      | inl e ↦ subst (λ (k : ℕ). head_at (slice_set y i (head_at v i)) k ≡ head_at v k) (sym e) (set-here y i (head_at v i) (let l = turn.one_each in omega (arith, inside, l)))
+      | inl e ↦ subst (λ (k : ℕ). head_at (slice_set y i (head_at v i)) k ≡ head_at v k) (sym e)
+          (set-here y i (head_at v i) (let l = turn.one_each in omega (arith, inside, l)))
       | inr ne ↦ set-there y i m (head_at v i) ne ∙ turn.before m (omega (arith, lt, ne))
     ];
-    still = λ m le e. set-there y i m (head_at v i) (λ is. absurd (omega (arith, le, is))) ∙ turn.still m (omega (arith, le)) e;
-    short = λ m le ne. set-there y i m (head_at v i) (λ is. absurd (omega (arith, le, is))) ∙ turn.short m (omega (arith, le)) ne;
+    still = λ m le e. set-there y i m (head_at v i) (λ is. absurd (omega (arith, le, is)))
+        ∙ turn.still m (omega (arith, le)) e;
+    short = λ m le ne. set-there y i m (head_at v i) (λ is. absurd (omega (arith, le, is)))
+        ∙ turn.short m (omega (arith, le)) ne;
   }
 
   -- after the last one
   pub turn-last : (u v y : List ℤ) → IsTurn side u v y (length v) → y ≡ v
   turn-last u v y turn = one-vector side y v turn.one_each
-      (λ m lt. subst (λ (h : ℤ). IsBeyond side (head_at y m) h) (turn.before m (let l = turn.one_each in omega (arith, lt, l))) (beyond-self side (head_at y m)))
-      (λ m lt. subst (λ (h : ℤ). IsBeyond side (head_at v m) h) (sym (turn.before m lt)) (beyond-self side (head_at v m)))
+      (λ m lt. subst (λ (h : ℤ). IsBeyond side (head_at y m) h) (turn.before m (let l = turn.one_each in
+      omega (arith, lt, l))) (beyond-self side (head_at y m)))
+      (λ m lt. subst (λ (h : ℤ). IsBeyond side (head_at v m) h) (sym (turn.before m lt))
+      (beyond-self side (head_at v m)))
 
 -- ---- starts
 
@@ -200,7 +224,8 @@ module _ (held : Option HeldJunction) (grid : Grid) (steady : IsSteady grid) (pr
       none w certificate m lt ahead = against (first-greatest (lead side v w) (length v) (omega (arith, lt)))
         where
           near : (k : ℕ) → k < length v → along side (head_at u k) ≤ℤ along side (head_at w k)
-          near k inside = beyond-is side (head_at u k) (head_at w k) (start.nearer w certificate k (let l = leap.one_each in omega (arith, inside, l)))
+          near k inside = beyond-is side (head_at u k) (head_at w k)
+              (start.nearer w certificate k (let l = leap.one_each in omega (arith, inside, l)))
 
           against : (i : ℕ) × IsFirstGreatest (lead side v w) (length v) i → ⊥
           against (i, best) =
@@ -230,13 +255,15 @@ module _ (held : Option HeldJunction) (grid : Grid) (steady : IsSteady grid) (pr
                   let most = best.each m lt in
                   let f = ap (along side) e in let n = near i inside in absurd (omega (arith, ints, f, n, most, ahead))
 
-              own : (y : List ℤ) → IsTurn side u v y i → (head_at v i ≡ head_at u i → ⊥) → lead side y w i ≡ lead side v w i -ℤ pos 1
+              own : (y : List ℤ) → IsTurn side u v y i → (head_at v i ≡ head_at u i → ⊥)
+                  → lead side y w i ≡ lead side v w i -ℤ pos 1
               own y turn moved =
                   let e = ap (along side) (turn.short i (omega arith) moved) in
                   let a = along-nearer side (head_at v i) in
                   omega (arith, ints, e, a)
 
-              led : (y : List ℤ) → IsTurn side u v y i → (head_at v i ≡ head_at u i → ⊥) → (k : ℕ) → k < length v → lead side y w k ≤ℤ lead side y w i
+              led : (y : List ℤ) → IsTurn side u v y i → (head_at v i ≡ head_at u i → ⊥) → (k : ℕ) → k < length v
+                  → lead side y w k ≤ℤ lead side y w i
               led y turn moved k within = elim (cases_lt k i) [
                 | inl before ↦ (
                     let o = own y turn moved in
@@ -270,7 +297,8 @@ module _ (held : Option HeldJunction) (grid : Grid) (steady : IsSteady grid) (pr
       by-test true is = is
       by-test false is = λ passes. is (passes-leading grid steady problem side v y i junction leading at passes)
 
-      by : (some : Option HeldJunction) → Fails some grid problem side v i junction → Fails some grid problem side y i junction
+      by : (some : Option HeldJunction) → Fails some grid problem side v i junction
+          → Fails some grid problem side y i junction
       by None is = λ passes. is (passes-leading grid steady problem side v y i junction leading at passes)
       by (Some h) is = by-test (h.junction == i) is
 
@@ -300,7 +328,8 @@ module _ (held : Option HeldJunction) (grid : Grid) (steady : IsSteady grid) (pr
         | inl before ↦ let e = ap (along side) (turn.before m before) in omega (arith, ints, e)
         | inr after ↦ elim (same-or-not (head_at v m) (head_at u m)) [
           | inl e ↦ let f = ap (along side) (turn.still m after e) in omega (arith, ints, f)
-          | inr ne ↦ (let f = ap (along side) (turn.short m after ne) in let a = along-nearer side (head_at v m) in omega (arith, ints, f, a))
+          | inr ne ↦ (let f = ap (along side) (turn.short m after ne) in let a = along-nearer side (head_at v m) in
+              omega (arith, ints, f, a))
         ]
       ]
 
@@ -318,7 +347,8 @@ module _ (held : Option HeldJunction) (grid : Grid) (steady : IsSteady grid) (pr
   pub leads-self : (u : List ℤ) → LeadsOn held grid problem side u u
   leads-self u = record { one_each = refl; in_box = λ is. is; beyond = vector-self side u; start = λ is. is }
 
-  pub leads-leap : (first u v : List ℤ) → LeadsOn held grid problem side first u → IsLeapInTurn held grid problem side u v
+  pub leads-leap : (first u v : List ℤ) → LeadsOn held grid problem side first u
+      → IsLeapInTurn held grid problem side u v
       → LeadsOn held grid problem side first v
   leads-leap first u v so_far leap = record {
     one_each = leap.one_each ∙ so_far.one_each;
@@ -331,5 +361,7 @@ module _ (held : Option HeldJunction) (grid : Grid) (steady : IsSteady grid) (pr
   pub leads-more : (first u to new : List ℤ) (taken : Bool) → LeadsOn held grid problem side first u
       → (taken ≡ true → IsLeapInTurn held grid problem side u to) → new ≡ (if taken then to else u)
       → LeadsOn held grid problem side first new
-  leads-more first u to new true so_far leap e = subst (λ (v : List ℤ). LeadsOn held grid problem side first v) (sym e) (leads-leap first u to so_far (leap refl))
-  leads-more first u to new false so_far leap e = subst (λ (v : List ℤ). LeadsOn held grid problem side first v) (sym e) so_far
+  leads-more first u to new true so_far leap e = subst (λ (v : List ℤ). LeadsOn held grid problem side first v)
+      (sym e) (leads-leap first u to so_far (leap refl))
+  leads-more first u to new false so_far leap e = subst (λ (v : List ℤ). LeadsOn held grid problem side first v)
+      (sym e) so_far

@@ -1,5 +1,6 @@
 -- Raises one after another.
-use Rattle.std.proofs.Common.{◌≡◌, ℕ, zero, suc, ◌<◌, ℤ, pos, ◌≤ℤ◌, ◌<ℤ◌, refl, sym, ap, subst, ◌∙◌, arith, Bool, true, false, List, [], ◌∷◌, ◌++◌, length, inl, inr, ◌⊎◌, take}
+use Rattle.std.proofs.Common.{◌≡◌, ℕ, zero, suc, ◌<◌, ℤ, pos, ◌≤ℤ◌, ◌<ℤ◌, refl, sym, ap, subst, ◌∙◌, arith, Bool, true}
+use Rattle.std.proofs.Common.{false, List, [], ◌∷◌, ◌++◌, length, inl, inr, ◌⊎◌, take}
 use Rattle.std.specs.Prelude.{Some, None, Option, slice_get, slice_set, slice_index_or, All, Contains}
 use Rattle.std.proofs.lemmas.Int.{ints}
 use Rattle.std.proofs.lemmas.Bool.{cases_eq, false≢true}
@@ -18,11 +19,13 @@ use Rattle.hyd_spec_laws.specs.Sides.{along}
 use Rattle.hyd_check.proofs.Lookups.{junction-there}
 use Rattle.hyd_spec_raises.proofs.Leading.{beyond-is}
 use Rattle.hyd_spec_raises.proofs.Raising.{set-in-box, set-here, along-one, no-value, start-tight, inside-of}
-use Rattle.hyd_spec_raises.proofs.Sweeping.{vector-self, climb-on, climb-start, climb-so-far, so-far-begins, has-more, rounds-spent, every-order}
+use Rattle.hyd_spec_raises.proofs.Sweeping.{vector-self, climb-on, climb-start, climb-so-far, so-far-begins, has-more}
+use Rattle.hyd_spec_raises.proofs.Sweeping.{rounds-spent, every-order}
 use Rattle.hyd_sweep.specs.declared.answers.Raised.{Raised}
 use Rattle.hyd_sweep.specs.declared.answers.Raised.TheVariants.{Passed, Moved, NoValue}
 use Rattle.hyd_sweep.specs.declared.answers.Swept.TheVariants.{NoCertificate, RoundsSpent}
-use Rattle.hyd_sweep.specs.Sweeps.{RaisesTo, RaiseGives, AreRaises, no_raise, one_raise, FollowGives, FollowLeads, NamesEach, RoundGives, SweepGives, numbers, IsFollowing}
+use Rattle.hyd_sweep.specs.Sweeps.{RaisesTo, RaiseGives, AreRaises, no_raise, one_raise, FollowGives, FollowLeads}
+use Rattle.hyd_sweep.specs.Sweeps.{NamesEach, RoundGives, SweepGives, numbers, IsFollowing}
 
 -- what is named by the numbers below n
 pub numbered : (n i : ℕ) → i < n → Contains (numbers n) i
@@ -39,7 +42,8 @@ numbered (suc n) i lt = elim (cases_eq i n) [
     before : (xs ys : List ℕ) (m : ℕ) → Contains xs m → Contains (xs ++ ys) m
     before [] ys m (k, lt, e) = absurd (omega (arith, lt))
     before (x ∷ xs) ys m (zero, lt, e) = (0, omega arith, e)
-    before (x ∷ xs) ys m (suc k, lt, e) = let c = before xs ys m (k, omega (arith, lt), e) in (suc c.0, (let less = c.1 in omega (arith, less)), c.2)
+    before (x ∷ xs) ys m (suc k, lt, e) = let c = before xs ys m (k, omega (arith, lt), e) in
+        (suc c.0, (let less = c.1 in omega (arith, less)), c.2)
 
 pub take-more : (xs : List ℕ) (k : ℕ) → k < length xs → take (suc k) xs ≡ take k xs ++ (slice_index_or xs k 0 ∷ [])
 take-more [] k lt = absurd (omega (arith, lt))
@@ -63,7 +67,8 @@ module _ (held : Option HeldJunction) (grid : Grid) (steady : IsSteady grid) (pr
   raises-append _ rest u v w (one_raise {i = i} {order = order} {junction = junction} {x = x} at raise on) more =
       one_raise at raise (raises-append order rest (slice_set u i x) v w on more)
 
-  pub following-begins : (u : List ℤ) → length u ≡ length grid.junctions → All IsInBox u → IsFollowing held grid problem side [] u u false
+  pub following-begins : (u : List ℤ) → length u ≡ length grid.junctions → All IsInBox u
+      → IsFollowing held grid problem side [] u u false
   following-begins u long in_box = record {
     one_each = long;
     in_box = in_box;
@@ -79,8 +84,10 @@ module _ (held : Option HeldJunction) (grid : Grid) (steady : IsSteady grid) (pr
       let at = junction-there grid.junctions i inside in
       raises-append order (i ∷ []) old u (slice_set u i x) so_far (one_raise at.1 (raises at.0 at.1) no_raise)
 
-  pub following-passed : (order : List ℕ) (old u new : List ℤ) (moved : Bool) (i : ℕ) → i < length grid.junctions → IsFollowing held grid problem side order old u moved
-      → RaiseGives held grid problem side i u new Passed → IsFollowing held grid problem side (order ++ (i ∷ [])) old new moved
+  pub following-passed : (order : List ℕ) (old u new : List ℤ) (moved : Bool) (i : ℕ) → i < length grid.junctions
+      → IsFollowing held grid problem side order old u moved
+      → RaiseGives held grid problem side i u new Passed → IsFollowing held grid problem side (order ++ (i ∷ [])) old
+      new moved
   following-passed order old u new moved i inside so_far gives =
       let e : slice_set u i (head_at u i) ≡ u = set-get_or u i (pos 0) in
       let on = one-raise-more order old u i (head_at u i) inside so_far.raises gives.1 in
@@ -94,8 +101,10 @@ module _ (held : Option HeldJunction) (grid : Grid) (steady : IsSteady grid) (pr
         ahead = so_far.ahead;
       })
 
-  pub following-moved : (order : List ℕ) (old u new : List ℤ) (moved : Bool) (i : ℕ) → i < length grid.junctions → length old ≡ length grid.junctions → IsFollowing held grid problem side order old u moved
-      → RaiseGives held grid problem side i u new Moved → IsFollowing held grid problem side (order ++ (i ∷ [])) old new true
+  pub following-moved : (order : List ℕ) (old u new : List ℤ) (moved : Bool) (i : ℕ) → i < length grid.junctions
+      → length old ≡ length grid.junctions → IsFollowing held grid problem side order old u moved
+      → RaiseGives held grid problem side i u new Moved → IsFollowing held grid problem side (order ++ (i ∷ [])) old
+      new true
   following-moved order old u new moved i inside long so_far gives =
       let x = gives.0 in
       let at = junction-there grid.junctions i inside in
@@ -105,14 +114,22 @@ module _ (held : Option HeldJunction) (grid : Grid) (steady : IsSteady grid) (pr
       let before = beyond-is side (head_at old i) (head_at u i) ((climb-on held grid steady problem side order old u
       (raises-climb order old u so_far.raises) long).1 i (omega (arith, inside, long))) in
       let far = beyond-is side (head_at u i) x raise.is_candidate.beyond in
-      let differs : along side (head_at u i) ≡ along side x → ⊥ = λ e. gives.1.1.0 (sym (along-one side (head_at u i) x e)) in
+      let differs : along side (head_at u i) ≡ along side x → ⊥ = λ e. gives.1.1.0
+      (sym (along-one side (head_at u i) x e)) in
       subst (λ (v : List ℤ). IsFollowing held grid problem side (order ++ (i ∷ [])) old v true) (sym gives.1.0)
       (record {
         one_each = length-set u i x ∙ so_far.one_each;
         in_box = set-in-box u i x raise.is_candidate.in_box so_far.in_box;
         raises = one-raise-more order old u i x inside so_far.raises gives.1.1.1;
         still = λ e. absurd (false≢true (sym e));
-        ahead = λ e. (i, (omega (arith, inside, long), strict (along side (head_at u i)) (along side x) (along side (head_at old i)) (along side (head_at (slice_set u i x) i)) before far differs here));
+        ahead = λ e. (
+          i,
+          (
+            omega (arith, inside, long),
+            strict (along side (head_at u i)) (along side x)
+                (along side (head_at old i)) (along side (head_at (slice_set u i x) i)) before far differs here,
+          ),
+        );
       })
     where
       strict : (a b c d : ℤ) → c ≤ℤ a → a ≤ℤ b → (a ≡ b → ⊥) → d ≡ b → c <ℤ d
@@ -120,7 +137,8 @@ module _ (held : Option HeldJunction) (grid : Grid) (steady : IsSteady grid) (pr
 
   -- at the end
   pub followed : (order : List ℕ) (old u : List ℤ) (moved : Bool) → IsFollowing held grid problem side order old u moved
-      → (moved ≡ true → FollowGives held grid problem side order old u Moved) × (moved ≡ false → FollowGives held grid problem side order old u Passed)
+      → (moved ≡ true → FollowGives held grid problem side order old u Moved) × (moved ≡ false
+      → FollowGives held grid problem side order old u Passed)
   followed order old u moved so_far = (
     (λ e. (
       (λ same. (let a = so_far.ahead e in let lt = a.1.1 in let f = ap (λ (v : List ℤ). along side (head_at v
@@ -132,7 +150,8 @@ module _ (held : Option HeldJunction) (grid : Grid) (steady : IsSteady grid) (pr
 
   -- ---- sweeps
 
-  pub round-more : (n : ℕ) (first u w : List ℤ) → length u ≡ length grid.junctions → HasRounds held grid problem side n first u → RoundGives held grid problem side u w None
+  pub round-more : (n : ℕ) (first u w : List ℤ) → length u ≡ length grid.junctions
+      → HasRounds held grid problem side n first u → RoundGives held grid problem side u w None
       → HasRounds held grid problem side (suc n) first w
   round-more n first u w long rounds raises =
       has-more held grid steady problem side n (λ m. ⊥ ⊎ Contains (numbers (length grid.junctions)) m) first u rounds w
@@ -146,7 +165,8 @@ module _ (held : Option HeldJunction) (grid : Grid) (steady : IsSteady grid) (pr
   round-start u w raises start = climb-start held grid steady problem side (numbers (length grid.junctions)) u w
       (raises-climb (numbers (length grid.junctions)) u w raises) start
 
-  pub sweep-none : (n : ℕ) (old u w : List ℤ) (j : ℕ) → IsStart held grid problem side u → RoundGives held grid problem side u w (Some j) → SweepGives held grid problem side n old w (NoCertificate j)
+  pub sweep-none : (n : ℕ) (old u w : List ℤ) (j : ℕ) → IsStart held grid problem side u
+      → RoundGives held grid problem side u w (Some j) → SweepGives held grid problem side n old w (NoCertificate j)
   sweep-none n old u w j start gives =
       let at = junction-there grid.junctions j gives.0 in
       let next = climb-start held grid steady problem side (numbers j) u w (raises-climb (numbers j) u w gives.1.0)
@@ -162,7 +182,8 @@ module _ (held : Option HeldJunction) (grid : Grid) (steady : IsSteady grid) (pr
         ),
       )
 
-  pub sweep-spent : (n : ℕ) (old u : List ℤ) → IsStart held grid problem side u → HasRounds held grid problem side n old u → (Each grid.junctions (Suits held grid problem side u) → ⊥)
+  pub sweep-spent : (n : ℕ) (old u : List ℤ) → IsStart held grid problem side u
+      → HasRounds held grid problem side n old u → (Each grid.junctions (Suits held grid problem side u) → ⊥)
       → SweepGives held grid problem side n old u RoundsSpent
   sweep-spent n old u start rounds not = (
     rounds.reached,
@@ -176,11 +197,15 @@ module _ (held : Option HeldJunction) (grid : Grid) (steady : IsSteady grid) (pr
     ),
   )
 
-  pub following-either : (order : List ℕ) (old u new : List ℤ) (moved : Bool) (i : ℕ) (result : Raised) → i < length grid.junctions → length old ≡ length grid.junctions
-      → IsFollowing held grid problem side order old u moved → RaiseGives held grid problem side i u new result → (result ≡ NoValue → ⊥)
+  pub following-either : (order : List ℕ) (old u new : List ℤ) (moved : Bool) (i : ℕ) (result : Raised)
+      → i < length grid.junctions → length old ≡ length grid.junctions
+      → IsFollowing held grid problem side order old u moved → RaiseGives held grid problem side i u new result
+      → (result ≡ NoValue → ⊥)
       → (m : Bool) × IsFollowing held grid problem side (order ++ (i ∷ [])) old new m
-  following-either order old u new moved i Passed inside long so_far gives not = (moved, following-passed order old u new moved i inside so_far gives)
-  following-either order old u new moved i Moved inside long so_far gives not = (true, following-moved order old u new moved i inside long so_far gives)
+  following-either order old u new moved i Passed inside long so_far gives not =
+      (moved, following-passed order old u new moved i inside so_far gives)
+  following-either order old u new moved i Moved inside long so_far gives not =
+      (true, following-moved order old u new moved i inside long so_far gives)
   following-either order old u new moved i NoValue inside long so_far gives not = absurd (not refl)
 
   -- ---- where raises in an order lead

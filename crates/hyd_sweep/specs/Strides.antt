@@ -1,6 +1,7 @@
 -- Strides: how far leaps go on along the way that a round went.
 -- Source: this program's.
-use Rattle.std.specs.Prelude.{ℕ, ◌+◌, ◌-◌, ◌*◌, ◌^◌, ◌<◌, ◌≤◌, ℤ, pos, ◌-ℤ◌, ◌≤ℤ◌, unsigned_abs, Bool, true, false, List, length, Option, Some, suc}
+use Rattle.std.specs.Prelude.{ℕ, ◌+◌, ◌-◌, ◌*◌, ◌^◌, ◌<◌, ◌≤◌, ℤ, pos, ◌-ℤ◌, ◌≤ℤ◌, unsigned_abs, Bool, true, false}
+use Rattle.std.specs.Prelude.{List, length, Option, Some, suc}
 use Rattle.hyd_spec.specs.Assignment.{head_at}
 use Rattle.hyd_spec_certificates.specs.declared.Problem.{Problem}
 use Rattle.hyd_spec_certificates.specs.declared.Side.{Side}

@@ -1,6 +1,8 @@
 -- What raises and sweeps give.
 -- Source: this program's; rounds in any order are chaotic iterations (Chazan and Miranker 1969).
-use Rattle.std.specs.Prelude.{◌≡◌, ◌≢◌, ℕ, ◌<◌, ◌≤◌, ℤ, pos, neg_ℤ, ◌+ℤ◌, ◌-ℤ◌, List, [], ◌∷◌, ◌++◌, length, take, All, Contains, slice_get, slice_set, slice_index_or, Option, Some, None, suc, zero, ⊤, ◌<ℤ◌, Bool, true, false}
+use Rattle.std.specs.Prelude.{◌≡◌, ◌≢◌, ℕ, ◌<◌, ◌≤◌, ℤ, pos, neg_ℤ, ◌+ℤ◌, ◌-ℤ◌, List, [], ◌∷◌, ◌++◌, length, take, All}
+use Rattle.std.specs.Prelude.{Contains, slice_get, slice_set, slice_index_or, Option, Some, None, suc, zero, ⊤, ◌<ℤ◌}
+use Rattle.std.specs.Prelude.{Bool, true, false}
 use Rattle.std.specs.List.{AllByRecursion}
 use Rattle.hyd_spec.specs.Lists.{Each}
 use Rattle.hyd_spec.specs.Assignment.{head_at}
@@ -9,7 +11,8 @@ use Rattle.hyd_spec_certificates.specs.declared.Side.{Side}
 use Rattle.hyd_spec_certificates.specs.declared.Side.TheVariants.{Upper, Lower}
 use Rattle.hyd_spec_certificates.specs.declared.HeldJunction.{HeldJunction}
 use Rattle.hyd_spec_certificates.specs.Grid.{Grid, GridJunction}
-use Rattle.hyd_spec_certificates.specs.Certificate.{box_limit, IsInBox, Suits, IsCertificateHolding, IsCandidateHolding, IsRaisedHolding, AreRoundsHolding, IsTightHolding}
+use Rattle.hyd_spec_certificates.specs.Certificate.{box_limit, IsInBox, Suits, IsCertificateHolding, IsCandidateHolding}
+use Rattle.hyd_spec_certificates.specs.Certificate.{IsRaisedHolding, AreRoundsHolding, IsTightHolding}
 use Rattle.hyd_spec_certificates.specs.Climbing.{IsStart, LiesBeyond, HasParts, HasRounds, JoinsNone}
 use Rattle.hyd_spec_laws.specs.Sides.{along}
 use Rattle.hyd_sweep.specs.declared.answers.Raised.{Raised}

@@ -23,7 +23,7 @@ pub enum Swept {
         /// Its number among the junctions, counted from 0.
         junction: u32,
     },
-    /// So many rounds of raises exist, and their result is no certificate, nor are the heads that were reached. The heads are a start as far out as it, or
-    /// farther.
+    /// So many rounds of raises exist, and their result is no certificate, nor are the heads that were reached. The
+    /// heads are a start as far out as it, or farther.
     RoundsSpent,
 }

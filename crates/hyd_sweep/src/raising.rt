@@ -1,7 +1,8 @@
 //! Raises of single junctions.
 #![tactic(auto)]
 
-ghost use Rattle.std.specs.Prelude.{◌≡◌, ◌<◌, ◌≤◌, ℕ, pos, ◌+◌, ◌-ℤ◌, ◌≤ℤ◌, ◌↔◌, length, All, IsTrue, MatchOption, None};
+ghost use Rattle.std.specs.Prelude.{◌≡◌, ◌<◌, ◌≤◌, ℕ, pos, ◌+◌, ◌-ℤ◌, ◌≤ℤ◌, ◌↔◌, length, All, IsTrue, MatchOption};
+ghost use Rattle.std.specs.Prelude.{None};
 ghost use Rattle.hyd_spec.specs.Assignment.{head_at};
 ghost use Rattle.hyd_spec_certificates.specs.declared.Side.TheVariants.{Upper, Lower};
 ghost use Rattle.hyd_spec_certificates.specs.Certificate.{box_limit, IsInBox};

@@ -1,5 +1,6 @@
 -- The first of two faults of different kinds.
-use Rattle.std.proofs.Common.{◌<◌, ◌≤◌, ℕ, List, length, Option, Some, None, arith, inl, inr, nat_lt, ltb-true, ltb-false}
+use Rattle.std.proofs.Common.{◌<◌, ◌≤◌, ℕ, List, length, Option, Some, None, arith, inl, inr, nat_lt, ltb-true}
+use Rattle.std.proofs.Common.{ltb-false}
 use Rattle.std.proofs.lemmas.Bool.{cases_Bool}
 use Rattle.std.proofs.lemmas.Option.{slice_get_within}
 use Rattle.hyd_spec_lines.specs.Lines.{Row}

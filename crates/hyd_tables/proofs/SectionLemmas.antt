@@ -1,5 +1,6 @@
 -- A row of one section among all rows.
-use Rattle.std.proofs.Common.{◌≡◌, ◌≤◌, ℕ, Bool, true, false, List, length, filter, take, slice_get, Option, Some, None, refl, sym, ◌∙◌, subst, arith, inl, inr, true≢false}
+use Rattle.std.proofs.Common.{◌≡◌, ◌≤◌, ℕ, Bool, true, false, List, length, filter, take, slice_get, Option, Some, None}
+use Rattle.std.proofs.Common.{refl, sym, ◌∙◌, subst, arith, inl, inr, true≢false}
 use Rattle.std.proofs.lemmas.List.{length-map, take_all}
 use Rattle.hyd_spec_lines.specs.Lines.{Row, row_of}
 use Rattle.hyd_spec_lines.specs.declared.line.Line.{Line}

@@ -1,5 +1,7 @@
 -- Look-ups in tables of IDs.
-use Rattle.std.proofs.Common.{◌≡◌, ◌+◌, ◌<◌, ◌≤◌, ◌++◌, ℕ, Bool, true, false, not, List, [], ◌∷◌, map, length, slice_get, position, Option, Some, None, Contains, refl, sym, ap, ◌∙◌, subst, true≢false, arith, nat_lt, ltb-true, ltb-false, get_or, inl, inr, one-add, suc}
+use Rattle.std.proofs.Common.{◌≡◌, ◌+◌, ◌<◌, ◌≤◌, ◌++◌, ℕ, Bool, true, false, not, List, [], ◌∷◌, map, length}
+use Rattle.std.proofs.Common.{slice_get, position, Option, Some, None, Contains, refl, sym, ap, ◌∙◌, subst, true≢false}
+use Rattle.std.proofs.Common.{arith, nat_lt, ltb-true, ltb-false, get_or, inl, inr, one-add, suc}
 use Rattle.std.specs.Prelude.{◌↔◌}
 use Rattle.std.specs.List.{list_any, position_or_len}
 use Rattle.std.specs.Str.{bytes_eq}

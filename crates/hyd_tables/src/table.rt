@@ -1,7 +1,8 @@
 //! Tables of IDs.
 #![tactic(auto)]
 
-ghost use Rattle.std.specs.Prelude.{◌≡◌, ◌^◌, ◌<◌, ◌≤◌, ◌+◌, [], ◌∷◌, ◌++◌, ℕ, List, length, not, if◌then◌else◌, Some, None, IfOk, IfSome, IfNone};
+ghost use Rattle.std.specs.Prelude.{◌≡◌, ◌^◌, ◌<◌, ◌≤◌, ◌+◌, [], ◌∷◌, ◌++◌, ℕ, List, length, not, if◌then◌else◌, Some};
+ghost use Rattle.std.specs.Prelude.{None, IfOk, IfSome, IfNone};
 ghost use Rattle.hyd_spec_lines.specs.Lines.{LiesIn, row_of, Row};
 ghost use Rattle.hyd_spec_input.specs.Tables as table;
 ghost use Rattle.hyd_spec_input.specs.Tables.{row_with, has_id};

@@ -20,19 +20,26 @@ by-tests full empty = if full then Full else if empty then Empty else Between
 module _ (tank : Tank) (level : ℤ) where
   pub full_is : (tank.maximum -ℤ state_band) ≤ℤ level → tank_state 1 tank level ≡ Full
   full_is h = ap (λ (b : Bool). by-tests b (int_le level (at_scale 1 (tank.minimum +ℤ state_band))))
-      (le-from (pos 1 *ℤ (tank.maximum -ℤ state_band)) level (omega (arith, ints, h, one_times (tank.maximum -ℤ state_band))))
+      (le-from (pos 1 *ℤ (tank.maximum -ℤ state_band)) level
+      (omega (arith, ints, h, one_times (tank.maximum -ℤ state_band))))
 
-  pub empty_is : level <ℤ (tank.maximum -ℤ state_band) → level ≤ℤ (tank.minimum +ℤ state_band) → tank_state 1 tank level ≡ Empty
+  pub empty_is : level <ℤ (tank.maximum -ℤ state_band) → level ≤ℤ (tank.minimum +ℤ state_band)
+      → tank_state 1 tank level ≡ Empty
   empty_is s h =
       ap (λ (b : Bool). by-tests b (int_le level (at_scale 1 (tank.minimum +ℤ state_band))))
-      (not-le (pos 1 *ℤ (tank.maximum -ℤ state_band)) level (omega (arith, ints, s, one_times (tank.maximum -ℤ state_band))))
-      ∙ ap (λ (b : Bool). by-tests false b) (le-from level (pos 1 *ℤ (tank.minimum +ℤ state_band)) (omega (arith, ints, h, one_times (tank.minimum +ℤ state_band))))
+      (not-le (pos 1 *ℤ (tank.maximum -ℤ state_band)) level (omega
+      (arith, ints, s, one_times (tank.maximum -ℤ state_band))))
+      ∙ ap (λ (b : Bool). by-tests false b) (le-from level (pos 1 *ℤ (tank.minimum +ℤ state_band))
+      (omega (arith, ints, h, one_times (tank.minimum +ℤ state_band))))
 
-  pub between_is : level <ℤ (tank.maximum -ℤ state_band) → (tank.minimum +ℤ state_band) <ℤ level → tank_state 1 tank level ≡ Between
+  pub between_is : level <ℤ (tank.maximum -ℤ state_band) → (tank.minimum +ℤ state_band) <ℤ level
+      → tank_state 1 tank level ≡ Between
   between_is s h =
       ap (λ (b : Bool). by-tests b (int_le level (at_scale 1 (tank.minimum +ℤ state_band))))
-      (not-le (pos 1 *ℤ (tank.maximum -ℤ state_band)) level (omega (arith, ints, s, one_times (tank.maximum -ℤ state_band))))
-      ∙ ap (λ (b : Bool). by-tests false b) (not-le level (pos 1 *ℤ (tank.minimum +ℤ state_band)) (omega (arith, ints, h, one_times (tank.minimum +ℤ state_band))))
+      (not-le (pos 1 *ℤ (tank.maximum -ℤ state_band)) level (omega
+      (arith, ints, s, one_times (tank.maximum -ℤ state_band))))
+      ∙ ap (λ (b : Bool). by-tests false b) (not-le level (pos 1 *ℤ (tank.minimum +ℤ state_band))
+      (omega (arith, ints, h, one_times (tank.minimum +ℤ state_band))))
 
 -- ---- both ends
 

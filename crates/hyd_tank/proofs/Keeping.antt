@@ -5,12 +5,15 @@ use Rattle.hyd_num.specs.Rational.{Rational}
 use Rattle.hyd_spec.specs.Types.{Tank, VolumePoint}
 use Rattle.hyd_spec.specs.Tank.{Walls, Cylinder, Curve, Bounds, content_bounds}
 use Rattle.hyd_spec_certificates.specs.Interval.{Interval}
-use Rattle.hyd_spec_certificates.specs.Stocks.{Stocks, least_stock, greatest_stock, exact_least, exact_greatest, contents_after, carried_stocks, may_reach, must_reach}
+use Rattle.hyd_spec_certificates.specs.Stocks.{Stocks, least_stock, greatest_stock, exact_least, exact_greatest}
+use Rattle.hyd_spec_certificates.specs.Stocks.{contents_after, carried_stocks, may_reach, must_reach}
 use Rattle.hyd_spec_certificates.specs.FirstSeconds.{IsFirstSecond}
 use Rattle.hyd_spec_certificates.specs.declared.LevelSpan.{LevelSpan}
 use Rattle.hyd_spec_laws.specs.Laws.{LiesIn, StockLies, IsVessel, IsInside, AreInside, IsWithin, HasStock}
-use Rattle.hyd_spec_laws.proofs.Placing.{Fits, lower-least, lower-most, upper-least, upper-most, ends-ordered, lower-rises}
-use Rattle.hyd_spec_laws.proofs.Levelling.{exact-some, content-leads, content-up, carried_within, carried_inside, carried_ordered, contents_inside}
+use Rattle.hyd_spec_laws.proofs.Placing.{Fits, lower-least, lower-most, upper-least, upper-most, ends-ordered}
+use Rattle.hyd_spec_laws.proofs.Placing.{lower-rises}
+use Rattle.hyd_spec_laws.proofs.Levelling.{exact-some, content-leads, content-up, carried_within, carried_inside}
+use Rattle.hyd_spec_laws.proofs.Levelling.{carried_ordered, contents_inside}
 use Rattle.hyd_spec_laws.proofs.Deciding.{seconds_hold}
 use Rattle.hyd_tank.specs.Spans.{levels_of, stocks_at, with_levels, level_stock, AreHeld}
 

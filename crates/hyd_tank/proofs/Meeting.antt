@@ -1,5 +1,6 @@
 -- The first second at which a rate meets a need.
-use Rattle.std.proofs.Common.{◌≡◌, ℕ, suc, zero, ◌≤◌, ◌⊎◌, min, ℤ, pos, negsuc, ◌*ℤ◌, ◌≤ℤ◌, ◌<ℤ◌, unsigned_abs, inl, inr, refl, subst, arith}
+use Rattle.std.proofs.Common.{◌≡◌, ℕ, suc, zero, ◌≤◌, ◌⊎◌, min, ℤ, pos, negsuc, ◌*ℤ◌, ◌≤ℤ◌, ◌<ℤ◌, unsigned_abs, inl}
+use Rattle.std.proofs.Common.{inr, refl, subst, arith}
 use Rattle.std.specs.Int.{int_min}
 use Rattle.std.proofs.Math.IntN.{*ℤ_comm}
 use Rattle.std.proofs.lemmas.Int.{ints, clamps}
@@ -15,7 +16,11 @@ one-rate z = omega (arith, ints, times_one_more 0 z)
 pub at_once : (need rate : ℤ) (cap : ℕ) → need ≤ℤ rate → IsFirstMeeting need rate cap (min cap 1)
 at_once need rate cap met = record {
   holds = elim (cases_lt 0 cap) [
-    | inl some ↦ inr (omega arith, subst (λ (s : ℕ). need ≤ℤ (pos s *ℤ rate)) (let e : 1 ≡ min cap 1 = omega arith in e) (omega (arith, ints, met, one-rate rate)))
+    | inl some ↦ inr (
+      omega arith,
+      subst (λ (s : ℕ). need ≤ℤ (pos s *ℤ rate)) (let e : 1 ≡ min cap 1 = omega arith in
+          e) (omega (arith, ints, met, one-rate rate)),
+    )
     | inr none ↦ inl (omega arith)
   ];
   least = λ k at. elim at [ inl e ↦ omega arith | inr later ↦ omega (arith, later.0) ];
@@ -42,18 +47,22 @@ no-ceiling R n need above met =
     omega (arith, ints, above, met, c, l, e)
 
 above-none : (ceil : ℤ) (R : ℕ) (need : ℤ) → pos 0 <ℤ need → need ≤ℤ (ceil *ℤ pos R) → pos 0 <ℤ ceil
-above-none (pos zero) R need above met = absurd (let e : pos 0 *ℤ pos R ≡ pos 0 = omega (arith, ints) in omega (arith, ints, above, met, e))
+above-none (pos zero) R need above met = absurd (let e : pos 0 *ℤ pos R ≡ pos 0 = omega (arith, ints) in
+    omega (arith, ints, above, met, e))
 above-none (pos (suc n)) R need above met = omega (arith, ints)
 above-none (negsuc n) R need above met = absurd (no-ceiling R n need above met)
 
-later-at : (need rate ceil : ℤ) (cap r : ℕ) → rate <ℤ need → pos 0 <ℤ rate → IsCeiling (need *ℤ pos 1) rate ceil → pos r ≡ int_min ceil (pos cap) → IsFirstMeeting need rate cap r
+later-at : (need rate ceil : ℤ) (cap r : ℕ) → rate <ℤ need → pos 0 <ℤ rate → IsCeiling (need *ℤ pos 1) rate ceil
+    → pos r ≡ int_min ceil (pos cap) → IsFirstMeeting need rate cap r
 later-at need (pos R) ceil cap r short forward is e = record {
   holds = elim (cases_lt cap r) [
     | inl past ↦ absurd (omega (arith, ints, clamps, e))
     | inr within ↦ elim (cases_lt r cap) [
       | inl inside ↦ inr (
-        (let a = above-none ceil R need (omega (arith, ints, short, forward)) reached in omega (arith, ints, clamps, e, a, inside)),
-        subst (λ (z : ℤ). need ≤ℤ (z *ℤ pos R)) (let same : ceil ≡ pos r = omega (arith, ints, clamps, e, inside) in same) reached,
+        (let a = above-none ceil R need (omega (arith, ints, short, forward)) reached in
+            omega (arith, ints, clamps, e, a, inside)),
+        subst (λ (z : ℤ). need ≤ℤ (z *ℤ pos R)) (let same : ceil ≡ pos r = omega (arith, ints, clamps, e, inside) in
+            same) reached,
       )
       | inr full ↦ inl (omega (arith, within, full))
     ]
@@ -68,7 +77,8 @@ later-at need (pos R) ceil cap r short forward is e = record {
     reached = let a = is.at_least in omega (arith, ints, a)
 later-at need (negsuc n) ceil cap r short forward is e = absurd (omega (arith, ints, forward))
 
-pub later : (need rate ceil z : ℤ) (cap : ℕ) → rate <ℤ need → pos 0 <ℤ rate → IsCeiling (need *ℤ pos 1) rate ceil → z ≡ int_min ceil (pos cap)
+pub later : (need rate ceil z : ℤ) (cap : ℕ) → rate <ℤ need → pos 0 <ℤ rate → IsCeiling (need *ℤ pos 1) rate ceil
+    → z ≡ int_min ceil (pos cap)
     → IsFirstMeeting need rate cap (unsigned_abs z)
 later need (pos R) ceil z cap short forward is e =
     let m = is.at_least in

@@ -1,5 +1,6 @@
 -- Tanks of sound networks.
-use Rattle.std.proofs.Common.{◌≡◌, ℕ, ◌*◌, ◌^◌, ◌<◌, ◌≤◌, ℤ, pos, negsuc, ◌*ℤ◌, ◌≤ℤ◌, Bool, true, false, List, length, refl, sym, ap, subst, ◌∙◌, arith}
+use Rattle.std.proofs.Common.{◌≡◌, ℕ, ◌*◌, ◌^◌, ◌<◌, ◌≤◌, ℤ, pos, negsuc, ◌*ℤ◌, ◌≤ℤ◌, Bool, true, false, List, length}
+use Rattle.std.proofs.Common.{refl, sym, ap, subst, ◌∙◌, arith}
 use Rattle.std.specs.Prelude.{Option, Some, None, is_some, if◌then◌else◌, slice_get, IfSome, MatchOption}
 use Rattle.std.specs.Option.{option_map_or}
 use Rattle.std.proofs.lemmas.Int.{ints}
@@ -35,7 +36,8 @@ cylinder_vessel tank is =
 
 -- ---- ranges
 
-across-range : (us : Bool) (nano : ℤ) → pos (10 ^ 8) ≤ℤ nano → nano ≤ℤ pos (10 ^ 12) → Lies (pos (10 ^ 11)) (pos (10 ^ 16)) (head_ticks us nano)
+across-range : (us : Bool) (nano : ℤ) → pos (10 ^ 8) ≤ℤ nano → nano ≤ℤ pos (10 ^ 12)
+    → Lies (pos (10 ^ 11)) (pos (10 ^ 16)) (head_ticks us nano)
 across-range true nano low high =
     let a = times_rises 3048 (pos (10 ^ 8)) nano low in
     let b = times_rises 3048 nano (pos (10 ^ 12)) high in
@@ -45,7 +47,8 @@ across-range false nano low high =
     let b = times_rises 10000 nano (pos (10 ^ 12)) high in
     record { at_least = omega (arith, ints, a); at_most = omega (arith, ints, b) }
 
-area-range : (across area : ℤ) → Lies (pos (10 ^ 11)) (pos (10 ^ 16)) across → IsFloor (pos 3141592654 *ℤ (across *ℤ across)) (pos (4 * 10 ^ 26)) area → Lies (pos 1) (pos (10 ^ 15)) area
+area-range : (across area : ℤ) → Lies (pos (10 ^ 11)) (pos (10 ^ 16)) across
+    → IsFloor (pos 3141592654 *ℤ (across *ℤ across)) (pos (4 * 10 ^ 26)) area → Lies (pos 1) (pos (10 ^ 15)) area
 area-range (pos a) area range is =
     let low : 10 ^ 11 ≤ a = (let l = range.at_least in omega (arith, ints, l)) in
     let high : a ≤ 10 ^ 16 = (let h = range.at_most in omega (arith, ints, h)) in
@@ -69,50 +72,73 @@ levels-range shapes tank is =
 cylinder-of : (network : Project) (tank : Tank) → tank.shape ≡ None → IsSoundTank network tank → IsCylinder tank
 cylinder-of network tank none is =
     let wide : pos (10 ^ 8) ≤ℤ tank.diameter.nano =
-    subst (λ (o : Option ℕ). pos (if is_some o then 0 else 10 ^ 8) ≤ℤ tank.diameter.nano) none is.ranges.diameter.at_least in
+    subst (λ (o : Option ℕ). pos (if is_some o then 0 else 10 ^ 8) ≤ℤ tank.diameter.nano) none
+    is.ranges.diameter.at_least in
     let narrow = is.ranges.diameter.at_most in
     record {
       without_curve = none;
       area = area-range (head_ticks (is_us_unit network.options.unit) tank.diameter.nano) tank.area
-          (across-range (is_us_unit network.options.unit) tank.diameter.nano wide (omega (arith, ints, narrow))) is.area;
+          (across-range (is_us_unit network.options.unit) tank.diameter.nano wide (omega (arith, ints, narrow)))
+          is.area;
       levels = levels-range network.shapes.list tank is.ranges;
     }
 
 by-shape : (network : Project) (tank : Tank) (shape : Option ℕ) → tank.shape ≡ shape → IsSoundTank network tank
-    → MatchOption shape (IsCylinder tank) (λ s. (s < length network.shapes.list) × IsBasin tank (shape_points network s))
+    → MatchOption shape (IsCylinder tank) (λ s. (s < length network.shapes.list)
+    × IsBasin tank (shape_points network s))
 by-shape network tank None e is = cylinder-of network tank e is
 by-shape network tank (Some n) e is =
-    let named = subst (λ (o : Option ℕ). IfSome o (Numbers (λ (shape : ListView VolumePoint). IsShapeOf tank shape.list) network.shapes.list)) e is.ranges.shape in
-    (named.in_range, record { shape = shape_of network tank n e is; levels = levels-range network.shapes.list tank is.ranges })
+    let named = subst (λ (o : Option ℕ). IfSome o (Numbers (λ (shape : ListView VolumePoint). IsShapeOf tank
+    shape.list) network.shapes.list)) e is.ranges.shape in (
+      named.in_range,
+      record {
+        shape = shape_of network tank n e is;
+        levels = levels-range network.shapes.list tank is.ranges;
+      },
+    )
 
 -- the tanks of a sound network
-pub tank_of : (network : Project) → Sound network → (k : ℕ) (tank : Tank) → slice_get network.tanks.list k ≡ Some tank → IsTankOf network tank
+pub tank_of : (network : Project) → Sound network → (k : ℕ) (tank : Tank) → slice_get network.tanks.list k ≡ Some tank
+    → IsTankOf network tank
 tank_of network sound k tank at = by-shape network tank tank.shape refl (sound_tank network sound k tank at)
 
 -- the tank that was found is the only one of its number
-pub of_each : (P : Tank → Type 0) (tanks : List Tank) (k : ℕ) (found each : Tank) → slice_get tanks k ≡ Some found → slice_get tanks k ≡ Some each → P found → P each
+pub of_each : (P : Tank → Type 0) (tanks : List Tank) (k : ℕ) (found each : Tank) → slice_get tanks k ≡ Some found
+    → slice_get tanks k ≡ Some each → P found → P each
 of_each P tanks k found each at also h = subst P (same_Some found each (sym at ∙ also)) h
 
 -- ---- walls
 
 pub walls_without : (network : Project) (tank : Tank) → tank.shape ≡ None → walls_of network tank ≡ cylinder tank
-walls_without network tank e = ap (λ (o : Option ℕ). option_map_or (λ shape. Curve (shape_points network shape)) o (cylinder tank)) e
+walls_without network tank e = ap (λ (o : Option ℕ). option_map_or (λ shape. Curve (shape_points network shape)) o
+    (cylinder tank)) e
 
-pub walls_with : (network : Project) (tank : Tank) (n : ℕ) → tank.shape ≡ Some n → walls_of network tank ≡ Curve (shape_points network n)
-walls_with network tank n e = ap (λ (o : Option ℕ). option_map_or (λ shape. Curve (shape_points network shape)) o (cylinder tank)) e
+pub walls_with : (network : Project) (tank : Tank) (n : ℕ) → tank.shape ≡ Some n
+    → walls_of network tank ≡ Curve (shape_points network n)
+walls_with network tank n e = ap (λ (o : Option ℕ). option_map_or (λ shape. Curve (shape_points network shape)) o
+    (cylinder tank)) e
 
 pub is_cylinder : (network : Project) (tank : Tank) → tank.shape ≡ None → IsTankOf network tank → IsCylinder tank
-is_cylinder network tank e is = subst (λ (o : Option ℕ). MatchOption o (IsCylinder tank) (λ s. (s < length network.shapes.list) × IsBasin tank (shape_points network s))) e is
+is_cylinder network tank e is = subst (λ (o : Option ℕ). MatchOption o (IsCylinder tank)
+    (λ s. (s < length network.shapes.list) × IsBasin tank (shape_points network s))) e is
 
-pub is_basin : (network : Project) (tank : Tank) (n : ℕ) → tank.shape ≡ Some n → IsTankOf network tank → (n < length network.shapes.list) × IsBasin tank (shape_points network n)
-is_basin network tank n e is = subst (λ (o : Option ℕ). MatchOption o (IsCylinder tank) (λ s. (s < length network.shapes.list) × IsBasin tank (shape_points network s))) e is
+pub is_basin : (network : Project) (tank : Tank) (n : ℕ) → tank.shape ≡ Some n → IsTankOf network tank
+    → (n < length network.shapes.list) × IsBasin tank (shape_points network n)
+is_basin network tank n e is = subst (λ (o : Option ℕ). MatchOption o (IsCylinder tank)
+    (λ s. (s < length network.shapes.list) × IsBasin tank (shape_points network s))) e is
 
 -- ---- stocks
 
-pub next_held : (walls : Walls) (tank : Tank) (stocks : Stocks) (inflow : Interval) (seconds : ℕ) → IsVessel walls tank → AreHeld walls tank (next_stocks walls tank stocks inflow seconds)
+pub next_held : (walls : Walls) (tank : Tank) (stocks : Stocks) (inflow : Interval) (seconds : ℕ)
+    → IsVessel walls tank → AreHeld walls tank (next_stocks walls tank stocks inflow seconds)
 next_held (Cylinder area) tank stocks inflow seconds vessel = record {
   level = next_within (Cylinder area) tank stocks inflow seconds vessel;
-  volume = record { lo_above = omega (arith, ints); lo_below = omega (arith, ints); hi_above = omega (arith, ints); hi_below = omega (arith, ints) };
+  volume = record {
+    lo_above = omega (arith, ints);
+    lo_below = omega (arith, ints);
+    hi_above = omega (arith, ints);
+    hi_below = omega (arith, ints);
+  };
 }
 next_held (Curve points) tank stocks inflow seconds vessel = record {
   level = next_within (Curve points) tank stocks inflow seconds vessel;
@@ -126,12 +152,14 @@ carried_is (Curve points) tank stocks inflow seconds = refl
 
 -- a cylinder's volume plays no part
 module _ (tank : Tank) (stock : Stock) (inflow : Interval) (target : ℤ) (cap e : ℕ) where
-  pub earliest_without : (rising : Bool) → IsEarliestSecond (cylinder tank) tank (stocks_at stock.level) inflow target rising cap e
+  pub earliest_without : (rising : Bool) → IsEarliestSecond (cylinder tank) tank (stocks_at stock.level) inflow target
+      rising cap e
       → IsEarliestSecond (cylinder tank) tank (stocks_of stock) inflow target rising cap e
   earliest_without true first = first
   earliest_without false first = first
 
-  pub latest_without : (rising : Bool) → IsLatestSecond (cylinder tank) tank (stocks_at stock.level) inflow target rising cap e
+  pub latest_without : (rising : Bool) → IsLatestSecond (cylinder tank) tank (stocks_at stock.level) inflow target
+      rising cap e
       → IsLatestSecond (cylinder tank) tank (stocks_of stock) inflow target rising cap e
   latest_without true first = first
   latest_without false first = first

@@ -1,5 +1,6 @@
 -- A volume curve as it is read: by its levels or by its volumes.
-use Rattle.std.specs.Prelude.{ℕ, ◌*◌, ◌^◌, ◌<◌, ◌≤◌, ◌-◌, ℤ, pos, ◌+ℤ◌, ◌-ℤ◌, ◌*ℤ◌, ◌<ℤ◌, ◌≤ℤ◌, unsigned_abs, List, map, length}
+use Rattle.std.specs.Prelude.{ℕ, ◌*◌, ◌^◌, ◌<◌, ◌≤◌, ◌-◌, ℤ, pos, ◌+ℤ◌, ◌-ℤ◌, ◌*ℤ◌, ◌<ℤ◌, ◌≤ℤ◌, unsigned_abs, List, map}
+use Rattle.std.specs.Prelude.{length}
 use Rattle.std.specs.List.{HoldsAt}
 use Rattle.hyd_num.specs.Rational.{Rational}
 use Rattle.hyd_net.specs.Curves.{Knot as Place, on_line, value_at}
@@ -35,7 +36,8 @@ value_in scale knots x = let value = value_at scale knots x in record { num = va
 
 -- the same on the line of two knots
 abbrev pub line_in : ℕ → Place → Place → ℤ → Rational
-line_in scale first second x = let value = on_line scale first second x in record { num = value.num; den = value.den * scale }
+line_in scale first second x = let value = on_line scale first second x in
+    record { num = value.num; den = value.den * scale }
 
 -- knots next to each other on a volume curve
 pub record AreNeighbours (first second : Place) : Type 0 where

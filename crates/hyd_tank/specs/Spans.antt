@@ -1,5 +1,6 @@
 -- What the spans and stocks of the calls stand for, and what is asked of them.
-use Rattle.std.specs.Prelude.{◌≡◌, ◌*◌, ◌^◌, ◌≤◌, ℤ, pos, ◌<ℤ◌, ◌≤ℤ◌, unsigned_abs, None, List, ◌<◌, length, MatchOption}
+use Rattle.std.specs.Prelude.{◌≡◌, ◌*◌, ◌^◌, ◌≤◌, ℤ, pos, ◌<ℤ◌, ◌≤ℤ◌, unsigned_abs, None, List, ◌<◌, length}
+use Rattle.std.specs.Prelude.{MatchOption}
 use Rattle.hyd_num.specs.declared.decimals.Span.{Span}
 use Rattle.hyd_net.specs.Ranges.{Lies}
 use Rattle.hyd_net.specs.Sizes.{IsShapeOf}
@@ -83,4 +84,5 @@ pub record AreHeld (walls : Walls) (tank : Tank) (stocks : Stocks) : Type 0 wher
 -- a tank of a sound network: a cylinder, or one with one of the network's volume curves
 abbrev pub IsTankOf : Project → Tank → Type 0
 IsTankOf network tank =
-    MatchOption tank.shape (IsCylinder tank) (λ shape. (shape < length network.shapes.list) × IsBasin tank (shape_points network shape))
+    MatchOption tank.shape (IsCylinder tank) (λ shape. (shape < length network.shapes.list)
+    × IsBasin tank (shape_points network shape))

@@ -1,5 +1,6 @@
 -- Targets of a tank with a volume curve, as volumes.
-use Rattle.std.specs.Prelude.{◌≡◌, ◌⊎◌, ℕ, ◌^◌, ◌≤◌, ℤ, pos, ◌+ℤ◌, ◌*ℤ◌, ◌≤ℤ◌, Bool, true, false, IsTrue, ◌↔◌, unsigned_abs, ⊤, List, length, ◌-◌}
+use Rattle.std.specs.Prelude.{◌≡◌, ◌⊎◌, ℕ, ◌^◌, ◌≤◌, ℤ, pos, ◌+ℤ◌, ◌*ℤ◌, ◌≤ℤ◌, Bool, true, false, IsTrue, ◌↔◌}
+use Rattle.std.specs.Prelude.{unsigned_abs, ⊤, List, length, ◌-◌}
 use Rattle.std.specs.List.{HoldsAt}
 use Rattle.hyd_spec.specs.Types.{Tank, VolumePoint}
 use Rattle.hyd_spec.specs.Tank.{Stock, Curve, content_bounds, has_reached}
@@ -31,7 +32,8 @@ IsSmall Always = ⊤
 IsSmall Never = ⊤
 IsSmall (Parts parts) = unsigned_abs parts ≤ 10 ^ 22
 
--- a target volume stands for a target level: the tank has reached the level exactly where its volume has met that target
+-- a target volume stands for a target level: the tank has reached the level exactly where its volume has met that
+-- target
 abbrev pub StandsFor : Tank → List VolumePoint → ℤ → Bool → Target → Type 0
 StandsFor tank points level rising target = (stock : Stock) (q : ℤ) (seconds : ℕ)
     → IsTrue (has_reached 1 (Curve points) tank stock q rising level seconds)

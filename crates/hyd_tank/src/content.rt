@@ -1,5 +1,5 @@
-//! Contents of tanks: the level of a cylinder, the volume of a tank with a curve. After some seconds a content is a whole
-//! number of parts of a tick.
+//! Contents of tanks: the level of a cylinder, the volume of a tank with a curve. After some seconds a content is a
+//! whole number of parts of a tick.
 #![tactic(auto)]
 
 ghost use Rattle.std.specs.Prelude.{◌≡◌, ◌*◌, ◌^◌, ◌≤◌, pos, ◌+ℤ◌, ◌-ℤ◌, ◌*ℤ◌, ◌≤ℤ◌, unsigned_abs, None, IfSome, ℤ};
@@ -119,7 +119,8 @@ pub(crate) fn lower_content(parts: i128, breadth: i128, bounds: Bounds, widening
     requires breadth { Lies (pos 1) (pos (9 * 10 ^ 19)) breadth }
     requires bounds { AreBounds bounds }
     requires widening { Lies (pos 0) (pos 10) widening }
-    ensures { result ≡ lower_end (bounds_of bounds) (bounds_of bounds) (in_ticks breadth parts) (in_ticks breadth parts) widening }
+    ensures { result ≡ lower_end (bounds_of bounds) (bounds_of bounds) (in_ticks breadth parts)
+        (in_ticks breadth parts) widening }
 {
     if let Some(bound) = bound_at(parts, breadth, bounds, bounds) {
         return bound;
@@ -132,7 +133,8 @@ pub(crate) fn upper_content(parts: i128, breadth: i128, bounds: Bounds, widening
     requires breadth { Lies (pos 1) (pos (9 * 10 ^ 19)) breadth }
     requires bounds { AreBounds bounds }
     requires widening { Lies (pos 0) (pos 10) widening }
-    ensures { result ≡ upper_end (bounds_of bounds) (bounds_of bounds) (in_ticks breadth parts) (in_ticks breadth parts) widening }
+    ensures { result ≡ upper_end (bounds_of bounds) (bounds_of bounds) (in_ticks breadth parts)
+        (in_ticks breadth parts) widening }
 {
     if let Some(bound) = bound_at(parts, breadth, bounds, bounds) {
         return bound;

@@ -5,7 +5,8 @@ ghost use Rattle.std.specs.Prelude.{◌≡◌, ℕ, ◌*◌, ◌-◌, ◌^◌, �
 ghost use Rattle.std.specs.List.{HoldsAt};
 ghost use Rattle.hyd_num.specs.Rational.{floor, ceiling};
 ghost use Rattle.hyd_net.specs.Curves.{IsVolumeCurve};
-ghost use Rattle.hyd_tank.specs.Curve.{place_of, knot_by, knots_by, value_of, times_value, value_in, line_in, IsMixed, IsAtLeast, IsAtMost, AreNeighbours, IsFrom, IsUpTo, IsOnCurve};
+ghost use Rattle.hyd_tank.specs.Curve.{place_of, knot_by, knots_by, value_of, times_value, value_in, line_in, IsMixed};
+ghost use Rattle.hyd_tank.specs.Curve.{IsAtLeast, IsAtMost, AreNeighbours, IsFrom, IsUpTo, IsOnCurve};
 
 use crate::content::in_parts;
 use hyd_net::VolumePoint;
@@ -103,7 +104,8 @@ pub(crate) fn value_at(points: &[VolumePoint], known: Known, scale: u32, x: i128
     requires on_curve { IsOnCurve known scale points.now x }
     ensures value { value_of result ≡ value_in scale (knots_by known points.now) x }
     ensures at_least { HoldsAt (λ point. IsAtLeast (knot_by known point).value result) points.now 0 }
-    ensures at_most { HoldsAt (λ point. IsAtMost (knot_by known point).value result) points.now (length points.now - 1) }
+    ensures at_most { HoldsAt (λ point. IsAtMost (knot_by known point).value result) points.now
+        (length points.now - 1) }
     ensures small { (times : ℕ) → times * scale ≤ 864 → IsMixed times result }
 {
     let last = points.len() - 1;

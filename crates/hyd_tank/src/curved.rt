@@ -1,7 +1,8 @@
 //! Tanks with a volume curve: their volumes and levels after some seconds, and when these reach a target.
 #![tactic(auto)]
 
-ghost use Rattle.std.specs.Prelude.{◌≡◌, ◌*◌, ◌^◌, ◌<◌, ◌≤◌, pos, ◌+ℤ◌, ◌*ℤ◌, unsigned_abs, ℕ, ◌-◌, length, true, false};
+ghost use Rattle.std.specs.Prelude.{◌≡◌, ◌*◌, ◌^◌, ◌<◌, ◌≤◌, pos, ◌+ℤ◌, ◌*ℤ◌, unsigned_abs, ℕ, ◌-◌, length, true};
+ghost use Rattle.std.specs.Prelude.{false};
 ghost use Rattle.std.specs.List.{HoldsAt};
 ghost use Rattle.hyd_spec.specs.Types.{VolumePoint};
 ghost use Rattle.hyd_net.specs.Ranges.{Lies};
@@ -9,7 +10,8 @@ ghost use Rattle.hyd_net.specs.Curves.{volume_knots, value_at, IsVolumeCurve};
 ghost use Rattle.hyd_net.specs.Sizes.{IsShapeOf};
 ghost use Rattle.hyd_spec.specs.Tank.{Curve, kept_volume, level_bounds, content_bounds, has_reached};
 ghost use Rattle.hyd_spec_certificates.specs.Interval.{Interval};
-ghost use Rattle.hyd_spec_certificates.specs.Stocks.{Stocks, lower_level, upper_level, contents_after, levels_at, next_stocks, carried_stocks};
+ghost use Rattle.hyd_spec_certificates.specs.Stocks.{Stocks, lower_level, upper_level, contents_after, levels_at};
+ghost use Rattle.hyd_spec_certificates.specs.Stocks.{next_stocks, carried_stocks};
 ghost use Rattle.hyd_spec_certificates.specs.FirstSeconds.{IsFirstSecond, IsEarliestSecond, IsLatestSecond};
 ghost use Rattle.hyd_spec_laws.specs.Laws.{IsWithin};
 ghost use Rattle.hyd_tank.specs.Contents.{bounds_of, AreBounds, in_ticks, held_in, moved};
@@ -169,7 +171,8 @@ pub(crate) fn carried_from(
     requires tank { IsBasin tank.now points.now }
     requires volume { IsWithin (content_bounds (Curve points.now) tank.now) (volumes_of stock.volume) }
     requires seconds { seconds ≤ 10 ^ 8 }
-    ensures { stocks_of result ≡ carried_stocks (Curve points.now) tank.now (stocks_of stock) (inflows_of inflow) seconds }
+    ensures { stocks_of result ≡ carried_stocks (Curve points.now) tank.now (stocks_of stock) (inflows_of inflow)
+        seconds }
 {
     let volumes = volume_bounds(tank, points);
     let breadth = i128::from(PARTS);

@@ -9,7 +9,8 @@ ghost use Rattle.hyd_spec_certificates.specs.Stocks.{contents_after, next_stocks
 ghost use Rattle.hyd_spec_certificates.specs.FirstSeconds.{IsFirstSecond, IsEarliestSecond, IsLatestSecond};
 ghost use Rattle.hyd_spec_laws.specs.Laws.{LiesIn, LiesAround, IsInside, IsWithin};
 ghost use Rattle.hyd_tank.specs.Contents.{bounds_of, AreBounds, IsMotion};
-ghost use Rattle.hyd_tank.specs.Spans.{levels_of, inflows_of, stocks_at, with_levels, level_stock, cylinder, IsInflow, IsTankOfRange, IsCylinder};
+ghost use Rattle.hyd_tank.specs.Spans.{levels_of, inflows_of, stocks_at, with_levels, level_stock, cylinder, IsInflow};
+ghost use Rattle.hyd_tank.specs.Spans.{IsTankOfRange, IsCylinder};
 
 use crate::content::{Bounds, Motion, held_after, in_parts, lower_content, upper_content};
 use crate::seconds::first_meeting;
@@ -117,7 +118,8 @@ pub fn level_at(tank: &Tank, level: LevelSpan, inflow: Span, seconds: u32) -> Le
     requires level { IsWithin (level_bounds tank.now) (levels_of level) }
     requires inflow { IsInflow inflow }
     requires seconds { seconds ≤ 10 ^ 8 }
-    ensures value { levels_of result ≡ carried_levels (cylinder tank.now) tank.now (stocks_at level) (inflows_of inflow) seconds }
+    ensures value { levels_of result ≡ carried_levels (cylinder tank.now) tank.now (stocks_at level)
+        (inflows_of inflow) seconds }
     ensures bounded { IsWithin (level_bounds tank.now) (levels_of result) }
     ensures ordered { level.lo ≤ℤ level.hi → result.lo ≤ℤ result.hi }
 

@@ -1,12 +1,13 @@
-//! Stocks of tanks with and without a volume curve: with which a run begins, what they become after some seconds of a constant inflow, and when
-//! they reach a target level (EPANET 2.2 User Manual, chapter 3, tanks and curves).
+//! Stocks of tanks with and without a volume curve: with which a run begins, what they become after some seconds of a
+//! constant inflow, and when they reach a target level (EPANET 2.2 User Manual, chapter 3, tanks and curves).
 #![tactic(auto)]
 
 ghost use Rattle.std.specs.Prelude.{◌≡◌, ◌*◌, ◌^◌, ◌<◌, ◌≤◌, unsigned_abs, ℕ, ℤ, length, slice_get, Some};
 ghost use Rattle.hyd_net.specs.Ranges.{Lies};
 ghost use Rattle.hyd_net.specs.Sound.{Sound};
 ghost use Rattle.hyd_spec.specs.Types.{Tank};
-ghost use Rattle.hyd_spec.specs.Tank.{Stock as OneStock, shape_points, walls_of, has_reached, carried_level, IsNextStock};
+ghost use Rattle.hyd_spec.specs.Tank.{Stock as OneStock, shape_points, walls_of, has_reached, carried_level};
+ghost use Rattle.hyd_spec.specs.Tank.{IsNextStock};
 ghost use Rattle.hyd_spec_certificates.specs.Interval.{Interval};
 ghost use Rattle.hyd_spec_certificates.specs.Stocks.{Stocks, next_stocks, carried_stocks, may_reach, must_reach};
 ghost use Rattle.hyd_spec_certificates.specs.FirstSeconds.{IsFirstSecond, IsEarliestSecond, IsLatestSecond};
@@ -66,7 +67,8 @@ fn next_of(project: &Project, tank: &Tank, stock: Stock, inflow: Span, seconds: 
     requires held { AreHeld (walls_of project.now tank.now) tank.now (stocks_of stock) }
     requires inflow { IsInflow inflow }
     requires seconds { seconds ≤ 10 ^ 8 }
-    ensures { stocks_of result ≡ next_stocks (walls_of project.now tank.now) tank.now (stocks_of stock) (inflows_of inflow) seconds }
+    ensures { stocks_of result ≡ next_stocks (walls_of project.now tank.now) tank.now (stocks_of stock)
+        (inflows_of inflow) seconds }
 {
     match tank.shape {
         None => Stock {
@@ -82,7 +84,8 @@ fn carried_of(project: &Project, tank: &Tank, stock: Stock, inflow: Span, second
     requires held { AreHeld (walls_of project.now tank.now) tank.now (stocks_of stock) }
     requires inflow { IsInflow inflow }
     requires seconds { seconds ≤ 10 ^ 8 }
-    ensures { stocks_of result ≡ carried_stocks (walls_of project.now tank.now) tank.now (stocks_of stock) (inflows_of inflow) seconds }
+    ensures { stocks_of result ≡ carried_stocks (walls_of project.now tank.now) tank.now (stocks_of stock)
+        (inflows_of inflow) seconds }
 {
     match tank.shape {
         None => Stock {
@@ -123,8 +126,8 @@ fn first_of(
     }
 }
 
-/// The stock with which a run begins: exactly the tank's initial level and, with a volume curve, exactly the volume at it,
-/// cut to whole volume ticks. The project is sound.
+/// The stock with which a run begins: exactly the tank's initial level and, with a volume curve, exactly the volume at
+/// it, cut to whole volume ticks. The project is sound.
 pub fn initial_stock(project: &Project, tank: u32) -> Stock
     requires sound { Sound project.now }
     requires tank { tank < length project.now.tanks.list }
@@ -136,26 +139,30 @@ pub fn initial_stock(project: &Project, tank: u32) -> Stock
     initial_of(project, &tank_at(project, tank))
 }
 
-/// The stock with which the next period begins after so many seconds of an inflow (flow ticks). Each end of the level of a
-/// tank without a volume curve, and of the volume of one with a curve, is rounded and moved outward by ten ticks, but not
-/// beyond its bounds; an end that is at or beyond a bound before it is moved is the bound. With a curve the levels go with
-/// the volumes: where the volume's end is a bound the level's is the minimum or the maximum, any other end is the level
-/// at that volume, rounded and moved outward by ten ticks within minimum and maximum. The project is sound.
+/// The stock with which the next period begins after so many seconds of an inflow (flow ticks). Each end of the level
+/// of a tank without a volume curve, and of the volume of one with a curve, is rounded and moved outward by ten ticks,
+/// but not beyond its bounds; an end that is at or beyond a bound before it is moved is the bound. With a curve the
+/// levels go with the volumes: where the volume's end is a bound the level's is the minimum or the maximum, any other
+/// end is the level at that volume, rounded and moved outward by ten ticks within minimum and maximum. The project is
+/// sound.
 pub fn next_stock(project: &Project, tank: u32, stock: Stock, inflow: Span, seconds: u32) -> Stock
     requires sound { Sound project.now }
     requires tank { tank < length project.now.tanks.list }
-    requires held { (each : Tank) → slice_get project.now.tanks.list tank ≡ Some each → AreHeld (walls_of project.now each) each (stocks_of stock) }
+    requires held { (each : Tank) → slice_get project.now.tanks.list tank ≡ Some each
+        → AreHeld (walls_of project.now each) each (stocks_of stock) }
     requires inflow { IsInflow inflow }
     requires seconds { seconds ≤ 10 ^ 8 }
     ensures value { (each : Tank) → slice_get project.now.tanks.list tank ≡ Some each
-        → stocks_of result ≡ next_stocks (walls_of project.now each) each (stocks_of stock) (inflows_of inflow) seconds }
+        → stocks_of result ≡ next_stocks (walls_of project.now each) each (stocks_of stock) (inflows_of inflow)
+        seconds }
     ensures held { (each : Tank) → slice_get project.now.tanks.list tank ≡ Some each
         → AreHeld (walls_of project.now each) each (stocks_of result) }
     ensures ordered { HasStock (stocks_of stock) → HasStock (stocks_of result) }
 
     // Each stock with which a next period may begin lies in it, at every scale.
     ensures holds { (each : Tank) → slice_get project.now.tanks.list tank ≡ Some each
-        → (S : ℕ) (one : OneStock) (q : ℤ) (next : OneStock) → 0 < S → StockLies S (stocks_of stock) one → LiesIn S (inflows_of inflow) q
+        → (S : ℕ) (one : OneStock) (q : ℤ) (next : OneStock) → 0 < S → StockLies S (stocks_of stock) one
+        → LiesIn S (inflows_of inflow) q
         → IsNextStock S (walls_of project.now each) each one q seconds next → StockLies S (stocks_of result) next }
 
     // It lies in those of a wider stock under a wider inflow.
@@ -171,11 +178,13 @@ pub fn next_stock(project: &Project, tank: u32, stock: Stock, inflow: Span, seco
 pub fn stock_at(project: &Project, tank: u32, stock: Stock, inflow: Span, seconds: u32) -> Stock
     requires sound { Sound project.now }
     requires tank { tank < length project.now.tanks.list }
-    requires held { (each : Tank) → slice_get project.now.tanks.list tank ≡ Some each → AreHeld (walls_of project.now each) each (stocks_of stock) }
+    requires held { (each : Tank) → slice_get project.now.tanks.list tank ≡ Some each
+        → AreHeld (walls_of project.now each) each (stocks_of stock) }
     requires inflow { IsInflow inflow }
     requires seconds { seconds ≤ 10 ^ 8 }
     ensures value { (each : Tank) → slice_get project.now.tanks.list tank ≡ Some each
-        → stocks_of result ≡ carried_stocks (walls_of project.now each) each (stocks_of stock) (inflows_of inflow) seconds }
+        → stocks_of result ≡ carried_stocks (walls_of project.now each) each (stocks_of stock) (inflows_of inflow)
+        seconds }
     ensures held { (each : Tank) → slice_get project.now.tanks.list tank ≡ Some each
         → AreHeld (walls_of project.now each) each (stocks_of result) }
     ensures ordered { HasStock (stocks_of stock) → HasStock (stocks_of result) }
@@ -193,10 +202,10 @@ pub fn stock_at(project: &Project, tank: u32, stock: Stock, inflow: Span, second
     carried_of(project, &tank_at(project, tank), stock, inflow, seconds)
 }
 
-/// The earliest and the latest first second, from 1 on, at which a stock has reached a target level (head ticks above the
-/// tank's bottom): risen to it or fallen to it. Each is the cap where it is reached at no second up to the cap. A tank with
-/// a volume curve has reached a bound of its levels where its exact volume has reached that of the bound. The project is
-/// sound.
+/// The earliest and the latest first second, from 1 on, at which a stock has reached a target level (head ticks above
+/// the tank's bottom): risen to it or fallen to it. Each is the cap where it is reached at no second up to the cap. A
+/// tank with a volume curve has reached a bound of its levels where its exact volume has reached that of the bound. The
+/// project is sound.
 pub fn first_stock(
     project: &Project,
     tank: u32,
@@ -208,24 +217,29 @@ pub fn first_stock(
 ) -> (u32, u32)
     requires sound { Sound project.now }
     requires tank { tank < length project.now.tanks.list }
-    requires held { (each : Tank) → slice_get project.now.tanks.list tank ≡ Some each → AreHeld (walls_of project.now each) each (stocks_of stock) }
+    requires held { (each : Tank) → slice_get project.now.tanks.list tank ≡ Some each
+        → AreHeld (walls_of project.now each) each (stocks_of stock) }
     requires inflow { IsInflow inflow }
     requires target { unsigned_abs target ≤ 2 * 10 ^ 17 }
     ensures earliest { (each : Tank) → slice_get project.now.tanks.list tank ≡ Some each
-        → IsEarliestSecond (walls_of project.now each) each (stocks_of stock) (inflows_of inflow) target rising cap result.0 }
+        → IsEarliestSecond (walls_of project.now each) each (stocks_of stock) (inflows_of inflow) target rising cap
+        result.0 }
     ensures latest { (each : Tank) → slice_get project.now.tanks.list tank ≡ Some each
-        → IsLatestSecond (walls_of project.now each) each (stocks_of stock) (inflows_of inflow) target rising cap result.1 }
+        → IsLatestSecond (walls_of project.now each) each (stocks_of stock) (inflows_of inflow) target rising cap
+        result.1 }
     ensures ordered { HasStock (stocks_of stock) → result.0 ≤ result.1 }
 
     // The first second of each stock of the interval under each inflow lies between them, at every scale.
     ensures holds { (each : Tank) → slice_get project.now.tanks.list tank ≡ Some each
-        → (S : ℕ) (one : OneStock) (q : ℤ) (first : ℕ) → 0 < S → StockLies S (stocks_of stock) one → LiesIn S (inflows_of inflow) q
+        → (S : ℕ) (one : OneStock) (q : ℤ) (first : ℕ) → 0 < S → StockLies S (stocks_of stock) one
+        → LiesIn S (inflows_of inflow) q
         → IsFirstSecond (has_reached S (walls_of project.now each) each one q rising target) cap first
         → (result.0 ≤ first) × (first ≤ result.1) }
 
     // They lie between those of a wider stock under a wider inflow.
     ensures nests { (each : Tank) → slice_get project.now.tanks.list tank ≡ Some each
-        → (wider : Stocks) (more : Interval) (sooner later : ℕ) → AreInside (stocks_of stock) wider → IsInside (inflows_of inflow) more
+        → (wider : Stocks) (more : Interval) (sooner later : ℕ) → AreInside (stocks_of stock) wider
+        → IsInside (inflows_of inflow) more
         → IsEarliestSecond (walls_of project.now each) each wider more target rising cap sooner
         → IsLatestSecond (walls_of project.now each) each wider more target rising cap later
         → (sooner ≤ result.0) × (result.1 ≤ later) }

@@ -11,18 +11,23 @@ use Rattle.hyd_spec_laws.specs.Laws.{IsWithin}
 use Rattle.hyd_tank.specs.Spans.{AreHeld}
 use Rattle.hyd_tests_on_controls.specs.Basins.{knees, HasBasin}
 
-walls_are : (network : Project) (each : Tank) → each.shape ≡ Some 0 → shape_points network 0 ≡ knees → walls_of network each ≡ Curve knees
+walls_are : (network : Project) (each : Tank) → each.shape ≡ Some 0 → shape_points network 0 ≡ knees
+    → walls_of network each ≡ Curve knees
 walls_are network each shape curve =
-    ap (λ (o : Option ℕ). option_map_or (λ s. Curve (shape_points network s)) o (Cylinder (unsigned_abs each.area))) shape ∙ ap Curve curve
+    ap (λ (o : Option ℕ). option_map_or (λ s. Curve (shape_points network s)) o (Cylinder (unsigned_abs each.area)))
+    shape ∙ ap Curve curve
 
-kept_at : (network : Project) (each : Tank) (level volume : ℤ) → (level_is : ℤ) → walls_of network each ≡ Curve knees → level ≡ level_is → volume_at knees level_is ≡ volume
+kept_at : (network : Project) (each : Tank) (level volume : ℤ) → (level_is : ℤ) → walls_of network each ≡ Curve knees
+    → level ≡ level_is → volume_at knees level_is ≡ volume
     → kept_volume (walls_of network each) level ≡ volume
 kept_at network each level volume level_is walls at is =
     ap (λ (w : Walls). kept_volume w level) walls ∙ ap (λ (m : ℤ). volume_at knees m) at ∙ is
 
-pub are_held : (network : Project) (each : Tank) (stocks : Stocks) → HasBasin network → slice_get network.tanks.list 0 ≡ Some each
+pub are_held : (network : Project) (each : Tank) (stocks : Stocks) → HasBasin network → slice_get network.tanks.list 0
+    ≡ Some each
     → IsWithin (record { least = pos 20000000000000; most = pos 90000000000000 }) stocks.level
-    → IsWithin (record { least = pos 50000000000; most = pos 750000000000 }) stocks.volume → AreHeld (walls_of network each) each stocks
+    → IsWithin (record { least = pos 50000000000; most = pos 750000000000 }) stocks.volume
+    → AreHeld (walls_of network each) each stocks
 are_held network each stocks has at level volume =
     let is = has.tank each at in
     let low = is.minimum in
@@ -33,6 +38,16 @@ are_held network each stocks has at level volume =
     let a = level.lo_above in let b = level.lo_below in let c = level.hi_above in let d = level.hi_below in
     let e = volume.lo_above in let f = volume.lo_below in let g = volume.hi_above in let h = volume.hi_below in
     record {
-      level = record { lo_above = omega (arith, ints, low, a); lo_below = omega (arith, ints, high, b); hi_above = omega (arith, ints, low, c); hi_below = omega (arith, ints, high, d) };
-      volume = record { lo_above = omega (arith, ints, least, e); lo_below = omega (arith, ints, most, f); hi_above = omega (arith, ints, least, g); hi_below = omega (arith, ints, most, h) };
+      level = record {
+        lo_above = omega (arith, ints, low, a);
+        lo_below = omega (arith, ints, high, b);
+        hi_above = omega (arith, ints, low, c);
+        hi_below = omega (arith, ints, high, d);
+      };
+      volume = record {
+        lo_above = omega (arith, ints, least, e);
+        lo_below = omega (arith, ints, most, f);
+        hi_above = omega (arith, ints, least, g);
+        hi_below = omega (arith, ints, most, h);
+      };
     }

@@ -14,4 +14,5 @@ points_Decides a b =
     Decides-like (int_eq a.level b.level && int_eq a.volume b.volume)
     (λ (e : (a.level ≡ b.level) × (a.volume ≡ b.volume)). ap₂ point e.0 e.1)
     (λ (e : a ≡ b). (ap (λ (p : VolumePoint). p.level) e, ap (λ (p : VolumePoint). p.volume) e))
-    (Decides-and (int_eq a.level b.level) (int_eq a.volume b.volume) (Decides-int_eq a.level b.level) (Decides-int_eq a.volume b.volume))
+    (Decides-and (int_eq a.level b.level) (int_eq a.volume b.volume) (Decides-int_eq a.level b.level)
+    (Decides-int_eq a.volume b.volume))

@@ -548,7 +548,10 @@ fn has_basin(project: &Project) -> bool
 fn lies(stock: &Stock) -> bool
     ensures level { IsTrue result
         → IsWithin (record { least = pos 20000000000000; most = pos 90000000000000 }) (stocks_of stock.now).level }
-    ensures volume { IsTrue result → IsWithin (record { least = pos 50000000000; most = pos 750000000000 }) (stocks_of stock.now).volume }
+    ensures volume { IsTrue result → IsWithin (record {
+      least = pos 50000000000;
+      most = pos 750000000000;
+    }) (stocks_of stock.now).volume }
 {
     let level = &stock.level;
     let volume = &stock.volume;

@@ -112,8 +112,8 @@ fn ends_both(
     ends_so(alloc, command, certificate, whole, number, true, starved)
 }
 
-/// The number of the first call with which a command ends otherwise. Where there is none, the number behind its calls, if
-/// it ends without a fault there; else 0.
+/// The number of the first call with which a command ends otherwise. Where there is none, the number behind its calls,
+/// if it ends without a fault there; else 0.
 fn first_other(
     alloc: Global,
     command: &Command,

@@ -1,4 +1,5 @@
-//! The tests of a net in its periods, on a network read from a text, against values worked out by an independent program.
+//! The tests of a net in its periods, on a network read from a text, against values worked out by an independent
+//! program.
 #![tactic(auto)]
 
 #[cfg(test)]

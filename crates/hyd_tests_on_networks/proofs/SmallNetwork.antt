@@ -1,5 +1,6 @@
 -- A network of one junction and one reservoir is sound.
-use Rattle.std.proofs.Common.{◌≡◌, ◌≢◌, ℕ, ◌≤◌, ◌*◌, ◌^◌, pos, neg_ℤ, ◌*ℤ◌, List, [], ◌∷◌, length, None, Some, false, sym, ap, subst, arith}
+use Rattle.std.proofs.Common.{◌≡◌, ◌≢◌, ℕ, ◌≤◌, ◌*◌, ◌^◌, pos, neg_ℤ, ◌*ℤ◌, List, [], ◌∷◌, length, None, Some, false}
+use Rattle.std.proofs.Common.{sym, ap, subst, arith}
 use Rattle.std.specs.Prelude.{slice_index_or, codes, sum_by}
 use Rattle.std.specs.List.{All}
 use Rattle.std.specs.Option.{IfSome}
@@ -26,7 +27,16 @@ use Rattle.hyd_net.specs.declared.project.Project.{Project}
 use Rattle.hyd_num.specs.declared.units.FlowUnit.TheVariants.{Cmd}
 
 abbrev pub the_times : Times
-the_times = record { duration = 86400; hydraulic = 3600; pattern = 7200; pattern_start = 3600; report = 3600; report_start = 0; start_clock = 0; rule = 360 }
+the_times = record {
+  duration = 86400;
+  hydraulic = 3600;
+  pattern = 7200;
+  pattern_start = 3600;
+  report = 3600;
+  report_start = 0;
+  start_clock = 0;
+  rule = 360;
+}
 
 abbrev pub usual : Demand
 usual = record { base = pos 1000000007; pattern = None }
@@ -80,16 +90,19 @@ no_ids i j d before within = absurd (omega (arith, within))
 
 two_ids : AreDistinct (codes "J" ∷ (codes "R" ∷ []))
 two_ids =
-    AllPairs-cons (λ a b. a ≢ b) (codes "J") (codes "R" ∷ []) (All-from_recursion (λ b. codes "J" ≢ b) (codes "R" ∷ []) (differ _ _ (λ e. omega (arith, e)), tt))
+    AllPairs-cons (λ a b. a ≢ b) (codes "J") (codes "R" ∷ [])
+    (All-from_recursion (λ b. codes "J" ≢ b) (codes "R" ∷ []) (differ _ _ (λ e. omega (arith, e)), tt))
     (AllPairs-cons (λ a b. a ≢ b) (codes "R") [] (All-from_recursion (λ b. codes "R" ≢ b) [] tt) no_ids)
 
 ids : (p : Project) (j : Junction) (halves jumps : Pattern) → Parts p j halves jumps → HasIds p
 ids p j halves jumps is = record {
-  each_node = (let a = ap length is.nodes in let b = ap length is.junctions in let c = ap length is.reservoirs in let d = ap length is.tanks in omega (arith, a, b, c, d));
+  each_node = (let a = ap length is.nodes in let b = ap length is.junctions in let c = ap length is.reservoirs in
+      let d = ap length is.tanks in omega (arith, a, b, c, d));
   each_link = (let a = ap length is.link_ids in let b = ap length is.links in omega (arith, a, b));
   distinct_nodes = subst AreDistinct (sym is.nodes) two_ids;
   distinct_links = subst AreDistinct (sym is.link_ids) no_ids;
-  node_ids = all_two IsId p.node_ids (codes "J") (codes "R") is.nodes (omega arith, omega arith) (omega arith, omega arith);
+  node_ids = all_two IsId p.node_ids (codes "J") (codes "R") is.nodes (omega arith, omega arith)
+      (omega arith, omega arith);
   link_ids = all_none IsId p.link_ids is.link_ids;
 }
 
@@ -103,12 +116,14 @@ counts p j halves jumps is = record {
   tanks = (let n = ap length is.tanks in omega (arith, n));
   links = (let n = ap length is.links in omega (arith, n));
   patterns = (let n = ap length is.patterns in omega (arith, n));
-  multipliers = subst (λ (ps : List Pattern). sum_by (λ (q : Pattern). length q.multipliers.list) ps ≤ 1000000) (sym is.patterns) (let n = ap length is.first in let m = ap length is.second in omega (arith, n, m));
+  multipliers = subst (λ (ps : List Pattern). sum_by (λ (q : Pattern). length q.multipliers.list) ps ≤ 1000000)
+      (sym is.patterns) (let n = ap length is.first in let m = ap length is.second in omega (arith, n, m));
   shapes = (let n = ap length is.shapes in omega (arith, n));
   shape_points = sum_none (λ (shape : ListView VolumePoint). length shape.list) 100000 p.shapes.list is.shapes;
   bends = (let n = ap length is.bends in omega (arith, n));
   bend_points = sum_none (λ (bend : ListView HeadPoint). length bend.list) 100000 p.bends.list is.bends;
-  demands = subst (λ (js : List Junction). sum_by demand_rows js ≤ 100000) (sym is.junctions) (rw is.demands (omega arith));
+  demands = subst (λ (js : List Junction). sum_by demand_rows js ≤ 100000) (sym is.junctions)
+      (rw is.demands (omega arith));
   controls = (let n = ap length is.controls in omega (arith, n));
   rules = (let n = ap length is.rules in omega (arith, n));
   parts = sum_none part_count 100000 p.rules.list is.rules;
@@ -119,26 +134,46 @@ quantities p j halves jumps is =
     let n = ap length is.patterns in
     record {
       options = record {
-        multiplier = record { at_least = omega (arith, ints, is.multiplier); at_most = omega (arith, ints, is.multiplier) };
-        minimum = record { not_negative = omega (arith, ints, is.minimum); at_most = rw (is.cmd, is.minimum) (omega (arith, ints)) };
-        required = record { not_negative = omega (arith, ints, is.required); at_most = rw (is.cmd, is.required) (omega (arith, ints)) };
+        multiplier = record {
+          at_least = omega (arith, ints, is.multiplier);
+          at_most = omega (arith, ints, is.multiplier);
+        };
+        minimum = record {
+          not_negative = omega (arith, ints, is.minimum);
+          at_most = rw (is.cmd, is.minimum) (omega (arith, ints));
+        };
+        required = record {
+          not_negative = omega (arith, ints, is.required);
+          at_most = rw (is.cmd, is.required) (omega (arith, ints));
+        };
         apart = λ e. omega (arith, ints, is.minimum, is.required);
         default_pattern = rw is.default (record { in_range = omega (arith, n); holds = λ d k e le. tt });
       };
       junctions = all_one (IsJunction p.options.unit p.patterns.list) p.junctions.list j is.junctions (record {
-        elevation = record { at_least = omega (arith, ints, is.elevation); at_most = omega (arith, ints, is.elevation) };
+        elevation = record {
+          at_least = omega (arith, ints, is.elevation);
+          at_most = omega (arith, ints, is.elevation);
+        };
         demands = all_two (IsDemand p.patterns.list) j.demands.list usual own is.demands
             (record { base = record { at_least = omega (arith, ints); at_most = omega (arith, ints) }; pattern = tt })
-            (record { base = record { at_least = omega (arith, ints); at_most = omega (arith, ints) }; pattern = record { in_range = omega (arith, n); holds = λ d k e le. tt } });
+            (record {
+              base = record { at_least = omega (arith, ints); at_most = omega (arith, ints) };
+              pattern = record { in_range = omega (arith, n); holds = λ d k e le. tt };
+            });
         emitter = rw is.emitter tt;
       });
       reservoirs = all_one (IsReservoir p.patterns.list) p.reservoirs.list spring is.reservoirs (record {
         head = record { at_least = omega (arith, ints); at_most = omega (arith, ints) };
         pattern = record {
           in_range = omega (arith, n);
-          holds = λ d. subst (λ (ps : List Pattern). All (λ m. LiesWithin (10 ^ 17 * 10 ^ 9) (spring.head *ℤ m)) (slice_index_or ps 0 d).multipliers.list) (sym is.patterns)
-              (all_two (λ m. LiesWithin (10 ^ 17 * 10 ^ 9) (spring.head *ℤ m)) halves.multipliers.list (pos 1000000000) (pos 500000000) is.first
-              (record { at_least = omega (arith, ints); at_most = omega (arith, ints) }) (record { at_least = omega (arith, ints); at_most = omega (arith, ints) }));
+          holds = λ d. subst (λ (ps : List Pattern). All (λ m. LiesWithin (10 ^ 17 * 10 ^ 9) (spring.head *ℤ m))
+              (slice_index_or ps 0 d).multipliers.list) (sym is.patterns)
+              (all_two (λ m. LiesWithin (10 ^ 17 * 10 ^ 9) (spring.head *ℤ m)) halves.multipliers.list
+              (pos 1000000000) (pos 500000000) is.first
+              (record { at_least = omega (arith, ints); at_most = omega (arith, ints) }) (record {
+                at_least = omega (arith, ints);
+                at_most = omega (arith, ints);
+              }));
         };
       });
       tanks = all_none (IsTank p.shapes.list) p.tanks.list is.tanks;
@@ -166,11 +201,19 @@ sound_of p j halves jumps is = record {
   patterns = all_two IsPattern p.patterns.list halves jumps is.patterns
       (record {
         not_empty = (let n = ap length is.first in omega (arith, n));
-        range = all_two (LiesWithin (10 ^ 6 * 10 ^ 9)) halves.multipliers.list (pos 1000000000) (pos 500000000) is.first (record { at_least = omega (arith, ints); at_most = omega (arith, ints) }) (record { at_least = omega (arith, ints); at_most = omega (arith, ints) });
+        range = all_two (LiesWithin (10 ^ 6 * 10 ^ 9)) halves.multipliers.list (pos 1000000000) (pos 500000000)
+            is.first (record {
+              at_least = omega (arith, ints);
+              at_most = omega (arith, ints);
+            }) (record { at_least = omega (arith, ints); at_most = omega (arith, ints) });
       })
       (record {
         not_empty = (let n = ap length is.second in omega (arith, n));
-        range = all_two (LiesWithin (10 ^ 6 * 10 ^ 9)) jumps.multipliers.list (neg_ℤ (pos 333333333)) (pos 3000000000) is.second (record { at_least = omega (arith, ints); at_most = omega (arith, ints) }) (record { at_least = omega (arith, ints); at_most = omega (arith, ints) });
+        range = all_two (LiesWithin (10 ^ 6 * 10 ^ 9)) jumps.multipliers.list (neg_ℤ (pos 333333333)) (pos 3000000000)
+            is.second (record {
+              at_least = omega (arith, ints);
+              at_most = omega (arith, ints);
+            }) (record { at_least = omega (arith, ints); at_most = omega (arith, ints) });
       });
   controls = all_none (IsControl p) p.controls.list is.controls;
   rules = all_none (IsRule p) p.rules.list is.rules;

@@ -31,9 +31,11 @@ after-reservoirs [] xs ys within m = within m
 after-reservoirs (r ∷ reservoirs) xs ys within zero = omega (arith, ints)
 after-reservoirs (r ∷ reservoirs) xs ys within (suc m) = after-reservoirs reservoirs xs ys within m
 
-pub main_order : (grid : Grid) → IsSteady grid → TanksInOrder grid → (below above : List ℤ) → IsCertificate grid Main Lower below → IsCertificate grid Main Upper above
+pub main_order : (grid : Grid) → IsSteady grid → TanksInOrder grid → (below above : List ℤ)
+    → IsCertificate grid Main Lower below → IsCertificate grid Main Upper above
     → AreInOrder (pos 0) (all_heads grid Main Lower below) (all_heads grid Main Upper above)
 main_order grid steady order below above under over =
     heads_below_plus grid steady Main Main above below (pos 0) over under (omega (arith, ints))
-    (λ m. (let f = after-reservoirs grid.reservoirs (ends Lower 0 grid.tanks) (ends Upper 0 grid.tanks) (tanks-within 0 grid.tanks order) m in
+    (λ m. (let f = after-reservoirs grid.reservoirs (ends Lower 0 grid.tanks) (ends Upper 0 grid.tanks)
+    (tanks-within 0 grid.tanks order) m in
     omega (arith, ints, f, one_times (head_at (fixed_heads grid Main Upper) m))))

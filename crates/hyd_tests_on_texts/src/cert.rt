@@ -10,8 +10,8 @@ use std::alloc::Global;
 use std::fmt::Write;
 use std::test::Fail;
 
-// Each row is a text and what an independent reader says of it, record by record. A bar stands for a line feed, a caret for
-// a carriage return.
+// Each row is a text and what an independent reader says of it, record by record. A bar stands for a line feed, a caret
+// for a carriage return.
 
 // With the header of version 1 for one junction and no tank.
 const FIRST_VERSION: [(&str, &str); 57] = [

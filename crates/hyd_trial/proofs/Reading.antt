@@ -14,7 +14,8 @@ use Rattle.hyd_spec_certificates.specs.declared.LevelSpan.{LevelSpan}
 use Rattle.hyd_spec_certificates.specs.Interval.{Interval}
 use Rattle.hyd_spec_certificates.specs.Grid.{Grid, end_on, tank_side}
 use Rattle.hyd_spec_certificates.specs.Record.{Record, Standing}
-use Rattle.hyd_spec_certificates.specs.Decided.{IsOpenRule, carried_at, readings_below, readings_above, least_magnitude, greatest_magnitude}
+use Rattle.hyd_spec_certificates.specs.Decided.{IsOpenRule, carried_at, readings_below, readings_above, least_magnitude}
+use Rattle.hyd_spec_certificates.specs.Decided.{greatest_magnitude}
 use Rattle.hyd_ctrl.specs.Alike.{AreAlike}
 use Rattle.hyd_ctrl.specs.Instants.{flow_interval, level_interval, lower_readings, upper_readings}
 use Rattle.hyd_ctrl.proofs.Unseen.{heads_behind}

@@ -23,8 +23,8 @@ use hyd_spec_certificates::LevelSpan;
 /// [RULES]). Fails with the first rule that is open there.
 ///
 /// The facts hold what is known at the start of the period, with what flows into its tanks; `low` and `high` are the
-/// heads of junctions and then of reservoirs from below and from above, `flows` the flows of links. `levels` is room for
-/// the carried levels, so no memory is taken.
+/// heads of junctions and then of reservoirs from below and from above, `flows` the flows of links. `levels` is room
+/// for the carried levels, so no memory is taken.
 pub fn try_rules(
     project: &Project,
     facts: &Facts,

@@ -1,5 +1,6 @@
 -- The digits of a number of 128 bits, and how long its text is.
-use Rattle.std.proofs.Common.{Bool, true, false, ◌≡◌, ℕ, zero, suc, ◌+◌, ◌-◌, ◌/◌, ◌%◌, ◌^◌, ◌<◌, ◌≤◌, List, [], ◌∷◌, ◌++◌, length, refl, ap, ◌∙◌, arith, length-append}
+use Rattle.std.proofs.Common.{Bool, true, false, ◌≡◌, ℕ, zero, suc, ◌+◌, ◌-◌, ◌/◌, ◌%◌, ◌^◌, ◌<◌, ◌≤◌, List, [], ◌∷◌}
+use Rattle.std.proofs.Common.{◌++◌, length, refl, ap, ◌∙◌, arith, length-append}
 use Rattle.std.proofs.lemmas.Fmt.{decimal_step_wide, length-decimal-le_wide}
 use Rattle.std.specs.Fmt.{decimal, sign_text}
 use Rattle.hyd_units.specs.Writing.{Writes}
@@ -8,10 +9,12 @@ use Rattle.hyd_num.specs.Decimals.{last_digits, fixed_point}
 pub length-last_digits : (places n : ℕ) → length (last_digits places n) ≡ places
 length-last_digits zero n = refl
 length-last_digits (suc places) n =
-    let e : length (last_digits places (n / 10) ++ (48 + n % 10) ∷ []) ≡ length (last_digits places (n / 10)) + 1 = length-append _ _ in
+    let e : length (last_digits places (n / 10) ++ (48 + n % 10) ∷ []) ≡ length (last_digits places (n / 10))
+    + 1 = length-append _ _ in
     omega (arith, e, length-last_digits places (n / 10))
 
-pub last_digits_front : (places n : ℕ) → 0 < places → last_digits (places - 1) (n / 10) ++ (48 + n % 10) ∷ [] ≡ last_digits places n
+pub last_digits_front : (places n : ℕ) → 0 < places → last_digits (places - 1) (n / 10) ++ (48 + n % 10) ∷ []
+    ≡ last_digits places n
 last_digits_front zero n h = absurd (omega arith)
 last_digits_front (suc places) n h = let e : suc places - 1 ≡ places = omega arith in rw e refl
 
@@ -27,8 +30,14 @@ unfolding fixed_point
 length-four_places n = length-append _ _
 
 pub short_four_places : (n : ℕ) → n < 2 ^ 128 → length (fixed_point 4 n) ≤ 40
-short_four_places n h = omega (arith, length-four_places n, length-decimal-le_wide 35 (n / 10000) (omega arith) (omega arith) (omega arith))
+short_four_places n h = omega (
+  arith,
+  length-four_places n,
+  length-decimal-le_wide 35 (n / 10000) (omega arith)
+      (omega arith) (omega arith),
+)
 
-pub short_sign : {old new : List ℕ} {from to : ℕ} (negative : Bool) → Writes old new from to (sign_text negative) → to ≤ from + 1
+pub short_sign : {old new : List ℕ} {from to : ℕ} (negative : Bool) → Writes old new from to (sign_text negative)
+    → to ≤ from + 1
 short_sign true w = omega (arith, w.end)
 short_sign false w = omega (arith, w.end)

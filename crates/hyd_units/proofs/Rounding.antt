@@ -8,7 +8,8 @@ use Rattle.hyd_units.specs.Rounding.{IsWhole, IsRounded}
 crossed : (d : ℕ) (k : ℤ) → k *ℤ pos (10 ^ 7 * d) ≡ pos (10 ^ 4) *ℤ (k *ℤ pos (1000 * d))
 crossed d k = omega (arith, ints)
 
-pub IsRounded-quotient : (way : Way) (n : ℤ) (d : ℕ) (count : ℤ) → IsWhole way n (pos (1000 * d)) count → IsRounded way (record { num = n; den = 10 ^ 7 * d }) count
+pub IsRounded-quotient : (way : Way) (n : ℤ) (d : ℕ) (count : ℤ) → IsWhole way n (pos (1000 * d)) count
+    → IsRounded way (record { num = n; den = 10 ^ 7 * d }) count
 IsRounded-quotient Down n d count f = record {
   at_most = rw (crossed d count) (omega (arith, ints, f.at_most));
   greatest = λ k h. let below : (k *ℤ pos (1000 * d)) ≤ℤ n = omega (arith, ints, crossed d k) in f.greatest k below;

@@ -25,5 +25,7 @@ IsFloor-floor x k above f =
 pub IsCeiling-ceiling : (x : Rational) (k : ℤ) → 0 < x.den → IsCeiling x.num (pos x.den) k → k ≡ ceiling x
 IsCeiling-ceiling x k above f =
     let positive : pos 0 <ℤ pos x.den = omega (arith, ints) in
-    let below : IsFloor (neg_ℤ x.num) (pos x.den) (floor (negated x)) = floor_is (neg_ℤ x.num) (pos x.den) (floor (negated x)) positive refl in
-    IsCeiling-unique _ _ _ _ f (ceiling_is x.num (neg_ℤ x.num) (pos x.den) (floor (negated x)) (ceiling x) positive refl refl below)
+    let below : IsFloor (neg_ℤ x.num) (pos x.den) (floor (negated x)) = floor_is (neg_ℤ x.num) (pos x.den)
+    (floor (negated x)) positive refl in
+    IsCeiling-unique _ _ _ _ f (ceiling_is x.num (neg_ℤ x.num) (pos x.den) (floor (negated x)) (ceiling x) positive
+    refl refl below)

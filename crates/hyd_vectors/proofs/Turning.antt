@@ -54,7 +54,8 @@ before-more P tanks problem side old new heads before is holds others = λ other
       | inr ne ↦ (let apart : place_in other face ≢ place_in problem side =
           (λ same. ne (sym (place-turn other face) ∙ same ∙ place-turn problem side)) in
           let earlier : turn other face < turn problem side = omega (arith, less, ne) in
-          subst (λ (u : List ℤ). P other face u) (sym (others other face there apart)) (before other face there earlier))
+          subst (λ (u : List ℤ). P other face u) (sym (others other face there apart))
+          (before other face there earlier))
     ]
 
 -- none comes before the first turn

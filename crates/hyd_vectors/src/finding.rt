@@ -8,7 +8,8 @@ ghost use Rattle.hyd_cert.specs.RecordView.{header_of, row_of};
 ghost use Rattle.hyd_graph.specs.GridOf.{grid_of};
 ghost use Rattle.hyd_graph.specs.Nets.{HasProblem};
 ghost use Rattle.hyd_sweep.specs.Strides.{AreLeapingRounds};
-ghost use Rattle.hyd_vectors.specs.Vectors.{HasOther, InOrder, Fits, IsFound, IsTold, IsSought, IsOffered, Tells, Comes, Lacks};
+ghost use Rattle.hyd_vectors.specs.Vectors.{HasOther, InOrder, Fits, IsFound, IsTold, IsSought, IsOffered, Tells};
+ghost use Rattle.hyd_vectors.specs.Vectors.{Comes, Lacks};
 
 use crate::lack::Lack;
 use crate::starting::{Starter, begin_near};

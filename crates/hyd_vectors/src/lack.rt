@@ -14,8 +14,8 @@ pub enum Lack {
         /// Its number, counted from 0.
         junction: u32,
     },
-    /// The rounds that a search may take exist, from the floor of the box for UPPER and its ceiling for LOWER, and lead to
-    /// no certificate.
+    /// The rounds that a search may take exist, from the floor of the box for UPPER and its ceiling for LOWER, and lead
+    /// to no certificate.
     RoundsSpent {
         problem: Problem,
         side: Side,

@@ -1,5 +1,6 @@
 -- Watched levels, one after another.
-use Rattle.std.proofs.Common.{◌≡◌, Bool, true, false, ℕ, zero, suc, ◌+◌, ◌<◌, ◌≤◌, min, List, [], ◌∷◌, ◌++◌, length, take, refl, ap, sym, ◌∙◌, subst, arith, append_assoc, get_or}
+use Rattle.std.proofs.Common.{◌≡◌, Bool, true, false, ℕ, zero, suc, ◌+◌, ◌<◌, ◌≤◌, min, List, [], ◌∷◌, ◌++◌, length}
+use Rattle.std.proofs.Common.{take, refl, ap, sym, ◌∙◌, subst, arith, append_assoc, get_or}
 use Rattle.std.specs.Prelude.{Option, Some, None, map, slice_get, if◌then◌else◌}
 use Rattle.std.proofs.lemmas.List.{take_more, take_all, map_push}
 use Rattle.hyd_spec.specs.Types.{Project, Tank, Control}
@@ -10,7 +11,8 @@ use Rattle.hyd_spec_certificates.specs.Interval.{Interval}
 use Rattle.hyd_spec_certificates.specs.Grid.{Grid}
 use Rattle.hyd_spec_certificates.specs.Record.{Record, Standing}
 use Rattle.hyd_spec_certificates.specs.Stocks.{may_reach, must_reach}
-use Rattle.hyd_spec_certificates.specs.Decided.{Watch, watches, tank_watches, watch_of, IsClockLength, IsEarliestEnd, IsLatestEnd}
+use Rattle.hyd_spec_certificates.specs.Decided.{Watch, watches, tank_watches, watch_of, IsClockLength, IsEarliestEnd}
+use Rattle.hyd_spec_certificates.specs.Decided.{IsLatestEnd}
 use Rattle.hyd_spec_nesting.specs.Nesting.{IsFirstAmong}
 use Rattle.hyd_spec_nesting.proofs.Watched.{none_watched, end_is}
 use Rattle.hyd_facts.specs.OfPeriod.{levels_of}
@@ -220,7 +222,8 @@ module _ (network : Project) (facts : Facts) (cap : ℕ) (ends : Ends)
   watched_are =
       ap (λ (states : List TankState). tank_watches 0 network.tanks.list states
       ++ control_watches (map levels_of facts.levels.list) network.controls.list) started.tanks
-      ∙ ap (λ (levels : List Interval). tank_watches 0 network.tanks.list standing.tanks ++ control_watches levels network.controls.list) started.levels
+      ∙ ap (λ (levels : List Interval). tank_watches 0 network.tanks.list standing.tanks ++ control_watches levels
+      network.controls.list) started.levels
 
   pub earliest_is : IsEarliestEnd network grid standing row ends.earliest
   earliest_is = end_is may_reach network grid standing row cap clock ends.earliest

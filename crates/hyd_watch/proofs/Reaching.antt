@@ -1,5 +1,6 @@
 -- First seconds of watched levels, by the facts of a period and by whatever standing and record these are of.
-use Rattle.std.proofs.Common.{◌≡◌, inl, inr, ℕ, zero, suc, ◌+◌, ◌<◌, min, List, [], ◌∷◌, ◌++◌, length, refl, ap, ◌∙◌, subst, arith}
+use Rattle.std.proofs.Common.{◌≡◌, inl, inr, ℕ, zero, suc, ◌+◌, ◌<◌, min, List, [], ◌∷◌, ◌++◌, length, refl, ap, ◌∙◌}
+use Rattle.std.proofs.Common.{subst, arith}
 use Rattle.std.specs.Prelude.{Some, map, slice_get, slice_index_or, Contains}
 use Rattle.std.proofs.lemmas.List.Elements.{Contains-append_left, Contains-push, Contains-push_cases}
 use Rattle.hyd_spec.specs.Types.{Project, Tank}
@@ -60,7 +61,10 @@ stocks_are network grid standing row facts started k =
       volume =
           (stocks_in facts k).volume;
     } in s) started.levels
-    ∙ ap (λ (volumes : List Interval). let s : Stocks = record { level = slice_index_or standing.levels k nowhere; volume = slice_index_or volumes k nowhere } in s) started.volumes
+    ∙ ap (λ (volumes : List Interval). let s : Stocks = record {
+      level = slice_index_or standing.levels k nowhere;
+      volume = slice_index_or volumes k nowhere;
+    } in s) started.volumes
 
 pub inflow_is : (network : Project) (grid : Grid) (standing : Standing) (row : Record) (facts : Facts)
     → AreStarted network grid standing row facts → (k : ℕ) (tank : Tank) → slice_get network.tanks.list k ≡ Some tank

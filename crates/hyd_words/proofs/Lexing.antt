@@ -1,11 +1,15 @@
 -- What a word is by itself, from the tests by which clap reads it.
-use Rattle.std.proofs.Common.{◌≡◌, ◌⊎◌, ◌∙◌, ℕ, ◌+◌, ◌==◌, ◌&&◌, ◌||◌, nat_eq, Bool, true, false, not, cond, List, [], ◌∷◌, ◌++◌, length, take, drop, Option, Some, None, slice_get, refl, sym, ap, ap₂, subst, inl, inr, true≢false, arith, codes, IsUtf8, bytes_eq, encode_utf8_all, eqb-true, ne_eqb, suc}
+use Rattle.std.proofs.Common.{◌≡◌, ◌⊎◌, ◌∙◌, ℕ, ◌+◌, ◌==◌, ◌&&◌, ◌||◌, nat_eq, Bool, true, false, not, cond, List, []}
+use Rattle.std.proofs.Common.{◌∷◌, ◌++◌, length, take, drop, Option, Some, None, slice_get, refl, sym, ap, ap₂, subst}
+use Rattle.std.proofs.Common.{inl, inr, true≢false, arith, codes, IsUtf8, bytes_eq, encode_utf8_all, eqb-true, ne_eqb}
+use Rattle.std.proofs.Common.{suc}
 use Rattle.std.specs.List.{starts_with, before_first, after_first, position_or_len}
 use Rattle.std.specs.Char.{encode_utf8}
 use Rattle.std.specs.Str.{chars}
 use Rattle.std.proofs.lemmas.Str.{encodes-chars}
 use Rattle.clap.specs.Lexer.{long_of, short_of, has_byte, name_and_value}
-use Rattle.hyd_words.specs.Words.{Word, Kind, sweeps, width, tight, name, wrong, says, wants, begins_with_dash, kind_of, option_kind, ends}
+use Rattle.hyd_words.specs.Words.{Word, Kind, sweeps, width, tight, name, wrong, says, wants, begins_with_dash, kind_of}
+use Rattle.hyd_words.specs.Words.{option_kind, ends}
 use lib.Pointwise.{bytes_decides}
 
 -- ---- words of bytes
@@ -190,7 +194,8 @@ no_dash x xs e =
       rw e refl,
       rw e refl,
       λ i. cond (e i && bytes_eq xs (45 ∷ [])) ends
-          (cond (not (swapped i && true) || bytes_eq (x ∷ xs) (codes "-")) (says (name (x ∷ xs))) (option_kind (x ∷ xs))),
+          (cond (not (swapped i && true) || bytes_eq (x ∷ xs) (codes "-")) (says (name (x ∷ xs)))
+          (option_kind (x ∷ xs))),
       inl (ap (λ (b : Bool). b && true) swapped),
     )
 

@@ -1,5 +1,6 @@
 -- What clap finds in words gives the command that they are.
-use Rattle.std.proofs.Common.{◌≡◌, ◌∙◌, ◌+◌, ◌||◌, Bool, true, false, cond, List, [], ◌∷◌, map, fold, Option, Some, None, arith, refl, sym, ap, subst, String, string_bytes, MatchOption, ◌≢◌}
+use Rattle.std.proofs.Common.{◌≡◌, ◌∙◌, ◌+◌, ◌||◌, Bool, true, false, cond, List, [], ◌∷◌, map, fold, Option, Some}
+use Rattle.std.proofs.Common.{None, arith, refl, sym, ap, subst, String, string_bytes, MatchOption, ◌≢◌}
 use Rattle.std.specs.List.{list_all}
 use Rattle.std.proofs.lemmas.Str.{IsUtf8-string_bytes}
 use Rattle.clap.specs.Kinds.{Kinds, or_else}

@@ -1,5 +1,6 @@
 -- What the rows of clap's matches say, use by use.
-use Rattle.std.proofs.Common.{◌≡◌, ◌∙◌, ◌+◌, Bool, true, false, List, [], ◌∷◌, ◌++◌, length, Option, Some, None, option_map, unwrap_or, refl, sym, ap, subst, arith, append-nil, codes, bytes_eq, Bor}
+use Rattle.std.proofs.Common.{◌≡◌, ◌∙◌, ◌+◌, Bool, true, false, List, [], ◌∷◌, ◌++◌, length, Option, Some, None}
+use Rattle.std.proofs.Common.{option_map, unwrap_or, refl, sym, ap, subst, arith, append-nil, codes, bytes_eq, Bor}
 use Rattle.std.specs.Option.{UnwrapsOrElse}
 use Rattle.hyd_words.specs.Seen.{texts_seen}
 use Rattle.clap.specs.Walk.{Row, Rule, Text, with_values}

@@ -1,9 +1,11 @@
 -- What is said part by part.
-use Rattle.std.proofs.Common.{◌≡◌, ℕ, ◌+◌, Bool, true, false, ◌||◌, List, [], ◌∷◌, ◌++◌, length, refl, arith, append_assoc}
+use Rattle.std.proofs.Common.{◌≡◌, ℕ, ◌+◌, Bool, true, false, ◌||◌, List, [], ◌∷◌, ◌++◌, length, refl, arith}
+use Rattle.std.proofs.Common.{append_assoc}
 use Rattle.std.specs.Prelude.{filter}
 use Rattle.std.specs.List.{list_any}
 use Rattle.std.proofs.lemmas.List.Elements.{filter_map-append}
-use Rattle.hyd_words.specs.Words.{Part, Said, sweeps, width, tight, name, wrong, sweeps_value, width_value, named, is_tight, is_wrong, said_by}
+use Rattle.hyd_words.specs.Words.{Part, Said, sweeps, width, tight, name, wrong, sweeps_value, width_value, named}
+use Rattle.hyd_words.specs.Words.{is_tight, is_wrong, said_by}
 
 -- what is said first, and then this
 abbrev pub joined : Said → Said → Said

@@ -1,5 +1,6 @@
 -- What clap's walk over words comes to, from where it stands.
-use Rattle.std.proofs.Common.{◌≡◌, ◌∙◌, ◌+◌, Bool, true, false, cond, List, [], ◌∷◌, map, fold, Option, None, arith, refl, sym, ap, subst, codes, bytes_eq, append-nil}
+use Rattle.std.proofs.Common.{◌≡◌, ◌∙◌, ◌+◌, Bool, true, false, cond, List, [], ◌∷◌, map, fold, Option, None, arith}
+use Rattle.std.proofs.Common.{refl, sym, ap, subst, codes, bytes_eq, append-nil}
 use Rattle.clap.specs.Kinds.{Kinds, or_else}
 use Rattle.clap.specs.Faults.{settle_fault, walk_fault}
 use Rattle.hyd_words.specs.Parser.{said_of}
@@ -8,7 +9,8 @@ use Rattle.hyd_words.specs.Words.{Word, Part, Said, name, wrong, said_by}
 use Rattle.hyd_words.specs.Orders.{Order, order_named, run_command, check_command, gen_command}
 use Rattle.hyd_words.proofs.SaidLemmas.{joined, joined_assoc, part_first}
 use Rattle.hyd_words.proofs.RowLemmas.{rules, name_used}
-use Rattle.hyd_words.proofs.WalkSteps.{shape, Pending, held, at, IsWhole, IsFault, turn, step, name_held, trailing_turn, trailing_step, first_faults}
+use Rattle.hyd_words.proofs.WalkSteps.{shape, Pending, held, at, IsWhole, IsFault, turn, step, name_held, trailing_turn}
+use Rattle.hyd_words.proofs.WalkSteps.{trailing_step, first_faults}
 
 -- no command has this said behind its name
 abbrev pub IsNoOrder : Said → Type 0

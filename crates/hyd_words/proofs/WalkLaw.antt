@@ -1,17 +1,26 @@
 -- clap's walk over words gives the commands of what they say.
-use Rattle.std.proofs.Common.{◌≡◌, ◌⊎◌, ◌∙◌, ◌==◌, not, ◌&&◌, ◌||◌, Bool, true, false, cond, List, [], ◌∷◌, ◌++◌, length, Option, Some, None, IsUtf8, arith, refl, sym, ap, subst, inl, inr, codes, bytes_eq, option_map, option_and_then, ne_eqb, ◌^◌, pos}
+use Rattle.std.proofs.Common.{◌≡◌, ◌⊎◌, ◌∙◌, ◌==◌, not, ◌&&◌, ◌||◌, Bool, true, false, cond, List, [], ◌∷◌, ◌++◌}
+use Rattle.std.proofs.Common.{length, Option, Some, None, IsUtf8, arith, refl, sym, ap, subst, inl, inr, codes}
+use Rattle.std.proofs.Common.{bytes_eq, option_map, option_and_then, ne_eqb, ◌^◌, pos}
 use Rattle.clap.specs.Kinds.{Kinds, or_else}
 use Rattle.clap.specs.Faults.{long_fault, settle_fault, step_fault}
 use Rattle.hyd_words.specs.Parser.{said_of}
-use Rattle.clap.specs.Walk.{Held, Row, Rule, Step, Text, Waiting, Walk, after_flag, after_step, arg_by_id, idle, long_met, next, option, plain_word, positional, settled_rows}
+use Rattle.clap.specs.Walk.{Held, Row, Rule, Step, Text, Waiting, Walk, after_flag, after_step, arg_by_id, idle}
+use Rattle.clap.specs.Walk.{long_met, next, option, plain_word, positional, settled_rows}
 use Rattle.hyd_num.specs.Numeral.{is_numeral}
-use Rattle.hyd_words.specs.Words.{Word, Part, Kind, Said, sweeps, width, tight, name, wrong, says, begins_with_dash, kind_of, parts_from, parts_waiting, said, said_by}
-use Rattle.hyd_words.specs.Orders.{RunOrder, has_names_alone, is_sound, number_within, width_in_ticks, once, rounds_of, width_of, run, run_command, check_command, gen_command}
+use Rattle.hyd_words.specs.Words.{Word, Part, Kind, Said, sweeps, width, tight, name, wrong, says, begins_with_dash}
+use Rattle.hyd_words.specs.Words.{kind_of, parts_from, parts_waiting, said, said_by}
+use Rattle.hyd_words.specs.Orders.{RunOrder, has_names_alone, is_sound, number_within, width_in_ticks, once, rounds_of}
+use Rattle.hyd_words.specs.Orders.{width_of, run, run_command, check_command, gen_command}
 use Rattle.hyd_words.proofs.SaidLemmas.{joined}
 use Rattle.hyd_words.proofs.RowLemmas.{rules, used_by, sweeps_used, width_used, name_used, tight_used}
-use Rattle.hyd_words.proofs.Lexing.{Lexed, closing, plain, short, long, IsPlain, IsLong, and_false, kind_by, lexed, named_kind}
-use Rattle.hyd_words.proofs.WalkSteps.{shape, Pending, held, at, IsFree, IsWhole, IsFault, turn, step, name_held, name_step, name_fault, turn_from, step_from, plain_met, plain_fault, short_fails, long_fault_is, long_met_is, closing_turn, closing_step, first_faults}
-use Rattle.hyd_words.proofs.WalkEnds.{Comes, IsNeverOrder, IsNoOrder, ends_faulty, ends_whole, go_on, join_part, next_part, seen, trails, trails_faulty, wrong_here, wrong_word}
+use Rattle.hyd_words.proofs.Lexing.{Lexed, closing, plain, short, long, IsPlain, IsLong, and_false, kind_by, lexed}
+use Rattle.hyd_words.proofs.Lexing.{named_kind}
+use Rattle.hyd_words.proofs.WalkSteps.{shape, Pending, held, at, IsFree, IsWhole, IsFault, turn, step, name_held}
+use Rattle.hyd_words.proofs.WalkSteps.{name_step, name_fault, turn_from, step_from, plain_met, plain_fault, short_fails}
+use Rattle.hyd_words.proofs.WalkSteps.{long_fault_is, long_met_is, closing_turn, closing_step, first_faults}
+use Rattle.hyd_words.proofs.WalkEnds.{Comes, IsNeverOrder, IsNoOrder, ends_faulty, ends_whole, go_on, join_part}
+use Rattle.hyd_words.proofs.WalkEnds.{next_part, seen, trails, trails_faulty, wrong_here, wrong_word}
 
 -- ---- an option whose value is the next word
 

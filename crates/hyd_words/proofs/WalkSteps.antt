@@ -1,10 +1,14 @@
 -- One step of clap's walk over the words.
-use Rattle.std.proofs.Common.{◌≡◌, ◌∙◌, ◌&&◌, Bool, true, false, cond, List, [], ◌∷◌, length, Option, Some, None, refl, sym, ap, subst, codes, bytes_eq}
+use Rattle.std.proofs.Common.{◌≡◌, ◌∙◌, ◌&&◌, Bool, true, false, cond, List, [], ◌∷◌, length, Option, Some, None, refl}
+use Rattle.std.proofs.Common.{sym, ap, subst, codes, bytes_eq}
 use Rattle.std.specs.Option.{option_map_or}
 use Rattle.clap.specs.Kinds.{Kinds, or_else}
-use Rattle.clap.specs.Faults.{bundle_fault, bundle_step_fault, flag_word_fault, flags_fault, long_fault, other_fault, settle_fault, step_fault, turn_fault, word_fault}
+use Rattle.clap.specs.Faults.{bundle_fault, bundle_step_fault, flag_word_fault, flags_fault, long_fault, other_fault}
+use Rattle.clap.specs.Faults.{settle_fault, step_fault, turn_fault, word_fault}
 use Rattle.clap.specs.Simple.{Shape, built}
-use Rattle.clap.specs.Walk.{Held, Row, Step, Text, Waiting, Walk, after_flag, after_step, arg_by_long, idle, long_met, long_or_other, option, plain_word, positional, short_or_plain, subcommand_met, subcommand_or_other, settled_rows, trailing, value, walked, word_met}
+use Rattle.clap.specs.Walk.{Held, Row, Step, Text, Waiting, Walk, after_flag, after_step, arg_by_long, idle, long_met}
+use Rattle.clap.specs.Walk.{long_or_other, option, plain_word, positional, short_or_plain, subcommand_met}
+use Rattle.clap.specs.Walk.{subcommand_or_other, settled_rows, trailing, value, walked, word_met}
 use Rattle.clap.specs.declared.error.kind.ErrorKind.TheVariants.{UnknownArgument}
 use Rattle.hyd_words.specs.Words.{Word}
 use Rattle.hyd_words.specs.Parser.{words_command}

@@ -1,5 +1,6 @@
 -- Numbers that are too great for a width.
-use Rattle.std.proofs.Common.{◌≡◌, ℕ, zero, suc, ◌^◌, ◌<◌, ◌&&◌, Bool, true, false, List, None, pos, int_lt, int_le, nat_le, refl, arith}
+use Rattle.std.proofs.Common.{◌≡◌, ℕ, zero, suc, ◌^◌, ◌<◌, ◌&&◌, Bool, true, false, List, None, pos, int_lt, int_le}
+use Rattle.std.proofs.Common.{nat_le, refl, arith}
 use Rattle.std.proofs.lemmas.Bool.{lt-leb}
 use Rattle.hyd_num.specs.Numeral.{is_numeral, is_negative, magnitude_of, nano_of, signed}
 use Rattle.hyd_words.specs.Orders.{width_in_ticks}

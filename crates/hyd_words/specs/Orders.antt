@@ -1,5 +1,6 @@
 -- The commands, and which words are one: the name of a command, then its options and names.
-use Rattle.std.specs.Prelude.{ℕ, ◌-◌, ◌^◌, nat_le, ◌==◌, Bool, not, ◌&&◌, List, [], ◌∷◌, length, Option, Some, None, option_map, option_and_then, bytes_eq, codes, if◌then◌else◌, ℤ, pos, ◌*ℤ◌, int_lt, int_le}
+use Rattle.std.specs.Prelude.{ℕ, ◌-◌, ◌^◌, nat_le, ◌==◌, Bool, not, ◌&&◌, List, [], ◌∷◌, length, Option, Some, None}
+use Rattle.std.specs.Prelude.{option_map, option_and_then, bytes_eq, codes, if◌then◌else◌, ℤ, pos, ◌*ℤ◌, int_lt, int_le}
 use Rattle.std.specs.List.{list_all}
 use Rattle.hyd_num.specs.Numeral.{is_digit, is_numeral, nano_of, number}
 use Rattle.hyd_words.specs.Words.{Word, Said, said}

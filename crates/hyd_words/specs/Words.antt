@@ -1,6 +1,7 @@
 -- What the words behind a command's name say, read from left to right: values of options, names, and what no command
 -- takes.
-use Rattle.std.specs.Prelude.{ℕ, nat_eq, Bool, true, false, not, ◌||◌, List, [], ◌∷◌, map, drop, Option, Some, None, bytes_eq, codes, if◌then◌else◌, filter, length}
+use Rattle.std.specs.Prelude.{ℕ, nat_eq, Bool, true, false, not, ◌||◌, List, [], ◌∷◌, map, drop, Option, Some, None}
+use Rattle.std.specs.Prelude.{bytes_eq, codes, if◌then◌else◌, filter, length}
 use Rattle.std.specs.List.{starts_with, filter_map, list_any}
 
 -- one word, as bytes

@@ -1,5 +1,6 @@
 use Rattle.hyd_num.specs.Decimals.{head_quantity, pressure_quantity, flow_quantity}
-use Rattle.hyd_spec_histories.proofs.PrintedValues.{prints_hold, head_proportional, pressure_proportional, flow_proportional}
+use Rattle.hyd_spec_histories.proofs.PrintedValues.{prints_hold, head_proportional, pressure_proportional}
+use Rattle.hyd_spec_histories.proofs.PrintedValues.{flow_proportional}
 use Rattle.hyd_spec_histories.proofs.printed_values.Goals as goal
 
 pub returns-clause-heads : goal.returns-clause-heads

@@ -21,6 +21,7 @@ invariant_of-result c =
 pub returns-clause-lo : goal.returns-clause-lo
 returns-clause-lo c =
     let kept : to_z w64 (of_z w64 c.args.least) ≡ c.args.least = omega (arith, ints) in
-    let value : c.low.result ≡ link_low c.args.law.now c.args.least = c.low.ensures.value ∙ ap (link_low c.args.law.now) kept in
+    let value : c.low.result ≡ link_low c.args.law.now c.args.least = c.low.ensures.value
+    ∙ ap (link_low c.args.law.now) kept in
     let small = c.low.ensures.small in
     omega (arith, ints, value, small)

@@ -14,7 +14,8 @@ there : (c : goal.After-law) → StandsFor (grid_of c.args.net.now).links c.args
 there c =
     let each = c.links-links.ensures.each in
     let given = c.requires.in_range in
-    stands-for (grid_of c.args.net.now).links c.args.link c.law.result.now (omega (arith, each, given)) c.law.ensures.stands
+    stands-for (grid_of c.args.net.now).links c.args.link c.law.result.now (omega (arith, each, given))
+    c.law.ensures.stands
 
 pub between-requires-clause-sound : goal.between-requires-clause-sound
 between-requires-clause-sound c = (there c).stands.sound
@@ -60,9 +61,11 @@ returns-clause-flow c =
     let e_small = c.node_head-4.ensures.small in
     let l_value = c.difference-least.ensures.value in
     let g_value = c.difference-greatest.ensures.value in
-    let least : to_z w64 (of_z w64 c.difference-least.result) ≡ (head_at below c.ends-ends.result.from -ℤ head_at above c.ends-ends.result.to) =
+    let least : to_z w64 (of_z w64 c.difference-least.result)
+    ≡ (head_at below c.ends-ends.result.from -ℤ head_at above c.ends-ends.result.to) =
     omega (arith, ints, a, b, a_small, b_small, l_value) in
-    let greatest : to_z w64 (of_z w64 c.difference-greatest.result) ≡ (head_at above c.ends-ends.result.from -ℤ head_at below c.ends-ends.result.to) =
+    let greatest : to_z w64 (of_z w64 c.difference-greatest.result)
+    ≡ (head_at above c.ends-ends.result.from -ℤ head_at below c.ends-ends.result.to) =
     omega (arith, ints, d, e, d_small, e_small, g_value) in
     let each = c.links-links.ensures.each in
     let given = c.requires.in_range in

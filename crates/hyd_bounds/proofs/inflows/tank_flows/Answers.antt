@@ -16,5 +16,6 @@ returns-clause-value c =
     let one_each = c.requires.vector.one_each in
     let node = c.requires.node in
     kept ∙ (c.flows_out.ensures.value
-    ∙ ap (λ (v : List ℤ). flows_out c.args.side (all_heads grid (Pinned c.args.tank) c.args.side v) c.args.node grid.links)
+    ∙ ap (λ (v : List ℤ). flows_out c.args.side (all_heads grid (Pinned c.args.tank) c.args.side v) c.args.node
+    grid.links)
     (set-beyond c.args.u.now c.args.node _ (omega (arith, one_each, node))))

@@ -19,8 +19,10 @@ invariant_of-result c =
     let each = c.tanks.ensures.each in
     let given = c.requires.in_range in
     let node = c.nodes.result - c.tanks.result + c.args.tank in
-    let ordered = flows-in-order grid c.junctions-junctions.ensures.steady c.args.tank node (length c.args.net.now.junctions) c.args.low.now c.args.high.now
-    c.requires.low.one_each c.requires.high.one_each (omega (arith, nodes, tanks, given)) (omega (arith, each, given)) c.requires.ordered in
+    let ordered = flows-in-order grid c.junctions-junctions.ensures.steady c.args.tank node
+    (length c.args.net.now.junctions) c.args.low.now c.args.high.now
+    c.requires.low.one_each c.requires.high.one_each (omega (arith, nodes, tanks, given)) (omega (arith, each, given))
+    c.requires.ordered in
     let low_value = c.tank_flows-least.ensures.value in
     let high_value = c.tank_flows-greatest.ensures.value in
     let low_small = c.tank_flows-least.ensures.small in
@@ -34,7 +36,8 @@ returns-clause-inflow c =
     let nodes = c.nodes.ensures.count in
     let tanks = c.tanks.ensures.count in
     let given = c.requires.in_range in
-    let node : c.nodes.result - c.tanks.result + c.args.tank ≡ tank_node_of c.args.net.now c.args.tank = omega (arith, nodes, tanks, given) in
+    let node : c.nodes.result - c.tanks.result + c.args.tank ≡ tank_node_of c.args.net.now c.args.tank =
+    omega (arith, nodes, tanks, given) in
     let ends = c.row.ensures.count ∙ ap (λ (n : ℕ). link_ends n grid.links) node in
     let low_value = c.tank_flows-least.ensures.value
     ∙ ap (λ (n : ℕ). net high low (all_heads grid (Pinned c.args.tank) Lower c.args.low.now) n grid.links) node in

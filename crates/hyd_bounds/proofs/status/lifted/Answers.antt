@@ -27,8 +27,10 @@ returns c =
     let above = c.requires.greatest in
     let floor_is = c.requires.lift.floor_is in
     let ceiling_is = c.requires.lift.ceiling_is in
-    let lo : to_z w128 (of_z w128 (to_z w128 (of_z w128 c.from.result) +ℤ to_z w128 (of_z w128 c.args.pump.now.inner.lift.lo))) ≡ (c.args.least +ℤ floor lift) =
+    let lo : to_z w128 (of_z w128 (to_z w128 (of_z w128 c.from.result)
+    +ℤ to_z w128 (of_z w128 c.args.pump.now.inner.lift.lo))) ≡ (c.args.least +ℤ floor lift) =
     omega (arith, ints, from, below, floor_is) in
-    let hi : to_z w128 (of_z w128 (to_z w128 (of_z w128 c.from-2.result) +ℤ to_z w128 (of_z w128 c.args.pump.now.inner.lift.hi))) ≡ (c.args.greatest +ℤ ceiling lift) =
+    let hi : to_z w128 (of_z w128 (to_z w128 (of_z w128 c.from-2.result)
+    +ℤ to_z w128 (of_z w128 c.args.pump.now.inner.lift.hi))) ≡ (c.args.greatest +ℤ ceiling lift) =
     omega (arith, ints, to, above, ceiling_is) in
     rw (c.if-not-pump.false) (c.by_drive.ensures ∙ ap₂ (λ (a b : ℤ). by_drive (record { lo = a; hi = b })) lo hi)

@@ -32,12 +32,16 @@ returns-clause-word c us bends kind state place can state_is own_is place_is =
     let g_value = c.difference-greatest.ensures.value in
     let least : to_z w64 (of_z w64 c.difference-least.result) ≡ (head_at below place.from -ℤ head_at above place.to) =
     omega (arith, ints, a, b, a_small, b_small, l_value) in
-    let greatest : to_z w64 (of_z w64 c.difference-greatest.result) ≡ (head_at above place.from -ℤ head_at below place.to) =
+    let greatest : to_z w64 (of_z w64 c.difference-greatest.result)
+    ≡ (head_at above place.from -ℤ head_at below place.to) =
     omega (arith, ints, d, e, d_small, e_small, g_value) in
     c.word_of.ensures
-    ∙ status-is us bends kind state c.state.result.now (exact_law c.own_law.result.now) (to_z w64 (of_z w64 c.difference-least.result))
-    (to_z w64 (of_z w64 c.difference-greatest.result)) (difference place below above).lo (difference place below above).hi can
-    (some-same _ _ (sym c.state.ensures ∙ state_is)) (some-same _ _ (sym (law-at c.args.net.now.own c.args.link c.own_law.result.now c.own_law.ensures.value) ∙ own_is))
+    ∙ status-is us bends kind state c.state.result.now (exact_law c.own_law.result.now)
+    (to_z w64 (of_z w64 c.difference-least.result))
+    (to_z w64 (of_z w64 c.difference-greatest.result)) (difference place below above).lo
+    (difference place below above).hi can
+    (some-same _ _ (sym c.state.ensures ∙ state_is)) (some-same _ _
+    (sym (law-at c.args.net.now.own c.args.link c.own_law.result.now c.own_law.ensures.value) ∙ own_is))
     least greatest
 
 pub returns-clause-holds : goal.returns-clause-holds

@@ -1,4 +1,5 @@
-use Rattle.hyd_build_links.proofs.PumpLemmas.{one_point, free_one, law_one, three_points, falls, drop_above, free_three, law_three}
+use Rattle.hyd_build_links.proofs.PumpLemmas.{one_point, free_one, law_one, three_points, falls, drop_above, free_three}
+use Rattle.hyd_build_links.proofs.PumpLemmas.{law_three}
 use Rattle.hyd_build_links.proofs.laws.pump_law.Goals as goal
 
 pub capacity-requires-clause-free : goal.capacity-requires-clause-free

@@ -7,7 +7,8 @@ use Rattle.hyd_spec_networks.proofs.Occurs.{number_inside}
 use Rattle.hyd_tables.specs.Found.{rows_at}
 use Rattle.hyd_tables.proofs.FoundLemmas.{row_at}
 use Rattle.hyd_build_nodes.proofs.RightLemmas.{alone}
-use Rattle.hyd_build_nodes.proofs.EmitterLemmas.{skip_row, add_row, id_is, junction_there, not_negative, at_most, accepted, emitter_is}
+use Rattle.hyd_build_nodes.proofs.EmitterLemmas.{skip_row, add_row, id_is, junction_there, not_negative, at_most}
+use Rattle.hyd_build_nodes.proofs.EmitterLemmas.{accepted, emitter_is}
 use Rattle.hyd_build_nodes.proofs.emitters.add_row.Goals as goal
 
 nothing : Line

@@ -9,4 +9,5 @@ pub returns : goal.returns
 returns c =
     let tanks = c.args.project.now.tanks.list in
     first_version c.args.project.now
-    (subst (All (λ (tank : Tank). IsNew tank ≡ false)) (take_all c.loop-tank.tank-index tanks (omega (arith, c.loop-tank-test.false, ap length c.as_slice-tank-items.ensures))) c.loop-tank.invariant)
+    (subst (All (λ (tank : Tank). IsNew tank ≡ false)) (take_all c.loop-tank.tank-index tanks
+    (omega (arith, c.loop-tank-test.false, ap length c.as_slice-tank-items.ensures))) c.loop-tank.invariant)

@@ -8,7 +8,8 @@ use Rattle.hyd_cert.proofs.writing.put_heads.Given as goal
 -- the heads so far were put, and the desk is else as it was
 abbrev pub invariant-loop-i : goal.invariant-loop-i
 invariant-loop-i g l = record {
-  moves : Moves (by_channel l.fn.pen.to (g.D.Desk.written l.fn.desk) (g.D.Desk.printed l.fn.desk)) (by_channel l.fn.pen.to (g.D.Desk.written l.desk) (g.D.Desk.printed l.desk))
+  moves : Moves (by_channel l.fn.pen.to (g.D.Desk.written l.fn.desk) (g.D.Desk.printed l.fn.desk))
+      (by_channel l.fn.pen.to (g.D.Desk.written l.desk) (g.D.Desk.printed l.desk))
       (l.fn.pen.held ++ head_text l.junctions 0 (take l.i l.heads)) l.pen.held;
   to_stays : l.pen.to ≡ l.fn.pen.to;
   no_fault : l.pen.fault ≡ None;
@@ -16,7 +17,8 @@ invariant-loop-i g l = record {
   report_files : OnReport l.fn.pen.to (g.D.Desk.files l.desk ≡ g.D.Desk.files l.fn.desk);
   report_written : OnReport l.fn.pen.to (g.D.Desk.written l.desk ≡ g.D.Desk.written l.fn.desk);
   cert_printed : OnCert l.fn.pen.to (g.D.Desk.printed l.desk ≡ g.D.Desk.printed l.fn.desk);
-  others : (other : List ℕ) → g.D.Desk.target l.fn.desk ≢ Some other → file_at (g.D.Desk.files l.desk) other ≡ file_at (g.D.Desk.files l.fn.desk) other;
+  others : (other : List ℕ) → g.D.Desk.target l.fn.desk ≢ Some other → file_at (g.D.Desk.files l.desk) other
+      ≡ file_at (g.D.Desk.files l.fn.desk) other;
   still_told : is_some (g.D.Desk.files l.desk) ≡ is_some (g.D.Desk.files l.fn.desk);
   rest_stays : g.D.Desk.rest l.desk ≡ g.D.Desk.rest l.fn.desk;
   target_stays : g.D.Desk.target l.desk ≡ g.D.Desk.target l.fn.desk;

@@ -16,16 +16,19 @@ pub returns-then-not-passes-clause-some : goal.returns-then-not-passes-clause-so
 returns-then-not-passes-clause-some c =
     let grid = grid_of c.args.net.now in
     let i = c.loop-i.i in
-    let inside : i < length grid.junctions = (let a = c.loop-i-test.true in let b = c.junctions-i-end.ensures.each in let d = c.junctions-i-end.ensures.count in omega (arith, a, b, d)) in
+    let inside : i < length grid.junctions = (let a = c.loop-i-test.true in let b = c.junctions-i-end.ensures.each in
+    let d = c.junctions-i-end.ensures.count in omega (arith, a, b, d)) in
     let at = junction-there grid.junctions i inside in
     fails at.0 c.requires.in_box at.1
     (λ suits. false≢true (sym c.if-not-passes.true ∙ c.passes.ensures.1 (λ other there.
-    subst (λ (j : GridJunction). Passes grid c.args.problem c.args.side c.args.u.now i j) (one GridJunction at.0 other (sym at.1 ∙ there)) suits)))
+    subst (λ (j : GridJunction). Passes grid c.args.problem c.args.side c.args.u.now i j)
+    (one GridJunction at.0 other (sym at.1 ∙ there)) suits)))
     (λ k before lt there. c.loop-i.invariant k lt before there)
 
 pub loop-i-preserved : goal.loop-i-preserved
 loop-i-preserved c k lt = elim (cases_eq k c.loop-i.i) [
-  | inl e ↦ subst (λ (m : ℕ). PassesAt (grid_of c.args.net.now) c.args.problem c.args.side c.args.u.now m) (sym e) (c.passes.ensures.0 c.if-not-passes.false)
+  | inl e ↦ subst (λ (m : ℕ). PassesAt (grid_of c.args.net.now) c.args.problem c.args.side c.args.u.now m) (sym e)
+      (c.passes.ensures.0 c.if-not-passes.false)
   | inr ne ↦ c.loop-i.invariant k (omega (arith, lt, ne))
 ]
 

@@ -27,8 +27,10 @@ loop-tie-preserved c =
     let one = c.share-sum.ensures.small in
     let value = c.share-sum.ensures.value in
     let told = c.loop-tie.invariant.told in
-    let more = at_drop_more (λ (ts : List Tie). ties_share (flow_by (is_lower c.args.side)) (flow_by (is_upper c.args.side)) (grid_of c.args.net.now).links
-    (all_heads (grid_of c.args.net.now) c.args.problem c.args.side (slice_set c.args.u.now c.args.i (to_z w64 (of_z w64 c.args.head)))) (to_z w64 (of_z w64 c.args.head)) ts)
+    let more = at_drop_more (λ (ts : List Tie). ties_share (flow_by (is_lower c.args.side))
+    (flow_by (is_upper c.args.side)) (grid_of c.args.net.now).links
+    (all_heads (grid_of c.args.net.now) c.args.problem c.args.side
+    (slice_set c.args.u.now c.args.i (to_z w64 (of_z w64 c.args.head)))) (to_z w64 (of_z w64 c.args.head)) ts)
     c.row-tie-items.result.now c.loop-tie.tie-index (record { link = 0; other = 0; out = false }) lt in
     record {
       told = omega (arith, ints, lt, few, small, one, value, told, more);
@@ -41,13 +43,19 @@ returns-clause-value c =
     let out = flow_by (is_lower c.args.side) in
     let into = flow_by (is_upper c.args.side) in
     let here : to_z w64 (of_z w64 c.args.head) ≡ c.args.head = omega (arith, ints) in
-    let told = subst (λ (h : ℤ). (to_z w128 c.loop-tie.sum-bits +ℤ ties_share out into grid.links (all_heads grid c.args.problem c.args.side (slice_set c.args.u.now c.args.i h)) h (drop c.loop-tie.tie-index c.row-tie-items.result.now))
-    ≡ ties_share out into grid.links (all_heads grid c.args.problem c.args.side (slice_set c.args.u.now c.args.i h)) h c.row-tie-items.result.now) here c.loop-tie.invariant.told in
+    let told = subst (λ (h : ℤ). (to_z w128 c.loop-tie.sum-bits +ℤ ties_share out into grid.links
+    (all_heads grid c.args.problem c.args.side (slice_set c.args.u.now c.args.i h)) h
+    (drop c.loop-tie.tie-index c.row-tie-items.result.now))
+    ≡ ties_share out into grid.links (all_heads grid c.args.problem c.args.side (slice_set c.args.u.now c.args.i h)) h
+    c.row-tie-items.result.now) here c.loop-tie.invariant.told in
     let heads = all_heads grid c.args.problem c.args.side (slice_set c.args.u.now c.args.i c.args.head) in
-    let none : drop c.loop-tie.tie-index c.row-tie-items.result.now ≡ [] = drop_all c.loop-tie.tie-index c.row-tie-items.result.now c.loop-tie-test.false in
-    let left : ties_share out into grid.links heads c.args.head (drop c.loop-tie.tie-index c.row-tie-items.result.now) ≡ pos 0 = ap (ties_share out into grid.links heads c.args.head) none in
+    let none : drop c.loop-tie.tie-index c.row-tie-items.result.now ≡ [] = drop_all c.loop-tie.tie-index
+    c.row-tie-items.result.now c.loop-tie-test.false in
+    let left : ties_share out into grid.links heads c.args.head (drop c.loop-tie.tie-index c.row-tie-items.result.now)
+    ≡ pos 0 = ap (ties_share out into grid.links heads c.args.head) none in
     let own : head_at heads c.args.i ≡ c.args.head = sym c.requires.here in
-    let sum = subst (λ (h : ℤ). ties_share out into grid.links heads h c.row-tie-items.result.now ≡ flows_out c.args.side heads c.args.i grid.links) own
+    let sum = subst (λ (h : ℤ). ties_share out into grid.links heads h c.row-tie-items.result.now
+    ≡ flows_out c.args.side heads c.args.i grid.links) own
     (c.row-tie-items.ensures.sum out into heads) in
     omega (arith, ints, told, left, sum)
 

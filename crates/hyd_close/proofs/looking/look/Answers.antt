@@ -1,7 +1,8 @@
 use Rattle.std.proofs.Common.{◌≡◌, arith}
 use Rattle.hyd_cert.specs.RecordView.{row_of}
 use Rattle.hyd_graph.specs.GridOf.{grid_of}
-use Rattle.hyd_close.proofs.Bounding.{lower-is, upper-is, in-order, each-low, each-high, each-flow, pinned-of, have-tanks, are-started}
+use Rattle.hyd_close.proofs.Bounding.{lower-is, upper-is, in-order, each-low, each-high, each-flow, pinned-of}
+use Rattle.hyd_close.proofs.Bounding.{have-tanks, are-started}
 use Rattle.hyd_close.proofs.looking.look.Goals as goal
 
 pub put_inflows-requires-clause-pinned : goal.put_inflows-requires-clause-pinned

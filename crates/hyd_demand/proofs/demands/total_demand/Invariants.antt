@@ -5,6 +5,7 @@ use Rattle.hyd_demand.proofs.demands.total_demand.Given as goal
 
 abbrev pub invariant-loop-category : goal.invariant-loop-category
 invariant-loop-category l = record {
-  told : l.sum +ℤ total (map (category_demand l.project l.time) (drop l.category-index l.categories)) ≡ total (map (category_demand l.project l.time) l.categories);
+  told : l.sum +ℤ total (map (category_demand l.project l.time) (drop l.category-index l.categories))
+      ≡ total (map (category_demand l.project l.time) l.categories);
   small : unsigned_abs l.sum ≤ l.category-index * 10 ^ 27;
 }

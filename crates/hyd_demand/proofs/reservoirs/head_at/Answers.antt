@@ -17,5 +17,6 @@ returns-in-Some-clause-value c =
 pub returns-in-None-clause-value : goal.returns-in-None-clause-value
 returns-in-None-clause-value c =
     let none : Reservoir = record { head = pos 0; pattern = None } in
-    let value = head_alone c.args.project.now c.args.time c.args.reservoir c.as_slice.result.now none c.requires.in_range c.as_slice.ensures c.in-None.is in
+    let value = head_alone c.args.project.now c.args.time c.args.reservoir c.as_slice.result.now none
+    c.requires.in_range c.as_slice.ensures c.in-None.is in
     omega (arith, ints, value)

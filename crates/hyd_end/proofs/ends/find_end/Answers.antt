@@ -1,7 +1,8 @@
 use Rattle.std.proofs.Common.{◌≡◌, ◌∙◌, ℕ, ◌+◌, ◌<◌, ◌≤◌, ap, arith}
 use Rattle.hyd_facts.specs.declared.facts.Facts.{Facts}
 use Rattle.hyd_end.proofs.Trying.{decided_so, unless_so}
-use Rattle.hyd_end.proofs.Deciding.{before_last, ends_brought, leaves_brought, changes_brought, ends_without, leaves_without, changes_without, decided_without, unless_without}
+use Rattle.hyd_end.proofs.Deciding.{before_last, ends_brought, leaves_brought, changes_brought, ends_without}
+use Rattle.hyd_end.proofs.Deciding.{leaves_without, changes_without, decided_without, unless_without}
 use Rattle.hyd_end.proofs.ends.find_end.Goals as goal
 
 pub returns-in-Some-clause-ends : goal.returns-in-Some-clause-ends

@@ -17,8 +17,10 @@ loop-k-preserved c n tank span lt =
     let nothing : LevelSpan = record { lo = pos 0; hi = pos 0 } in
     elim (cases_eq n k) as (λ _. IsSpanOf (slice_index_or tanks n tank) (slice_index_or levels n span)) [
       | inl e ↦ subst (λ (m : ℕ). IsSpanOf (slice_index_or tanks m tank) (slice_index_or levels m span)) (sym e)
-          (subst (λ (t : Tank). IsSpanOf t (slice_index_or levels k span)) (c.index-tanks-k.is ∙ any_default tanks k c.index-tanks-k.result tank here)
-          (subst (λ (s : LevelSpan). IsSpanOf c.index-tanks-k.result s) (any_default levels k nothing span there) (c.is_span.ensures c.if-not-is_span.false)))
+          (subst (λ (t : Tank). IsSpanOf t (slice_index_or levels k span))
+          (c.index-tanks-k.is ∙ any_default tanks k c.index-tanks-k.result tank here)
+          (subst (λ (s : LevelSpan). IsSpanOf c.index-tanks-k.result s) (any_default levels k nothing span there)
+          (c.is_span.ensures c.if-not-is_span.false)))
       | inr ne ↦ c.loop-k.invariant n tank span (omega (arith, lt, ne))
     ]
 
@@ -28,6 +30,7 @@ returns c holds =
     let same = c.if-levels-tanks.false in
     record {
       each = omega (arith, n, same);
-      spans = λ k tank span lt. subst (λ (ts : List Tank). IsSpanOf (slice_index_or ts k tank) (slice_index_or c.args.levels.now k span)) c.as_slice-tanks.ensures
+      spans = λ k tank span lt. subst (λ (ts : List Tank). IsSpanOf (slice_index_or ts k tank)
+          (slice_index_or c.args.levels.now k span)) c.as_slice-tanks.ensures
           (c.loop-k.invariant k tank span (omega (arith, lt, same, c.loop-k-test.false)));
     }

@@ -5,4 +5,5 @@ use Rattle.hyd_graph.specs.Periods.{IsSpanOf}
 use Rattle.hyd_given.proofs.periods.are_levels.Given as goal
 
 abbrev pub invariant-loop-k : goal.invariant-loop-k
-invariant-loop-k l = (n : ℕ) (tank : Tank) (span : LevelSpan) → n < l.k → IsSpanOf (slice_index_or l.tanks n tank) (slice_index_or l.levels n span)
+invariant-loop-k l = (n : ℕ) (tank : Tank) (span : LevelSpan) → n < l.k
+    → IsSpanOf (slice_index_or l.tanks n tank) (slice_index_or l.levels n span)

@@ -9,5 +9,6 @@ returns c =
     let states = c.loop-link.states.items in
     let links = c.as_slice-links.result.now in
     starts_stand c.args.project.now states c.requires
-    (sym (append-nil states) ∙ ap (λ (ls : List Link). states ++ map start_of ls) (sym (drop_all c.loop-link.link-index links (omega arith)))
+    (sym (append-nil states) ∙ ap (λ (ls : List Link). states ++ map start_of ls)
+    (sym (drop_all c.loop-link.link-index links (omega arith)))
     ∙ c.loop-link.invariant ∙ ap (λ (ls : List Link). map start_of ls) c.as_slice-links.ensures)

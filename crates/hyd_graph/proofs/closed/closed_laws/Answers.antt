@@ -12,9 +12,11 @@ loop-link-preserved c =
     let one = length-append c.loop-link.laws.items (c.in_ok-closed_law.field-0 ∷ []) in
     record {
       count = omega (arith, added, one, c.loop-link.invariant.count);
-      closed = closed_more c.args.project.now.bends.list c.as_slice-links.result.now c.loop-link.laws.items c.push.new.self.items c.loop-link.link-index c.link-item.result c.in_ok-closed_law.field-0
+      closed = closed_more c.args.project.now.bends.list c.as_slice-links.result.now c.loop-link.laws.items
+          c.push.new.self.items c.loop-link.link-index c.link-item.result c.in_ok-closed_law.field-0
           c.in_ok-push.ensures.items c.loop-link.invariant.count c.loop-link.invariant.closed (omega arith)
-          (subst (λ (l : Link). IsClosedLaw c.args.project.now.bends.list l.kind c.in_ok-closed_law.field-0) c.link-item.is c.in_ok-closed_law.ensures);
+          (subst (λ (l : Link). IsClosedLaw c.args.project.now.bends.list l.kind c.in_ok-closed_law.field-0)
+          c.link-item.is c.in_ok-closed_law.ensures);
     }
 
 pub returns-clause-closed : goal.returns-clause-closed

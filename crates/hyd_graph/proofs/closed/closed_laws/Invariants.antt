@@ -7,5 +7,6 @@ use Rattle.hyd_graph.proofs.closed.closed_laws.Given as goal
 abbrev pub invariant-loop-link : goal.invariant-loop-link
 invariant-loop-link l = record {
   count : length l.laws.items ≡ l.link-index;
-  closed : (k : ℕ) (link : Link) (law : LinkLaw) → k < l.link-index → IsClosedLaw l.project.bends.list (slice_index_or l.links k link).kind (slice_index_or l.laws.items k law);
+  closed : (k : ℕ) (link : Link) (law : LinkLaw) → k < l.link-index
+      → IsClosedLaw l.project.bends.list (slice_index_or l.links k link).kind (slice_index_or l.laws.items k law);
 }

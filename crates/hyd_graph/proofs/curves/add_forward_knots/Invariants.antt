@@ -6,7 +6,10 @@ use Rattle.hyd_graph.proofs.curves.add_forward_knots.Given as goal
 
 abbrev pub invariant-loop-point : goal.invariant-loop-point
 invariant-loop-point l = record {
-  knots : places l.knots.list ++ map (λ (p : HeadPoint). record { place = p.head; value = p.flow }) (drop l.point-index l.points)
+  knots : places l.knots.list ++ map (λ (p : HeadPoint). record {
+    place = p.head;
+    value = p.flow;
+  }) (drop l.point-index l.points)
       ≡ places l.initial.knots.list ++ map (λ (p : HeadPoint). record { place = p.head; value = p.flow }) l.points;
   ranges : All IsKnot l.knots.list;
   room : l.initial.knots.spare ≤ l.knots.spare + l.point-index;

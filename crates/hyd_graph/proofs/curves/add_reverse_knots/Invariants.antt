@@ -6,8 +6,14 @@ use Rattle.hyd_graph.proofs.curves.add_reverse_knots.Given as goal
 
 abbrev pub invariant-loop-i : goal.invariant-loop-i
 invariant-loop-i l = record {
-  knots : places l.knots.list ++ map (λ (p : HeadPoint). record { place = neg_ℤ p.head; value = neg_ℤ p.flow }) (drop l.i (reverse l.points))
-      ≡ places l.initial.knots.list ++ map (λ (p : HeadPoint). record { place = neg_ℤ p.head; value = neg_ℤ p.flow }) (reverse l.points);
+  knots : places l.knots.list ++ map (λ (p : HeadPoint). record {
+    place = neg_ℤ p.head;
+    value = neg_ℤ p.flow;
+  }) (drop l.i (reverse l.points))
+      ≡ places l.initial.knots.list ++ map (λ (p : HeadPoint). record {
+        place = neg_ℤ p.head;
+        value = neg_ℤ p.flow;
+      }) (reverse l.points);
   ranges : All IsKnot l.knots.list;
   room : l.initial.knots.spare ≤ l.knots.spare + l.i;
 }

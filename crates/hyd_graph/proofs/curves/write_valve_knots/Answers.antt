@@ -8,5 +8,8 @@ pub returns-clause-curve : goal.returns-clause-curve
 returns-clause-curve c =
     valve_curve c.args.points.now c.add_forward_knots.new.knots.list c.requires.curve
     (c.add_forward_knots.ensures.added
-    ∙ ap (λ (xs : List Place). xs ++ map (λ (p : HeadPoint). record { place = p.head; value = p.flow }) c.args.points.now) (c.add_reverse_knots.ensures.added ∙ (rw c.clear.ensures.empty refl)))
+    ∙ ap (λ (xs : List Place). xs ++ map (λ (p : HeadPoint). record {
+      place = p.head;
+      value = p.flow;
+    }) c.args.points.now) (c.add_reverse_knots.ensures.added ∙ (rw c.clear.ensures.empty refl)))
     c.add_forward_knots.ensures.ranges

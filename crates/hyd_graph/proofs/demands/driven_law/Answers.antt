@@ -7,5 +7,7 @@ pub returns-clause-law : goal.returns-clause-law
 returns-clause-law c =
     let origin = (rw (to_z-of_z w64 c.args.demand c.ranges.demand) at c.pda_capacity.ensures.origin) in
     rw (to_z-of_z w64 c.args.demand c.ranges.demand)
-    (driven_is c.args.project.now c.args.demand c.is_us-us.result c.pda_capacity.result c.pressure_ticks.result c.pressure_ticks-2.result c.is_us-us.ensures c.requires.driven c.requires.demanded
-    c.requires.options.minimum origin c.pda_capacity.ensures.made c.pressure_ticks.ensures.floor c.pressure_ticks.ensures.ceiling c.pressure_ticks-2.ensures.floor c.pressure_ticks-2.ensures.ceiling)
+    (driven_is c.args.project.now c.args.demand c.is_us-us.result c.pda_capacity.result c.pressure_ticks.result
+    c.pressure_ticks-2.result c.is_us-us.ensures c.requires.driven c.requires.demanded
+    c.requires.options.minimum origin c.pda_capacity.ensures.made c.pressure_ticks.ensures.floor
+    c.pressure_ticks.ensures.ceiling c.pressure_ticks-2.ensures.floor c.pressure_ticks-2.ensures.ceiling)

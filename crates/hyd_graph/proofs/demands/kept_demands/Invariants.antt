@@ -8,5 +8,6 @@ abbrev pub invariant-loop-i : goal.invariant-loop-i
 invariant-loop-i l = record {
   few : l.kept ≤ l.i;
   kept : AreDemandsAt l.project l.time l.demands l.kept;
-  in_range : (k : ℕ) (junction : Junction) → k < l.i → unsigned_abs (demand_of l.project l.time (slice_index_or l.project.junctions.list k junction)) ≤ 10 ^ 15;
+  in_range : (k : ℕ) (junction : Junction) → k < l.i → unsigned_abs
+      (demand_of l.project l.time (slice_index_or l.project.junctions.list k junction)) ≤ 10 ^ 15;
 }

@@ -12,7 +12,10 @@ loop-i-preserved c =
     let n = length-set c.loop-i.demands c.loop-i.i c.set_demand.new.law in
     record {
       count = omega (arith, n, c.loop-i.invariant.count);
-      held = held_set c.args.project.now c.loop-i.i c.loop-i.demands demand c.set_demand.new.law c.loop-i.invariant.held (omega arith) c.set_demand.ensures.law c.set_demand.ensures.held;
-      set = demands_set c.args.project.now c.args.time c.loop-i.i c.loop-i.demands c.set_demand.new.law c.loop-i.invariant.set (omega (arith, c.loop-i.invariant.count)) (omega arith)
-          (subst (λ (z : ℤ). IsOutLawOf c.args.project.now z c.set_demand.new.law) (same ∙ c.in-Ok.ensures.ok) c.set_demand.ensures.law);
+      held = held_set c.args.project.now c.loop-i.i c.loop-i.demands demand c.set_demand.new.law
+          c.loop-i.invariant.held (omega arith) c.set_demand.ensures.law c.set_demand.ensures.held;
+      set = demands_set c.args.project.now c.args.time c.loop-i.i c.loop-i.demands c.set_demand.new.law
+          c.loop-i.invariant.set (omega (arith, c.loop-i.invariant.count)) (omega arith)
+          (subst (λ (z : ℤ). IsOutLawOf c.args.project.now z c.set_demand.new.law) (same ∙ c.in-Ok.ensures.ok)
+          c.set_demand.ensures.law);
     }

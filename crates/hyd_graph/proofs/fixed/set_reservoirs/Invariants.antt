@@ -6,5 +6,6 @@ use Rattle.hyd_graph.proofs.fixed.set_reservoirs.Given as goal
 abbrev pub invariant-loop-i : goal.invariant-loop-i
 invariant-loop-i l = record {
   count : length l.heads ≡ length l.project.reservoirs.list;
-  set : (k : ℕ) (h : ℤ) → k < l.i → (slice_index_or l.heads k h ≡ head_of_reservoir l.project l.time k) × IsHead (slice_index_or l.heads k h);
+  set : (k : ℕ) (h : ℤ) → k < l.i → (slice_index_or l.heads k h ≡ head_of_reservoir l.project l.time k)
+      × IsHead (slice_index_or l.heads k h);
 }

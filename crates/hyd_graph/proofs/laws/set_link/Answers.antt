@@ -7,5 +7,6 @@ returns-then-not-is_same-clause-stand c = record {
   law_is = c.restricted.ensures.stands _ c.own_law-then-not-is_same.ensures.represents.stands;
   law_shut = c.restricted.ensures.shut;
   own_room = c.own_law.ensures.room;
-  law_room = room_kept c.args.project.now.bends.list c.args.kind.now c.own_law-then-not-is_same.result c.restricted.result c.restricted.ensures.room c.own_law-then-not-is_same.ensures.room;
+  law_room = room_kept c.args.project.now.bends.list c.args.kind.now c.own_law-then-not-is_same.result
+      c.restricted.result c.restricted.ensures.room c.own_law-then-not-is_same.ensures.room;
 }

@@ -4,4 +4,5 @@ use Rattle.hyd_graph.specs.Settings.{HasRoom}
 use Rattle.hyd_graph.proofs.laws.shut_law.Goals as goal
 
 pub returns-in-Bent-clause-room : goal.returns-in-Bent-clause-room
-returns-in-Bent-clause-room c n room = c.closed_curve.ensures.room n (subst (λ (l : LinkLaw). HasRoom n l) c.in-Bent.is room)
+returns-in-Bent-clause-room c n room = c.closed_curve.ensures.room n
+    (subst (λ (l : LinkLaw). HasRoom n l) c.in-Bent.is room)

@@ -5,4 +5,5 @@ use Rattle.hyd_graph.proofs.opening.net_junctions.Goals as goal
 
 pub returns : goal.returns
 returns c =
-    zipped IsNetJunction c.args.junctions.now c.loop-junction.made.items (omega arith) (λ k x y h. c.loop-junction.invariant.each k x y (omega arith))
+    zipped IsNetJunction c.args.junctions.now c.loop-junction.made.items (omega arith)
+    (λ k x y h. c.loop-junction.invariant.each k x y (omega arith))

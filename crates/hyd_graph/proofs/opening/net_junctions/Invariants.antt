@@ -7,5 +7,6 @@ use Rattle.hyd_graph.proofs.opening.net_junctions.Given as goal
 abbrev pub invariant-loop-junction : goal.invariant-loop-junction
 invariant-loop-junction l = record {
   count : length l.made.items ≡ l.junction-index;
-  each : (k : ℕ) (j : Junction) (here : NetJunction) → k < l.junction-index → IsNetJunction (slice_index_or l.junctions k j) (slice_index_or l.made.items k here);
+  each : (k : ℕ) (j : Junction) (here : NetJunction) → k < l.junction-index
+      → IsNetJunction (slice_index_or l.junctions k j) (slice_index_or l.made.items k here);
 }

@@ -9,7 +9,8 @@ pub returns-in_err-n-clause-too_long : goal.returns-in_err-n-clause-too_long
 returns-in_err-n-clause-too_long g c =
     let p = err_from_is_err_and c.from_residual.result c.from_residual.ensures.1 in
     rw (p.1, p.2) (λ h.
-    let sum : length c.loop-bytes.bytes.items + (c.args.limit - c.len.result + 1) ≡ c.args.limit + 1 = omega (arith, c.loop-bytes.invariant.within, c.len.ensures) in
+    let sum : length c.loop-bytes.bytes.items + (c.args.limit - c.len.result + 1) ≡ c.args.limit
+    + 1 = omega (arith, c.loop-bytes.invariant.within, c.len.ensures) in
     let same : c.in_err-n.field-0.0 ≡ TooLong = cc in
     let took = took_after _ _ _ _ _ c.loop-bytes.invariant.front (c.in_err-n.ensures.too_long (ap Err same)) in
     (took.0, (took.1.0 ∙ sum, took.1.1)))

@@ -56,6 +56,7 @@ returns-in-Err c = λ row is.
     let line = c.requires.says here at in
     let P : Row → Type 0 = λ r. IsFaultThen (others.action rows r.words)
     (IsRefusedSetting rows (link_named rows (word 2 r.words)) (word 5 r.words)) (Some c.in-Err.cause) in
-    subst P same (action_unknown rows here.words c.args.action.now.object c.or_empty.result.now c.in-Err.cause line.object
+    subst P same (action_unknown rows here.words c.args.action.now.object c.or_empty.result.now c.in-Err.cause
+    line.object
     (c.or_empty.ensures ∙ ap (λ k. word k here.words) line.link)
     (c.in-Err.ensures rows c.requires.links c.requires.right))

@@ -8,7 +8,8 @@ use Rattle.hyd_tables.specs.Found.{rows_at}
 use Rattle.hyd_tables.proofs.FoundLemmas.{row_at}
 use Rattle.hyd_judge_commands.specs.Rules.{IsPart, IsRuleFault, acting_at}
 use Rattle.hyd_judge_commands.specs.declared.parts.Part.{Part}
-use Rattle.hyd_judge_commands.proofs.RuleLemmas.{action_is_right, rule_fault_is, clause_fault_is, action_fault_is, nothing_is_wrong}
+use Rattle.hyd_judge_commands.proofs.RuleLemmas.{action_is_right, rule_fault_is, clause_fault_is, action_fault_is}
+use Rattle.hyd_judge_commands.proofs.RuleLemmas.{nothing_is_wrong}
 use Rattle.hyd_judge_commands.proofs.rules.part_fault.Goals as goal
 
 nothing : Line
@@ -77,7 +78,8 @@ returns-in-Action c = λ row is.
     let fault : c.first_of-in-Action.result
     ≡ or_else (others.passes 100000 12 c.args.counts.now.parts) c.action_fault.result =
     c.first_of-in-Action.ensures ∙ ap (λ f. or_else f c.action_fault.result) c.limit-in-Action.ensures in
-    action_fault_is rows c.args.place row c.args.counts.now.parts c.action_fault.result c.first_of-in-Action.result part.0
+    action_fault_is rows c.args.place row c.args.counts.now.parts c.action_fault.result c.first_of-in-Action.result
+    part.0
     part.1 part.2 c.requires.counted.parts (c.action_fault.ensures row is) fault
 
 pub returns-in-Priority : goal.returns-in-Priority

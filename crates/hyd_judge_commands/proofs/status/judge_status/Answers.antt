@@ -20,7 +20,8 @@ loop-place-preserved c =
     let lines = c.args.lines.now in
     rw c.kept-found.ensures
     (found_kept (rows_at text lines) (IsWrongIn Status (rows_at text lines)) c.loop-place.place _ c.loop-place.found
-    c.status_fault-cause.result c.loop-place.invariant (row_at text lines c.loop-place.place nothing c.loop-place-test.true)
+    c.status_fault-cause.result c.loop-place.invariant (row_at text lines c.loop-place.place nothing
+    c.loop-place-test.true)
     c.status_fault-cause.ensures)
 
 pub returns : goal.returns

@@ -10,11 +10,13 @@ sqrt_up-requires-clause-least c = upper_least c.args.capacity.now
 pub returns-then-d-ge0-clause-value : goal.returns-then-d-ge0-clause-value
 returns-then-d-ge0-clause-value c =
     let e : pos c.sqrt_up.result ≡ quadratic_high c.args.capacity.now c.args.d =
-    high_forward c.args.capacity.now c.args.d c.unsigned_abs-magnitude.result c.sqrt_up.result (omega (arith, ints)) (omega (arith, ints)) c.sqrt_up.ensures in
+    high_forward c.args.capacity.now c.args.d c.unsigned_abs-magnitude.result c.sqrt_up.result (omega (arith, ints))
+    (omega (arith, ints)) c.sqrt_up.ensures in
     omega (arith, ints, e)
 
 pub returns-clause-value : goal.returns-clause-value
 returns-clause-value c =
     let e : neg_ℤ (pos c.sqrt_down.result) ≡ quadratic_high c.args.capacity.now c.args.d =
-    high_reverse c.args.capacity.now c.args.d c.unsigned_abs-magnitude.result c.sqrt_down.result (omega (arith, ints)) (omega (arith, ints)) c.sqrt_down.ensures in
+    high_reverse c.args.capacity.now c.args.d c.unsigned_abs-magnitude.result c.sqrt_down.result (omega (arith, ints))
+    (omega (arith, ints)) c.sqrt_down.ensures in
     omega (arith, ints, e)

@@ -12,11 +12,15 @@ pub returns-clause-value : goal.returns-clause-value
 returns-clause-value c =
     let first = c.args.first in
     let second = c.args.second in
-    let line = line_is (place_of c.args.first) (place_of c.args.second) c.args.d c.product.result c.product-2.result c.requires.apart
-    (product_is c.product.result (to_z w128 (of_z w128 c.difference-width.result)) (to_z w128 (of_z w128 c.from.result)) (second.head -ℤ first.head) first.flow
+    let line = line_is (place_of c.args.first) (place_of c.args.second) c.args.d c.product.result c.product-2.result
+    c.requires.apart
+    (product_is c.product.result (to_z w128 (of_z w128 c.difference-width.result))
+    (to_z w128 (of_z w128 c.from.result)) (second.head -ℤ first.head) first.flow
     c.product.ensures.value (omega (arith, ints, c.difference-width.ensures)) (omega (arith, ints, c.from.ensures)))
-    (product_is c.product-2.result (to_z w128 (of_z w128 c.difference-rise.result)) (to_z w128 (of_z w128 c.difference-beyond.result)) (second.flow -ℤ first.flow) (c.args.d -ℤ first.head)
-    c.product-2.ensures.value (omega (arith, ints, c.difference-rise.ensures)) (omega (arith, ints, c.difference-beyond.ensures))) in
+    (product_is c.product-2.result (to_z w128 (of_z w128 c.difference-rise.result))
+    (to_z w128 (of_z w128 c.difference-beyond.result)) (second.flow -ℤ first.flow) (c.args.d -ℤ first.head)
+    c.product-2.ensures.value (omega (arith, ints, c.difference-rise.ensures))
+    (omega (arith, ints, c.difference-beyond.ensures))) in
     record {
       num_is = omega (arith, ints, line, c.product.ensures.small, c.product-2.ensures.small);
       den_is = omega (arith, ints, c.difference-width.ensures, c.requires.apart);

@@ -9,5 +9,6 @@ unfolding words_in
 returns c = nth_from_yields_List c.nth.result _ c.args.number c.nth.ensures.ran
     (YieldsList-from_filter _ (λ word. nat_le 1 (length word))
     (YieldsList-at c.filter.ensures.source
-    (YieldsList-from_slice_split _ is_blank c.args.body.now c.split.ensures.rest c.split.ensures.done c.split.ensures.closure (λ x b q k. search (rules, tests))))
+    (YieldsList-from_slice_split _ is_blank c.args.body.now c.split.ensures.rest c.split.ensures.done
+    c.split.ensures.closure (λ x b q k. search (rules, tests))))
     c.filter.ensures.closure (λ x b q k. search (rules, tests)))

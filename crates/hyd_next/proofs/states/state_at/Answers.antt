@@ -6,7 +6,8 @@ use Rattle.hyd_next.proofs.states.state_at.Goals as goal
 
 pub state_of-requires : goal.state_of-requires
 state_of-requires c =
-    range_of c.args.project.now c.requires.sound c.args.tank c.tank_at-here.result c.requires.in_range c.tank_at-here.ensures
+    range_of c.args.project.now c.requires.sound c.args.tank c.tank_at-here.result c.requires.in_range
+    c.tank_at-here.ensures
 
 pub returns : goal.returns
 returns c = λ each at.

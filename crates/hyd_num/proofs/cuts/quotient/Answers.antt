@@ -14,5 +14,6 @@ pub returns-clause-cut : goal.returns-clause-cut
 returns-clause-cut c =
     IsCut-quotient 63 c.args.a c.args.b c.cut_at-2.result.down c.cut_at-2.result.exact
     (c.cut_at-2.ensures.mantissa ∙ ap₂ (λ x y. x * 2 ^ 63 / y) c.from-dividend-2.ensures c.from-divisor.ensures)
-    (c.cut_at-2.ensures.exactness ∙ ap₂ (λ x y. nat_eq (x * 2 ^ 63 % y) 0) c.from-dividend-2.ensures c.from-divisor.ensures)
+    (c.cut_at-2.ensures.exactness ∙ ap₂ (λ x y. nat_eq (x * 2 ^ 63 % y) 0) c.from-dividend-2.ensures
+    c.from-divisor.ensures)
     (omega (arith, ints))

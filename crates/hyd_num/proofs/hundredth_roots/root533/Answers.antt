@@ -2,7 +2,8 @@ use Rattle.hyd_num.proofs.RootSearch.{roots_in_order}
 use Rattle.hyd_num.proofs.hundredth_roots.root533.Goals as goal
 
 pub between-requires : goal.between-requires
-between-requires c = roots_in_order c.root_down.result c.root_up.result c.pow-raised.result.lo c.pow-raised.result.hi c.pow-raised.result.ordered c.root_down.ensures.root.below c.root_up.ensures.root.above
+between-requires c = roots_in_order c.root_down.result c.root_up.result c.pow-raised.result.lo c.pow-raised.result.hi
+    c.pow-raised.result.ordered c.root_down.ensures.root.below c.root_up.ensures.root.above
 
 pub returns-clause-root : goal.returns-clause-root
 returns-clause-root c = record {

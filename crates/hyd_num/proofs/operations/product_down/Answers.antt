@@ -4,4 +4,5 @@ use Rattle.hyd_num.proofs.Rounding.{IsDown-from_cut}
 use Rattle.hyd_num.proofs.operations.product_down.Goals as goal
 
 pub returns-clause-down : goal.returns-clause-down
-returns-clause-down c = IsDown-from_cut (numerator c.args.a * numerator c.args.b) (denominator c.args.a * denominator c.args.b) c.product.result.down c.product.result.exact c.product.ensures.cut
+returns-clause-down c = IsDown-from_cut (numerator c.args.a * numerator c.args.b)
+    (denominator c.args.a * denominator c.args.b) c.product.result.down c.product.result.exact c.product.ensures.cut

@@ -4,4 +4,5 @@ use Rattle.hyd_num.proofs.Rounding.{IsDown-from_cut}
 use Rattle.hyd_num.proofs.operations.quotient_down.Goals as goal
 
 pub returns-clause-down : goal.returns-clause-down
-returns-clause-down c = IsDown-from_cut (numerator c.args.a * denominator c.args.b) (denominator c.args.a * numerator c.args.b) c.quotient.result.down c.quotient.result.exact c.quotient.ensures.cut
+returns-clause-down c = IsDown-from_cut (numerator c.args.a * denominator c.args.b)
+    (denominator c.args.a * numerator c.args.b) c.quotient.result.down c.quotient.result.exact c.quotient.ensures.cut

@@ -14,10 +14,16 @@ returns c =
     let a : FitsSigned w128 c.args.a = c.ranges.a in
     let b : FitsSigned w128 c.args.b = c.ranges.b in
     let d : FitsSigned w128 c.args.c = c.ranges.c in
-    let m : FitsSigned w128 (pos 0 -ℤ (c.args.a *ℤ c.args.b)) = fits_negated (c.args.a *ℤ c.args.b) (pos 0 -ℤ (c.args.a *ℤ c.args.b)) c.requires.small refl in
+    let m : FitsSigned w128 (pos 0 -ℤ (c.args.a *ℤ c.args.b)) = fits_negated (c.args.a *ℤ c.args.b)
+    (pos 0 -ℤ (c.args.a *ℤ c.args.b)) c.requires.small refl in
     let e : q ≡ int_div_euclid (pos 0 -ℤ (c.args.a *ℤ c.args.b)) c.args.c = simp to_z-of_z at c.div_euclid.ensures in
-    let f : IsFloor (pos 0 -ℤ (c.args.a *ℤ c.args.b)) c.args.c c.div_euclid.result = floor_is (pos 0 -ℤ (c.args.a *ℤ c.args.b)) c.args.c c.div_euclid.result c.requires.positive e in
+    let f : IsFloor (pos 0 -ℤ (c.args.a *ℤ c.args.b)) c.args.c c.div_euclid.result =
+    floor_is (pos 0 -ℤ (c.args.a *ℤ c.args.b)) c.args.c c.div_euclid.result c.requires.positive e in
     let opposite : FitsSigned w128 (pos 0 -ℤ c.div_euclid.result) =
-    fits_back (pos 0 -ℤ (c.args.a *ℤ c.args.b)) c.args.c c.div_euclid.result c.requires.positive (omega (arith, ints)) f r in
-    let back : to_z w128 (of_z w128 (pos 0 -ℤ to_z w128 (of_z w128 c.div_euclid.result))) ≡ neg_ℤ c.div_euclid.result = omega (arith, ints) in
-    ceiling_is (c.args.a *ℤ c.args.b) (pos 0 -ℤ (c.args.a *ℤ c.args.b)) c.args.c c.div_euclid.result (to_z w128 (of_z w128 (pos 0 -ℤ to_z w128 (of_z w128 c.div_euclid.result)))) c.requires.positive (omega (arith, ints)) back f
+    fits_back (pos 0 -ℤ (c.args.a *ℤ c.args.b)) c.args.c c.div_euclid.result c.requires.positive (omega (arith, ints))
+    f r in
+    let back : to_z w128 (of_z w128 (pos 0 -ℤ to_z w128 (of_z w128 c.div_euclid.result)))
+    ≡ neg_ℤ c.div_euclid.result = omega (arith, ints) in
+    ceiling_is (c.args.a *ℤ c.args.b) (pos 0 -ℤ (c.args.a *ℤ c.args.b)) c.args.c c.div_euclid.result
+    (to_z w128 (of_z w128 (pos 0 -ℤ to_z w128 (of_z w128 c.div_euclid.result)))) c.requires.positive
+    (omega (arith, ints)) back f

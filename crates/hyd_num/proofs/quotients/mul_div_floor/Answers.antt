@@ -11,5 +11,6 @@ returns c =
     let a : FitsSigned w128 c.args.a = c.ranges.a in
     let b : FitsSigned w128 c.args.b = c.ranges.b in
     let d : FitsSigned w128 c.args.c = c.ranges.c in
-    let e : c.div_euclid.result ≡ int_div_euclid (c.args.a *ℤ c.args.b) c.args.c = simp to_z-of_z at c.div_euclid.ensures in
+    let e : c.div_euclid.result ≡ int_div_euclid (c.args.a *ℤ c.args.b) c.args.c = simp to_z-of_z at
+    c.div_euclid.ensures in
     rw to_z-of_z (floor_is (c.args.a *ℤ c.args.b) c.args.c c.div_euclid.result c.requires.positive e)

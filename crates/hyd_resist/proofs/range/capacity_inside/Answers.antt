@@ -8,7 +8,12 @@ pub returns-clause-made : goal.returns-clause-made
 returns-clause-made c = record { pair = c.args.pair; low = refl; high = refl; made = c.requires.pair }
 
 pub returns-clause-encloses : goal.returns-clause-encloses
-returns-clause-encloses c = IsEnclosure-made _ (record { pair = c.args.pair; low = refl; high = refl; made = c.requires.pair })
+returns-clause-encloses c = IsEnclosure-made _ (record {
+  pair = c.args.pair;
+  low = refl;
+  high = refl;
+  made = c.requires.pair;
+})
 
 pub returns-clause-sharp : goal.returns-clause-sharp
 returns-clause-sharp c = pair-sharp c.args.origin c.args.pair c.requires.pair

@@ -8,6 +8,7 @@ capacity-requires c = record {
   flows = c.flow_in_ticks-flows.result;
   flows_is = c.flow_in_ticks-flows.ensures.value;
   head = c.pressure_in_ticks-head.result;
-  head_is = subst (λ (us : Bool). IsPairOf (pressure_fraction us (10 ^ 9)) c.pressure_in_ticks-head.result) c.is_us.ensures c.pressure_in_ticks-head.ensures.value;
+  head_is = subst (λ (us : Bool). IsPairOf (pressure_fraction us (10 ^ 9)) c.pressure_in_ticks-head.result)
+      c.is_us.ensures c.pressure_in_ticks-head.ensures.value;
   capacity_is = c.square_over.ensures;
 }

@@ -13,17 +13,28 @@ demand_is c = to_z-of_z w64 c.args.demand c.ranges.demand
 demand_size : (c : goal.After-square_over) → c.from.result ≡ up c.args.demand
 demand_size c =
     let same = demand_is c in
-    let size : c.unsigned_abs.result ≡ unsigned_abs c.args.demand = c.unsigned_abs.ensures.value ∙ ap unsigned_abs same in
+    let size : c.unsigned_abs.result ≡ unsigned_abs c.args.demand = c.unsigned_abs.ensures.value
+    ∙ ap unsigned_abs same in
     c.from.ensures ∙ size ∙ size_is c.args.demand (omega (arith, ints, c.requires.demanded))
 
 head_size : (c : goal.After-square_over) → c.unsigned_abs-2.result ≡ up (c.args.pf.nano -ℤ c.args.p0.nano)
 head_size c =
     let above : pos 0 ≤ℤ (c.args.pf.nano -ℤ c.args.p0.nano) = omega (arith, ints, c.requires.pressures.apart) in
-    omega (arith, ints, c.unsigned_abs-2.ensures.value, c.args.pf.bounded, c.args.p0.bounded, size_is (c.args.pf.nano -ℤ c.args.p0.nano) above)
+    omega (
+      arith,
+      ints,
+      c.unsigned_abs-2.ensures.value,
+      c.args.pf.bounded,
+      c.args.p0.bounded,
+      size_is
+          (c.args.pf.nano -ℤ c.args.p0.nano) above,
+    )
 
 made : (c : goal.After-square_over) → IsPressurePair c.args.demand c.args.p0 c.args.pf c.args.us c.square_over.result
-made c = pressure_pair c.args.demand c.args.p0 c.args.pf c.args.us c.from.result c.unsigned_abs-2.result c.ratio-flows.result c.pressure_in_ticks-head.result c.square_over.result
-    (demand_size c) (head_size c) c.ratio-flows.ensures.ratio c.pressure_in_ticks-head.ensures.value c.square_over.ensures
+made c = pressure_pair c.args.demand c.args.p0 c.args.pf c.args.us c.from.result c.unsigned_abs-2.result
+    c.ratio-flows.result c.pressure_in_ticks-head.result c.square_over.result
+    (demand_size c) (head_size c) c.ratio-flows.ensures.ratio c.pressure_in_ticks-head.ensures.value
+    c.square_over.ensures
 
 reach : (c : goal.After-square_over) → IsInReach c.args.demand c.args.p0 c.args.pf c.args.us
 reach c = record {
@@ -43,8 +54,10 @@ capacity_inside-requires-clause-least c =
 
 pub capacity_inside-requires-clause-greatest : goal.capacity_inside-requires-clause-greatest
 capacity_inside-requires-clause-greatest c =
-    pressure-greatest c.args.demand c.args.p0 c.args.pf c.args.us c.square_over.result c.requires.demand (reach c) (made c)
+    pressure-greatest c.args.demand c.args.p0 c.args.pf c.args.us c.square_over.result c.requires.demand (reach c)
+    (made c)
 
 pub returns-clause-origin : goal.returns-clause-origin
 returns-clause-origin c =
-    c.capacity_inside.ensures.origin ∙ ap (λ z. PressureDemand z c.args.p0 c.args.pf c.args.us) (to_z-of_z w64 c.args.demand c.ranges.demand)
+    c.capacity_inside.ensures.origin ∙ ap (λ z. PressureDemand z c.args.p0 c.args.pf c.args.us)
+    (to_z-of_z w64 c.args.demand c.ranges.demand)

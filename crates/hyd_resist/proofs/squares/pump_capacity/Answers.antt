@@ -13,6 +13,7 @@ capacity-requires c =
       flows_is = c.flow_in_ticks-flows.ensures.value;
       head = c.ratio-head.result;
       head_is = subst (λ (n : ℕ). IsRatio n c.args.thirds c.ratio-head.result) ticks
-          (subst (λ (n : ℕ). IsRatio c.head_in_ticks.result n c.ratio-head.result) c.from.ensures c.ratio-head.ensures.ratio);
+          (subst (λ (n : ℕ). IsRatio c.head_in_ticks.result n c.ratio-head.result) c.from.ensures
+          c.ratio-head.ensures.ratio);
       capacity_is = c.square_over.ensures;
     }

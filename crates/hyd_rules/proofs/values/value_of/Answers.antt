@@ -47,6 +47,8 @@ returns-in-Open-clause-open c = λ lower upper each alike beside at.
     record {
       is_open = is.0;
       number_is = refl;
-      clause_is = subst (λ (z : ℤ). IsOpenClause network time lower upper each clause z (to_z w128 (of_z w128 c.in-Open.hi)))
-          (sym lo_kept) (subst (λ (z : ℤ). IsOpenClause network time lower upper each clause c.in-Open.lo z) (sym hi_kept) is.1);
+      clause_is = subst (λ (z : ℤ). IsOpenClause network time lower upper each clause z
+          (to_z w128 (of_z w128 c.in-Open.hi)))
+          (sym lo_kept) (subst (λ (z : ℤ). IsOpenClause network time lower upper each clause c.in-Open.lo z)
+          (sym hi_kept) is.1);
     }

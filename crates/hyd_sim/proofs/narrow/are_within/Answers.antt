@@ -6,5 +6,6 @@ use Rattle.hyd_sim.proofs.narrow.are_within.Goals as goal
 
 pub loop-j-preserved : goal.loop-j-preserved
 loop-j-preserved c =
-    more-within c.args.upper.now c.args.lower.now (to_z w128 (of_z w128 c.args.most)) c.gap.result c.loop-j.j c.gap.ensures
+    more-within c.args.upper.now c.args.lower.now (to_z w128 (of_z w128 c.args.most)) c.gap.result c.loop-j.j
+    c.gap.ensures
     (let no = c.if-gap-most.false in omega (arith, ints, no)) c.loop-j.invariant

@@ -25,7 +25,8 @@ returns-then-standing-project-clause-narrow c = λ e.
     subst (IsNarrow c.args.width (standing_for here) row)
     (sym (at-last c.args.project.now here c.args.row.now.length c.args.close.now c.if-standing-project.true))
     (narrow-there c.args.width (standing_for here) (last_standing here) row _ _ _ _ c.vector-upper.ensures
-    c.vector-lower.ensures start start (subst (λ (W : ℤ). AreNarrow W c.vector-upper.result.now c.vector-lower.result.now
+    c.vector-lower.ensures start start (subst (λ (W : ℤ). AreNarrow W c.vector-upper.result.now
+    c.vector-lower.result.now
     (map levels_of c.as_slice-before.result.now) (map levels_of c.as_slice-before.result.now)) width
     (c.are_narrow.ensures.narrow e)))
 
@@ -51,7 +52,8 @@ returns-clause-narrow c = λ e.
     (sym (at-later c.args.project.now here c.args.row.now.length close c.if-standing-project.false))
     (narrow-there c.args.width (standing_for here) (later_standing here c.args.row.now.length close) row _ _ _ _
     c.vector-upper.ensures c.vector-lower.ensures (ap (map levels_of) c.as_slice-before.ensures)
-    (ap (map levels_of) c.as_slice.ensures) (subst (λ (W : ℤ). AreNarrow W c.vector-upper.result.now c.vector-lower.result.now
+    (ap (map levels_of) c.as_slice.ensures) (subst (λ (W : ℤ). AreNarrow W c.vector-upper.result.now
+    c.vector-lower.result.now
     (map levels_of c.as_slice-before.result.now) (map levels_of c.as_slice.result.now)) width
     (c.are_narrow-2.ensures.narrow e)))
 

@@ -29,7 +29,8 @@ pub returns-clause-level_1 : goal.returns-clause-level_1
 returns-clause-level_1 c = λ network bottom initial diameter span number tanks l2 r1 lo. rw (tanks, l2, r1, lo) refl
 
 pub returns-clause-level_96993791 : goal.returns-clause-level_96993791
-returns-clause-level_96993791 c = λ network bottom initial diameter span number tanks l2 r1 lo. rw (tanks, l2, r1, lo) refl
+returns-clause-level_96993791 c = λ network bottom initial diameter span number tanks l2 r1 lo. rw (tanks, l2, r1, lo)
+    refl
 
 pub returns-clause-tank_head_20 : goal.returns-clause-tank_head_20
 returns-clause-tank_head_20 c = λ network initial diameter span number tanks l2 r1 lo. rw (tanks, l2, r1, lo) refl

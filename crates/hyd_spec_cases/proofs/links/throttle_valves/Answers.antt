@@ -5,19 +5,39 @@ use Rattle.hyd_spec_laws.proofs.Roots.{root_down-quick, quick_root}
 
 pub returns-clause-open_low : goal.returns-clause-open_low
 unfolding root_up quick_root
-returns-clause-open_low c = λ capacity ends. rw (ends.low_mantissa_is, ends.low_exponent_is, ends.high_mantissa_is, ends.high_exponent_is) (rw root_down-quick refl)
+returns-clause-open_low c = λ capacity ends. rw (
+  ends.low_mantissa_is,
+  ends.low_exponent_is,
+  ends.high_mantissa_is,
+  ends.high_exponent_is,
+) (rw root_down-quick refl)
 
 pub returns-clause-open_high : goal.returns-clause-open_high
 unfolding root_up quick_root
-returns-clause-open_high c = λ capacity ends. rw (ends.low_mantissa_is, ends.low_exponent_is, ends.high_mantissa_is, ends.high_exponent_is) (rw root_down-quick refl)
+returns-clause-open_high c = λ capacity ends. rw (
+  ends.low_mantissa_is,
+  ends.low_exponent_is,
+  ends.high_mantissa_is,
+  ends.high_exponent_is,
+) (rw root_down-quick refl)
 
 pub returns-clause-throttled_low : goal.returns-clause-throttled_low
 unfolding root_up quick_root
-returns-clause-throttled_low c = λ capacity ends. rw (ends.low_mantissa_is, ends.low_exponent_is, ends.high_mantissa_is, ends.high_exponent_is) (rw root_down-quick refl)
+returns-clause-throttled_low c = λ capacity ends. rw (
+  ends.low_mantissa_is,
+  ends.low_exponent_is,
+  ends.high_mantissa_is,
+  ends.high_exponent_is,
+) (rw root_down-quick refl)
 
 pub returns-clause-throttled_high : goal.returns-clause-throttled_high
 unfolding root_up quick_root
-returns-clause-throttled_high c = λ capacity ends. rw (ends.low_mantissa_is, ends.low_exponent_is, ends.high_mantissa_is, ends.high_exponent_is) (rw root_down-quick refl)
+returns-clause-throttled_high c = λ capacity ends. rw (
+  ends.low_mantissa_is,
+  ends.low_exponent_is,
+  ends.high_mantissa_is,
+  ends.high_exponent_is,
+) (rw root_down-quick refl)
 
 pub returns-clause-closed_low : goal.returns-clause-closed_low
 returns-clause-closed_low c = λ capacity. refl

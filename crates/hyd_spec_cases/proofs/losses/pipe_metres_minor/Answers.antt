@@ -9,4 +9,5 @@ returns-clause-below c = λ length diameter roughness minor long wide rough none
 }
 
 pub returns-clause-above : goal.returns-clause-above
-returns-clause-above c = λ length diameter roughness minor long wide rough none. rw (long, wide, rough, none) (record { crossed = leb-true _ _ refl })
+returns-clause-above c = λ length diameter roughness minor long wide rough none. rw (long, wide, rough, none)
+    (record { crossed = leb-true _ _ refl })

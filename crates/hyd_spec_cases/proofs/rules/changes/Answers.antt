@@ -2,7 +2,29 @@ use Rattle.std.proofs.Common.{refl}
 use Rattle.hyd_spec_cases.proofs.rules.changes.Goals as goal
 
 pub returns-clause-changes : goal.returns-clause-changes
-returns-clause-changes c = λ network a b c rules pa pb pc ay an by bn cy cn. rw (rules, pa, pb, pc, ay, an, by, bn, cy, cn) refl
+returns-clause-changes c = λ network a b c rules pa pb pc ay an by bn cy cn. rw (
+  rules,
+  pa,
+  pb,
+  pc,
+  ay,
+  an,
+  by,
+  bn,
+  cy,
+  cn,
+) refl
 
 pub returns-clause-acted : goal.returns-clause-acted
-returns-clause-acted c = λ network a b c rules pa pb pc ay an by bn cy cn. rw (rules, pa, pb, pc, ay, an, by, bn, cy, cn) refl
+returns-clause-acted c = λ network a b c rules pa pb pc ay an by bn cy cn. rw (
+  rules,
+  pa,
+  pb,
+  pc,
+  ay,
+  an,
+  by,
+  bn,
+  cy,
+  cn,
+) refl

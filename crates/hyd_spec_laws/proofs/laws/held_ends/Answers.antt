@@ -1,5 +1,6 @@
 use Rattle.hyd_spec_laws.proofs.laws.held_ends.Goals as goal
-use Rattle.hyd_spec_laws.proofs.HeldEnds.{reverse_low, reverse_high, forward_low, forward_high, reverse_at_least, reverse_at_most, forward_at_least, forward_at_most}
+use Rattle.hyd_spec_laws.proofs.HeldEnds.{reverse_low, reverse_high, forward_low, forward_high, reverse_at_least}
+use Rattle.hyd_spec_laws.proofs.HeldEnds.{reverse_at_most, forward_at_least, forward_at_most}
 
 pub returns-clause-reverse_low : goal.returns-clause-reverse_low
 returns-clause-reverse_low c = reverse_low

@@ -13,4 +13,5 @@ pub returns-clause-bounded : goal.returns-clause-bounded
 returns-clause-bounded c = carried_within
 
 pub returns-clause-there : goal.returns-clause-there
-returns-clause-there c = λ walls tank stocks inflow seconds vessel has flow. carried_ordered walls tank vessel stocks inflow seconds has flow
+returns-clause-there c = λ walls tank stocks inflow seconds vessel has flow. carried_ordered walls tank vessel stocks
+    inflow seconds has flow

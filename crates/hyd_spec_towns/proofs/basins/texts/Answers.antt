@@ -14,7 +14,8 @@ returns-clause-curved_certificate c = record {
   junctions_fit = omega arith;
   tanks_fit = omega arith;
   header_fits = omega arith;
-  rows_fit = three_fit _ _ _ (row_fits 0 0 3600 (omega arith) (omega arith) (omega arith)) (row_fits 1 3600 3600 (omega arith) (omega arith) (omega arith))
+  rows_fit = three_fit _ _ _ (row_fits 0 0 3600 (omega arith) (omega arith) (omega arith))
+      (row_fits 1 3600 3600 (omega arith) (omega arith) (omega arith))
       (row_fits 2 7200 0 (omega arith) (omega arith) (omega arith));
   periods_fit = omega arith;
   is_text = refl;
@@ -34,7 +35,8 @@ returns-clause-spilling_certificate c = record {
   junctions_fit = omega arith;
   tanks_fit = omega arith;
   header_fits = omega arith;
-  rows_fit = three_fit _ _ _ (row_fits 0 0 543 (omega arith) (omega arith) (omega arith)) (row_fits 1 543 3057 (omega arith) (omega arith) (omega arith))
+  rows_fit = three_fit _ _ _ (row_fits 0 0 543 (omega arith) (omega arith) (omega arith))
+      (row_fits 1 543 3057 (omega arith) (omega arith) (omega arith))
       (row_fits 2 3600 0 (omega arith) (omega arith) (omega arith));
   periods_fit = omega arith;
   is_text = refl;

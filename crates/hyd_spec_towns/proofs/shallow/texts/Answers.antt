@@ -15,9 +15,11 @@ returns-clause-certificate c = record {
   tanks_fit = omega arith;
   header_fits = omega arith;
   rows_fit = All-cons (IsRow 2 1) row_0 (row_1 ∷ [])
-      (row_fits row_0 _ refl (omega arith) (omega arith) (omega arith) (vector _ refl refl) (vector _ refl refl) (vector _ refl refl) (vector _ refl refl))
+      (row_fits row_0 _ refl (omega arith) (omega arith) (omega arith) (vector _ refl refl) (vector _ refl refl)
+      (vector _ refl refl) (vector _ refl refl))
       (All-cons (IsRow 2 1) row_1 []
-      (row_fits row_1 _ refl (omega arith) (omega arith) (omega arith) (vector _ refl refl) (vector _ refl refl) (vector _ refl refl) (vector _ refl refl))
+      (row_fits row_1 _ refl (omega arith) (omega arith) (omega arith) (vector _ refl refl) (vector _ refl refl)
+      (vector _ refl refl) (vector _ refl refl))
       (All-nil (IsRow 2 1)));
   periods_fit = omega arith;
   is_text = refl;

@@ -8,4 +8,5 @@ pub returns-clause-at_two : goal.returns-clause-at_two
 returns-clause-at_two c = λ network town. ap (λ network. commanded_after network 1000 period_at_two) (town_is town)
 
 pub returns-clause-when_full : goal.returns-clause-when_full
-returns-clause-when_full c = λ network town. ap (λ network. commanded_after network 1000 period_when_full) (town_is town)
+returns-clause-when_full c = λ network town. ap (λ network. commanded_after network 1000 period_when_full)
+    (town_is town)

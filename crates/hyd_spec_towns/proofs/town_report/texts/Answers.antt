@@ -15,4 +15,6 @@ returns-clause-text_state c = λ network town. ap (λ network. map (line_text ne
 
 pub returns-clause-text_report : goal.returns-clause-text_report
 unfolding digits fixed_point
-returns-clause-text_report c = λ network town. ap (λ network. report_text network (control_lines network standing_at_two ++ (lines_at_two ++ map (event_line 7313) (events_of network grid_at_two standing_at_two row_at_two))) (done_line 1)) (town_is town)
+returns-clause-text_report c = λ network town. ap (λ network. report_text network
+    (control_lines network standing_at_two ++ (lines_at_two ++ map (event_line 7313)
+    (events_of network grid_at_two standing_at_two row_at_two))) (done_line 1)) (town_is town)

@@ -10,11 +10,16 @@ use Rattle.hyd_spec_reports.specs.ReportLine.{line_text}
 use Rattle.hyd_spec_towns.specs.TownPeriods.{standing_when_full, grid_when_full, row_when_full}
 
 pub returns-clause-when_full : goal.returns-clause-when_full
-returns-clause-when_full c = λ network town. ap (λ network. map (change_line 8640) (decided_changes network grid_when_full standing_when_full row_when_full row_when_full.length)) (town_is town)
+returns-clause-when_full c = λ network town. ap (λ network. map (change_line 8640)
+    (decided_changes network grid_when_full standing_when_full row_when_full row_when_full.length)) (town_is town)
 
 pub returns-clause-before : goal.returns-clause-before
-returns-clause-before c = λ network town. ap (λ network. map (change_line 8280) (decided_changes network grid_when_full standing_when_full (record row_when_full { length = 967 }) 967)) (town_is town)
+returns-clause-before c = λ network town. ap (λ network. map (change_line 8280)
+    (decided_changes network grid_when_full standing_when_full (record row_when_full { length = 967 }) 967))
+    (town_is town)
 
 pub returns-clause-text_when_full : goal.returns-clause-text_when_full
 unfolding digits fixed_point
-returns-clause-text_when_full c = λ network town. ap (λ network. map (line_text network) (map (change_line 8640) (decided_changes network grid_when_full standing_when_full row_when_full row_when_full.length))) (town_is town)
+returns-clause-text_when_full c = λ network town. ap (λ network. map (line_text network)
+    (map (change_line 8640) (decided_changes network grid_when_full standing_when_full row_when_full
+    row_when_full.length))) (town_is town)

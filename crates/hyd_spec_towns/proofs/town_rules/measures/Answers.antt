@@ -9,10 +9,13 @@ use Rattle.hyd_spec_towns.specs.TownPeriods.{standing_when_full}
 use Rattle.hyd_spec_towns.specs.TownReadings.{readings_of_halves}
 
 pub returns-clause-heads : goal.returns-clause-heads
-returns-clause-heads c = λ network town. ap (λ network. map (head_of network 1 readings_of_halves) numbers) (town_is town)
+returns-clause-heads c = λ network town. ap (λ network. map (head_of network 1 readings_of_halves) numbers)
+    (town_is town)
 
 pub returns-clause-pressures : goal.returns-clause-pressures
-returns-clause-pressures c = λ network town. ap (λ network. map (pressure_of network 1 readings_of_halves) (0 ∷ 1 ∷ 3 ∷ 4 ∷ [])) (town_is town)
+returns-clause-pressures c = λ network town. ap (λ network. map (pressure_of network 1 readings_of_halves)
+    (0 ∷ 1 ∷ 3 ∷ 4 ∷ [])) (town_is town)
 
 pub returns-clause-states : goal.returns-clause-states
-returns-clause-states c = λ network town. ap (λ network. map (state_of_link (links_at network standing_when_full)) numbers) (town_is town)
+returns-clause-states c = λ network town. ap (λ network. map (state_of_link (links_at network standing_when_full))
+    numbers) (town_is town)

@@ -14,4 +14,5 @@ pub returns-clause-edges : goal.returns-clause-edges
 returns-clause-edges c = λ network town. ap (λ network. rule_values network 1 8640 readings_edges) (town_is town)
 
 pub returns-clause-past_edges : goal.returns-clause-past_edges
-returns-clause-past_edges c = λ network town. ap (λ network. rule_values network 1 8640 readings_past_edges) (town_is town)
+returns-clause-past_edges c = λ network town. ap (λ network. rule_values network 1 8640 readings_past_edges)
+    (town_is town)

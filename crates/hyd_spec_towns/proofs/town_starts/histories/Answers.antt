@@ -6,10 +6,13 @@ use Rattle.hyd_spec.specs.Start.{started, acts_at}
 use Rattle.hyd_spec_towns.specs.TownPeriods.{standing_when_full}
 
 pub returns-clause-reached : goal.returns-clause-reached
-returns-clause-reached c = λ network town. ap (λ network. started network 7313 (acts_at 3 (pos 150000000000000 ∷ pos 45000000000000 ∷ [])) standing_when_full.commanded) (town_is town)
+returns-clause-reached c = λ network town. ap (λ network. started network 7313
+    (acts_at 3 (pos 150000000000000 ∷ pos 45000000000000 ∷ [])) standing_when_full.commanded) (town_is town)
 
 pub returns-clause-not_reached : goal.returns-clause-not_reached
-returns-clause-not_reached c = λ network town. ap (λ network. started network 7313 (acts_at 3 (pos 149999999999999 ∷ pos 45000000000001 ∷ [])) standing_when_full.commanded) (town_is town)
+returns-clause-not_reached c = λ network town. ap (λ network. started network 7313
+    (acts_at 3 (pos 149999999999999 ∷ pos 45000000000001 ∷ [])) standing_when_full.commanded) (town_is town)
 
 pub returns-clause-only_below : goal.returns-clause-only_below
-returns-clause-only_below c = λ network town. ap (λ network. started network 7313 (acts_at 3 (pos 149999999999999 ∷ pos 45000000000000 ∷ [])) standing_when_full.commanded) (town_is town)
+returns-clause-only_below c = λ network town. ap (λ network. started network 7313
+    (acts_at 3 (pos 149999999999999 ∷ pos 45000000000000 ∷ [])) standing_when_full.commanded) (town_is town)

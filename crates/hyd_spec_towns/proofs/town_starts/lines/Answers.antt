@@ -19,8 +19,10 @@ returns-clause-at_three c = λ network town. ap (λ network. control_lines netwo
 
 pub returns-clause-text_at_one : goal.returns-clause-text_at_one
 unfolding digits fixed_point
-returns-clause-text_at_one c = λ network town. ap (λ network. map (line_text network) (control_lines network standing_at_one)) (town_is town)
+returns-clause-text_at_one c = λ network town. ap (λ network. map (line_text network)
+    (control_lines network standing_at_one)) (town_is town)
 
 pub returns-clause-text_when_full : goal.returns-clause-text_when_full
 unfolding digits fixed_point
-returns-clause-text_when_full c = λ network town. ap (λ network. map (line_text network) (control_lines network standing_when_full)) (town_is town)
+returns-clause-text_when_full c = λ network town. ap (λ network. map (line_text network)
+    (control_lines network standing_when_full)) (town_is town)

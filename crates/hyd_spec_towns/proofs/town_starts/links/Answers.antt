@@ -2,7 +2,8 @@ use Rattle.std.proofs.Common.{ap}
 use Rattle.hyd_spec_towns.proofs.town_starts.links.Goals as goal
 use Rattle.hyd_spec_towns.proofs.TownIs.{town_is}
 use Rattle.hyd_spec_certificates.specs.Decided.{links_at}
-use Rattle.hyd_spec_towns.specs.TownPeriods.{standing_at_start, standing_at_one, standing_at_two, standing_when_full, standing_after_rules, standing_at_three}
+use Rattle.hyd_spec_towns.specs.TownPeriods.{standing_at_start, standing_at_one, standing_at_two, standing_when_full}
+use Rattle.hyd_spec_towns.specs.TownPeriods.{standing_after_rules, standing_at_three}
 
 pub returns-clause-at_start : goal.returns-clause-at_start
 returns-clause-at_start c = λ network town. ap (λ network. links_at network standing_at_start) (town_is town)

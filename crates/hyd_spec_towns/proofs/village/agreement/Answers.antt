@@ -3,7 +3,8 @@ use Rattle.hyd_spec_towns.specs.Village.{village}
 use Rattle.hyd_spec_towns.specs.VillageRun.{founds, left}
 use Rattle.hyd_spec_towns.proofs.VillageSound.{sound}
 use Rattle.hyd_spec_towns.proofs.VillageWhole.{is_run}
-use Rattle.hyd_spec_towns.proofs.VillageAgreement.{first_agrees, second_agrees, third_agrees, fourth_agrees, fifth_agrees}
+use Rattle.hyd_spec_towns.proofs.VillageAgreement.{first_agrees, second_agrees, third_agrees, fourth_agrees}
+use Rattle.hyd_spec_towns.proofs.VillageAgreement.{fifth_agrees}
 use Rattle.hyd_spec_towns.proofs.village.agreement.Goals as goal
 
 pub returns-clause-this : goal.returns-clause-this

@@ -3,23 +3,47 @@ use Rattle.hyd_spec.specs.History.{IsPeriod}
 use Rattle.hyd_spec_towns.specs.Village.{usual, village}
 use Rattle.hyd_spec_towns.specs.VillageHistory.{period_0, period_1, period_2, period_3, period_4}
 use Rattle.hyd_spec_towns.proofs.VillageFlows.{obeys, straight, at_setting, none_passes}
-use Rattle.hyd_spec_towns.proofs.VillageLengths.{first_lasts, second_lasts, third_lasts, fourth_lasts, fifth_lasts, second_comes, third_comes, fourth_comes, fifth_comes}
+use Rattle.hyd_spec_towns.proofs.VillageLengths.{first_lasts, second_lasts, third_lasts, fourth_lasts, fifth_lasts}
+use Rattle.hyd_spec_towns.proofs.VillageLengths.{second_comes, third_comes, fourth_comes, fifth_comes}
 use Rattle.hyd_spec_towns.proofs.village.history.Goals as goal
 
 first : IsPeriod village 1000 period_0
-first = record { obeys = obeys usual _ 8 _ _ _ _ _ _ (pos 10000000000000) _ _ (straight _ _ refl refl) (at_setting (pos 10000000000) _ _ refl refl refl) (straight _ _ refl refl) refl refl refl refl; lasts = first_lasts }
+first = record {
+  obeys = obeys usual _ 8 _ _ _ _ _ _ (pos 10000000000000) _ _ (straight _ _ refl refl)
+      (at_setting (pos 10000000000) _ _ refl refl refl) (straight _ _ refl refl) refl refl refl refl;
+  lasts =
+      first_lasts;
+}
 
 second : IsPeriod village 1000 period_1
-second = record { obeys = obeys usual _ 3 _ _ _ _ _ _ (pos 10000000000000) _ _ (straight _ _ refl refl) (at_setting (pos 10000000000) _ _ refl refl refl) (straight _ _ refl refl) refl refl refl refl; lasts = second_lasts }
+second = record {
+  obeys = obeys usual _ 3 _ _ _ _ _ _ (pos 10000000000000) _ _ (straight _ _ refl refl)
+      (at_setting (pos 10000000000) _ _ refl refl refl) (straight _ _ refl refl) refl refl refl refl;
+  lasts =
+      second_lasts;
+}
 
 third : IsPeriod village 1000 period_2
-third = record { obeys = obeys usual _ 3 _ _ _ _ _ _ (pos 0) _ _ (straight _ _ refl refl) (none_passes _) (straight _ _ refl refl) refl refl refl refl; lasts = third_lasts }
+third = record {
+  obeys = obeys usual _ 3 _ _ _ _ _ _ (pos 0) _ _ (straight _ _ refl refl) (none_passes _)
+      (straight _ _ refl refl) refl refl refl refl;
+  lasts = third_lasts;
+}
 
 fourth : IsPeriod village 1000 period_3
-fourth = record { obeys = obeys usual _ 2 _ _ _ _ _ _ (pos 3000000000000) _ _ (straight _ _ refl refl) (at_setting (pos 3000000000) _ _ refl refl refl) (straight _ _ refl refl) refl refl refl refl; lasts = fourth_lasts }
+fourth = record {
+  obeys = obeys usual _ 2 _ _ _ _ _ _ (pos 3000000000000) _ _ (straight _ _ refl refl)
+      (at_setting (pos 3000000000) _ _ refl refl refl) (straight _ _ refl refl) refl refl refl refl;
+  lasts =
+      fourth_lasts;
+}
 
 fifth : IsPeriod village 1000 period_4
-fifth = record { obeys = obeys usual _ 0 _ _ _ _ _ _ (pos 3000000000000) _ _ (straight _ _ refl refl) (at_setting (pos 3000000000) _ _ refl refl refl) (straight _ _ refl refl) refl refl refl refl; lasts = fifth_lasts }
+fifth = record {
+  obeys = obeys usual _ 0 _ _ _ _ _ _ (pos 3000000000000) _ _ (straight _ _ refl refl)
+      (at_setting (pos 3000000000) _ _ refl refl refl) (straight _ _ refl refl) refl refl refl refl;
+  lasts = fifth_lasts;
+}
 
 pub returns : goal.returns
 returns c = (

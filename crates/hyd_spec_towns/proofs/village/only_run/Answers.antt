@@ -7,4 +7,5 @@ use Rattle.hyd_spec_towns.proofs.village.only_run.Goals as goal
 
 pub returns : goal.returns
 returns c = λ others last runs tight five.
-    one_run village standing_0 others founds last left runs is_run tight (first_tight, (second_tight, (third_tight, (fourth_tight, (fifth_tight, tt))))) five
+    one_run village standing_0 others founds last left runs is_run tight
+    (first_tight, (second_tight, (third_tight, (fourth_tight, (fifth_tight, tt))))) five

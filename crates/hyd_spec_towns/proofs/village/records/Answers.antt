@@ -19,4 +19,5 @@ pub returns-clause-fifth : goal.returns-clause-fifth
 returns-clause-fifth c = fifth_valid
 
 pub returns-clause-all : goal.returns-clause-all
-returns-clause-all c = more grid_0 first_valid (more grid_1 second_valid (more grid_2 third_valid (more grid_3 fourth_valid (more grid_4 fifth_valid none))))
+returns-clause-all c = more grid_0 first_valid (more grid_1 second_valid
+    (more grid_2 third_valid (more grid_3 fourth_valid (more grid_4 fifth_valid none))))

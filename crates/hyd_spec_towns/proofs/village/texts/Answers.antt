@@ -6,7 +6,15 @@ use Rattle.hyd_spec_towns.proofs.village.texts.Goals as goal
 
 pub returns-clause-certificate : goal.returns-clause-certificate
 unfolding digits
-returns-clause-certificate c = record { known = inl refl; junctions_fit = omega arith; tanks_fit = omega arith; header_fits = omega arith; rows_fit = rows_fit; periods_fit = omega arith; is_text = refl }
+returns-clause-certificate c = record {
+  known = inl refl;
+  junctions_fit = omega arith;
+  tanks_fit = omega arith;
+  header_fits = omega arith;
+  rows_fit = rows_fit;
+  periods_fit = omega arith;
+  is_text = refl;
+}
 
 pub returns-clause-report : goal.returns-clause-report
 unfolding digits fixed_point

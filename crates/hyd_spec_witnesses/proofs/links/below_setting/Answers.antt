@@ -27,4 +27,7 @@ returns-clause-no_more c is = greater _ _ refl (link_follows half_spur 1 _ _ _ _
 
 pub returns-clause-no_less : goal.returns-clause-no_less
 returns-clause-no_less c is = elim
-    (link_follows half_spur 1 _ _ _ _ is).at_most [ inl one ↦ greater _ _ refl one | inr other ↦ greater _ _ refl other ]
+    (link_follows half_spur 1 _ _ _ _ is).at_most [
+      | inl one ↦ greater _ _ refl one
+      | inr other ↦ greater _ _ refl other
+    ]

@@ -19,5 +19,6 @@ returns-in-Tcv c = λ rows word u a.
     ↔ IsRefusedValve c.diameter.result.nano c.in-Number.number.nano (is_us_unit c.args.unit) =
     subst (λ (us : Bool). (c.is_refused_valve.result ≡ true)
     ↔ IsRefusedValve c.diameter.result.nano c.in-Number.number.nano us) c.is_us.ensures c.is_refused_valve.ensures in
-    setting_refused rows row word c.args.unit c.in-Number.number c.diameter.result.nano c.is_refused_valve.result type_is
+    setting_refused rows row word c.args.unit c.in-Number.number c.diameter.result.nano c.is_refused_valve.result
+    type_is
     u number c.diameter.ensures.nano refused

@@ -15,7 +15,8 @@ returns-then-ticks-room c =
     let k1 : to_z w64 (of_z w64 c.head_of-here.result) ≡ c.head_of-here.result = omega (arith, ints) in
     let here : to_z w64 (of_z w64 c.head_of-here.result) ≡ head_at u i = k1 ∙ c.head_of-here.ensures in
     let far = c.if-ticks-room.true in
-    free-none c.args.held (grid_of c.args.net.now) c.requires.steady c.args.problem c.args.side u i c.requires.inside c.room-room.result c.requires.free
+    free-none c.args.held (grid_of c.args.net.now) c.requires.steady c.args.problem c.args.side u i c.requires.inside
+    c.room-room.result c.requires.free
     (c.room-room.ensures.value ∙ ap (λ (h : ℤ). pos box_limit -ℤ along c.args.side h) here)
     (λ k le. c.ticks_to_pass-ticks.ensures.before k (omega (arith, le, far)))
 
@@ -29,9 +30,12 @@ returns c =
     let here : to_z w64 (of_z w64 c.head_of-here.result) ≡ head_at u i = k1 ∙ c.head_of-here.ensures in
     let kept : to_z w64 (of_z w64 c.further.result) ≡ c.further.result = omega (arith, ints) in
     let ticks = c.ticks_to_pass-ticks.result in
-    let at : to_z w64 (of_z w64 c.further.result) ≡ further side (head_at u i) ticks = kept ∙ (c.further.ensures.value ∙ ap (λ (h : ℤ). further side h ticks) here) in
+    let at : to_z w64 (of_z w64 c.further.result) ≡ further side (head_at u i) ticks = kept
+    ∙ (c.further.ensures.value ∙ ap (λ (h : ℤ). further side h ticks) here) in
     let near = c.if-ticks-room.false in
     subst (λ (x : ℤ). RaisesTo c.args.held (grid_of c.args.net.now) c.args.problem side u i x) (sym at)
-    (free-raise c.args.held (grid_of c.args.net.now) c.requires.steady c.args.problem side u i c.requires.inside ticks c.room-room.result c.requires.free in_box
-    (c.room-room.ensures.value ∙ ap (λ (h : ℤ). pos box_limit -ℤ along side h) here) near c.ticks_to_pass-ticks.ensures.before
+    (free-raise c.args.held (grid_of c.args.net.now) c.requires.steady c.args.problem side u i c.requires.inside ticks
+    c.room-room.result c.requires.free in_box
+    (c.room-room.ensures.value ∙ ap (λ (h : ℤ). pos box_limit -ℤ along side h) here) near
+    c.ticks_to_pass-ticks.ensures.before
     (c.ticks_to_pass-ticks.ensures.after ticks (omega arith) near))

@@ -10,8 +10,10 @@ abbrev pub invariant-loop-low : goal.invariant-loop-low
 invariant-loop-low l = record {
   ordered : l.low ≤ l.high;
   at_most : l.high ≤ l.room + 1;
-  before : (k : ℕ) → k < l.low → PassesWith (grid_of l.net) l.problem l.side l.u l.i (further l.side (head_at l.u l.i) k) → ⊥;
-  after : (k : ℕ) → l.high ≤ k → k ≤ l.room → PassesWith (grid_of l.net) l.problem l.side l.u l.i (further l.side (head_at l.u l.i) k);
+  before : (k : ℕ) → k < l.low → PassesWith (grid_of l.net) l.problem l.side l.u l.i
+      (further l.side (head_at l.u l.i) k) → ⊥;
+  after : (k : ℕ) → l.high ≤ k → k ≤ l.room → PassesWith (grid_of l.net) l.problem l.side l.u l.i
+      (further l.side (head_at l.u l.i) k);
 }
 
 abbrev pub decreases-loop-low : goal.decreases-loop-low

@@ -1,4 +1,5 @@
-use Rattle.std.proofs.Common.{◌≡◌, ◌<◌, ◌*◌, ◌∙◌, ◌-ℤ◌, ◌≤ℤ◌, ℕ, ℤ, pos, length, unsigned_abs, sym, subst, arith, w64, to_z, of_z, inl, inr}
+use Rattle.std.proofs.Common.{◌≡◌, ◌<◌, ◌*◌, ◌∙◌, ◌-ℤ◌, ◌≤ℤ◌, ℕ, ℤ, pos, length, unsigned_abs, sym, subst, arith, w64}
+use Rattle.std.proofs.Common.{to_z, of_z, inl, inr}
 use Rattle.std.specs.Prelude.{slice_set}
 use Rattle.std.proofs.lemmas.Int.{ints}
 use Rattle.std.proofs.lemmas.Bool.{cases_eq}

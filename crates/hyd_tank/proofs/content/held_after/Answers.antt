@@ -9,8 +9,10 @@ pub clamp-requires : goal.clamp-requires
 clamp-requires c =
     let b = c.args.motion.breadth in
     let range = c.requires.motion.breadth in
-    let least = parts_from c.in_parts-least.result b c.args.bounds.least c.in_parts-least.ensures.value range (omega (arith, ints)) (omega (arith, ints)) in
-    let most = parts_from c.in_parts-most.result b c.args.bounds.most c.in_parts-most.ensures.value range (omega (arith, ints)) (omega (arith, ints)) in
+    let least = parts_from c.in_parts-least.result b c.args.bounds.least c.in_parts-least.ensures.value range
+    (omega (arith, ints)) (omega (arith, ints)) in
+    let most = parts_from c.in_parts-most.result b c.args.bounds.most c.in_parts-most.ensures.value range
+    (omega (arith, ints)) (omega (arith, ints)) in
     let rises = times_rises (unsigned_abs b) c.args.bounds.least c.args.bounds.most (omega (arith, ints)) in
     omega (
       arith,
@@ -31,10 +33,17 @@ returns c =
     let drive : SFits w128 c.args.motion.drive = fits_signed_from_abs w128 c.args.motion.drive (omega (arith, ints)) in
     to_z-of_z w128 c.clamp.result (record { sfits = c.clamp.type_inv })
     ∙ held_is b c.args.motion.drive c.args.content c.args.inflow c.args.bounds.least c.args.bounds.most
-    c.in_parts-least.result c.in_parts-most.result c.in_parts.result c.saturating_mul-change.result c.saturating_add.result c.clamp.result range
-    (omega (arith, ints)) (omega (arith, ints)) (omega (arith, ints)) (omega (arith, ints)) (omega (arith, ints)) (omega (arith, ints))
-    drive c.ranges.inflow (record { sfits = c.saturating_mul-change.type_inv }) (record { sfits = c.saturating_add.type_inv })
-    (parts_from c.in_parts-least.result b c.args.bounds.least c.in_parts-least.ensures.value range (omega (arith, ints)) (omega (arith, ints)))
-    (parts_from c.in_parts-most.result b c.args.bounds.most c.in_parts-most.ensures.value range (omega (arith, ints)) (omega (arith, ints)))
-    (parts_from c.in_parts.result b c.args.content c.in_parts.ensures.value range (omega (arith, ints)) (omega (arith, ints)))
+    c.in_parts-least.result c.in_parts-most.result c.in_parts.result c.saturating_mul-change.result
+    c.saturating_add.result c.clamp.result range
+    (omega (arith, ints)) (omega (arith, ints)) (omega (arith, ints)) (omega (arith, ints)) (omega (arith, ints))
+    (omega (arith, ints))
+    drive c.ranges.inflow (record { sfits = c.saturating_mul-change.type_inv }) (record {
+      sfits = c.saturating_add.type_inv;
+    })
+    (parts_from c.in_parts-least.result b c.args.bounds.least c.in_parts-least.ensures.value range
+    (omega (arith, ints)) (omega (arith, ints)))
+    (parts_from c.in_parts-most.result b c.args.bounds.most c.in_parts-most.ensures.value range (omega (arith, ints))
+    (omega (arith, ints)))
+    (parts_from c.in_parts.result b c.args.content c.in_parts.ensures.value range (omega (arith, ints))
+    (omega (arith, ints)))
     c.saturating_mul-change.ensures c.saturating_add.ensures c.clamp.ensures.value

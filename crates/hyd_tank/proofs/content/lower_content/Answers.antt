@@ -13,7 +13,8 @@ returns-in-Some c =
     let p = to_z-of_z w128 c.args.parts c.ranges.parts in
     let fits : SFits w64 c.in-Some.bound = search rules in
     to_z-of_z w64 c.in-Some.bound fits
-    ∙ sym (rw (b, p) at (c.in-Some.ensures.bound (int_max c.args.bounds.least (floor (in_ticks c.args.breadth c.args.parts) -ℤ c.args.widening))))
+    ∙ sym (rw (b, p) at (c.in-Some.ensures.bound (int_max c.args.bounds.least
+    (floor (in_ticks c.args.breadth c.args.parts) -ℤ c.args.widening))))
 
 pub moved_down-requires-clause-number : goal.moved_down-requires-clause-number
 moved_down-requires-clause-number c =
@@ -21,7 +22,8 @@ moved_down-requires-clause-number c =
     let p = to_z-of_z w128 c.args.parts c.ranges.parts in
     let between = rw (b, p) at (c.in_default.ensures.between refl) in
     let e = rw (b, p) at c.floor.ensures in
-    let range = floor_between (bounds_of c.args.bounds) (in_ticks c.args.breadth c.args.parts) (some_parts c.args.breadth c.requires.breadth.at_least) between in
+    let range = floor_between (bounds_of c.args.bounds) (in_ticks c.args.breadth c.args.parts)
+    (some_parts c.args.breadth c.requires.breadth.at_least) between in
     record { at_least = omega (arith, ints, e, range.0, range.1); at_most = omega (arith, ints, e, range.0, range.1) }
 
 pub returns : goal.returns
@@ -30,6 +32,9 @@ returns c =
     let p = to_z-of_z w128 c.args.parts c.ranges.parts in
     let e = rw (b, p) at c.floor.ensures in
     let inside = int_max c.args.bounds.least (floor (in_ticks c.args.breadth c.args.parts) -ℤ c.args.widening) in
-    floor_moved c.args.bounds.least c.floor.result (floor (in_ticks c.args.breadth c.args.parts)) c.args.widening c.moved_down.result
-    (record { sfits = c.floor.type_inv }) c.ranges.widening (record { sfits = c.moved_down.type_inv }) e c.moved_down.ensures
+    floor_moved c.args.bounds.least c.floor.result (floor (in_ticks c.args.breadth c.args.parts)) c.args.widening
+    c.moved_down.result
+    (record { sfits = c.floor.type_inv }) c.ranges.widening (record {
+      sfits = c.moved_down.type_inv;
+    }) e c.moved_down.ensures
     ∙ sym (rw (b, p) at (c.in_default.ensures.inside refl inside))

@@ -13,7 +13,8 @@ returns-in-Some c =
     let p = to_z-of_z w128 c.args.parts c.ranges.parts in
     let fits : SFits w64 c.in-Some.bound = search rules in
     to_z-of_z w64 c.in-Some.bound fits
-    ∙ sym (rw (b, p) at (c.in-Some.ensures.bound (int_min c.args.bounds.most (ceiling (in_ticks c.args.breadth c.args.parts) +ℤ c.args.widening))))
+    ∙ sym (rw (b, p) at (c.in-Some.ensures.bound (int_min c.args.bounds.most
+    (ceiling (in_ticks c.args.breadth c.args.parts) +ℤ c.args.widening))))
 
 pub moved_up-requires-clause-number : goal.moved_up-requires-clause-number
 moved_up-requires-clause-number c =
@@ -21,7 +22,8 @@ moved_up-requires-clause-number c =
     let p = to_z-of_z w128 c.args.parts c.ranges.parts in
     let between = rw (b, p) at (c.in_default.ensures.between refl) in
     let e = rw (b, p) at c.ceiling.ensures in
-    let range = ceiling_between (bounds_of c.args.bounds) (in_ticks c.args.breadth c.args.parts) (some_parts c.args.breadth c.requires.breadth.at_least) between in
+    let range = ceiling_between (bounds_of c.args.bounds) (in_ticks c.args.breadth c.args.parts)
+    (some_parts c.args.breadth c.requires.breadth.at_least) between in
     record { at_least = omega (arith, ints, e, range.0, range.1); at_most = omega (arith, ints, e, range.0, range.1) }
 
 pub returns : goal.returns
@@ -30,6 +32,9 @@ returns c =
     let p = to_z-of_z w128 c.args.parts c.ranges.parts in
     let e = rw (b, p) at c.ceiling.ensures in
     let inside = int_min c.args.bounds.most (ceiling (in_ticks c.args.breadth c.args.parts) +ℤ c.args.widening) in
-    ceiling_moved c.args.bounds.most c.ceiling.result (ceiling (in_ticks c.args.breadth c.args.parts)) c.args.widening c.moved_up.result
-    (record { sfits = c.ceiling.type_inv }) c.ranges.widening (record { sfits = c.moved_up.type_inv }) e c.moved_up.ensures
+    ceiling_moved c.args.bounds.most c.ceiling.result (ceiling (in_ticks c.args.breadth c.args.parts)) c.args.widening
+    c.moved_up.result
+    (record { sfits = c.ceiling.type_inv }) c.ranges.widening (record {
+      sfits = c.moved_up.type_inv;
+    }) e c.moved_up.ensures
     ∙ sym (rw (b, p) at (c.in_default.ensures.inside refl inside))

@@ -23,13 +23,17 @@ returns c =
     let h-is = to_z-of_z w128 h h-fits in
     let k-is = to_z-of_z w128 k k-fits in
     let b : to_z w128 (of_z w128 c.from-breadth.result) ≡ pos 864 = omega (arith, ints) in
-    let low = volume_lower tank points volumes are c.args.stock.volume.lo c.args.inflow.lo h s parts.ensures.least (pos 0) c.lower_content.result
+    let low = volume_lower tank points volumes are c.args.stock.volume.lo c.args.inflow.lo h s parts.ensures.least
+    (pos 0) c.lower_content.result
     (c.lower_content.ensures
-    ∙ ap (λ (z : ℤ). lower_end bounds bounds (in_ticks z (to_z w128 (of_z w128 h))) (in_ticks z (to_z w128 (of_z w128 h))) (pos 0)) b
+    ∙ ap (λ (z : ℤ). lower_end bounds bounds (in_ticks z (to_z w128 (of_z w128 h)))
+    (in_ticks z (to_z w128 (of_z w128 h))) (pos 0)) b
     ∙ ap (λ (z : ℤ). lower_end bounds bounds (in_ticks (pos 864) z) (in_ticks (pos 864) z) (pos 0)) h-is) in
-    let high = volume_upper tank points volumes are c.args.stock.volume.hi c.args.inflow.hi k s parts.ensures.greatest (pos 0) c.upper_content.result
+    let high = volume_upper tank points volumes are c.args.stock.volume.hi c.args.inflow.hi k s parts.ensures.greatest
+    (pos 0) c.upper_content.result
     (c.upper_content.ensures
-    ∙ ap (λ (z : ℤ). upper_end bounds bounds (in_ticks z (to_z w128 (of_z w128 k))) (in_ticks z (to_z w128 (of_z w128 k))) (pos 0)) b
+    ∙ ap (λ (z : ℤ). upper_end bounds bounds (in_ticks z (to_z w128 (of_z w128 k)))
+    (in_ticks z (to_z w128 (of_z w128 k))) (pos 0)) b
     ∙ ap (λ (z : ℤ). upper_end bounds bounds (in_ticks (pos 864) z) (in_ticks (pos 864) z) (pos 0)) k-is) in
     let low-is = to_z-of_z w64 c.lower_content.result (record { sfits = c.lower_content.type_inv }) in
     let high-is = to_z-of_z w64 c.upper_content.result (record { sfits = c.upper_content.type_inv }) in
@@ -37,9 +41,17 @@ returns c =
     let most-is = to_z-of_z w64 c.upper_level.result (record { sfits = c.upper_level.type_inv }) in
     stocks_are _ _ _ _ _ _ _ _
     (least-is
-    ∙ level_lower tank points volumes are c.args.stock.volume.lo c.args.inflow.lo h s parts.ensures.least (pos 0) c.lower_level.result
-    (c.lower_level.ensures ∙ ap (λ (z : ℤ). lower_level (Curve points) tank (record { num = z; den = 864 }) (pos 0)) h-is))
+    ∙ level_lower tank points volumes are c.args.stock.volume.lo c.args.inflow.lo h s parts.ensures.least (pos 0)
+    c.lower_level.result
+    (c.lower_level.ensures ∙ ap (λ (z : ℤ). lower_level (Curve points) tank (record {
+      num = z;
+      den = 864;
+    }) (pos 0)) h-is))
     (most-is
-    ∙ level_upper tank points volumes are c.args.stock.volume.hi c.args.inflow.hi k s parts.ensures.greatest (pos 0) c.upper_level.result
-    (c.upper_level.ensures ∙ ap (λ (z : ℤ). upper_level (Curve points) tank (record { num = z; den = 864 }) (pos 0)) k-is))
+    ∙ level_upper tank points volumes are c.args.stock.volume.hi c.args.inflow.hi k s parts.ensures.greatest (pos 0)
+    c.upper_level.result
+    (c.upper_level.ensures ∙ ap (λ (z : ℤ). upper_level (Curve points) tank (record {
+      num = z;
+      den = 864;
+    }) (pos 0)) k-is))
     (low-is ∙ low) (high-is ∙ high)

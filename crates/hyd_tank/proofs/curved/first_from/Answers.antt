@@ -21,11 +21,16 @@ returns-then-rising-clause-earliest c =
     let second = c.first_of-high.result in
     let volume-fits : SFits w64 c.args.stock.volume.hi = search rules in
     let inflow-fits : SFits w128 c.args.inflow.hi = search rules in
-    let stands = subst (λ (z : ℤ). StandsFor tank points z true target) (to_z-of_z w64 level c.ranges.level) c.risen_target-target.ensures.meets in
-    let met = subst (λ (z : ℤ). IsFirstMet z c.args.inflow.hi target true cap second) (to_z-of_z w64 c.args.stock.volume.hi volume-fits)
-    (subst (λ (z : ℤ). IsFirstMet (to_z w64 (of_z w64 c.args.stock.volume.hi)) z target true cap second) (to_z-of_z w128 c.args.inflow.hi inflow-fits) c.first_of-high.ensures) in
-    earliest_up (Curve points) tank (stocks_of c.args.stock) (inflows_of c.args.inflow) level cap second c.args.rising c.if-rising.true
-    (subst (λ (r : Bool). IsFirstSecond (has_reached 1 (Curve points) tank one c.args.inflow.hi r level) cap second) (sym c.if-rising.true)
+    let stands = subst (λ (z : ℤ). StandsFor tank points z true target) (to_z-of_z w64 level c.ranges.level)
+    c.risen_target-target.ensures.meets in
+    let met = subst (λ (z : ℤ). IsFirstMet z c.args.inflow.hi target true cap second)
+    (to_z-of_z w64 c.args.stock.volume.hi volume-fits)
+    (subst (λ (z : ℤ). IsFirstMet (to_z w64 (of_z w64 c.args.stock.volume.hi)) z target true cap second)
+    (to_z-of_z w128 c.args.inflow.hi inflow-fits) c.first_of-high.ensures) in
+    earliest_up (Curve points) tank (stocks_of c.args.stock) (inflows_of c.args.inflow) level cap second c.args.rising
+    c.if-rising.true
+    (subst (λ (r : Bool). IsFirstSecond (has_reached 1 (Curve points) tank one c.args.inflow.hi r level) cap second)
+    (sym c.if-rising.true)
     (first_stands tank points level true target one c.args.inflow.hi cap second stands met))
 
 pub returns-then-rising-clause-latest : goal.returns-then-rising-clause-latest
@@ -39,11 +44,16 @@ returns-then-rising-clause-latest c =
     let second = c.first_of-low.result in
     let volume-fits : SFits w64 c.args.stock.volume.lo = search rules in
     let inflow-fits : SFits w128 c.args.inflow.lo = search rules in
-    let stands = subst (λ (z : ℤ). StandsFor tank points z true target) (to_z-of_z w64 level c.ranges.level) c.risen_target-target.ensures.meets in
-    let met = subst (λ (z : ℤ). IsFirstMet z c.args.inflow.lo target true cap second) (to_z-of_z w64 c.args.stock.volume.lo volume-fits)
-    (subst (λ (z : ℤ). IsFirstMet (to_z w64 (of_z w64 c.args.stock.volume.lo)) z target true cap second) (to_z-of_z w128 c.args.inflow.lo inflow-fits) c.first_of-low.ensures) in
-    latest_up (Curve points) tank (stocks_of c.args.stock) (inflows_of c.args.inflow) level cap second c.args.rising c.if-rising.true
-    (subst (λ (r : Bool). IsFirstSecond (has_reached 1 (Curve points) tank one c.args.inflow.lo r level) cap second) (sym c.if-rising.true)
+    let stands = subst (λ (z : ℤ). StandsFor tank points z true target) (to_z-of_z w64 level c.ranges.level)
+    c.risen_target-target.ensures.meets in
+    let met = subst (λ (z : ℤ). IsFirstMet z c.args.inflow.lo target true cap second)
+    (to_z-of_z w64 c.args.stock.volume.lo volume-fits)
+    (subst (λ (z : ℤ). IsFirstMet (to_z w64 (of_z w64 c.args.stock.volume.lo)) z target true cap second)
+    (to_z-of_z w128 c.args.inflow.lo inflow-fits) c.first_of-low.ensures) in
+    latest_up (Curve points) tank (stocks_of c.args.stock) (inflows_of c.args.inflow) level cap second c.args.rising
+    c.if-rising.true
+    (subst (λ (r : Bool). IsFirstSecond (has_reached 1 (Curve points) tank one c.args.inflow.lo r level) cap second)
+    (sym c.if-rising.true)
     (first_stands tank points level true target one c.args.inflow.lo cap second stands met))
 
 pub returns-else-rising-clause-earliest : goal.returns-else-rising-clause-earliest
@@ -57,11 +67,16 @@ returns-else-rising-clause-earliest c =
     let second = c.first_of-low-else-rising.result in
     let volume-fits : SFits w64 c.args.stock.volume.lo = search rules in
     let inflow-fits : SFits w128 c.args.inflow.lo = search rules in
-    let stands = subst (λ (z : ℤ). StandsFor tank points z false target) (to_z-of_z w64 level c.ranges.level) c.fallen_target-target.ensures.meets in
-    let met = subst (λ (z : ℤ). IsFirstMet z c.args.inflow.lo target false cap second) (to_z-of_z w64 c.args.stock.volume.lo volume-fits)
-    (subst (λ (z : ℤ). IsFirstMet (to_z w64 (of_z w64 c.args.stock.volume.lo)) z target false cap second) (to_z-of_z w128 c.args.inflow.lo inflow-fits) c.first_of-low-else-rising.ensures) in
-    earliest_down (Curve points) tank (stocks_of c.args.stock) (inflows_of c.args.inflow) level cap second c.args.rising c.if-rising.false
-    (subst (λ (r : Bool). IsFirstSecond (has_reached 1 (Curve points) tank one c.args.inflow.lo r level) cap second) (sym c.if-rising.false)
+    let stands = subst (λ (z : ℤ). StandsFor tank points z false target) (to_z-of_z w64 level c.ranges.level)
+    c.fallen_target-target.ensures.meets in
+    let met = subst (λ (z : ℤ). IsFirstMet z c.args.inflow.lo target false cap second)
+    (to_z-of_z w64 c.args.stock.volume.lo volume-fits)
+    (subst (λ (z : ℤ). IsFirstMet (to_z w64 (of_z w64 c.args.stock.volume.lo)) z target false cap second)
+    (to_z-of_z w128 c.args.inflow.lo inflow-fits) c.first_of-low-else-rising.ensures) in
+    earliest_down (Curve points) tank (stocks_of c.args.stock) (inflows_of c.args.inflow) level cap second
+    c.args.rising c.if-rising.false
+    (subst (λ (r : Bool). IsFirstSecond (has_reached 1 (Curve points) tank one c.args.inflow.lo r level) cap second)
+    (sym c.if-rising.false)
     (first_stands tank points level false target one c.args.inflow.lo cap second stands met))
 
 pub returns-else-rising-clause-latest : goal.returns-else-rising-clause-latest
@@ -75,11 +90,16 @@ returns-else-rising-clause-latest c =
     let second = c.first_of-high-else-rising.result in
     let volume-fits : SFits w64 c.args.stock.volume.hi = search rules in
     let inflow-fits : SFits w128 c.args.inflow.hi = search rules in
-    let stands = subst (λ (z : ℤ). StandsFor tank points z false target) (to_z-of_z w64 level c.ranges.level) c.fallen_target-target.ensures.meets in
-    let met = subst (λ (z : ℤ). IsFirstMet z c.args.inflow.hi target false cap second) (to_z-of_z w64 c.args.stock.volume.hi volume-fits)
-    (subst (λ (z : ℤ). IsFirstMet (to_z w64 (of_z w64 c.args.stock.volume.hi)) z target false cap second) (to_z-of_z w128 c.args.inflow.hi inflow-fits) c.first_of-high-else-rising.ensures) in
-    latest_down (Curve points) tank (stocks_of c.args.stock) (inflows_of c.args.inflow) level cap second c.args.rising c.if-rising.false
-    (subst (λ (r : Bool). IsFirstSecond (has_reached 1 (Curve points) tank one c.args.inflow.hi r level) cap second) (sym c.if-rising.false)
+    let stands = subst (λ (z : ℤ). StandsFor tank points z false target) (to_z-of_z w64 level c.ranges.level)
+    c.fallen_target-target.ensures.meets in
+    let met = subst (λ (z : ℤ). IsFirstMet z c.args.inflow.hi target false cap second)
+    (to_z-of_z w64 c.args.stock.volume.hi volume-fits)
+    (subst (λ (z : ℤ). IsFirstMet (to_z w64 (of_z w64 c.args.stock.volume.hi)) z target false cap second)
+    (to_z-of_z w128 c.args.inflow.hi inflow-fits) c.first_of-high-else-rising.ensures) in
+    latest_down (Curve points) tank (stocks_of c.args.stock) (inflows_of c.args.inflow) level cap second c.args.rising
+    c.if-rising.false
+    (subst (λ (r : Bool). IsFirstSecond (has_reached 1 (Curve points) tank one c.args.inflow.hi r level) cap second)
+    (sym c.if-rising.false)
     (first_stands tank points level false target one c.args.inflow.hi cap second stands met))
 
 pub first_of-low-requires-clause-volume : goal.first_of-low-requires-clause-volume
@@ -90,8 +110,32 @@ first_of-low-requires-clause-volume c =
     let most = ap (λ (k : Bounds). k.most) are.value in
     let within = c.requires.volume in
     record {
-      at_least = omega (arith, ints, range.from, range.apart, range.up_to, least, most, within.lo_above, within.lo_below, within.hi_above, within.hi_below);
-      at_most = omega (arith, ints, range.from, range.apart, range.up_to, least, most, within.lo_above, within.lo_below, within.hi_above, within.hi_below);
+      at_least = omega (
+        arith,
+        ints,
+        range.from,
+        range.apart,
+        range.up_to,
+        least,
+        most,
+        within.lo_above,
+        within.lo_below,
+        within.hi_above,
+        within.hi_below,
+      );
+      at_most = omega (
+        arith,
+        ints,
+        range.from,
+        range.apart,
+        range.up_to,
+        least,
+        most,
+        within.lo_above,
+        within.lo_below,
+        within.hi_above,
+        within.hi_below,
+      );
     }
 
 pub first_of-high-requires-clause-volume : goal.first_of-high-requires-clause-volume
@@ -102,8 +146,32 @@ first_of-high-requires-clause-volume c =
     let most = ap (λ (k : Bounds). k.most) are.value in
     let within = c.requires.volume in
     record {
-      at_least = omega (arith, ints, range.from, range.apart, range.up_to, least, most, within.lo_above, within.lo_below, within.hi_above, within.hi_below);
-      at_most = omega (arith, ints, range.from, range.apart, range.up_to, least, most, within.lo_above, within.lo_below, within.hi_above, within.hi_below);
+      at_least = omega (
+        arith,
+        ints,
+        range.from,
+        range.apart,
+        range.up_to,
+        least,
+        most,
+        within.lo_above,
+        within.lo_below,
+        within.hi_above,
+        within.hi_below,
+      );
+      at_most = omega (
+        arith,
+        ints,
+        range.from,
+        range.apart,
+        range.up_to,
+        least,
+        most,
+        within.lo_above,
+        within.lo_below,
+        within.hi_above,
+        within.hi_below,
+      );
     }
 
 pub first_of-low-requires-else-rising-clause-volume : goal.first_of-low-requires-else-rising-clause-volume
@@ -114,8 +182,32 @@ first_of-low-requires-else-rising-clause-volume c =
     let most = ap (λ (k : Bounds). k.most) are.value in
     let within = c.requires.volume in
     record {
-      at_least = omega (arith, ints, range.from, range.apart, range.up_to, least, most, within.lo_above, within.lo_below, within.hi_above, within.hi_below);
-      at_most = omega (arith, ints, range.from, range.apart, range.up_to, least, most, within.lo_above, within.lo_below, within.hi_above, within.hi_below);
+      at_least = omega (
+        arith,
+        ints,
+        range.from,
+        range.apart,
+        range.up_to,
+        least,
+        most,
+        within.lo_above,
+        within.lo_below,
+        within.hi_above,
+        within.hi_below,
+      );
+      at_most = omega (
+        arith,
+        ints,
+        range.from,
+        range.apart,
+        range.up_to,
+        least,
+        most,
+        within.lo_above,
+        within.lo_below,
+        within.hi_above,
+        within.hi_below,
+      );
     }
 
 pub first_of-high-requires-else-rising-clause-volume : goal.first_of-high-requires-else-rising-clause-volume
@@ -126,6 +218,30 @@ first_of-high-requires-else-rising-clause-volume c =
     let most = ap (λ (k : Bounds). k.most) are.value in
     let within = c.requires.volume in
     record {
-      at_least = omega (arith, ints, range.from, range.apart, range.up_to, least, most, within.lo_above, within.lo_below, within.hi_above, within.hi_below);
-      at_most = omega (arith, ints, range.from, range.apart, range.up_to, least, most, within.lo_above, within.lo_below, within.hi_above, within.hi_below);
+      at_least = omega (
+        arith,
+        ints,
+        range.from,
+        range.apart,
+        range.up_to,
+        least,
+        most,
+        within.lo_above,
+        within.lo_below,
+        within.hi_above,
+        within.hi_below,
+      );
+      at_most = omega (
+        arith,
+        ints,
+        range.from,
+        range.apart,
+        range.up_to,
+        least,
+        most,
+        within.lo_above,
+        within.lo_below,
+        within.hi_above,
+        within.hi_below,
+      );
     }

@@ -23,14 +23,20 @@ returns c =
     let some = broad.at_least in
     interval_is _ _ _ _
     (to_z-of_z w64 c.lower_content.result (record { sfits = c.lower_content.type_inv })
-    ∙ cylinder_lower area c.args.seconds b d c.args.level.lo c.args.inflow.lo c.args.widening c.held_after-least.result c.lower_content.result bounds.result (level_bounds c.args.tank.now)
+    ∙ cylinder_lower area c.args.seconds b d c.args.level.lo c.args.inflow.lo c.args.widening
+    c.held_after-least.result c.lower_content.result bounds.result (level_bounds c.args.tank.now)
     motion.ensures.breadth motion.ensures.drive bounds.ensures.value some range.apart
-    (held_plain b d c.args.level.lo c.args.inflow.lo c.held_after-least.result bounds.result lo low c.held_after-least.ensures)
-    (lower_plain b c.held_after-least.result c.args.widening c.lower_content.result (bounds_of bounds.result) fb (record { sfits = c.held_after-least.type_inv }) c.ranges.widening
+    (held_plain b d c.args.level.lo c.args.inflow.lo c.held_after-least.result bounds.result lo low
+    c.held_after-least.ensures)
+    (lower_plain b c.held_after-least.result c.args.widening c.lower_content.result (bounds_of bounds.result) fb
+    (record { sfits = c.held_after-least.type_inv }) c.ranges.widening
     c.lower_content.ensures))
     (to_z-of_z w64 c.upper_content.result (record { sfits = c.upper_content.type_inv })
-    ∙ cylinder_upper area c.args.seconds b d c.args.level.hi c.args.inflow.hi c.args.widening c.held_after-greatest.result c.upper_content.result bounds.result (level_bounds c.args.tank.now)
+    ∙ cylinder_upper area c.args.seconds b d c.args.level.hi c.args.inflow.hi c.args.widening
+    c.held_after-greatest.result c.upper_content.result bounds.result (level_bounds c.args.tank.now)
     motion.ensures.breadth motion.ensures.drive bounds.ensures.value some range.apart
-    (held_plain b d c.args.level.hi c.args.inflow.hi c.held_after-greatest.result bounds.result hi high c.held_after-greatest.ensures)
-    (upper_plain b c.held_after-greatest.result c.args.widening c.upper_content.result (bounds_of bounds.result) fb (record { sfits = c.held_after-greatest.type_inv }) c.ranges.widening
+    (held_plain b d c.args.level.hi c.args.inflow.hi c.held_after-greatest.result bounds.result hi high
+    c.held_after-greatest.ensures)
+    (upper_plain b c.held_after-greatest.result c.args.widening c.upper_content.result (bounds_of bounds.result) fb
+    (record { sfits = c.held_after-greatest.type_inv }) c.ranges.widening
     c.upper_content.ensures))

@@ -13,7 +13,8 @@ pub returns-clause-bounded : goal.returns-clause-bounded
 returns-clause-bounded c =
     let tank = c.args.tank.now in
     subst (IsWithin (level_bounds tank)) (sym c.levels_after.ensures)
-    (next_within (cylinder tank) tank (stocks_at c.args.level) (inflows_of c.args.inflow) c.args.seconds (cylinder_vessel tank c.requires.tank))
+    (next_within (cylinder tank) tank (stocks_at c.args.level) (inflows_of c.args.inflow) c.args.seconds
+    (cylinder_vessel tank c.requires.tank))
 
 pub returns-clause-ordered : goal.returns-clause-ordered
 returns-clause-ordered c = λ order.

@@ -12,6 +12,8 @@ returns c =
     let ceil = c.mul_div_ceil.result in
     let short = le-no (to_z w128 (of_z w128 c.args.need)) (to_z w128 (of_z w128 c.args.rate)) c.if-need-rate.false in
     let forward = le-no (to_z w128 (of_z w128 c.args.rate)) (pos 0) c.if-rate-le0.false in
-    let value : to_z w128 (of_z w128 c.min-2.result) ≡ int_min ceil (pos c.args.cap) = omega (arith, ints, clamps, c.min-2.ensures.value, c.mul_div_ceil.type_inv) in
-    later c.args.need c.args.rate ceil (to_z w128 (of_z w128 c.min-2.result)) c.args.cap (omega (arith, ints, short)) (omega (arith, ints, forward))
+    let value : to_z w128 (of_z w128 c.min-2.result) ≡ int_min ceil (pos c.args.cap) =
+    omega (arith, ints, clamps, c.min-2.ensures.value, c.mul_div_ceil.type_inv) in
+    later c.args.need c.args.rate ceil (to_z w128 (of_z w128 c.min-2.result)) c.args.cap (omega (arith, ints, short))
+    (omega (arith, ints, forward))
     (rw (n, q) at c.mul_div_ceil.ensures) value

@@ -12,4 +12,5 @@ returns-then-eq-clause-holds c =
 pub returns-then-eq-clause-nests : goal.returns-then-eq-clause-nests
 returns-then-eq-clause-nests c =
     let value : Some c.state_at-state.result ≡ state_of c.args.tank.now (levels_of c.args.level) = search rules in
-    λ inner state ordered inside is. state_nests c.args.tank.now inner (levels_of c.args.level) state ordered inside (sym value ∙ is)
+    λ inner state ordered inside is. state_nests c.args.tank.now inner (levels_of c.args.level) state ordered inside
+    (sym value ∙ is)

@@ -8,7 +8,8 @@ use Rattle.hyd_tank.proofs.Tanks.{tank_of, of_each}
 use Rattle.hyd_tank.proofs.stocks.initial_stock.Goals as goal
 
 pub initial_of-requires-clause-tank : goal.initial_of-requires-clause-tank
-initial_of-requires-clause-tank c = tank_of c.args.project.now c.requires.sound c.args.tank c.tank_at.result c.tank_at.ensures
+initial_of-requires-clause-tank c = tank_of c.args.project.now c.requires.sound c.args.tank c.tank_at.result
+    c.tank_at.ensures
 
 pub initial_of-requires-clause-initial : goal.initial_of-requires-clause-initial
 initial_of-requires-clause-initial c =

@@ -12,22 +12,26 @@ use Rattle.hyd_tank.proofs.Tanks.{tank_of, of_each, carried_is}
 use Rattle.hyd_tank.proofs.stocks.stock_at.Goals as goal
 
 pub carried_of-requires-clause-tank : goal.carried_of-requires-clause-tank
-carried_of-requires-clause-tank c = tank_of c.args.project.now c.requires.sound c.args.tank c.tank_at.result c.tank_at.ensures
+carried_of-requires-clause-tank c = tank_of c.args.project.now c.requires.sound c.args.tank c.tank_at.result
+    c.tank_at.ensures
 
 pub carried_of-requires-clause-held : goal.carried_of-requires-clause-held
 carried_of-requires-clause-held c = c.requires.held c.tank_at.result c.tank_at.ensures
 
 pub returns-clause-value : goal.returns-clause-value
 returns-clause-value c = λ each at.
-    of_each (λ (tank : Tank). stocks_of c.carried_of.result ≡ carried_stocks (walls_of c.args.project.now tank) tank (stocks_of c.args.stock) (inflows_of c.args.inflow) c.args.seconds)
+    of_each (λ (tank : Tank). stocks_of c.carried_of.result ≡ carried_stocks (walls_of c.args.project.now tank) tank
+    (stocks_of c.args.stock) (inflows_of c.args.inflow) c.args.seconds)
     c.args.project.now.tanks.list c.args.tank c.tank_at.result each c.tank_at.ensures at c.carried_of.ensures
 
 pub returns-clause-holds : goal.returns-clause-holds
 returns-clause-holds c = λ each at S one q some lies flow.
     let walls = walls_of c.args.project.now each in
-    let value = ap (λ (x : Stocks). x.level) (returns-clause-value c each at) ∙ carried_is walls each (stocks_of c.args.stock) (inflows_of c.args.inflow) c.args.seconds in
+    let value = ap (λ (x : Stocks). x.level) (returns-clause-value c each at) ∙ carried_is walls each
+    (stocks_of c.args.stock) (inflows_of c.args.inflow) c.args.seconds in
     subst (λ (x : Interval). LiesAround S x (carried_level S walls each one q c.args.seconds)) (sym value)
-    (carried_lies S walls (stocks_of c.args.stock) (inflows_of c.args.inflow) c.args.seconds one q lies flow each some (vessels c.args.project.now c.requires.sound c.args.tank each at))
+    (carried_lies S walls (stocks_of c.args.stock) (inflows_of c.args.inflow) c.args.seconds one q lies flow each some
+    (vessels c.args.project.now c.requires.sound c.args.tank each at))
 
 pub returns-clause-nests : goal.returns-clause-nests
 returns-clause-nests c = λ each at wider more inside flow.

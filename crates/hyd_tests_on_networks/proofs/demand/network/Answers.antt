@@ -4,7 +4,12 @@ use Rattle.hyd_tests_on_networks.proofs.demand.network.Goals as goal
 
 pub returns-clause-sound : goal.returns-clause-sound
 returns-clause-sound c =
-    sound_of _ (record { elevation = pos 0; demands = c.in_ok-two-3.field-0; emitter = None }) (record { multipliers = c.in_ok-two.field-0 }) (record { multipliers = c.in_ok-two-2.field-0 }) (record {
+    sound_of _ (record {
+      elevation = pos 0;
+      demands = c.in_ok-two-3.field-0;
+      emitter = None;
+    }) (record { multipliers = c.in_ok-two.field-0 })
+    (record { multipliers = c.in_ok-two-2.field-0 }) (record {
       cmd = c.options.ensures.unit;
       given = c.options.ensures.given;
       minimum = c.options.ensures.minimum;

@@ -13,4 +13,7 @@ returns-clause-sound c = record {
 }
 
 pub returns-clause-accepts : goal.returns-clause-accepts
-returns-clause-accepts c x small = record { from_floor = omega (arith, ints, small); from_ceiling = omega (arith, ints, small) }
+returns-clause-accepts c x small = record {
+  from_floor = omega (arith, ints, small);
+  from_ceiling = omega (arith, ints, small);
+}

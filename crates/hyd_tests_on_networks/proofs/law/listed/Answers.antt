@@ -6,4 +6,5 @@ use Rattle.hyd_tests_on_networks.proofs.law.listed.Goals as goal
 
 pub returns : goal.returns
 returns c =
-    subst IsCurve (sym (sym (append-nil c.loop-knot.list.list) ∙ ap (λ (ks : List Knot). c.loop-knot.list.list ++ ks) (sym (drop_all c.loop-knot.knot-index c.args.knots.now (omega arith))) ∙ c.loop-knot.invariant)) c.requires
+    subst IsCurve (sym (sym (append-nil c.loop-knot.list.list) ∙ ap (λ (ks : List Knot). c.loop-knot.list.list ++ ks)
+    (sym (drop_all c.loop-knot.knot-index c.args.knots.now (omega arith))) ∙ c.loop-knot.invariant)) c.requires

@@ -7,4 +7,5 @@ pub returns : goal.returns
 returns c =
     let other = c.args.other in
     All-cons IsBounded c.args.first (other ∷ other ∷ []) c.requires.first
-    (All-cons IsBounded other (other ∷ []) c.requires.other (All-cons IsBounded other [] c.requires.other (All-nil IsBounded)))
+    (All-cons IsBounded other (other ∷ []) c.requires.other (All-cons IsBounded other [] c.requires.other
+    (All-nil IsBounded)))

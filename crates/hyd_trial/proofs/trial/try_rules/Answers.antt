@@ -17,13 +17,16 @@ returns-clause-decided c = if_ok _ _ c.decide_all.result c.decide_all.ensures.de
     let carried : map level_interval levels ≡ carried_at network grid standing row c.args.seconds =
     ap (λ (ls : List LevelSpan). map level_interval ls) c.as_slice.ensures
     ∙ c.put_carried.ensures.levels grid standing row started in
-    decided_so network grid standing row facts c.args.seconds started c.args.low.now c.args.high.now c.args.flows.now read levels
+    decided_so network grid standing row facts c.args.seconds started c.args.low.now c.args.high.now c.args.flows.now
+    read levels
     carried links c.as_slice-2.ensures c.decide_all.new.values
     (known (readings_below network grid standing row c.args.seconds)
     (readings_above network grid standing row c.args.seconds)
-    (alike_below network grid standing row facts c.args.seconds started c.args.low.now c.args.high.now c.args.flows.now read levels
+    (alike_below network grid standing row facts c.args.seconds started c.args.low.now c.args.high.now
+    c.args.flows.now read levels
     carried links c.as_slice-2.ensures c.requires.each_low)
-    (alike_above network grid standing row facts c.args.seconds started c.args.low.now c.args.high.now c.args.flows.now read levels
+    (alike_above network grid standing row facts c.args.seconds started c.args.low.now c.args.high.now
+    c.args.flows.now read levels
     carried links c.as_slice-2.ensures c.requires.each_high)))
 
 pub returns-clause-open : goal.returns-clause-open
@@ -36,11 +39,14 @@ returns-clause-open c = if_err _ _ c.decide_all.result c.decide_all.ensures.open
     let carried : map level_interval levels ≡ carried_at network grid standing row c.args.seconds =
     ap (λ (ls : List LevelSpan). map level_interval ls) c.as_slice.ensures
     ∙ c.put_carried.ensures.levels grid standing row started in
-    open_so network grid standing row facts c.args.seconds started c.args.low.now c.args.high.now c.args.flows.now read levels
+    open_so network grid standing row facts c.args.seconds started c.args.low.now c.args.high.now c.args.flows.now
+    read levels
     carried links c.as_slice-2.ensures found
     (known (readings_below network grid standing row c.args.seconds)
     (readings_above network grid standing row c.args.seconds)
-    (alike_below network grid standing row facts c.args.seconds started c.args.low.now c.args.high.now c.args.flows.now read levels
+    (alike_below network grid standing row facts c.args.seconds started c.args.low.now c.args.high.now
+    c.args.flows.now read levels
     carried links c.as_slice-2.ensures c.requires.each_low)
-    (alike_above network grid standing row facts c.args.seconds started c.args.low.now c.args.high.now c.args.flows.now read levels
+    (alike_above network grid standing row facts c.args.seconds started c.args.low.now c.args.high.now
+    c.args.flows.now read levels
     carried links c.as_slice-2.ensures c.requires.each_high)))

@@ -11,7 +11,14 @@ pub returns-then-n-lt10 : goal.returns-then-n-lt10
 returns-then-n-lt10 t c = Writes-equal _ _ _ _ _ _ (sym (decimal_digit c.args.n c.if-n-lt10.true)) c.write_byte.ensures
 
 pub write_whole-ones-requires : goal.write_whole-ones-requires
-write_whole-ones-requires t c = (omega arith, omega (arith, length-decimal_front c.args.n c.if-n-lt10.false c.ranges.n.fits))
+write_whole-ones-requires t c = (
+  omega arith,
+  omega (
+    arith,
+    length-decimal_front c.args.n c.if-n-lt10.false
+        c.ranges.n.fits,
+  ),
+)
 
 pub write_byte-requires-2 : goal.write_byte-requires-2
 write_byte-requires-2 t c =

@@ -8,5 +8,6 @@ use Rattle.hyd_watch.proofs.controls.with_control.Goals as goal
 pub returns-in-Some : goal.returns-in-Some
 returns-in-Some c = λ watched are.
     watched_so c.args.project.now c.args.facts.now c.args.cap watched (Some (watch_for c.in-Some.watch))
-    (watch_of (map levels_of c.args.facts.now.levels.list) c.args.control.now) c.with_watch.result c.in-Some.ensures.value
+    (watch_of (map levels_of c.args.facts.now.levels.list) c.args.control.now) c.with_watch.result
+    c.in-Some.ensures.value
     (c.with_watch.ensures watched are)

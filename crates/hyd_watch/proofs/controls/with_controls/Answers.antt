@@ -11,7 +11,8 @@ pub loop-control-preserved : goal.loop-control-preserved
 loop-control-preserved c = λ watched are.
     let facts = c.args.facts.now in
     let controls = c.as_slice-control-items.result.now in
-    control_further c.args.project.now facts c.args.cap c.loop-control.control-index controls c.control-item.result watched
+    control_further c.args.project.now facts c.args.cap c.loop-control.control-index controls c.control-item.result
+    watched
     c.with_control-all.result c.loop-control-test.true c.control-item.is
     (c.with_control-all.ensures (watched ++ control_watches (map levels_of facts.levels.list)
     (take c.loop-control.control-index controls))
@@ -19,6 +20,8 @@ loop-control-preserved c = λ watched are.
 
 pub returns : goal.returns
 returns c = λ watched are.
-    all_controls c.args.project.now c.args.facts.now c.args.cap c.loop-control.control-index c.as_slice-control-items.result.now
-    c.args.project.now.controls.list watched c.loop-control.all c.loop-control-test.false c.as_slice-control-items.ensures
+    all_controls c.args.project.now c.args.facts.now c.args.cap c.loop-control.control-index
+    c.as_slice-control-items.result.now
+    c.args.project.now.controls.list watched c.loop-control.all c.loop-control-test.false
+    c.as_slice-control-items.ensures
     (c.loop-control.invariant watched are)

@@ -13,29 +13,48 @@ use Rattle.hyd_cert.proofs.reader.Lines.heads.Goals as goal
 pub returns-in-Err-clause-fault : goal.returns-in-Err-clause-fault
 returns-in-Err-clause-fault g c = λ header at whole.
     let same : length c.loop-i.into ≡ length c.args.into.now = c.loop-i.auto.into in
-    let many : length c.args.into.now ≡ heads_in header.junctions header.tanks = whole ∙ ap (λ n. heads_in n header.tanks) (sym at) in
-    fault_here header c.loop-i.i c.args.self.now.line c.loop-i.self.line (prepend_known c.args.self.now.source (g.D.Desk.rest c.args.desk.now)) (prepend_known c.loop-i.self.source (g.D.Desk.rest c.loop-i.desk)) (g.D.Desk.counts c.args.desk.now) (g.D.Desk.counts c.loop-i.desk) (g.D.Desk.counts c.head.new.desk) c.in-Err.fault
+    let many : length c.args.into.now ≡ heads_in header.junctions header.tanks = whole
+    ∙ ap (λ n. heads_in n header.tanks) (sym at) in
+    fault_here header c.loop-i.i c.args.self.now.line c.loop-i.self.line
+    (prepend_known c.args.self.now.source (g.D.Desk.rest c.args.desk.now))
+    (prepend_known c.loop-i.self.source (g.D.Desk.rest c.loop-i.desk)) (g.D.Desk.counts c.args.desk.now)
+    (g.D.Desk.counts c.loop-i.desk) (g.D.Desk.counts c.head.new.desk) c.in-Err.fault
     (omega (arith, c.loop-i-test.true, many, same)) c.loop-i.invariant.line c.loop-i.invariant.steady
-    (subst (λ (f : List ℕ). IsLineFault (IsHeadLine f) c.loop-i.self.line (prepend_known c.loop-i.self.source (g.D.Desk.rest c.loop-i.desk)) (g.D.Desk.counts c.loop-i.desk) (g.D.Desk.counts c.head.new.desk) c.in-Err.fault)
+    (subst (λ (f : List ℕ). IsLineFault (IsHeadLine f) c.loop-i.self.line
+    (prepend_known c.loop-i.self.source (g.D.Desk.rest c.loop-i.desk)) (g.D.Desk.counts c.loop-i.desk)
+    (g.D.Desk.counts c.head.new.desk) c.in-Err.fault)
     (c.front_of.ensures ∙ ap (λ n. front_at n c.loop-i.i) (sym at)) c.in-Err.ensures.fault)
     (c.loop-i.invariant.fault header at (same ∙ whole))
 
 pub loop-i-preserved : goal.loop-i-preserved
 loop-i-preserved g c =
     let read : prepend_known c.loop-i.self.source (g.D.Desk.rest c.loop-i.desk)
-    ≡ prepend_known (front_at c.args.junctions c.loop-i.i ++ (signed_decimal c.in-Ok.head ++ (10 ∷ []))) (prepend_known c.head.new.self.source (g.D.Desk.rest c.head.new.desk)) =
-    c.in-Ok.ensures.text ∙ ap (λ (f : List ℕ). prepend_known (f ++ (signed_decimal c.in-Ok.head ++ (10 ∷ []))) (prepend_known c.head.new.self.source (g.D.Desk.rest c.head.new.desk))) c.front_of.ensures in
-    let written : c.store.new.into ≡ slice_set c.loop-i.into c.loop-i.i c.in-Ok.head = c.store.ensures ∙ stored c.loop-i.into c.loop-i.i c.in-Ok.head c.in-Ok.ensures.in_box in
+    ≡ prepend_known (front_at c.args.junctions c.loop-i.i ++ (signed_decimal c.in-Ok.head ++ (10 ∷ [])))
+    (prepend_known c.head.new.self.source (g.D.Desk.rest c.head.new.desk)) =
+    c.in-Ok.ensures.text ∙ ap (λ (f : List ℕ). prepend_known (f ++ (signed_decimal c.in-Ok.head ++ (10 ∷ [])))
+    (prepend_known c.head.new.self.source (g.D.Desk.rest c.head.new.desk))) c.front_of.ensures in
+    let written : c.store.new.into ≡ slice_set c.loop-i.into c.loop-i.i c.in-Ok.head = c.store.ensures
+    ∙ stored c.loop-i.into c.loop-i.i c.in-Ok.head c.in-Ok.ensures.in_box in
     record {
-      text = text_more c.args.junctions c.loop-i.i c.loop-i.into c.store.new.into c.in-Ok.head (prepend_known c.args.self.now.source (g.D.Desk.rest c.args.desk.now)) (prepend_known c.loop-i.self.source (g.D.Desk.rest c.loop-i.desk)) (prepend_known c.head.new.self.source (g.D.Desk.rest c.head.new.desk)) (omega arith) written c.loop-i.invariant.text read;
-      in_box = box_more c.loop-i.i c.loop-i.into c.store.new.into c.in-Ok.head (omega arith) written c.loop-i.invariant.in_box c.in-Ok.ensures.in_box;
+      text = text_more c.args.junctions c.loop-i.i c.loop-i.into c.store.new.into c.in-Ok.head
+          (prepend_known c.args.self.now.source (g.D.Desk.rest c.args.desk.now))
+          (prepend_known c.loop-i.self.source (g.D.Desk.rest c.loop-i.desk))
+          (prepend_known c.head.new.self.source (g.D.Desk.rest c.head.new.desk)) (omega arith) written
+          c.loop-i.invariant.text read;
+      in_box = box_more c.loop-i.i c.loop-i.into c.store.new.into c.in-Ok.head (omega arith) written
+          c.loop-i.invariant.in_box c.in-Ok.ensures.in_box;
       line = (let l = c.loop-i.invariant.line in let m = c.in-Ok.ensures.line in omega (arith, l, m));
       fault = λ header at whole.
-          let same : length c.store.new.into ≡ length c.loop-i.into = ap length written ∙ length-set c.loop-i.into c.loop-i.i c.in-Ok.head in
-          let many : length c.loop-i.into ≡ heads_in header.junctions header.tanks = sym same ∙ (whole ∙ ap (λ n. heads_in n header.tanks) (sym at)) in
-          fault_more header c.loop-i.i c.in-Ok.head (prepend_known c.args.self.now.source (g.D.Desk.rest c.args.desk.now)) (prepend_known c.loop-i.self.source (g.D.Desk.rest c.loop-i.desk)) (prepend_known c.head.new.self.source (g.D.Desk.rest c.head.new.desk))
+          let same : length c.store.new.into ≡ length c.loop-i.into = ap length written ∙ length-set c.loop-i.into
+          c.loop-i.i c.in-Ok.head in
+          let many : length c.loop-i.into ≡ heads_in header.junctions header.tanks = sym same
+          ∙ (whole ∙ ap (λ n. heads_in n header.tanks) (sym at)) in
+          fault_more header c.loop-i.i c.in-Ok.head (prepend_known c.args.self.now.source
+          (g.D.Desk.rest c.args.desk.now)) (prepend_known c.loop-i.self.source (g.D.Desk.rest c.loop-i.desk))
+          (prepend_known c.head.new.self.source (g.D.Desk.rest c.head.new.desk))
           (omega (arith, c.loop-i-test.true, many)) c.in-Ok.ensures.in_box
-          (read ∙ ap (λ n. prepend_known (front_at n c.loop-i.i ++ (signed_decimal c.in-Ok.head ++ (10 ∷ []))) (prepend_known c.head.new.self.source (g.D.Desk.rest c.head.new.desk))) (sym at))
+          (read ∙ ap (λ n. prepend_known (front_at n c.loop-i.i ++ (signed_decimal c.in-Ok.head ++ (10 ∷ [])))
+          (prepend_known c.head.new.self.source (g.D.Desk.rest c.head.new.desk))) (sym at))
           (c.loop-i.invariant.fault header at (sym same ∙ whole));
       steady = c.in-Ok.ensures.steady ∙ c.loop-i.invariant.steady;
       files_stay = c.in-Ok.ensures.files_stay ∙ c.loop-i.invariant.files_stay;
@@ -47,4 +66,5 @@ loop-i-preserved g c =
     }
 
 pub returns-clause-in_box : goal.returns-clause-in_box
-returns-clause-in_box g c = subst (All IsInBox) (take_all c.loop-i.i c.loop-i.into (omega arith)) c.loop-i.invariant.in_box
+returns-clause-in_box g c = subst (All IsInBox) (take_all c.loop-i.i c.loop-i.into (omega arith))
+    c.loop-i.invariant.in_box

@@ -8,12 +8,16 @@ use Rattle.hyd_cert.proofs.reader.Lines.heads.Given as goal
 
 abbrev pub invariant-loop-i : goal.invariant-loop-i
 invariant-loop-i g l = record {
-  text : prepend_known l.fn.self.source (g.D.Desk.rest l.fn.desk) ≡ prepend_known (head_text l.junctions 0 (take l.i l.into)) (prepend_known l.self.source (g.D.Desk.rest l.desk));
+  text : prepend_known l.fn.self.source (g.D.Desk.rest l.fn.desk)
+      ≡ prepend_known (head_text l.junctions 0 (take l.i l.into)) (prepend_known l.self.source (g.D.Desk.rest l.desk));
   in_box : All IsInBox (take l.i l.into);
   line : l.self.line ≡ lines_on l.fn.self.line l.i;
-  fault : (header : Header) → header.junctions ≡ l.junctions → length l.into ≡ heads_in l.junctions header.tanks → (number : ℕ)
-      → IsFault header (place_after (heads_in header.junctions header.tanks) l.i) (prepend_known l.self.source (g.D.Desk.rest l.desk)) number
-      → IsFault header (place_after (heads_in header.junctions header.tanks) 0) (prepend_known l.fn.self.source (g.D.Desk.rest l.fn.desk)) (l.i + number);
+  fault : (header : Header) → header.junctions ≡ l.junctions → length l.into ≡ heads_in l.junctions header.tanks
+      → (number : ℕ)
+      → IsFault header (place_after (heads_in header.junctions header.tanks) l.i)
+      (prepend_known l.self.source (g.D.Desk.rest l.desk)) number
+      → IsFault header (place_after (heads_in header.junctions header.tanks) 0)
+      (prepend_known l.fn.self.source (g.D.Desk.rest l.fn.desk)) (l.i + number);
   steady : g.D.Desk.counts l.desk ≡ g.D.Desk.counts l.fn.desk;
   files_stay : g.D.Desk.files l.desk ≡ g.D.Desk.files l.fn.desk;
   written_stays : g.D.Desk.written l.desk ≡ g.D.Desk.written l.fn.desk;

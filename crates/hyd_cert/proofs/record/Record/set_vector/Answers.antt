@@ -9,9 +9,11 @@ returns-clause-vector c =
     let n = row.junctions in
     let part = c.copy_from_slice.new.self in
     let size : length part ≡ n = ap length c.copy_from_slice.ensures.after ∙ c.requires.size in
-    let k = written n (place_in c.args.problem c.args.side * n) c.start_of-from.result row.vectors.list c.as_mut_slice-all.result.now part
+    let k = written n (place_in c.args.problem c.args.side * n) c.start_of-from.result row.vectors.list
+    c.as_mut_slice-all.result.now part
     c.start_of-from.ensures.start c.start_of-from.ensures.within size c.as_mut_slice-all.ensures.items in
-    vector_set n row.tanks row.number row.time row.length row.vectors.list _ part c.args.problem c.args.side c.requires.problem k ∙ c.copy_from_slice.ensures.after
+    vector_set n row.tanks row.number row.time row.length row.vectors.list _ part c.args.problem c.args.side
+    c.requires.problem k ∙ c.copy_from_slice.ensures.after
 
 pub returns-clause-others : goal.returns-clause-others
 returns-clause-others c = λ other face low apart.
@@ -19,6 +21,8 @@ returns-clause-others c = λ other face low apart.
     let n = row.junctions in
     let part = c.copy_from_slice.new.self in
     let size : length part ≡ n = ap length c.copy_from_slice.ensures.after ∙ c.requires.size in
-    let k = written n (place_in c.args.problem c.args.side * n) c.start_of-from.result row.vectors.list c.as_mut_slice-all.result.now part
+    let k = written n (place_in c.args.problem c.args.side * n) c.start_of-from.result row.vectors.list
+    c.as_mut_slice-all.result.now part
     c.start_of-from.ensures.start c.start_of-from.ensures.within size c.as_mut_slice-all.ensures.items in
-    vector_kept n row.tanks row.number row.time row.length row.vectors.list _ part c.args.problem other c.args.side face low k apart
+    vector_kept n row.tanks row.number row.time row.length row.vectors.list _ part c.args.problem other c.args.side
+    face low k apart

@@ -10,7 +10,8 @@ use Rattle.hyd_tables.specs.Found.{rows_at}
 use Rattle.hyd_tables.proofs.FoundLemmas.{row_at}
 use Rattle.hyd_curves.specs.NamedBends.{IsSmallHead, pump_names}
 use Rattle.hyd_curves.specs.Points.{points_in}
-use Rattle.hyd_curves.proofs.BendRowLemmas.{other_pump, next_pump, as_before, with_one, pump_small, pump_is_right, many, few}
+use Rattle.hyd_curves.proofs.BendRowLemmas.{other_pump, next_pump, as_before, with_one, pump_small, pump_is_right, many}
+use Rattle.hyd_curves.proofs.BendRowLemmas.{few}
 use Rattle.hyd_curves.proofs.bends.Bends.add_pump.Goals as goal
 
 nothing : Line

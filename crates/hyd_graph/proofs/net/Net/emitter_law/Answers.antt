@@ -8,6 +8,8 @@ use Rattle.hyd_graph.proofs.net.Net.emitter_law.Goals as goal
 pub returns-clause-grid : goal.returns-clause-grid
 returns-clause-grid c =
     let count = ap (λ (n : NetView). length n.junctions) c.self.view_is in
-    let at = slice_get_read c.self.inside.junctions.items (length c.self.inside.junctions.items) c.args.junction c.index.result.now refl (omega (arith, count, c.requires)) c.index.ensures in
+    let at = slice_get_read c.self.inside.junctions.items (length c.self.inside.junctions.items) c.args.junction
+    c.index.result.now refl (omega (arith, count, c.requires)) c.index.ensures in
     emitter_at c.args.self.now c.args.junction c.index.result.now (option_copied c.as_ref.result)
-    (subst (λ (n : NetView). slice_get n.junctions c.args.junction ≡ Some c.index.result.now) c.self.view_is at) c.as_ref.ensures.value
+    (subst (λ (n : NetView). slice_get n.junctions c.args.junction ≡ Some c.index.result.now) c.self.view_is at)
+    c.as_ref.ensures.value

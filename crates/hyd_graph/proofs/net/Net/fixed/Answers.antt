@@ -15,14 +15,19 @@ returns-then-is_upper-clause-value c u e =
     let nt = ap (λ (n : NetView). length n.tanks) c.self.view_is in
     let t = c.args.node - c.len-before.result - c.len-2.result in
     let tank = c.index-heads.result.now in
-    let within : c.args.node - c.len-before.result - c.len-2.result < length c.self.inside.tanks.items = omega (arith, nj, nr, nt, c.requires.in_range, c.requires.fixed, c.len-before.ensures, c.len-2.ensures) in
-    let at = slice_get_read c.self.inside.tanks.items (length c.self.inside.tanks.items) t tank refl within c.index-heads.ensures in
+    let within : c.args.node - c.len-before.result - c.len-2.result < length c.self.inside.tanks.items =
+    omega (arith, nj, nr, nt, c.requires.in_range, c.requires.fixed, c.len-before.ensures, c.len-2.ensures) in
+    let at = slice_get_read c.self.inside.tanks.items (length c.self.inside.tanks.items) t tank refl within
+    c.index-heads.ensures in
     let heads = all_at AreHeads c.self.inside.tanks.items t tank c.self.invariant.0.tanks at in
     let same : to_z w64 (of_z w64 tank.hi) ≡ tank.hi = omega (arith, ints, heads.hi.at_least, heads.hi.at_most) in
-    fixed_tank c.args.self.now c.args.problem c.args.side c.args.node c.len-before.result c.len-2.result tank (to_z w64 (of_z w64 tank.hi)) u
-    (omega (arith, nj, c.len-before.ensures)) (omega (arith, nr, c.len-2.ensures)) e (omega (arith, nj, c.requires.fixed, c.len-before.ensures))
+    fixed_tank c.args.self.now c.args.problem c.args.side c.args.node c.len-before.result c.len-2.result tank
+    (to_z w64 (of_z w64 tank.hi)) u
+    (omega (arith, nj, c.len-before.ensures)) (omega (arith, nr, c.len-2.ensures)) e
+    (omega (arith, nj, c.requires.fixed, c.len-before.ensures))
     (omega (arith, c.if-number-len.false, c.len.ensures, c.len-2.ensures)) (omega (arith, nt, within))
-    (subst (λ (n : NetView). tank ≡ slice_index_or n.tanks t tank) c.self.view_is c.index-heads.ensures) (same ∙ upper_end (tank_side c.args.problem c.args.side t) tank (sym c.is_upper.ensures ∙ c.if-is_upper.true))
+    (subst (λ (n : NetView). tank ≡ slice_index_or n.tanks t tank) c.self.view_is c.index-heads.ensures)
+    (same ∙ upper_end (tank_side c.args.problem c.args.side t) tank (sym c.is_upper.ensures ∙ c.if-is_upper.true))
 
 pub returns-else-is_upper-clause-value : goal.returns-else-is_upper-clause-value
 returns-else-is_upper-clause-value c u e =
@@ -31,11 +36,16 @@ returns-else-is_upper-clause-value c u e =
     let nt = ap (λ (n : NetView). length n.tanks) c.self.view_is in
     let t = c.args.node - c.len-before.result - c.len-2.result in
     let tank = c.index-heads.result.now in
-    let within : c.args.node - c.len-before.result - c.len-2.result < length c.self.inside.tanks.items = omega (arith, nj, nr, nt, c.requires.in_range, c.requires.fixed, c.len-before.ensures, c.len-2.ensures) in
-    let at = slice_get_read c.self.inside.tanks.items (length c.self.inside.tanks.items) t tank refl within c.index-heads.ensures in
+    let within : c.args.node - c.len-before.result - c.len-2.result < length c.self.inside.tanks.items =
+    omega (arith, nj, nr, nt, c.requires.in_range, c.requires.fixed, c.len-before.ensures, c.len-2.ensures) in
+    let at = slice_get_read c.self.inside.tanks.items (length c.self.inside.tanks.items) t tank refl within
+    c.index-heads.ensures in
     let heads = all_at AreHeads c.self.inside.tanks.items t tank c.self.invariant.0.tanks at in
     let same : to_z w64 (of_z w64 tank.lo) ≡ tank.lo = omega (arith, ints, heads.lo.at_least, heads.lo.at_most) in
-    fixed_tank c.args.self.now c.args.problem c.args.side c.args.node c.len-before.result c.len-2.result tank (to_z w64 (of_z w64 tank.lo)) u
-    (omega (arith, nj, c.len-before.ensures)) (omega (arith, nr, c.len-2.ensures)) e (omega (arith, nj, c.requires.fixed, c.len-before.ensures))
+    fixed_tank c.args.self.now c.args.problem c.args.side c.args.node c.len-before.result c.len-2.result tank
+    (to_z w64 (of_z w64 tank.lo)) u
+    (omega (arith, nj, c.len-before.ensures)) (omega (arith, nr, c.len-2.ensures)) e
+    (omega (arith, nj, c.requires.fixed, c.len-before.ensures))
     (omega (arith, c.if-number-len.false, c.len.ensures, c.len-2.ensures)) (omega (arith, nt, within))
-    (subst (λ (n : NetView). tank ≡ slice_index_or n.tanks t tank) c.self.view_is c.index-heads.ensures) (same ∙ lower_end (tank_side c.args.problem c.args.side t) tank (sym c.is_upper.ensures ∙ c.if-is_upper.false))
+    (subst (λ (n : NetView). tank ≡ slice_index_or n.tanks t tank) c.self.view_is c.index-heads.ensures)
+    (same ∙ lower_end (tank_side c.args.problem c.args.side t) tank (sym c.is_upper.ensures ∙ c.if-is_upper.false))

@@ -8,7 +8,8 @@ use Rattle.hyd_graph.proofs.net.Net.junctions.Goals as goal
 
 pub returns-clause-each : goal.returns-clause-each
 returns-clause-each c =
-    subst (λ (n : NetView). length (grid_of n).junctions ≡ length n.junctions) c.self.view_is (junctions_count _ _ c.self.invariant.0.each_demand)
+    subst (λ (n : NetView). length (grid_of n).junctions ≡ length n.junctions) c.self.view_is
+    (junctions_count _ _ c.self.invariant.0.each_demand)
 
 pub returns-clause-steady : goal.returns-clause-steady
 returns-clause-steady c = subst (λ (n : NetView). IsSteady (grid_of n)) c.self.view_is (steady _ c.self.invariant.0)

@@ -10,7 +10,8 @@ at c =
     let count = ap (λ (n : NetView). length n.ends) c.self.view_is in
     let each = c.self.invariant.0.each_law in
     subst (λ (n : NetView). slice_get n.laws c.args.link ≡ Some c.index.result.now) c.self.view_is
-    (slice_get_read c.self.inside.laws.items (length c.self.inside.laws.items) c.args.link c.index.result.now refl (omega (arith, count, each, c.requires)) c.index.ensures)
+    (slice_get_read c.self.inside.laws.items (length c.self.inside.laws.items) c.args.link c.index.result.now refl
+    (omega (arith, count, each, c.requires)) c.index.ensures)
 
 sound : (c : goal.After-index) → IsSoundNet c.args.self.now
 sound c = subst IsSoundNet c.self.view_is c.self.invariant.0

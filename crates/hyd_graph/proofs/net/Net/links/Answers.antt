@@ -6,4 +6,5 @@ use Rattle.hyd_graph.proofs.net.Net.links.Goals as goal
 
 pub returns-clause-each : goal.returns-clause-each
 returns-clause-each c =
-    subst (λ (n : NetView). length (grid_of n).links ≡ length n.ends) c.self.view_is (links_count _ _ _ c.self.invariant.0.each_setting c.self.invariant.0.each_own)
+    subst (λ (n : NetView). length (grid_of n).links ≡ length n.ends) c.self.view_is
+    (links_count _ _ _ c.self.invariant.0.each_setting c.self.invariant.0.each_own)

@@ -49,17 +49,28 @@ fresh c = record {
 of : (c : goal.In_ok-rows) → IsNetOf c.args.project.now (new c)
 of c = record {
   ends = c.in_ok-ends.ensures ∙ ap (map ends_of) c.as_slice-2.ensures;
-  junctions = subst (λ (js : List Junction). AllZip IsNetJunction js c.in_ok-junctions.junctions.items) c.as_slice.ensures c.in_ok-junctions.ensures;
+  junctions = subst (λ (js : List Junction). AllZip IsNetJunction js c.in_ok-junctions.junctions.items)
+      c.as_slice.ensures c.in_ok-junctions.ensures;
   each_demand = count_copies c.len.result nothing c.in_ok-demands.demands.items c.in_ok-demands.ensures ∙ c.len.ensures;
-  each_reservoir = count_copies c.len-2.result (pos 0) c.in_ok-reservoirs.reservoirs.items c.in_ok-reservoirs.ensures ∙ c.len-2.ensures;
+  each_reservoir = count_copies c.len-2.result (pos 0) c.in_ok-reservoirs.reservoirs.items c.in_ok-reservoirs.ensures
+      ∙ c.len-2.ensures;
   each_tank = count_copies c.len-3.result nowhere c.in_ok-tanks.tanks.items c.in_ok-tanks.ensures ∙ c.len-3.ensures;
-  each_setting = count_copies c.len-4.result closed_setting c.in_ok-settings.settings.items c.in_ok-settings.ensures ∙ c.len-4.ensures;
+  each_setting = count_copies c.len-4.result closed_setting c.in_ok-settings.settings.items c.in_ok-settings.ensures
+      ∙ c.len-4.ensures;
   each_own = c.in_ok-own.ensures.count;
   each_law = c.in_ok-laws.ensures.count;
-  demands = λ k law h. subst (IsHeld c.args.project.now) (sym ((fresh c).demands k law h)) (nothing_held c.args.project.now);
-  laws = closed_stand c.args.project.now c.args.project.now.links.list c.in_ok-settings.settings.items c.in_ok-own.own.items c.in_ok-laws.laws.items
+  demands = λ k law h. subst (IsHeld c.args.project.now) (sym ((fresh c).demands k law h))
+      (nothing_held c.args.project.now);
+  laws = closed_stand c.args.project.now c.args.project.now.links.list c.in_ok-settings.settings.items
+      c.in_ok-own.own.items c.in_ok-laws.laws.items
       c.in_ok-own.ensures.closed c.in_ok-laws.ensures.closed
-      (λ k s h. (fresh c).links k s (omega (arith, h, count_copies c.len-4.result closed_setting c.in_ok-settings.settings.items c.in_ok-settings.ensures, c.len-4.ensures)));
+      (λ k s h. (fresh c).links k s (omega (
+        arith,
+        h,
+        count_copies c.len-4.result closed_setting
+            c.in_ok-settings.settings.items c.in_ok-settings.ensures,
+        c.len-4.ensures,
+      )));
 }
 
 zero_head : IsHead (pos 0)
@@ -78,6 +89,7 @@ invariant_of-result c = (
       (λ k d h. subst AreHeads (sym ((fresh c).tanks k d h)) (record { lo = zero_head; hi = zero_head })),
   record {
     count = c.in_ok-rows.ensures.count ∙ omega (arith, c.len-5.ensures, c.len-6.ensures, c.len-7.ensures);
-    are_rows = subst (λ (es : List Ends). AreRows es c.in_ok-rows.rows.items) c.deref.ensures.value c.in_ok-rows.ensures.each;
+    are_rows = subst (λ (es : List Ends). AreRows es c.in_ok-rows.rows.items) c.deref.ensures.value
+        c.in_ok-rows.ensures.each;
   },
 )

@@ -9,4 +9,5 @@ returns-clause-stands c =
     let count = ap (λ (n : NetView). length n.ends) c.self.view_is in
     let each = c.self.invariant.0.each_own in
     own_at _ c.args.link c.index.result.now c.self.invariant.0
-    (slice_get_read c.self.inside.own.items (length c.self.inside.own.items) c.args.link c.index.result.now refl (omega (arith, count, each, c.requires)) c.index.ensures)
+    (slice_get_read c.self.inside.own.items (length c.self.inside.own.items) c.args.link c.index.result.now refl
+    (omega (arith, count, each, c.requires)) c.index.ensures)

@@ -12,7 +12,8 @@ use Rattle.hyd_graph.proofs.net.Net.row.Goals as goal
 row_is : (c : goal.After-as_slice) → c.as_slice.result.now ≡ ties_from c.args.node 0 c.self.inside.ends.items
 row_is c =
     let count = ap node_count c.self.view_is in
-    c.as_slice.ensures ∙ row_at _ _ _ c.args.node c.index.result.now c.self.invariant.1 (omega (arith, count, c.requires)) c.index.ensures
+    c.as_slice.ensures ∙ row_at _ _ _ c.args.node c.index.result.now c.self.invariant.1
+    (omega (arith, count, c.requires)) c.index.ensures
 
 pub returns-clause-ties : goal.returns-clause-ties
 returns-clause-ties c =
@@ -28,11 +29,13 @@ returns-clause-few c =
 pub returns-clause-sum : goal.returns-clause-sum
 returns-clause-sum c out into heads =
     let sound = subst IsSoundNet c.self.view_is c.self.invariant.0 in
-    ap (ties_share out into (grid_of c.args.self.now).links heads (head_at heads c.args.node)) (row_is c ∙ ap (λ (n : NetView). ties_from c.args.node 0 n.ends) c.self.view_is)
+    ap (ties_share out into (grid_of c.args.self.now).links heads (head_at heads c.args.node))
+    (row_is c ∙ ap (λ (n : NetView). ties_from c.args.node 0 n.ends) c.self.view_is)
     ∙ sum_over_ties out into heads c.args.node c.args.self.now sound.each_setting sound.each_own
 
 pub returns-clause-count : goal.returns-clause-count
 returns-clause-count c =
     let sound = subst IsSoundNet c.self.view_is c.self.invariant.0 in
     ap length (row_is c ∙ ap (λ (n : NetView). ties_from c.args.node 0 n.ends) c.self.view_is)
-    ∙ count_of_ties c.args.node 0 c.args.self.now.ends c.args.self.now.settings c.args.self.now.own sound.each_setting sound.each_own
+    ∙ count_of_ties c.args.node 0 c.args.self.now.ends c.args.self.now.settings c.args.self.now.own sound.each_setting
+    sound.each_own

@@ -9,18 +9,32 @@ use Rattle.hyd_law.proofs.demands.PdaLaw.low.Goals as goal
 pub returns-clause-value : goal.returns-clause-value
 returns-clause-value c =
     let s = c.args.self.now in
-    let d : to_z w64 (of_z w64 c.above.result) ≡ c.args.d -ℤ c.args.self.now.p0.hi = omega (arith, ints, c.above.ensures) in
-    let q : c.quadratic_low.result ≡ quadratic_low c.args.self.now.cap (c.args.d -ℤ c.args.self.now.p0.hi) = c.quadratic_low.ensures.value ∙ ap (quadratic_low c.args.self.now.cap) d in
-    let v : c.lesser.result ≡ int_min c.args.self.now.demand (quadratic_low c.args.self.now.cap (c.args.d -ℤ c.args.self.now.p0.hi)) = omega (arith, ints, clamps, q, c.lesser.ensures.value, c.from-demand.ensures) in
+    let d : to_z w64 (of_z w64 c.above.result) ≡ c.args.d -ℤ c.args.self.now.p0.hi =
+    omega (arith, ints, c.above.ensures) in
+    let q : c.quadratic_low.result ≡ quadratic_low c.args.self.now.cap (c.args.d -ℤ c.args.self.now.p0.hi) =
+    c.quadratic_low.ensures.value ∙ ap (quadratic_low c.args.self.now.cap) d in
+    let v : c.lesser.result ≡ int_min c.args.self.now.demand
+    (quadratic_low c.args.self.now.cap (c.args.d -ℤ c.args.self.now.p0.hi)) =
+    omega (arith, ints, clamps, q, c.lesser.ensures.value, c.from-demand.ensures) in
     let r : c.lesser.result ≡ pda_low c.args.self.now c.args.d =
-    between_is c.args.self.now.demand c.args.self.now.p0.hi c.args.self.now.pf.hi (quadratic_low c.args.self.now.cap) c.args.d c.lesser.result (omega (arith, ints, c.if-is_up_to.ensures.above)) (omega (arith, ints, c.if-is_from.ensures.below)) v in
+    between_is c.args.self.now.demand c.args.self.now.p0.hi c.args.self.now.pf.hi (quadratic_low c.args.self.now.cap)
+    c.args.d c.lesser.result (omega (arith, ints, c.if-is_up_to.ensures.above))
+    (omega (arith, ints, c.if-is_from.ensures.below)) v in
     omega (arith, ints, r)
 
 pub returns-then-is_from-clause-value : goal.returns-then-is_from-clause-value
 returns-then-is_from-clause-value c =
     let r : c.from-demand.result ≡ pda_low c.args.self.now c.args.d =
-    all_is c.args.self.now.demand c.args.self.now.p0.hi c.args.self.now.pf.hi (quadratic_low c.args.self.now.cap) c.args.d c.from-demand.result (omega (arith, ints, c.if-is_up_to.ensures.above)) (omega (arith, ints, c.if-is_from.ensures.at_least)) (omega (arith, ints, c.from-demand.ensures)) in
+    all_is c.args.self.now.demand c.args.self.now.p0.hi c.args.self.now.pf.hi (quadratic_low c.args.self.now.cap)
+    c.args.d c.from-demand.result (omega (arith, ints, c.if-is_up_to.ensures.above))
+    (omega (arith, ints, c.if-is_from.ensures.at_least)) (omega (arith, ints, c.from-demand.ensures)) in
     omega (arith, ints, r)
 
 pub returns-clause-small : goal.returns-clause-small
-returns-clause-small c = omega (arith, ints, c.lesser.ensures.small, c.quadratic_low.ensures.small, c.from-demand.ensures)
+returns-clause-small c = omega (
+  arith,
+  ints,
+  c.lesser.ensures.small,
+  c.quadratic_low.ensures.small,
+  c.from-demand.ensures,
+)

@@ -4,7 +4,8 @@ use Rattle.hyd_net.proofs.comparison.CapacityAlike.same.Goals as goal
 
 pub returns-then-same_end : goal.returns-then-same_end
 returns-then-same_end c =
-    plain_capacity-decides c.args.self.now c.args.other.now true _ c.if-same_end.ensures c.same_end-then-same_end.ensures
+    plain_capacity-decides c.args.self.now c.args.other.now true _ c.if-same_end.ensures
+    c.same_end-then-same_end.ensures
 
 pub returns-else-same_end : goal.returns-else-same_end
 returns-else-same_end c =

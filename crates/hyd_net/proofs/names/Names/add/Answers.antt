@@ -19,7 +19,8 @@ returns-in_err-insert-clause-absent_at_err c =
 
 pub invariant_of-self-2 : goal.invariant_of-self-2
 invariant_of-self-2 c =
-    let names = map-insert_key _ _ _ c.self.view_is c.args.id.now _ _ c.in_ok-owned.ensures.items (sym c.if-contains.ensures) c.in_ok-insert.ensures.keys in
+    let names = map-insert_key _ _ _ c.self.view_is c.args.id.now _ _ c.in_ok-owned.ensures.items
+    (sym c.if-contains.ensures) c.in_ok-insert.ensures.keys in
     record {
       distinct = AreDistinct-map _ _ c.in_ok-insert.ensures.unique;
       few = few_after_push _ _ _ c.requires names;
@@ -32,7 +33,8 @@ returns-clause-present c =
 
 pub returns-clause-names : goal.returns-clause-names
 returns-clause-names c =
-    map-insert_key _ _ _ c.self.view_is c.args.id.now _ _ c.in_ok-owned.ensures.items (sym c.if-contains.ensures) c.in_ok-insert.ensures.keys
+    map-insert_key _ _ _ c.self.view_is c.args.id.now _ _ c.in_ok-owned.ensures.items (sym c.if-contains.ensures)
+    c.in_ok-insert.ensures.keys
 
 pub returns-clause-distinct : goal.returns-clause-distinct
 returns-clause-distinct c = AreDistinct-map _ _ c.in_ok-insert.ensures.unique

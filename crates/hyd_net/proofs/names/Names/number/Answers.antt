@@ -14,7 +14,8 @@ pub returns-clause-found : goal.returns-clause-found
 returns-clause-found c = found_iff _ _ _ c.self.view_is c.args.id.now _ c.in_ok-number.ensures.found
 
 pub returns-clause-place : goal.returns-clause-place
-returns-clause-place c = place_of_id _ _ _ (sym (number_is _ _ _ c.self.view_is c.args.id.now _ c.in_ok-number.ensures.index))
+returns-clause-place c = place_of_id _ _ _ (sym (number_is _ _ _ c.self.view_is c.args.id.now _
+    c.in_ok-number.ensures.index))
 
 pub returns-clause-value : goal.returns-clause-value
 returns-clause-value c = number_is _ _ _ c.self.view_is c.args.id.now _ c.in_ok-number.ensures.index
