@@ -1,5 +1,5 @@
 -- Two nets of one period answer alike.
-use Rattle.std.proofs.Common.{◌≡◌, ℕ, ◌<◌, ℤ, pos, List, length, map, Option, None, Some, slice_get, slice_index_or}
+use Rattle.std.proofs.Common.{◌≡◌, ℕ, ◌<◌, pos, List, length, map, Option, None, Some, slice_get, slice_index_or}
 use Rattle.std.proofs.Common.{IfSome, sym, ap, subst, ◌∙◌, arith}
 use Rattle.std.specs.Option.{option_map, option_map_or}
 use Rattle.std.proofs.lemmas.Option.{slice_get-map, slice_get-get_or, slice_get_within}

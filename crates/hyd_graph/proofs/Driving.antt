@@ -1,5 +1,5 @@
 -- The demands of a period: the first that is out of range, and the laws of those that are in range.
-use Rattle.std.proofs.Common.{◌≡◌, ◌⊎◌, ℕ, ◌+◌, ◌*◌, ◌^◌, ◌<◌, ◌≤◌, ℤ, pos, ◌≤ℤ◌, Bool, true, false, List, [], None}
+use Rattle.std.proofs.Common.{◌≡◌, ◌⊎◌, ℕ, ◌+◌, ◌^◌, ◌<◌, ◌≤◌, ℤ, pos, ◌≤ℤ◌, Bool, true, false, List, [], None}
 use Rattle.std.proofs.Common.{length, slice_index_or, slice_set, unsigned_abs, refl, sym, ap, subst, ◌∙◌, inl, inr}
 use Rattle.std.proofs.Common.{arith}
 use Rattle.std.specs.Prelude.{int_le, Option}
@@ -43,22 +43,6 @@ lift_is us pressure span lo hi = record {
   ceiling_is = IsCeiling-ceiling (pressure_value us pressure) span.hi (denominator_above us) hi;
 }
 
-lo_small : (us : Bool) (pressure : Decimal) (k : ℤ) → pos 0 ≤ℤ pressure.nano → pressure_numerator us pressure.nano
-    ≤ℤ pos (10 ^ 17 * pressure_denominator us)
-    → IsFloor (pressure_numerator us pressure.nano) (pos (pressure_denominator us)) k → unsigned_abs k ≤ 10 ^ 18
-lo_small true pressure k some most is = let l = is.greatest (pos 0) (omega (arith, ints, some)) in
-    let h = is.at_most in omega (arith, ints, l, h, most)
-lo_small false pressure k some most is = let l = is.greatest (pos 0) (omega (arith, ints, some)) in
-    let h = is.at_most in omega (arith, ints, l, h, most)
-
-hi_small : (us : Bool) (pressure : Decimal) (k : ℤ) → pos 0 ≤ℤ pressure.nano → pressure_numerator us pressure.nano
-    ≤ℤ pos (10 ^ 17 * pressure_denominator us)
-    → IsCeiling (pressure_numerator us pressure.nano) (pos (pressure_denominator us)) k → unsigned_abs k ≤ 10 ^ 18
-hi_small true pressure k some most is = let l = is.least (pos (10 ^ 17)) (omega (arith, ints, most)) in
-    let h = is.at_least in omega (arith, ints, l, h, some)
-hi_small false pressure k some most is = let l = is.least (pos (10 ^ 17)) (omega (arith, ints, most)) in
-    let h = is.at_least in omega (arith, ints, l, h, some)
-
 by_pressure : (project : Project) (demand : ℤ) → project.options.pda ≡ true → pos 1 ≤ℤ demand
     → is_pressure_driven project demand ≡ true
 by_pressure project demand driven some = let t : int_le demand (pos 0) ≡ false = grind (arith, ints) in
@@ -91,22 +75,14 @@ driven_is project demand us cap p0 pf e driven some pressure origin made lo hi l
   });
   sound = record {
     demanded = some;
+    not_negative = pressure.not_negative;
     origin = origin;
     capacity = IsSoundCapacity-made cap made;
     none = lift_is us project.options.p0 p0 lo hi;
     all = lift_is us project.options.pf pf low high;
   };
-  accepts = λ p le. record {
-    from_floor = (let l = lo_small us project.options.p0 p0.lo pressure.not_negative at_most lo in
-        omega (arith, ints, le, l));
-    from_ceiling = (let l = hi_small us project.options.p0 p0.hi pressure.not_negative at_most hi in
-        omega (arith, ints, le, l));
-  };
+  accepts = λ p le. omega (arith, le);
 }
-  where
-    at_most : pressure_numerator us project.options.p0.nano ≤ℤ pos (10 ^ 17 * pressure_denominator us)
-    at_most = subst (λ (b : Bool). pressure_numerator b project.options.p0.nano
-        ≤ℤ pos (10 ^ 17 * pressure_denominator b)) (sym e) pressure.at_most
 
 -- a law that isn't
 pub fixed_is : (project : Project) (demand : ℤ) → is_pressure_driven project demand ≡ false
@@ -165,7 +141,8 @@ kept_more project time kept i n demands law held demand all before within inside
       (demand_of project time (slice_index_or project.junctions.list k junction)) (slice_index_or demands k d)) [
         | inl here ↦ (let e : demand_held (slice_index_or demands i d) ≡ demand_of project time
             (slice_index_or project.junctions.list i junction) =
-            ap demand_held (any_default demands i d law inside ∙ sym at) ∙ sym holds ∙ more.1.0 ∙ is ∙ demand_read project
+            ap demand_held (any_default demands i d law inside ∙ sym at) ∙ sym holds ∙ more.1.0 ∙ is
+            ∙ demand_read project
             time i junction within in
             subst (λ (j : ℕ). IsOutLawOf project (demand_of project time
             (slice_index_or project.junctions.list j junction)) (slice_index_or demands j d)) (sym here)

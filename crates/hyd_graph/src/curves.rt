@@ -174,7 +174,8 @@ fn running_curve(points: &[HeadPoint], speed: i64, room: List<Knot>) -> LinkLaw
     requires curve { IsPumpCurve points.now }
     requires speed { IsSpeed speed }
     requires room { length points.now ≤ length room.list + room.spare }
-    ensures represents { Represents result (exact.Held (pos 0) spec.greatest_flow (exact.Bent (pump_knots points.now speed))) }
+    ensures represents { Represents result (exact.Held (pos 0) spec.greatest_flow
+        (exact.Bent (pump_knots points.now speed))) }
     ensures room { (n : ℕ) → n ≤ length room.list + room.spare → HasRoom n result }
 {
     let mut knots = room;

@@ -147,7 +147,8 @@ fn own_law(project: &Project, kind: &LinkKind, state: &LinkState, held: LinkLaw)
     requires can { CanStand project.now kind.now state.now }
     requires sound { IsSoundLink held }
     requires room { HasRoomFor project.now.bends.list kind.now held }
-    ensures represents { Represents result (spec.own_law (is_us project.now) project.now.bends.list kind.now state.now) }
+    ensures represents { Represents result (spec.own_law (is_us project.now) project.now.bends.list kind.now
+        state.now) }
     ensures room { HasRoomFor project.now.bends.list kind.now result }
 {
     match kind {

@@ -81,7 +81,8 @@ impl Net {
         requires levels { AreLevels project.now levels.now }
         requires tanks { length tanks.now ≡ length project.now.tanks.list }
         ensures stays { IsNetOf project.now self.new }
-        ensures grid { OnOk result (IsGrid project.now time (map interval_of levels.now) tanks.now links.now (grid_of self.new)) }
+        ensures grid { OnOk result (IsGrid project.now time (map interval_of levels.now) tanks.now links.now
+            (grid_of self.new)) }
         ensures states { OnOk result (states_of self.new ≡ links.now) }
         ensures own { OnOk result (own_laws self.new ≡ own_laws_of project.now project.now.links.list links.now) }
         ensures shut { OnOk result (AreShut project.now tanks.now self.new.laws) }

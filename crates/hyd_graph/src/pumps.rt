@@ -89,7 +89,8 @@ pub(crate) fn pump_law(us: bool, cap: &Capacity, head: &ShutoffHead, speed: i64)
     requires made { IsMade cap.now }
     requires head { IsShutoff us head.now }
     requires speed { IsSpeed speed }
-    ensures { Represents result (exact.ForwardOnly (exact.Lifted (lift_of us head.now speed) (exact.QuadraticLaw cap.now))) }
+    ensures { Represents result (exact.ForwardOnly (exact.Lifted (lift_of us head.now speed)
+        (exact.QuadraticLaw cap.now))) }
 {
     LinkLaw::Pump(OneWay {
         forward: true,

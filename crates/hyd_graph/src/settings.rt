@@ -102,7 +102,8 @@ pub(crate) fn set_links(
     ensures count_own { length own.new ≡ length own.old }
     ensures count_laws { length laws.new ≡ length laws.old }
     ensures stand { AreLaws project.now project.now.links.list settings.new own.new laws.new }
-    ensures set { AreSet project.now tanks.now project.now.links.list states.now settings.new (length project.now.links.list) }
+    ensures set { AreSet project.now tanks.now project.now.links.list states.now settings.new
+        (length project.now.links.list) }
 {
     let links = project.links.as_slice();
     for i in 0..links.len() {

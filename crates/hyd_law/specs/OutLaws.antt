@@ -41,18 +41,14 @@ pda_low l p = stepped l.demand l.p0.hi l.pf.hi (quadratic_low l.cap) p
 abbrev pub pda_high : Pda → ℤ → ℤ
 pda_high l p = stepped l.demand l.p0.lo l.pf.lo (quadratic_high l.cap) p
 
--- a demand above 0, its capacity by the two pressures, and these rounded
+-- a demand above 0, its capacity by the two pressures, these rounded, and the minimum one not below 0
 pub record IsSoundPda (l : Pda) : Type 0 where
   pub demanded : pos 1 ≤ℤ l.demand
+  pub not_negative : pos 0 ≤ℤ l.minimum.nano
   pub origin : l.cap.origin ≡ PressureDemand l.demand l.minimum l.required l.us
   pub capacity : IsSoundCapacity l.cap
   pub none : IsLift (pressure_value l.us l.minimum) l.p0
   pub all : IsLift (pressure_value l.us l.required) l.pf
-
--- a pressure that is at most 3 * 10^18 head ticks, also counted from the minimum one
-pub record AcceptsPressure (l : Pda) (p : ℤ) : Type 0 where
-  pub from_floor : IsDifference (p -ℤ l.p0.lo)
-  pub from_ceiling : IsDifference (p -ℤ l.p0.hi)
 
 moved : (A B : Relation) (D : ℤ) (f g : ℤ → ℤ) (a b c d a' b' c' d' : ℤ) → a ≡ a' → b ≡ b' → c ≡ c' → d ≡ d'
     → IsLaw A B (stepped D a' b' f) (stepped D c' d' g) → IsLaw A B (stepped D a b f) (stepped D c d g)
@@ -101,7 +97,7 @@ IsSoundOut (PdaOut l) = IsSoundPda l
 -- the pressures at which both are computed
 abbrev pub OutAccepts : OutLaw → ℤ → Type 0
 OutAccepts (FixedOut l) p = ⊤
-OutAccepts (PdaOut l) p = AcceptsPressure l p
+OutAccepts (PdaOut l) p = IsDifference p
 
 pub IsLaw-out : (law : OutLaw) → IsSoundOut law → IsLaw (out_at_least law) (out_at_most law) (out_low law)
     (out_high law)

@@ -8,7 +8,7 @@ ghost use Rattle.hyd_spec_laws.proofs.DemandLaws.{IsLaw-fixed};
 ghost use Rattle.hyd_law.specs.Wrapped.{IsDifference};
 ghost use Rattle.hyd_law.specs.OutLaws.{out_at_least, out_at_most, out_low, out_high, IsSoundOut, OutAccepts};
 ghost use Rattle.hyd_law.specs.OutLaws.{IsLaw-out, pda_at_least, pda_at_most, pda_low, pda_high, IsSoundPda};
-ghost use Rattle.hyd_law.specs.OutLaws.{AcceptsPressure, IsLaw-pda};
+ghost use Rattle.hyd_law.specs.OutLaws.{IsLaw-pda};
 
 use crate::law::Law;
 use crate::outflows::{Fixed, OutLaw, Pda};
@@ -80,7 +80,7 @@ impl Law for Pda {
 
     ghost sound = { IsSoundPda };
 
-    ghost accepts = { AcceptsPressure };
+    ghost accepts = { λ s. IsDifference };
 
     ghost most = { 2 ^ 63 + 2 ^ 64 };
 

@@ -1,4 +1,4 @@
-use Rattle.std.proofs.Common.{◌≡◌, ℕ, ◌<◌, ◌≤◌, ◌^◌, length, slice_index_or, unsigned_abs}
+use Rattle.std.proofs.Common.{ℕ, ◌<◌, ◌≤◌, ◌^◌, slice_index_or, unsigned_abs}
 use Rattle.hyd_spec.specs.Types.{Junction}
 use Rattle.hyd_spec.specs.Quantity.{demand_of}
 use Rattle.hyd_graph.specs.Demands.{AreDemandsAt}

@@ -6,6 +6,7 @@ use Rattle.hyd_tests_on_networks.proofs.law.by_pressure.Goals as goal
 pub returns-clause-sound : goal.returns-clause-sound
 returns-clause-sound c = record {
   demanded = omega (arith, ints);
+  not_negative = omega (arith, ints);
   origin = c.pda_capacity.ensures.origin;
   capacity = IsSoundCapacity-made c.pda_capacity.result c.pda_capacity.ensures.made;
   none = record { floor_is = refl; ceiling_is = refl };
@@ -13,7 +14,4 @@ returns-clause-sound c = record {
 }
 
 pub returns-clause-accepts : goal.returns-clause-accepts
-returns-clause-accepts c x small = record {
-  from_floor = omega (arith, ints, small);
-  from_ceiling = omega (arith, ints, small);
-}
+returns-clause-accepts c x small = omega (arith, small)

@@ -3,7 +3,7 @@ use Rattle.std.specs.Int.{int_min}
 use Rattle.std.proofs.lemmas.Int.{ints, clamps}
 use Rattle.hyd_spec_certificates.specs.Enclosing.{quadratic_high}
 use Rattle.hyd_law.specs.OutLaws.{pda_high}
-use Rattle.hyd_law.proofs.Stepping.{between_is, all_is}
+use Rattle.hyd_law.proofs.Stepping.{between_is, all_is, lo_not_negative}
 use Rattle.hyd_law.proofs.demands.PdaLaw.high.Goals as goal
 
 pub returns-clause-value : goal.returns-clause-value
@@ -38,3 +38,9 @@ returns-clause-small c = omega (
   c.quadratic_high.ensures.small,
   c.from-demand.ensures,
 )
+
+pub above-requires : goal.above-requires
+above-requires c =
+    let l = c.args.self.now in
+    let least = lo_not_negative l.us l.minimum l.p0 c.requires.sound.none c.requires.sound.not_negative in
+    omega (arith, ints, least, c.requires.accepted, c.if-is_up_to.ensures.above)

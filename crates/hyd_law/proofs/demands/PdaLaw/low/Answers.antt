@@ -3,7 +3,7 @@ use Rattle.std.specs.Int.{int_min}
 use Rattle.std.proofs.lemmas.Int.{ints, clamps}
 use Rattle.hyd_spec_certificates.specs.Enclosing.{quadratic_low}
 use Rattle.hyd_law.specs.OutLaws.{pda_low}
-use Rattle.hyd_law.proofs.Stepping.{between_is, all_is}
+use Rattle.hyd_law.proofs.Stepping.{between_is, all_is, hi_not_negative}
 use Rattle.hyd_law.proofs.demands.PdaLaw.low.Goals as goal
 
 pub returns-clause-value : goal.returns-clause-value
@@ -38,3 +38,17 @@ returns-clause-small c = omega (
   c.quadratic_low.ensures.small,
   c.from-demand.ensures,
 )
+
+pub above-requires : goal.above-requires
+above-requires c =
+    let l = c.args.self.now in
+    let least = hi_not_negative l.us l.minimum l.p0 c.requires.sound.none c.requires.sound.not_negative in
+    omega (arith, ints, least, c.requires.accepted, c.if-is_up_to.ensures.above)
+
+pub quadratic_low-requires : goal.quadratic_low-requires
+quadratic_low-requires c =
+    let l = c.args.self.now in
+    let least = hi_not_negative l.us l.minimum l.p0 c.requires.sound.none c.requires.sound.not_negative in
+    let counted : to_z w64 (of_z w64 c.above.result) ≡ c.args.d -ℤ c.args.self.now.p0.hi =
+    omega (arith, ints, c.above.ensures) in
+    omega (arith, ints, least, c.requires.accepted, c.if-is_up_to.ensures.above, counted)
