@@ -1,11 +1,10 @@
 -- How a period ends by the vectors that were found for it.
-use Rattle.std.proofs.Common.{◌≡◌, ◌≢◌, ℕ, suc, ◌+◌, ◌<◌, ◌≤◌, ℤ, Bool, true, false, List, [], ◌∷◌, ◌++◌, length, map}
-use Rattle.std.proofs.Common.{refl, sym, ap, subst, ◌∙◌, arith, ◌⊎◌, inl, inr}
-use Rattle.std.specs.Prelude.{Option, All}
+use Rattle.std.proofs.Common.{◌≡◌, ◌≢◌, ℕ, ◌+◌, ◌<◌, ℤ, Bool, false, List, [], ◌∷◌, ◌++◌, length, map}
+use Rattle.std.proofs.Common.{refl, sym, ap, subst, ◌∙◌, arith, inl, inr}
+use Rattle.std.specs.Prelude.{All, Option}
 use Rattle.std.proofs.lemmas.Bool.{cases_lt}
 use Rattle.hyd_spec.specs.Types.{Project, Tank, LinkState}
 use Rattle.hyd_spec.specs.Lists.{map_from}
-use Rattle.hyd_spec.specs.Network.{tank_count}
 use Rattle.hyd_spec.specs.declared.Change.{Change}
 use Rattle.hyd_spec_certificates.specs.declared.Problem.{Problem}
 use Rattle.hyd_spec_certificates.specs.declared.Problem.TheVariants.{Main, Pinned}
@@ -32,8 +31,8 @@ use Rattle.hyd_close.specs.Begun.{AreBegun, AreReady}
 use Rattle.hyd_close.specs.Closing.{AreKeptIn, IsClosed}
 use Rattle.hyd_close.specs.declared.close.Close.{Close}
 use Rattle.hyd_close.proofs.Bounding.{have-tanks}
-use Rattle.hyd_vectors.specs.Vectors.{OfEach}
-use Rattle.hyd_sim.specs.Attempts.{IsMade, IsOver, IsStarted}
+use Rattle.hyd_vectors.specs.Vectors.{OfEach, IsSought, Comes}
+use Rattle.hyd_sim.specs.Attempts.{AreSought, IsMade, IsOver, IsStarted}
 use Rattle.hyd_sim.specs.View.{IsStanding, standing_for}
 use Rattle.hyd_sim.specs.declared.standing.Standing.{Standing as Here}
 use Rattle.hyd_sim.proofs.Running.{at-last, at-later}
@@ -147,6 +146,13 @@ module _ (row now : Row) (same : now ≡ record row { length = now.length }) whe
           → P problem side (vector_of (row_of (record row { length = now.length })) problem side)
       by Main side is = all Main side is
       by (Pinned tank) side is = all (Pinned tank) side is
+
+  pub sought-again : (tight : Bool) (told : Option (List ℤ)) (grid : Grid) (tanks rounds : ℕ)
+      → AreSought tight told grid tanks rounds (row_of row) → AreSought tight told grid tanks rounds (row_of now)
+  sought-again tight told grid tanks rounds are = record {
+    each = each-again (IsSought tight told grid tanks) tanks are.each;
+    come = each-again (Comes tight told grid tanks rounds) tanks are.come;
+  }
 
 -- a period that was started and is over by certificates
 pub made-of : (network : Project) (here : Here) (net : NetView) (started row : Row) (begun facts : Facts)

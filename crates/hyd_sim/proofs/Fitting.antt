@@ -1,46 +1,43 @@
 -- Whether the vectors of a period do.
-use Rattle.std.proofs.Common.{◌≡◌, ◌≢◌, ℕ, suc, ◌+◌, ◌<◌, ℤ, pos, ◌+ℤ◌, ◌-ℤ◌, ◌*ℤ◌, ◌≤ℤ◌, Bool, true, false, List}
-use Rattle.std.proofs.Common.{length, map, refl, sym, ap, subst, ◌∙◌, arith, ◌⊎◌, inl, inr}
+use Rattle.std.proofs.Common.{◌≡◌, ◌≢◌, ℕ, ℤ, Bool, true, false, List}
+use Rattle.std.proofs.Common.{length, refl, sym, ap, subst, ◌∙◌, ◌⊎◌, inl, inr}
 use Rattle.std.specs.Prelude.{Option, Result, Ok, Err, OnOk, MatchBool}
 use Rattle.std.proofs.lemmas.List.{length-map}
-use Rattle.hyd_spec.specs.Types.{Project, Tank, LinkState}
+use Rattle.hyd_spec.specs.Types.{Project, Tank}
 use Rattle.hyd_spec.specs.Network.{junction_count, tank_count}
-use Rattle.hyd_spec_certificates.specs.declared.Problem.{Problem}
 use Rattle.hyd_spec_certificates.specs.declared.Problem.TheVariants.{Main}
-use Rattle.hyd_spec_certificates.specs.declared.Side.{Side}
 use Rattle.hyd_spec_certificates.specs.declared.Side.TheVariants.{Upper, Lower}
 use Rattle.hyd_spec_certificates.specs.Interval.{Interval}
 use Rattle.hyd_spec_certificates.specs.Grid.{Grid}
 use Rattle.hyd_spec_certificates.specs.Narrow.{IsNarrow}
 use Rattle.hyd_spec_certificates.specs.Record.{Record, Standing}
-use Rattle.hyd_spec_certificates.specs.Decided.{links_at}
 use Rattle.hyd_spec_certificates.specs.Valid.{AreCertificates, IsGridAt, IsValid, LeadsOn, continues, finishes}
 use Rattle.hyd_spec_certificates.specs.Valid.{stocks_next}
 use Rattle.hyd_spec_reports.specs.Stops.{Stops}
-use Rattle.hyd_spec_reports.specs.declared.StopCause.{StopCause}
+use Rattle.hyd_spec_laws.specs.Laws.{IsSteady}
 use Rattle.hyd_spec_laws.proofs.OneRun.{one_grid}
 use Rattle.hyd_cert.specs.RecordView.{row_of}
 use Rattle.hyd_cert.specs.declared.record.Record.{Record as Row}
 use Rattle.hyd_facts.specs.OfPeriod.{levels_of}
 use Rattle.hyd_facts.specs.declared.facts.Facts.{Facts}
-use Rattle.hyd_graph.specs.GridOf.{grid_of, states_of}
+use Rattle.hyd_graph.specs.GridOf.{grid_of}
 use Rattle.hyd_graph.specs.NetView.{NetView}
 use Rattle.hyd_inflows.proofs.Numbered.{as_long}
 use Rattle.hyd_close.specs.Begun.{AreBegun, AreReady}
 use Rattle.hyd_close.specs.Opens.{SharesVectors, IsOpenAt}
 use Rattle.hyd_close.specs.declared.close.Close.{Close}
-use Rattle.hyd_vectors.specs.Vectors.{AreTold, HaveSame, IsSought, OfEach}
-use Rattle.hyd_sim.specs.Attempts.{IsFault, IsMade, IsStarted, fault_stop_of, later_standing, next_standing}
+use Rattle.hyd_vectors.specs.Vectors.{HaveSame, InOrder}
+use Rattle.hyd_sim.specs.Attempts.{AreSought, IsFault, IsMade, IsStarted, fault_stop_of, later_standing, next_standing}
 use Rattle.hyd_sim.specs.Sharp.{AreNarrow}
-use Rattle.hyd_sim.specs.Steps.{AreTight, IsAdvanced, IsDone, IsProposal}
+use Rattle.hyd_sim.specs.Steps.{AreTight, AreToldOrLeft, IsAdvanced, IsDone, IsProposal, IsSharp, IsSharpAsSought}
 use Rattle.hyd_sim.specs.View.{IsStanding, standing_for}
 use Rattle.hyd_sim.specs.declared.settings.Settings.{Settings}
 use Rattle.hyd_sim.specs.declared.attempt.Fault.{Fault}
 use Rattle.hyd_sim.specs.declared.attempt.Fault.TheVariants.{Lack, Open}
 use Rattle.hyd_sim.specs.declared.standing.Standing.{Standing as Here}
-use Rattle.hyd_sim.proofs.Lacking.{lacks-one, none-lacking, same-as-told}
+use Rattle.hyd_sim.proofs.Lacking.{lacks-one, same-as-given}
 use Rattle.hyd_sim.proofs.Proposed.{shares, none-open-at, same-row, same-next}
-use Rattle.hyd_sim.proofs.Running.{at-later, lack-stops, open-stops, tight-row}
+use Rattle.hyd_sim.proofs.Running.{at-later, lack-stops, open-stops, tight-of, tight-row}
 
 -- ---- narrow records
 
@@ -105,24 +102,26 @@ fault-stops network here net started row facts rounds told is count pinned (Lack
     is.is_grid (lacks-one true told (grid_of net) (tank_count network) rounds (row_of row) lack fault)
 fault-stops network here net started row facts rounds told is count pinned (Open found) fault =
     open-stops network (standing_for here) rounds (grid_of net) (row_of row)
-    (tight-row network (standing_for here) (grid_of net) (row_of row) is.in_range is.is_grid pinned fault.0) found
+    (tight-row network (standing_for here) (grid_of net) (row_of row) is.in_range is.is_grid pinned fault.0.each) found
     (fault.1 (row_of row) (shares-itself (row_of row)))
 
--- ---- records that the finder tells
+-- ---- records that the finder tells, or leaves to rounds
 
-module _ (network : Project) (standing : Standing) (grid : Grid) (is : IsGridAt network standing grid) (W : ℤ)
-    (told : Option (List ℤ)) (w : Record) (p : IsProposal told network W standing w) where
-  pub told-here : AreTold told grid (tank_count network) w
+module _ (network : Project) (settings : Settings) (standing : Standing) (grid : Grid)
+    (is : IsGridAt network standing grid) (told : Option (List ℤ)) (w : Record)
+    (p : IsProposal told network settings standing w) where
+  pub told-here : AreToldOrLeft told grid (tank_count network) settings.rounds w
   told-here = p.told_at grid is
 
   pub valid-here : IsValid network standing grid w p.next
   valid-here = subst (λ (g : Grid). IsValid network standing g w p.next)
       (one_grid network standing p.grid grid p.valid.is_grid is) p.valid
 
-  module _ (row : Record) (pinned : length row.pinned ≡ tank_count network)
-      (found : OfEach (IsSought false told grid (tank_count network)) (tank_count network) row) where
+  module _ (steady : IsSteady grid) (order : InOrder grid) (row : Record)
+      (pinned : length row.pinned ≡ tank_count network)
+      (sought : AreSought false told grid (tank_count network) settings.rounds row) where
     pub same-here : HaveSame (tank_count network) row w
-    same-here = same-as-told false told grid (tank_count network) row w refl found told-here
+    same-here = same-as-given told grid (tank_count network) settings.rounds steady order row w sought told-here
 
     pub shares-here : SharesVectors w row
     shares-here = shares (tank_count network) row w pinned valid-here.certificates.pinned_each same-here
@@ -134,15 +133,16 @@ module _ (network : Project) (standing : Standing) (grid : Grid) (is : IsGridAt 
     nothing-open found all = none-open-at network standing grid w p.next valid-here found (all w shares-here)
 
     -- and their record is narrow
-    pub narrow-too : (next : Standing) → IsValid network standing grid row next → IsNarrow W standing row next
+    pub narrow-too : (next : Standing) → IsValid network standing grid row next
+        → IsNarrow settings.width standing row next
     narrow-too next valid =
         let number = valid-here.number ∙ sym valid.number in
         let time = valid-here.time ∙ sym valid.time in
         let same = same-row network standing grid w p.next valid-here row next shares-here number time valid.leads_on in
         let after = same-next network standing grid w p.next valid-here row next shares-here number time
         valid.leads_on in
-        subst (λ (r : Record). IsNarrow W standing r next) same
-        (subst (λ (n : Standing). IsNarrow W standing w n) after p.narrow)
+        subst (λ (r : Record). IsNarrow settings.width standing r next) same
+        (subst (λ (n : Standing). IsNarrow settings.width standing w n) after p.narrow)
 
 -- ---- a period that starts again
 
@@ -169,46 +169,66 @@ pub on-ok-both : {A E : Type 0} (P Q R : Type 0) (result : Result A E) → (P �
 on-ok-both P Q R (Ok value) f p q = f p q
 on-ok-both P Q R (Err fault) f p q = p
 
--- tight vectors are sharp in any case
-pub done-tight : (network : Project) (settings : Settings) (here : Here) (net : NetView) (row : Row) (facts : Facts)
-    (close : Close) → IsMade network here net row facts close → AreTight network (grid_of net) (row_of row)
-    → IsDone network settings here net row facts close
-done-tight network settings here net row facts close made tight = record { made = made; sharp = by settings.tight }
+-- a record is as sharp as the settings ask, where its vectors are those that were sought for that
+pub sharp-of : (told : Option (List ℤ)) (network : Project) (settings : Settings) (standing : Standing) (grid : Grid)
+    (row : Record) (next : Standing) → IsSharpAsSought told network settings standing grid row next
+    → IsSharp network settings standing grid row next
+sharp-of told network settings standing grid row next = by settings.tight
   where
-    by : (asked : Bool) → MatchBool asked (AreTight network (grid_of net) (row_of row))
-        (AreTight network (grid_of net) (row_of row) ⊎ IsNarrow settings.width (standing_for here) (row_of row)
-        (next_standing network here row.length close))
-    by true = tight
-    by false = inl tight
+    by : (asked : Bool) → MatchBool asked (AreSought true told grid (tank_count network) settings.rounds row)
+        (AreSought true told grid (tank_count network) settings.rounds row
+        ⊎ (IsNarrow settings.width standing row next
+        × AreSought false told grid (tank_count network) settings.rounds row))
+        → MatchBool asked (AreTight network grid row)
+        (AreTight network grid row ⊎ IsNarrow settings.width standing row next)
+    by true are = tight-of network grid row are.each
+    by false (inl are) = inl (tight-of network grid row are.each)
+    by false (inr both) = inr both.0
 
--- narrow records are where no tight vectors are asked for
-pub done-narrow : (network : Project) (settings : Settings) (here : Here) (net : NetView) (row : Row) (facts : Facts)
-    (close : Close) → settings.tight ≡ false → IsMade network here net row facts close
-    → IsNarrow settings.width (standing_for here) (row_of row) (next_standing network here row.length close)
-    → IsDone network settings here net row facts close
-done-narrow network settings here net row facts close asks made narrow = record {
-  made = made;
-  sharp = by settings.tight asks;
-}
-  where
-    by : (asked : Bool) → asked ≡ false → MatchBool asked (AreTight network (grid_of net) (row_of row))
-        (AreTight network (grid_of net) (row_of row) ⊎ IsNarrow settings.width (standing_for here) (row_of row)
-        (next_standing network here row.length close))
-    by true e = absurd (cc)
-    by false e = inr narrow
+module _ (told : Option (List ℤ)) (network : Project) (settings : Settings) (here : Here) (net : NetView) (row : Row)
+    (facts : Facts) (close : Close) where
+  -- tight vectors do in any case
+  pub done-tight : IsMade network here net row facts close
+      → AreSought true told (grid_of net) (tank_count network) settings.rounds (row_of row)
+      → IsDone told network settings here net row facts close
+  done-tight made sought = record { made = made; sought = by settings.tight }
+    where
+      by : (asked : Bool) → MatchBool asked
+          (AreSought true told (grid_of net) (tank_count network) settings.rounds (row_of row))
+          (AreSought true told (grid_of net) (tank_count network) settings.rounds (row_of row)
+          ⊎ (IsNarrow settings.width (standing_for here) (row_of row) (next_standing network here row.length close)
+          × AreSought false told (grid_of net) (tank_count network) settings.rounds (row_of row)))
+      by true = sought
+      by false = inl sought
 
--- a period that was done, and the standing behind it
-pub advanced-of : (network : Project) (settings : Settings) (here : Here) (net : NetView) (row : Row) (facts : Facts)
-    (close : Close) (now : Here) → standing_for now ≡ next_standing network here row.length close
-    → IsDone network settings here net row facts close
-    → IsAdvanced network settings (standing_for here) net row facts (standing_for now)
-advanced-of network settings here net row facts close now same done =
-    subst (IsAdvanced network settings (standing_for here) net row facts) (sym same) (record {
-      valid = done.made.valid;
-      facts_are = done.made.over.facts_are;
-      have = done.made.over.have;
-      order = done.made.order;
-      states = done.made.states;
-      links = done.made.links;
-      sharp = done.sharp;
-    })
+  -- others do where their record is narrow and no tight vectors are asked for
+  pub done-narrow : settings.tight ≡ false → IsMade network here net row facts close
+      → IsNarrow settings.width (standing_for here) (row_of row) (next_standing network here row.length close)
+      → AreSought false told (grid_of net) (tank_count network) settings.rounds (row_of row)
+      → IsDone told network settings here net row facts close
+  done-narrow asks made narrow sought = record { made = made; sought = by settings.tight asks }
+    where
+      by : (asked : Bool) → asked ≡ false → MatchBool asked
+          (AreSought true told (grid_of net) (tank_count network) settings.rounds (row_of row))
+          (AreSought true told (grid_of net) (tank_count network) settings.rounds (row_of row)
+          ⊎ (IsNarrow settings.width (standing_for here) (row_of row) (next_standing network here row.length close)
+          × AreSought false told (grid_of net) (tank_count network) settings.rounds (row_of row)))
+      by true e = absurd (cc)
+      by false e = inr (narrow, sought)
+
+  -- a period that was done, and the standing behind it
+  pub advanced-of : (now : Here) → standing_for now ≡ next_standing network here row.length close
+      → IsDone told network settings here net row facts close
+      → IsAdvanced told network settings (standing_for here) net row facts (standing_for now)
+  advanced-of now same done =
+      subst (IsAdvanced told network settings (standing_for here) net row facts) (sym same) (record {
+        valid = done.made.valid;
+        facts_are = done.made.over.facts_are;
+        have = done.made.over.have;
+        order = done.made.order;
+        states = done.made.states;
+        links = done.made.links;
+        sharp = sharp-of told network settings (standing_for here) (grid_of net) (row_of row)
+            (next_standing network here row.length close) done.sought;
+        sought = done.sought;
+      })

@@ -1,14 +1,23 @@
 -- What is lacking.
-use Rattle.std.proofs.Common.{◌≡◌, ℕ, ℤ, Bool, true, false, List, sym, subst}
-use Rattle.std.specs.Prelude.{Result, Ok, Err, OnOk, IfErr, Option}
+use Rattle.std.proofs.Common.{◌≡◌, ℕ, ℤ, Bool, true, false, List, length, inl, inr}
+use Rattle.std.specs.Prelude.{◌⊎◌, Result, Ok, Err, OnOk, IfErr, Option}
 use Rattle.hyd_spec_certificates.specs.declared.Problem.{Problem}
+use Rattle.hyd_spec_certificates.specs.declared.Problem.TheVariants.{Main}
 use Rattle.hyd_spec_certificates.specs.declared.Side.{Side}
+use Rattle.hyd_spec_certificates.specs.declared.Side.TheVariants.{Upper}
 use Rattle.hyd_spec_certificates.specs.Grid.{Grid}
 use Rattle.hyd_spec_certificates.specs.Certificate.{IsCertificate}
 use Rattle.hyd_spec_certificates.specs.Record.{Record, vector_of}
-use Rattle.hyd_vectors.specs.Vectors.{IsFound, IsOffered, IsSought, AreTold, HaveSame, LacksFirst, OfEach}
+use Rattle.hyd_spec_laws.specs.Laws.{IsSteady}
+use Rattle.hyd_spec_laws.proofs.OneStanding.{one_vector}
+use Rattle.hyd_vectors.specs.Vectors.{IsAtHand, IsFound, IsReached, IsSought, IsTold, InOrder, Comes, Tells, Lacks}
+use Rattle.hyd_vectors.specs.Vectors.{AreTold, HaveSame, LacksFirst, OfEach}
 use Rattle.hyd_vectors.specs.declared.lack.Lack.{Lack}
+use Rattle.hyd_vectors.specs.declared.lack.Lack.TheVariants.{NoCertificate, RoundsSpent}
+use Rattle.hyd_sim.specs.Attempts.{AreSought}
 use Rattle.hyd_sim.specs.Sharp.{LacksOne}
+use Rattle.hyd_sim.specs.Steps.{IsLeftToRounds, AreToldOrLeft}
+use Rattle.hyd_sim.proofs.Reached.{tight-reached}
 
 -- what is sought is a certificate
 pub sought-certificate : (tight : Bool) (told : Option (List ℤ)) (grid : Grid) (tanks : ℕ) (problem : Problem)
@@ -42,23 +51,49 @@ pub on-ok : {A E : Type 0} (P Q : Type 0) (result : Result A E) → (P → Q) �
 on-ok P Q (Ok value) f p = f p
 on-ok P Q (Err fault) f p = p
 
--- the vectors that are found where the finder tells all of them
-pub same-as-told : (tight : Bool) (told : Option (List ℤ)) (grid : Grid) (tanks : ℕ) (row w : Record)
-    → tight ≡ false → OfEach (IsSought tight told grid tanks) tanks row → AreTold told grid tanks w
-    → HaveSame tanks row w
-same-as-told tight told grid tanks row w e each all = λ problem side there.
-    let found : IsFound told grid tanks problem side (vector_of row problem side) =
-    subst (λ (b : Bool). IsSought b told grid tanks problem side (vector_of row problem side)) e
-    (each problem side there) in
-    found.proposal (vector_of w problem side) (all problem side there)
+-- the vector that is found is the one that the finder tells, or that is left to rounds
+module _ (told : Option (List ℤ)) (grid : Grid) (tanks rounds : ℕ) where
+  module _ (steady : IsSteady grid) (order : InOrder grid) where
+    same-vector : (problem : Problem) (side : Side) (u v : List ℤ) → Tells told (length grid.junctions) tanks
+        → IsFound told grid tanks problem side u → Comes false told grid tanks rounds problem side u
+        → IsTold told grid tanks problem side v ⊎ IsLeftToRounds told grid tanks rounds problem side v → u ≡ v
+    same-vector problem side u v tells found comes (inl is) = found.proposal v is
+    same-vector problem side u v tells found comes (inr left) = by (comes tells)
+      where
+        by : IsReached IsAtHand grid problem side rounds u ⊎ IsTold told grid tanks problem side u → u ≡ v
+        by (inl reached) =
+            one_vector grid problem side u v
+            (tight-reached grid steady order problem side rounds u reached found.certificate) left.tight
+        by (inr is) = absurd (left.untold u is)
 
--- nothing is lacking where the finder tells all
-pub none-lacking : (tight : Bool) (told : Option (List ℤ)) (grid : Grid) (tanks rounds : ℕ) (row w : Record)
-    (lack : Lack) → tight ≡ false → LacksFirst tight told grid tanks rounds row lack → AreTold told grid tanks w → ⊥
-none-lacking tight told grid tanks rounds row w lack e first all =
-    first.unoffered (vector_of w first.problem first.side)
-    (subst (λ (b : Bool). IsOffered b told grid tanks first.problem first.side
-    (vector_of w first.problem first.side)) (sym e) (all first.problem first.side first.is_problem))
+    pub same-as-given : (row w : Record) → AreSought false told grid tanks rounds row
+        → AreToldOrLeft told grid tanks rounds w → HaveSame tanks row w
+    same-as-given row w sought given = λ problem side there.
+        same-vector problem side (vector_of row problem side) (vector_of w problem side) given.tells
+        (sought.each problem side there) (sought.come problem side there) (given.each problem side there)
+
+  -- nothing is lacking where each vector of a record is told or left to rounds
+  pub none-lacking : (row w : Record) (lack : Lack) → LacksFirst false told grid tanks rounds row lack
+      → AreToldOrLeft told grid tanks rounds w → ⊥
+  none-lacking row w lack first given =
+      by lack first.lacks (given.each first.problem first.side first.is_problem)
+    where
+      by : (why : Lack) → Lacks grid first.problem first.side rounds why
+          → IsTold told grid tanks first.problem first.side (vector_of w first.problem first.side)
+          ⊎ IsLeftToRounds told grid tanks rounds first.problem first.side (vector_of w first.problem first.side) → ⊥
+      by why lacks (inl is) = first.unoffered (vector_of w first.problem first.side) is
+      by (NoCertificate problem side junction) lacks (inr left) =
+          lacks.1.1.1 (vector_of w first.problem first.side) left.tight.is_certificate
+      by (RoundsSpent problem side) lacks (inr left) = left.unspent lacks.1.1
+
+  -- a record all of whose vectors the finder tells has none that is left to rounds
+  pub all-told : (w : Record) → AreTold told grid tanks w → AreToldOrLeft told grid tanks rounds w
+  all-told w all =
+      let first : IsTold told grid tanks Main Upper (vector_of w Main Upper) = all Main Upper tt in
+      record {
+        tells = record { heads = first.heads; told_is = first.told_is; size = first.size };
+        each = λ problem side there. inl (all problem side there);
+      }
 
 -- vectors that are sought are certificates
 pub sought-all : (tight : Bool) (told : Option (List ℤ)) (grid : Grid) (tanks : ℕ) (row : Record)

@@ -4,7 +4,7 @@ use Rattle.std.specs.Prelude.{Some, None, position, slice_get}
 use Rattle.hyd_spec.specs.Types.{Project, LinkState, Control, AtLevel}
 use Rattle.hyd_spec_certificates.specs.Grid.{Grid}
 use Rattle.hyd_spec_certificates.specs.Record.{Record, Standing}
-use Rattle.hyd_spec_certificates.specs.Decided.{OpenRule, EndsBy, RuleIsOpen, EventIsOpen}
+use Rattle.hyd_spec_certificates.specs.Decided.{EndsBy, RuleIsOpen, EventIsOpen}
 use Rattle.hyd_spec_certificates.specs.Valid.{LeavesLinks, levels_next}
 use Rattle.hyd_spec_reports.specs.declared.StopCause.TheVariants.{RuleOpen, EventOpen, TankOpen, ControlOpen}
 use Rattle.hyd_spec_reports.specs.Stops.{Stops, IsTightRow, EndsAtLevels, open_states, is_open_control}

@@ -8,6 +8,7 @@ pub mod Opening
 pub mod Placing
 pub mod Proposed
 pub mod Proposing
+pub mod Reached
 pub mod Refusing
 pub mod Running
 pub mod Starting

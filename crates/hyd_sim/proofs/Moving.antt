@@ -1,11 +1,10 @@
 -- The standing behind a period.
-use Rattle.std.proofs.Common.{◌≡◌, ◌≢◌, ℕ, suc, ◌+◌, ◌^◌, ◌<◌, ◌≤◌, Bool, true, false, length, refl, sym, ap, subst}
+use Rattle.std.proofs.Common.{◌≡◌, ◌≢◌, suc, ◌+◌, ◌^◌, ◌≤◌, true, false, length, sym, subst}
 use Rattle.std.proofs.Common.{◌∙◌, arith}
 use Rattle.std.proofs.lemmas.Bool.{true≢false}
 use Rattle.hyd_net.specs.Sound.{Sound}
 use Rattle.hyd_spec.specs.Types.{Project}
-use Rattle.hyd_spec_certificates.specs.Grid.{Grid}
-use Rattle.hyd_spec_certificates.specs.Record.{Record, Standing}
+use Rattle.hyd_spec_certificates.specs.Record.{Standing}
 use Rattle.hyd_spec_certificates.specs.Valid.{IsValid, LeadsOn, Continues, continues, finishes}
 use Rattle.hyd_spec_histories.specs.Agreement.{IsKept}
 use Rattle.hyd_spec_histories.proofs.Stepping.{kept_next}
@@ -19,10 +18,10 @@ use Rattle.hyd_graph.specs.NetView.{NetView}
 use Rattle.hyd_next.specs.Room.{HasRoom as HasNextRoom}
 use Rattle.hyd_close.specs.Closing.{HasRoom, AreKeptIn}
 use Rattle.hyd_close.specs.declared.close.Close.{Close}
-use Rattle.hyd_sim.specs.Attempts.{IsMade, next_standing, last_standing, later_standing}
+use Rattle.hyd_sim.specs.Attempts.{IsMade, later_standing}
 use Rattle.hyd_sim.specs.View.{IsStanding, standing_at, standing_for}
 use Rattle.hyd_sim.specs.declared.standing.Standing.{Standing as Here}
-use Rattle.hyd_sim.proofs.Running.{at-last, at-later}
+use Rattle.hyd_sim.proofs.Running.{at-later}
 use Rattle.hyd_sim.proofs.Starting.{zip-length}
 
 -- no more periods were done than seconds are over, so their number is small

@@ -1,5 +1,5 @@
 -- The standing at which a run begins.
-use Rattle.std.proofs.Common.{◌≡◌, ◌≤◌, ◌+◌, false, sym, subst, arith, map}
+use Rattle.std.proofs.Common.{◌≡◌, false, sym, subst, arith, map}
 use Rattle.hyd_net.specs.Sound.{Sound}
 use Rattle.hyd_spec.specs.Types.{Project}
 use Rattle.hyd_spec_certificates.specs.Record.{initial_standing}

@@ -1,21 +1,16 @@
 -- A record that a finder tells is what a period gets, where it is valid and narrow.
-use Rattle.std.proofs.Common.{◌≡◌, ◌≢◌, ℕ, zero, suc, ◌+◌, ◌<◌, ℤ, pos, Bool, true, false, List, [], ◌∷◌, length, map}
-use Rattle.std.proofs.Common.{refl, sym, ap, subst, ◌∙◌, arith}
+use Rattle.std.proofs.Common.{◌≡◌, ℕ, suc, ◌<◌, List, [], ◌∷◌, length}
+use Rattle.std.proofs.Common.{refl, sym, subst, ◌∙◌, arith}
 use Rattle.std.specs.Prelude.{slice_index_or}
-use Rattle.hyd_spec.specs.Types.{Project, LinkState}
-use Rattle.hyd_spec.specs.Network.{tank_count}
-use Rattle.hyd_spec_certificates.specs.declared.Problem.{Problem}
+use Rattle.hyd_spec.specs.Types.{Project}
 use Rattle.hyd_spec_certificates.specs.declared.Problem.TheVariants.{Main, Pinned}
-use Rattle.hyd_spec_certificates.specs.declared.Side.{Side}
 use Rattle.hyd_spec_certificates.specs.declared.Side.TheVariants.{Upper, Lower}
 use Rattle.hyd_spec_certificates.specs.Interval.{Interval}
 use Rattle.hyd_spec_certificates.specs.Grid.{Grid}
-use Rattle.hyd_spec_certificates.specs.Narrow.{IsNarrow}
-use Rattle.hyd_spec_certificates.specs.Record.{Record, Standing, Vectors, vector_of, no_vectors}
-use Rattle.hyd_spec_certificates.specs.Valid.{IsGridAt, IsValid, LeadsOn, Continues, continues, finishes, levels_next}
+use Rattle.hyd_spec_certificates.specs.Record.{Record, Standing, Vectors, no_vectors}
+use Rattle.hyd_spec_certificates.specs.Valid.{IsValid, LeadsOn, Continues, continues, finishes, levels_next}
 use Rattle.hyd_spec_laws.proofs.OneLength.{one_length}
 use Rattle.hyd_spec_laws.proofs.OneStanding.{one_standing}
-use Rattle.hyd_cert.specs.RecordView.{IsProblemOf}
 use Rattle.hyd_close.specs.Opens.{SharesVectors, IsOpenAt, EndsWith, IsFirstControl}
 use Rattle.hyd_close.specs.declared.open.Open.{Open}
 use Rattle.hyd_close.specs.declared.open.Open.TheVariants.{Rule, Event, Tank, Control}

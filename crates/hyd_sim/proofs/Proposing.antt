@@ -1,7 +1,7 @@
 -- What a valid record decides no record with its vectors leaves open.
 use Rattle.std.proofs.Common.{◌≡◌, ◌≢◌, ℕ, zero, suc, ◌<◌, ℤ, Bool, true, false, List, [], ◌∷◌, length, map, refl, sym}
-use Rattle.std.proofs.Common.{ap, subst, ◌∙◌, arith}
-use Rattle.std.specs.Prelude.{Option, Some, None, position, slice_get, slice_index_or, is_none}
+use Rattle.std.proofs.Common.{ap, ◌∙◌, arith}
+use Rattle.std.specs.Prelude.{Option, Some, position, slice_get, slice_index_or, is_none}
 use Rattle.std.proofs.lemmas.List.Quantifiers.{position-Some}
 use Rattle.std.proofs.lemmas.Option.{slice_get_within, get_or_from_slice_get}
 use Rattle.hyd_spec.specs.Types.{Project, Tank, LinkState, Control, AtLevel}
@@ -15,8 +15,8 @@ use Rattle.hyd_spec_certificates.specs.Record.{Record, Standing}
 use Rattle.hyd_spec_certificates.specs.Decided.{OpenRule, End, ByRules, WithoutRules, EndsBy, RuleIsOpen, EventIsOpen}
 use Rattle.hyd_spec_certificates.specs.Decided.{nowhere, control_truth, by_rules as decided_by_rules, rule_is_open}
 use Rattle.hyd_spec_certificates.specs.Decided.{by_clock as decided_by_clock, event_is_open}
-use Rattle.hyd_spec_certificates.specs.Valid.{LeavesLinks, by_rules, by_clock, levels_next, AreStates}
-use Rattle.hyd_spec_certificates.specs.Valid.{ControlsAreDecided, Continues, LeadsOn, continues, finishes}
+use Rattle.hyd_spec_certificates.specs.Valid.{LeavesLinks, by_rules, by_clock, AreStates}
+use Rattle.hyd_spec_certificates.specs.Valid.{ControlsAreDecided}
 use Rattle.hyd_spec_reports.specs.Stops.{open_states, is_open_control}
 use Rattle.hyd_spec_laws.proofs.OneAnswer.{one_end}
 

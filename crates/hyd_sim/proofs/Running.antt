@@ -1,29 +1,25 @@
 -- The periods of a run.
-use Rattle.std.proofs.Common.{◌≡◌, ℕ, zero, suc, ◌+◌, ◌<◌, ◌≤◌, ℤ, pos, ◌+ℤ◌, ◌-ℤ◌, ◌*ℤ◌, ◌≤ℤ◌, Bool, true, false, List}
-use Rattle.std.proofs.Common.{[], ◌∷◌, ◌++◌, length, map, refl, sym, ap, subst, ◌∙◌, arith, ◌⊎◌, inl, inr}
+use Rattle.std.proofs.Common.{◌≡◌, ℕ, zero, suc, ◌<◌, ◌≤◌, ℤ, Bool, List}
+use Rattle.std.proofs.Common.{length, refl, sym, ap, subst, ◌∙◌, arith}
 use Rattle.std.specs.Prelude.{unsigned_abs, if◌then◌else◌}
 use Rattle.std.proofs.Common.{◌≢◌, eq-eqb}
 use Rattle.std.proofs.lemmas.Bool.{ne_eqb}
 use Rattle.std.proofs.lemmas.Option.{slice_get_within, get_or_from_slice_get}
 use Rattle.hyd_spec.specs.Quantity.{demand_of}
-use Rattle.std.proofs.lemmas.Int.{ints}
-use Rattle.hyd_spec.specs.Types.{Project, Junction, LinkState}
-use Rattle.hyd_spec.specs.Lists.{Each}
+use Rattle.hyd_spec.specs.Types.{Project, Junction}
 use Rattle.hyd_spec.specs.Network.{junction_count, tank_count}
-use Rattle.hyd_spec.specs.Assignment.{head_at}
 use Rattle.hyd_spec_certificates.specs.declared.Problem.{Problem}
 use Rattle.hyd_spec_certificates.specs.declared.Problem.TheVariants.{Main, Pinned}
 use Rattle.hyd_spec_certificates.specs.declared.Side.{Side}
 use Rattle.hyd_spec_certificates.specs.Grid.{Grid}
 use Rattle.hyd_spec_certificates.specs.Certificate.{IsCertificate, IsTight}
-use Rattle.hyd_spec_certificates.specs.Record.{Record, Standing, Vectors, vector_of}
+use Rattle.hyd_spec_certificates.specs.Record.{Record, Standing}
 use Rattle.hyd_spec_certificates.specs.Valid.{IsProblem, IsGridAt, DemandsAreInRange, AreCertificates, demand_limit}
 use Rattle.hyd_spec_reports.specs.Stops.{Stops, IsFirstDemand, IsTightRow, EarlierHaveCertificates, HasNoCertificate}
 use Rattle.hyd_spec_reports.specs.Stops.{SpendsRounds}
 use Rattle.hyd_cert.specs.RecordView.{IsProblemOf}
 use Rattle.hyd_cert.specs.Vectors.{problems_in, behind_two}
 use Rattle.hyd_graph.proofs.Sounding.{long_zipped}
-use Rattle.hyd_graph.specs.GridOf.{grid_of}
 use Rattle.hyd_graph.specs.NetView.{NetView}
 use Rattle.hyd_graph.specs.Periods.{IsNetOf}
 use Rattle.hyd_vectors.specs.Vectors.{OfEach, Lacks, HasNone, AreSpent}

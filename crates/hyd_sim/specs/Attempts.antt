@@ -20,7 +20,7 @@ use Rattle.hyd_close.specs.Closing.{AreKeptIn}
 use Rattle.hyd_close.specs.Opens.{IsOpenAt, SharesVectors}
 use Rattle.hyd_close.specs.declared.close.Close.{Close}
 use Rattle.hyd_watch.specs.Started.{HaveTanks}
-use Rattle.hyd_vectors.specs.Vectors.{OfEach, IsSought, LacksFirst}
+use Rattle.hyd_vectors.specs.Vectors.{OfEach, IsSought, Comes, LacksFirst}
 use Rattle.hyd_sim.specs.Sharp.{stop_of, open_stop_of}
 use Rattle.hyd_sim.specs.View.{standing_at, standing_for}
 use Rattle.hyd_sim.specs.declared.attempt.Fault.{Fault}
@@ -74,12 +74,19 @@ pub record IsMade (network : Project) (here : Here) (net : NetView) (row : Row) 
   pub states : AreStates network (states_of net)
   pub links : states_of net ≡ facts.links.list
 
+-- each vector of a record is what is sought of its problem and side, whatever becomes of the others: the tight one, or
+-- a certificate, and the finder's where that is one; and it comes by no more rounds than a search may make
+pub record AreSought (tight : Bool) (told : Option (List ℤ)) (grid : Grid) (tanks rounds : ℕ) (row : Record)
+    : Type 0 where
+  pub each : OfEach (IsSought tight told grid tanks) tanks row
+  pub come : OfEach (Comes tight told grid tanks rounds) tanks row
+
 -- why an attempt at a period failed: a vector is lacking, or they leave a matter open, as any record with them does
 abbrev pub IsFault : Bool → Option (List ℤ) → Project → Grid → Standing → ℕ → Record → Fault → Type 0
 IsFault tight told network grid standing rounds row (Lack lack) =
     LacksFirst tight told grid (tank_count network) rounds row lack
 IsFault tight told network grid standing rounds row (Open found) =
-    OfEach (IsSought tight told grid (tank_count network)) (tank_count network) row
+    AreSought tight told grid (tank_count network) rounds row
     × ((other : Record) → SharesVectors other row → IsOpenAt network grid standing other found)
 
 -- the stop of a period whose vectors are as sharp as can be

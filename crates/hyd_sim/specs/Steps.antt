@@ -1,6 +1,6 @@
 -- What a step of a run gives.
 -- Source: this program's.
-use Rattle.std.specs.Prelude.{◌≡◌, ◌⊎◌, ℕ, ℤ, true, List, Option, Some, None, MatchBool}
+use Rattle.std.specs.Prelude.{◌≡◌, ◌⊎◌, ℕ, ℤ, true, false, List, length, Option, Some, None, MatchBool}
 use Rattle.hyd_spec.specs.Types.{Project}
 use Rattle.hyd_spec.specs.Network.{tank_count}
 use Rattle.hyd_spec_certificates.specs.declared.Problem.{Problem}
@@ -21,8 +21,8 @@ use Rattle.hyd_graph.specs.Settings.{AreStates}
 use Rattle.hyd_bounds.specs.Bounds.{TanksInOrder}
 use Rattle.hyd_watch.specs.Started.{HaveTanks}
 use Rattle.hyd_close.specs.declared.close.Close.{Close}
-use Rattle.hyd_vectors.specs.Vectors.{AreTold}
-use Rattle.hyd_sim.specs.Attempts.{next_standing, IsMade}
+use Rattle.hyd_vectors.specs.Vectors.{IsTold, Tells, AreSpent, OfEach}
+use Rattle.hyd_sim.specs.Attempts.{next_standing, IsMade, AreSought}
 use Rattle.hyd_sim.specs.View.{SimView, standing_for, standing_of}
 use Rattle.hyd_sim.specs.declared.settings.Settings.{Settings}
 use Rattle.hyd_sim.specs.declared.standing.Standing.{Standing as Here}
@@ -41,31 +41,53 @@ IsSharp network settings standing grid row next =
     MatchBool settings.tight (AreTight network grid row)
     (AreTight network grid row ⊎ IsNarrow settings.width standing row next)
 
--- each vector of a record is a certificate, on the grid of a standing, that the finder tells
-abbrev pub IsToldAt : Option (List ℤ) → Project → Standing → Record → Type 0
-IsToldAt told network standing w =
-    (grid : Grid) → IsGridAt network standing grid → AreTold told grid (tank_count network) w
+-- the vectors of a record that is as sharp as the settings ask are those that were sought: tight ones; or, where not
+-- all need be tight, the record is narrow, and each vector is a certificate, and the finder's where that is one,
+-- whether or not it tells certificates of the others
+abbrev pub IsSharpAsSought : Option (List ℤ) → Project → Settings → Standing → Grid → Record → Standing → Type 0
+IsSharpAsSought told network settings standing grid row next =
+    MatchBool settings.tight (AreSought true told grid (tank_count network) settings.rounds row)
+    (AreSought true told grid (tank_count network) settings.rounds row
+    ⊎ (IsNarrow settings.width standing row next
+    × AreSought false told grid (tank_count network) settings.rounds row))
 
--- a record that the finder tells is valid at a standing and narrow
-pub record IsProposal (told : Option (List ℤ)) (network : Project) (width : ℤ) (standing : Standing) (w : Record)
-    : Type 0 where
-  pub told_at : IsToldAt told network standing w
+-- a vector is left to rounds: the finder tells no certificate of this problem and side, this is the tight one, and
+-- plain rounds, as many as a search may make, aren't spent on the way to it
+pub record IsLeftToRounds (told : Option (List ℤ)) (grid : Grid) (tanks rounds : ℕ) (problem : Problem) (side : Side)
+    (u : List ℤ) : Type 0 where
+  pub untold : (w : List ℤ) → IsTold told grid tanks problem side w → ⊥
+  pub tight : IsTight grid problem side u
+  pub unspent : AreSpent grid problem side rounds → ⊥
+
+-- the finder tells vectors, and each one of a record is a certificate that it tells, or is left to rounds
+pub record AreToldOrLeft (told : Option (List ℤ)) (grid : Grid) (tanks rounds : ℕ) (w : Record) : Type 0 where
+  pub tells : Tells told (length grid.junctions) tanks
+  pub each : OfEach (λ problem side u.
+      IsTold told grid tanks problem side u ⊎ IsLeftToRounds told grid tanks rounds problem side u) tanks w
+
+-- a record is valid at a standing and narrow, and each of its vectors, on the grid there, is a certificate that the
+-- finder tells, or is left to rounds
+pub record IsProposal (told : Option (List ℤ)) (network : Project) (settings : Settings) (standing : Standing)
+    (w : Record) : Type 0 where
+  pub told_at : (there : Grid) → IsGridAt network standing there
+      → AreToldOrLeft told there (tank_count network) settings.rounds w
   pub grid : Grid
   pub next : Standing
   pub valid : IsValid network standing grid w next
-  pub narrow : IsNarrow width standing w next
+  pub narrow : IsNarrow settings.width standing w next
 
--- a period was done, and its record is as sharp as the settings ask
-pub record IsDone (network : Project) (settings : Settings) (here : Here) (net : NetView) (row : Row) (facts : Facts)
-    (close : Close) : Type 0 where
+-- a period was done, and its record is as sharp as the settings ask by the vectors that were sought
+pub record IsDone (told : Option (List ℤ)) (network : Project) (settings : Settings) (here : Here) (net : NetView)
+    (row : Row) (facts : Facts) (close : Close) : Type 0 where
   pub made : IsMade network here net row facts close
-  pub sharp : IsSharp network settings (standing_for here) (grid_of net) (row_of row)
+  pub sought : IsSharpAsSought told network settings (standing_for here) (grid_of net) (row_of row)
       (next_standing network here row.length close)
 
 -- from one standing to another a period was done: its record is valid and leads on, the net is that of the period, with
--- links in the states of the facts, the facts are its own, and the record is as sharp as the settings ask
-pub record IsAdvanced (network : Project) (settings : Settings) (before : Standing) (net : NetView) (row : Row)
-    (facts : Facts) (now : Standing) : Type 0 where
+-- links in the states of the facts, the facts are its own, and the record is as sharp as the settings ask, by the
+-- vectors that were sought
+pub record IsAdvanced (told : Option (List ℤ)) (network : Project) (settings : Settings) (before : Standing)
+    (net : NetView) (row : Row) (facts : Facts) (now : Standing) : Type 0 where
   pub valid : IsValid network before (grid_of net) (row_of row) now
   pub facts_are : AreFacts network (grid_of net) before (row_of row) facts
   pub have : HaveTanks network facts
@@ -73,6 +95,7 @@ pub record IsAdvanced (network : Project) (settings : Settings) (before : Standi
   pub states : AreStates network (states_of net)
   pub links : states_of net ≡ facts.links.list
   pub sharp : IsSharp network settings before (grid_of net) (row_of row) now
+  pub sought : IsSharpAsSought told network settings before (grid_of net) (row_of row) now
 
 -- a step did a period, and the run stands behind it
 pub record IsPeriod (before now : SimView) : Type 0 where

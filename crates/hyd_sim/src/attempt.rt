@@ -14,10 +14,9 @@ ghost use Rattle.hyd_close.specs.Begun.{AreBegun, AreReady};
 ghost use Rattle.hyd_close.specs.Closing.{HasRoom as HasCloseRoom};
 ghost use Rattle.hyd_close.specs.declared.close.Close as closes;
 ghost use Rattle.hyd_close.specs.Opens.{IsOpenAt, SharesVectors};
-ghost use Rattle.hyd_vectors.specs.Vectors.{IsSought, OfEach};
 ghost use Rattle.hyd_spec_certificates.specs.Record.{Record as Row};
 ghost use Rattle.hyd_sim.specs.View.{IsStanding, header_for, standing_for};
-ghost use Rattle.hyd_sim.specs.Attempts.{IsFault, IsMade, IsOver, IsStarted};
+ghost use Rattle.hyd_sim.specs.Attempts.{AreSought, IsFault, IsMade, IsOver, IsStarted};
 
 use crate::standing::Standing;
 use hyd_cert::Record;
@@ -117,8 +116,8 @@ pub(crate) fn try_period<F: Finder>(
     requires started { IsStarted project.now standing.now net.now row.old facts.old }
     requires close { HasCloseRoom project.now close.old }
     ensures made { OnOk result (IsMade project.now standing.now net.now row.new facts.new close.new) }
-    ensures sought { OnOk result (OfEach (IsSought tight (F.told finder.old) (grid_of net.now)
-        (tank_count project.now)) (tank_count project.now) (row_of row.new)) }
+    ensures sought { OnOk result (AreSought tight (F.told finder.old) (grid_of net.now) (tank_count project.now)
+        search.old.rounds (row_of row.new)) }
     ensures fault { IfErr result (IsFault tight (F.told finder.old) project.now (grid_of net.now)
         (standing_for standing.now) search.old.rounds (row_of row.new)) }
     ensures header { header_of row.new ≡ header_of row.old }

@@ -14,7 +14,7 @@ ghost use Rattle.hyd_graph.specs.GridOf.{grid_of};
 ghost use Rattle.hyd_graph.specs.Periods.{IsNetOf};
 ghost use Rattle.hyd_close.specs.Closing.{HasRoom as HasCloseRoom};
 ghost use Rattle.hyd_vectors.specs.Vectors.{HaveSame};
-ghost use Rattle.hyd_sim.specs.Attempts.{IsMade, IsStarted, fault_stop_of, next_standing};
+ghost use Rattle.hyd_sim.specs.Attempts.{AreSought, IsMade, IsStarted, fault_stop_of, next_standing};
 ghost use Rattle.hyd_sim.specs.Sharp.{SaysNone};
 ghost use Rattle.hyd_sim.specs.Steps.{AreTight, IsAdvanced, IsDone, IsProposal};
 ghost use Rattle.hyd_sim.specs.View.{IsStanding, header_for, standing_for};
@@ -131,6 +131,8 @@ fn tighten<F: Finder>(
     requires close { HasCloseRoom project.now close.old }
     ensures made { OnOk result (IsMade project.now standing.now net.now row.new facts.new close.new) }
     ensures tight { OnOk result (AreTight project.now (grid_of net.now) (row_of row.new)) }
+    ensures sought { OnOk result (AreSought true (F.told finder.old) (grid_of net.now) (tank_count project.now) rounds
+        (row_of row.new)) }
     ensures stops { IfErr result (Stops project.now (standing_for standing.now) rounds) }
     ensures header { header_of row.new ≡ header_of row.old }
     ensures facts { HasRoom project.now facts.new }
@@ -173,10 +175,11 @@ fn does<F: Finder>(
         → IsMade project.now standing.now net.now row.new facts.new close.new) }
     ensures narrow { IfOk result (λ fits. fits ≡ true → IsNarrow settings.width (standing_for standing.now)
         (row_of row.new) (next_standing project.now standing.now row.new.length close.new)) }
+    ensures sought { IfOk result (λ fits. fits ≡ true → AreSought false (F.told finder.old) (grid_of net.now)
+        (tank_count project.now) settings.rounds (row_of row.new)) }
     ensures stops { IfErr result (Stops project.now (standing_for standing.now) settings.rounds) }
     ensures certain { IfErr result SaysNone }
-    ensures proposal { (w : Row) → IsProposal (F.told finder.old) project.now settings.width
-        (standing_for standing.now) w
+    ensures proposal { (w : Row) → IsProposal (F.told finder.old) project.now settings (standing_for standing.now) w
         → (result ≡ Ok true) × HaveSame (tank_count project.now) (row_of row.new) w }
     ensures header { header_of row.new ≡ header_of row.old }
     ensures number { row.new.number ≡ row.old.number }
@@ -220,7 +223,8 @@ fn do_period<F: Finder>(
     requires facts { HasRoom project.now facts.old }
     requires links { length links.old ≡ length project.now.links.list }
     requires close { HasCloseRoom project.now close.old }
-    ensures done { OnOk result (IsDone project.now settings standing.now net.new row.new facts.new close.new) }
+    ensures done { OnOk result (IsDone (F.told finder.old) project.now settings standing.now net.new row.new facts.new
+        close.new) }
     ensures stops { IfErr result (Stops project.now (standing_for standing.now) settings.rounds) }
     ensures of { IsNetOf project.now net.new }
     ensures search { search.new ≡ search.old }
@@ -229,7 +233,7 @@ fn do_period<F: Finder>(
     ensures links { length links.new ≡ length links.old }
     ensures close { HasCloseRoom project.now close.new }
     ensures proposal { (w : Row) → settings.tight ≡ false
-        → IsProposal (F.told finder.old) project.now settings.width (standing_for standing.now) w
+        → IsProposal (F.told finder.old) project.now settings (standing_for standing.now) w
         → IsOk result × HaveSame (tank_count project.now) (row_of row.new) w }
     ensures told { F.told finder.new ≡ F.told finder.old }
 {
@@ -289,8 +293,8 @@ pub(crate) fn advance<F: Finder>(
     requires facts { HasRoom project.now facts.old }
     requires links { length links.old ≡ length project.now.links.list }
     requires close { HasCloseRoom project.now close.old }
-    ensures advanced { OnOk result (IsAdvanced project.now settings (standing_for standing.old) net.new row.new facts.new
-        (standing_for standing.new)) }
+    ensures advanced { OnOk result (IsAdvanced (F.told finder.old) project.now settings (standing_for standing.old)
+        net.new row.new facts.new (standing_for standing.new)) }
     ensures stops { IfErr result (Stops project.now (standing_for standing.old) settings.rounds) }
     ensures stays { OnErr result (standing.new ≡ standing.old) }
     ensures standing { IsStanding project.now standing.new }
@@ -301,7 +305,7 @@ pub(crate) fn advance<F: Finder>(
     ensures links { length links.new ≡ length links.old }
     ensures close { HasCloseRoom project.now close.new }
     ensures proposal { (w : Row) → settings.tight ≡ false
-        → IsProposal (F.told finder.old) project.now settings.width (standing_for standing.old) w
+        → IsProposal (F.told finder.old) project.now settings (standing_for standing.old) w
         → IsOk result × HaveSame (tank_count project.now) (row_of row.new) w }
     ensures told { F.told finder.new ≡ F.told finder.old }
 {

@@ -6,8 +6,9 @@ ghost use Rattle.hyd_spec.specs.Network.{tank_count};
 ghost use Rattle.hyd_spec_certificates.specs.Record.{Record as Row};
 ghost use Rattle.hyd_spec_reports.specs.Stops.{Stops};
 ghost use Rattle.hyd_cert.specs.RecordView.{row_of};
+ghost use Rattle.hyd_graph.specs.GridOf.{grid_of};
 ghost use Rattle.hyd_vectors.specs.Vectors.{HaveSame};
-ghost use Rattle.hyd_sim.specs.Steps.{StepGives, IsPeriod, IsProposal};
+ghost use Rattle.hyd_sim.specs.Steps.{StepGives, IsPeriod, IsProposal, IsSharpAsSought};
 ghost use Rattle.hyd_sim.specs.View.{standing_of};
 
 use crate::period::advance;
@@ -32,13 +33,15 @@ impl Sim {
         requires unfinished { (standing_of self.old).finished ≡ false }
         requires running { self.old.stopped ≡ None }
         ensures period { OnOk result (IsPeriod self.old self.new) }
+        ensures sought { OnOk result (IsSharpAsSought (F.told finder.old) self.old.project self.old.settings
+            (standing_of self.old) (grid_of self.new.net) (row_of self.new.row) (standing_of self.new)) }
         ensures stops { IfErr result (Stops self.old.project (standing_of self.old) self.old.settings.rounds) }
         ensures standing { OnErr result (standing_of self.new ≡ standing_of self.old) }
         ensures running { self.new.stopped ≡ None }
         ensures project { self.new.project ≡ self.old.project }
         ensures settings { self.new.settings ≡ self.old.settings }
         ensures proposal { (w : Row) → self.old.settings.tight ≡ false
-            → IsProposal (F.told finder.old) self.old.project self.old.settings.width (standing_of self.old) w
+            → IsProposal (F.told finder.old) self.old.project self.old.settings (standing_of self.old) w
             → IsOk result × HaveSame (tank_count self.old.project) (row_of self.new.row) w }
         ensures told { F.told finder.new ≡ F.told finder.old }
     {
@@ -62,6 +65,8 @@ impl Sim {
     /// same cause again. Finished comes exactly where the period at the end of the run is over.
     pub fn step<F: Finder>(&mut self, finder: &mut F) -> Step
         ensures gives { StepGives self.old self.new result }
+        ensures sought { result ≡ Step.Period → IsSharpAsSought (F.told finder.old) self.old.project self.old.settings
+            (standing_of self.old) (grid_of self.new.net) (row_of self.new.row) (standing_of self.new) }
         ensures again { (cause : StopCause) → self.old.stopped ≡ Some cause
             → (result ≡ Step.Stop cause) × (self.new ≡ self.old) }
         ensures finished { self.old.stopped ≡ None → (standing_of self.old).finished ≡ true → result ≡ Step.Finished }
@@ -69,7 +74,7 @@ impl Sim {
         ensures settings { self.new.settings ≡ self.old.settings }
         ensures proposal { (w : Row) → self.old.stopped ≡ None → (standing_of self.old).finished ≡ false
             → self.old.settings.tight ≡ false
-            → IsProposal (F.told finder.old) self.old.project self.old.settings.width (standing_of self.old) w
+            → IsProposal (F.told finder.old) self.old.project self.old.settings (standing_of self.old) w
             → (result ≡ Step.Period) × HaveSame (tank_count self.old.project) (row_of self.new.row) w }
         ensures told { F.told finder.new ≡ F.told finder.old }
     {

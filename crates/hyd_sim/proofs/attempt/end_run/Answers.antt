@@ -1,4 +1,4 @@
-use Rattle.std.proofs.Common.{◌≡◌, refl}
+use Rattle.std.proofs.Common.{refl}
 use Rattle.hyd_graph.specs.GridOf.{grid_of}
 use Rattle.hyd_close.proofs.Bounding.{pinned-of}
 use Rattle.hyd_sim.proofs.Attempting.{last-over}

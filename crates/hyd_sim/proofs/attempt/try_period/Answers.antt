@@ -1,20 +1,15 @@
-use Rattle.std.proofs.Common.{◌≡◌, ℕ, ℤ, Bool, List, refl, sym, ap, subst, ◌∙◌}
+use Rattle.std.proofs.Common.{◌≡◌, ℕ, sym, ap, subst, ◌∙◌}
 use Rattle.std.specs.Prelude.{length}
 use Rattle.hyd_spec.specs.Network.{tank_count}
-use Rattle.hyd_spec_certificates.specs.declared.Problem.{Problem}
-use Rattle.hyd_spec_certificates.specs.declared.Side.{Side}
-use Rattle.hyd_spec_certificates.specs.Certificate.{IsCertificate}
-use Rattle.hyd_spec_certificates.specs.Record.{vector_of}
-use Rattle.hyd_spec_certificates.specs.Valid.{AreCertificates}
 use Rattle.hyd_cert.specs.Lines.{Header}
 use Rattle.hyd_cert.specs.Vectors.{behind_two}
 use Rattle.hyd_cert.specs.RecordView.{row_of}
 use Rattle.hyd_cert.specs.declared.record.Record.{Record as Row}
 use Rattle.hyd_graph.specs.GridOf.{grid_of}
 use Rattle.hyd_close.specs.Opens.{SharesVectors}
-use Rattle.hyd_vectors.specs.Vectors.{OfEach, IsSought, LacksFirst}
-use Rattle.hyd_sim.specs.View.{standing_for}
-use Rattle.hyd_sim.proofs.Attempting.{certificates-again, each-again, made-of}
+use Rattle.hyd_vectors.specs.Vectors.{LacksFirst}
+use Rattle.hyd_sim.specs.Attempts.{AreSought}
+use Rattle.hyd_sim.proofs.Attempting.{certificates-again, sought-again, made-of}
 use Rattle.hyd_sim.proofs.Lacking.{sought-all}
 use Rattle.hyd_sim.proofs.Running.{net-junctions, problems-each, certificates-of}
 use Rattle.hyd_sim.proofs.attempt.try_period.Goals as goal
@@ -70,13 +65,14 @@ returns-in-Ok-clause-made g c =
 pub returns-in-Ok-clause-sought : goal.returns-in-Ok-clause-sought
 returns-in-Ok-clause-sought g c =
     let net = c.args.net.now in
+    let tanks = tank_count c.args.project.now in
     let told = g.F.Finder.told c.args.finder.now in
-    let found : OfEach (IsSought c.args.tight told (grid_of net) (tank_count c.args.project.now))
-    (tank_count c.args.project.now) (row_of c.find.new.row) =
-    subst (λ (n : ℕ). OfEach (IsSought c.args.tight told (grid_of net) n) n (row_of c.find.new.row))
-    c.requires.of.each_tank c.in_default.ensures.found in
-    each-again c.find.new.row c.end_period.new.row c.end_period.ensures.row
-    (IsSought c.args.tight told (grid_of net) (tank_count c.args.project.now)) (tank_count c.args.project.now) found
+    let rounds = c.args.search.now.rounds in
+    let found : AreSought c.args.tight told (grid_of net) (length net.tanks) rounds (row_of c.find.new.row) =
+    record { each = c.in_default.ensures.found; come = c.in_default.ensures.comes } in
+    sought-again c.find.new.row c.end_period.new.row c.end_period.ensures.row c.args.tight told (grid_of net) tanks
+    rounds (subst (λ (n : ℕ). AreSought c.args.tight told (grid_of net) n rounds (row_of c.find.new.row))
+    c.requires.of.each_tank found)
 
 pub returns-in-Err-clause-fault : goal.returns-in-Err-clause-fault
 returns-in-Err-clause-fault g c =
@@ -89,11 +85,12 @@ returns-in-Err-end_period-clause-fault g c =
     let net = c.args.net.now in
     let tanks = tank_count c.args.project.now in
     let told = g.F.Finder.told c.args.finder.now in
-    let found : OfEach (IsSought c.args.tight told (grid_of net) tanks) tanks (row_of c.find.new.row) =
-    subst (λ (n : ℕ). OfEach (IsSought c.args.tight told (grid_of net) n) n (row_of c.find.new.row))
-    c.requires.of.each_tank c.in_default.ensures.found in (
-      each-again c.find.new.row c.end_period.new.row c.end_period.ensures.row
-          (IsSought c.args.tight told (grid_of net) tanks) tanks found,
+    let rounds = c.args.search.now.rounds in
+    let found : AreSought c.args.tight told (grid_of net) (length net.tanks) rounds (row_of c.find.new.row) =
+    record { each = c.in_default.ensures.found; come = c.in_default.ensures.comes } in (
+      sought-again c.find.new.row c.end_period.new.row c.end_period.ensures.row c.args.tight told (grid_of net) tanks
+          rounds (subst (λ (n : ℕ). AreSought c.args.tight told (grid_of net) n rounds (row_of c.find.new.row))
+          c.requires.of.each_tank found),
       λ other share.
           let own = subst (λ (r : Row). SharesVectors other (row_of r)) c.end_period.ensures.row share in
           c.in-Err-end_period.ensures.open other (record { main = own.main; pinned = own.pinned }),

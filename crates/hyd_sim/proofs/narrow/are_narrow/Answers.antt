@@ -1,8 +1,6 @@
-use Rattle.std.proofs.Common.{◌≡◌, ℤ, ◌+ℤ◌, ◌≤ℤ◌, map, arith, to_z, of_z, w64}
-use Rattle.std.specs.Int.{w128}
+use Rattle.std.proofs.Common.{◌≡◌, arith, to_z, of_z, w64}
 use Rattle.std.proofs.lemmas.Int.{ints}
 use Rattle.hyd_spec_certificates.specs.Narrow.{widest}
-use Rattle.hyd_facts.specs.OfPeriod.{levels_of}
 use Rattle.hyd_sim.proofs.narrow.are_narrow.Goals as goal
 
 pub returns-then-are_within-clause-narrow : goal.returns-then-are_within-clause-narrow

@@ -1,4 +1,4 @@
-use Rattle.std.proofs.Common.{◌≡◌, false, refl}
+use Rattle.std.proofs.Common.{false, refl}
 use Rattle.hyd_sim.proofs.Opening.{first-is, first-stands}
 use Rattle.hyd_sim.proofs.open.first_standing.Goals as goal
 

@@ -1,4 +1,4 @@
-use Rattle.std.proofs.Common.{◌≡◌, ℕ, Bool, true, false, refl, sym, ap, subst, ◌∙◌, ◌⊎◌, inl, inr}
+use Rattle.std.proofs.Common.{◌≡◌, ℕ, Bool, true, false, refl, sym, ap, subst, ◌∙◌}
 use Rattle.std.specs.Prelude.{length, Ok, Err, Result, IfOk}
 use Rattle.hyd_spec.specs.Network.{junction_count, tank_count}
 use Rattle.std.proofs.Common.{ℤ, arith, to_z, of_z, w64}
@@ -12,7 +12,7 @@ use Rattle.hyd_cert.specs.RecordView.{row_of}
 use Rattle.hyd_graph.specs.GridOf.{grid_of}
 use Rattle.hyd_vectors.specs.Room.{Room}
 use Rattle.hyd_vectors.specs.Vectors.{LacksFirst}
-use Rattle.hyd_sim.specs.Attempts.{IsFault, next_standing}
+use Rattle.hyd_sim.specs.Attempts.{AreSought, IsFault, next_standing}
 use Rattle.hyd_sim.specs.Sharp.{stop_of}
 use Rattle.hyd_sim.specs.View.{standing_for}
 use Rattle.hyd_sim.proofs.Fitting.{heads-each, next-long, told-here, same-here, nothing-open, narrow-too}
@@ -49,21 +49,35 @@ returns-in-Ok-clause-proposal g c = λ w p.
     let pinned : length (row_of row).pinned ≡ tank_count network =
     problems-each row.junctions row.tanks (behind_two row.junctions row.vectors.list)
     ∙ ap (λ (h : Header). h.tanks) (c.try_period.ensures.header ∙ c.requires.header) in
+    let told = g.F.Finder.told c.args.finder.now in
     let width : to_z w64 (of_z w64 c.args.settings.width) ≡ c.args.settings.width = omega (arith, ints) in
-    let narrow = narrow-too network standing grid c.requires.started.is_grid c.args.settings.width
-    (g.F.Finder.told c.args.finder.now) w p (row_of row) pinned c.in-Ok.ensures.sought _ c.in-Ok.ensures.made.valid in (
+    let sought : AreSought false told grid (tank_count network) c.args.settings.rounds (row_of row) =
+    subst (λ (n : ℕ). AreSought false told grid (tank_count network) n (row_of row))
+    (ap (λ (room : Room). room.rounds) c.requires.search) c.in-Ok.ensures.sought in
+    let narrow = narrow-too network c.args.settings standing grid c.requires.started.is_grid told w p
+    c.junctions-junctions.ensures.steady c.requires.started.order (row_of row) pinned sought _
+    c.in-Ok.ensures.made.valid in (
       ap Ok (kept-true c.is_narrow.result (λ e. c.is_narrow.ensures.wide e
           (subst (λ (W : ℤ). IsNarrow W standing (row_of row)
           (next_standing network c.args.standing.now row.length c.try_period.new.close)) (sym width) narrow))),
-      same-here network standing grid c.requires.started.is_grid c.args.settings.width
-          (g.F.Finder.told c.args.finder.now) w p (row_of row) pinned c.in-Ok.ensures.sought,
+      same-here network c.args.settings standing grid c.requires.started.is_grid told w p
+          c.junctions-junctions.ensures.steady c.requires.started.order (row_of row) pinned sought,
     )
+
+pub returns-in-Ok-clause-sought : goal.returns-in-Ok-clause-sought
+returns-in-Ok-clause-sought g c = λ is.
+    subst (λ (n : ℕ). AreSought false (g.F.Finder.told c.args.finder.now) (grid_of c.args.net.now)
+    (tank_count c.args.project.now) n (row_of c.try_period.new.row)) (ap (λ (room : Room). room.rounds)
+    c.requires.search) c.in-Ok.ensures.sought
 
 pub returns-in-Err-Lack-clause-made : goal.returns-in-Err-Lack-clause-made
 returns-in-Err-Lack-clause-made g c = not-done _ c.lack_fits.result c.lack_fits.ensures.goes_on
 
 pub returns-in-Err-Lack-clause-narrow : goal.returns-in-Err-Lack-clause-narrow
 returns-in-Err-Lack-clause-narrow g c = not-done _ c.lack_fits.result c.lack_fits.ensures.goes_on
+
+pub returns-in-Err-Lack-clause-sought : goal.returns-in-Err-Lack-clause-sought
+returns-in-Err-Lack-clause-sought g c = not-done _ c.lack_fits.result c.lack_fits.ensures.goes_on
 
 pub returns-in-Err-Lack-clause-stops : goal.returns-in-Err-Lack-clause-stops
 returns-in-Err-Lack-clause-stops g c =
@@ -92,10 +106,13 @@ returns-in-Err-Lack-clause-proposal g c = λ w p.
     let standing = standing_for c.args.standing.now in
     let grid = grid_of c.args.net.now in
     let told = g.F.Finder.told c.args.finder.now in
-    absurd (none-lacking false told grid (tank_count network) c.args.search.now.rounds (row_of c.try_period.new.row) w
-    c.in-Err-Lack.lack refl (subst (IsFault false told network grid standing c.args.search.now.rounds
-    (row_of c.try_period.new.row)) c.in-Err-Lack.field-0-is c.in-Err-Lack.ensures.fault)
-    (told-here network standing grid c.requires.started.is_grid c.args.settings.width told w p))
+    let row = row_of c.try_period.new.row in
+    let first : LacksFirst false told grid (tank_count network) c.args.settings.rounds row c.in-Err-Lack.lack =
+    subst (λ (n : ℕ). LacksFirst false told grid (tank_count network) n row c.in-Err-Lack.lack)
+    (ap (λ (room : Room). room.rounds) c.requires.search) (subst (IsFault false told network grid standing
+    c.args.search.now.rounds row) c.in-Err-Lack.field-0-is c.in-Err-Lack.ensures.fault) in
+    absurd (none-lacking told grid (tank_count network) c.args.settings.rounds row w c.in-Err-Lack.lack first
+    (told-here network c.args.settings standing grid c.requires.started.is_grid told w p))
 
 pub returns-in-Err-Open-clause-proposal : goal.returns-in-Err-Open-clause-proposal
 returns-in-Err-Open-clause-proposal g c = λ w p.
@@ -109,5 +126,8 @@ returns-in-Err-Open-clause-proposal g c = λ w p.
     ∙ ap (λ (h : Header). h.tanks) (c.try_period.ensures.header ∙ c.requires.header) in
     let fault = subst (IsFault false told network grid standing c.args.search.now.rounds (row_of row))
     c.in-Err-Open.field-0-is c.in-Err-Open.ensures.fault in
-    absurd (nothing-open network standing grid c.requires.started.is_grid c.args.settings.width told w p (row_of row)
-    pinned fault.0 _ fault.1)
+    let sought : AreSought false told grid (tank_count network) c.args.settings.rounds (row_of row) =
+    subst (λ (n : ℕ). AreSought false told grid (tank_count network) n (row_of row))
+    (ap (λ (room : Room). room.rounds) c.requires.search) fault.0 in
+    absurd (nothing-open network c.args.settings standing grid c.requires.started.is_grid told w p
+    c.junctions-junctions.ensures.steady c.requires.started.order (row_of row) pinned sought _ fault.1)

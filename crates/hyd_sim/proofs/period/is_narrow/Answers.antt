@@ -1,9 +1,8 @@
-use Rattle.std.proofs.Common.{◌≡◌, ℤ, List, refl, ap, sym, subst, ◌∙◌, arith, to_z, of_z, w64}
+use Rattle.std.proofs.Common.{◌≡◌, ℤ, ap, sym, subst, ◌∙◌, arith, to_z, of_z, w64}
 use Rattle.std.proofs.lemmas.Int.{ints}
 use Rattle.hyd_sim.specs.Sharp.{AreNarrow}
 use Rattle.std.specs.Prelude.{length, map}
 use Rattle.hyd_spec_certificates.specs.Narrow.{IsNarrow}
-use Rattle.hyd_spec_certificates.specs.Record.{Standing}
 use Rattle.hyd_cert.specs.RecordView.{row_of}
 use Rattle.hyd_facts.specs.OfPeriod.{levels_of}
 use Rattle.hyd_sim.specs.Attempts.{last_standing, later_standing}

@@ -1,4 +1,4 @@
-use Rattle.std.proofs.Common.{◌≡◌, ℕ, true, refl, sym, ap, subst, ◌∙◌}
+use Rattle.std.proofs.Common.{◌≡◌, ℕ, true, sym, ap, subst, ◌∙◌}
 use Rattle.std.specs.Prelude.{length}
 use Rattle.hyd_spec.specs.Network.{junction_count, tank_count}
 use Rattle.hyd_spec_reports.specs.Stops.{Stops}
@@ -8,7 +8,7 @@ use Rattle.hyd_cert.specs.Vectors.{behind_two}
 use Rattle.hyd_cert.specs.RecordView.{row_of}
 use Rattle.hyd_graph.specs.GridOf.{grid_of}
 use Rattle.hyd_vectors.specs.Room.{Room}
-use Rattle.hyd_sim.specs.Attempts.{IsFault}
+use Rattle.hyd_sim.specs.Attempts.{AreSought, IsFault}
 use Rattle.hyd_sim.specs.View.{standing_for}
 use Rattle.hyd_sim.proofs.Fitting.{fault-stops}
 use Rattle.hyd_sim.proofs.Running.{net-junctions, problems-each, tight-of}
@@ -16,7 +16,13 @@ use Rattle.hyd_sim.proofs.period.tighten.Goals as goal
 
 pub returns-in-Ok-clause-tight : goal.returns-in-Ok-clause-tight
 returns-in-Ok-clause-tight g c =
-    tight-of c.args.project.now (grid_of c.args.net.now) (row_of c.try_period.new.row) c.in-Ok.ensures.sought
+    tight-of c.args.project.now (grid_of c.args.net.now) (row_of c.try_period.new.row) c.in-Ok.ensures.sought.each
+
+pub returns-in-Ok-clause-sought : goal.returns-in-Ok-clause-sought
+returns-in-Ok-clause-sought g c =
+    subst (λ (n : ℕ). AreSought true (g.F.Finder.told c.args.finder.now) (grid_of c.args.net.now)
+    (tank_count c.args.project.now) n (row_of c.try_period.new.row)) (ap (λ (room : Room). room.rounds)
+    c.requires.search) c.in-Ok.ensures.sought
 
 pub returns-in-Err-clause-stops : goal.returns-in-Err-clause-stops
 returns-in-Err-clause-stops g c =

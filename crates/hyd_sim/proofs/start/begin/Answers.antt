@@ -1,4 +1,4 @@
-use Rattle.std.proofs.Common.{◌≡◌, ◌≤◌, ◌+◌, ℕ, List, length, map, refl, sym, ap, subst, ◌∙◌, arith}
+use Rattle.std.proofs.Common.{List, length, map, sym, ap, subst, ◌∙◌, arith}
 use Rattle.std.specs.List.{AllZip}
 use Rattle.std.proofs.lemmas.List.{length-map}
 use Rattle.hyd_spec.specs.Types.{LinkState}
@@ -10,10 +10,8 @@ use Rattle.hyd_spec_reports.specs.Report.{start_changes}
 use Rattle.hyd_spec_histories.specs.Agreement.{IsOwnState}
 use Rattle.hyd_spec_histories.proofs.Commanding.{started_own}
 use Rattle.hyd_facts.specs.OfPeriod.{levels_of, volumes_of}
-use Rattle.hyd_facts.specs.Room.{HasRoom}
 use Rattle.hyd_facts.specs.declared.facts.Facts.{Facts}
 use Rattle.hyd_graph.specs.Settings.{AreStates}
-use Rattle.hyd_sim.specs.View.{standing_for}
 use Rattle.hyd_sim.proofs.Starting.{own-states, ready-of, zip-length}
 use Rattle.hyd_sim.proofs.start.begin.Goals as goal
 

@@ -1,4 +1,4 @@
-use Rattle.std.proofs.Common.{◌≡◌, sym, ◌∙◌}
+use Rattle.std.proofs.Common.{sym, ◌∙◌}
 use Rattle.std.proofs.lemmas.Bool.{true≢false}
 use Rattle.hyd_sim.proofs.Starting.{decided-settles}
 use Rattle.hyd_sim.proofs.start.start_links.Goals as goal

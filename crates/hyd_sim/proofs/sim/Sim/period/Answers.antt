@@ -11,6 +11,6 @@ use Rattle.hyd_sim.proofs.sim.Sim.period.Goals as goal
 pub returns-clause-proposal : goal.returns-clause-proposal
 returns-clause-proposal g c =
     subst (λ (v : SimView). (w : Row) → v.settings.tight ≡ false
-    → IsProposal (g.F.Finder.told c.args.finder.now) v.project v.settings.width (standing_of v) w
+    → IsProposal (g.F.Finder.told c.args.finder.now) v.project v.settings (standing_of v) w
     → IsOk c.advance.result × HaveSame (tank_count v.project) (row_of c.advance.new.row) w) c.self.view_is
     (λ w e p. c.advance.ensures.proposal w e p)

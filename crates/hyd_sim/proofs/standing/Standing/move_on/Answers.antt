@@ -1,8 +1,7 @@
-use Rattle.std.proofs.Common.{◌≡◌, ℕ, ◌≤◌, refl, sym, ap, subst, ◌∙◌, arith}
+use Rattle.std.proofs.Common.{sym, subst, ◌∙◌, arith}
 use Rattle.hyd_sim.specs.View.{IsStanding}
 use Rattle.hyd_sim.proofs.Moving.{small-number, finished-standing, in-time, same-later, standing-later, room-later}
-use Rattle.hyd_sim.proofs.Running.{at-last, at-later}
-use Rattle.hyd_sim.specs.declared.standing.Standing.{Standing as Here}
+use Rattle.hyd_sim.proofs.Running.{at-later}
 use Rattle.hyd_sim.proofs.standing.Standing.move_on.Goals as goal
 
 pub finish-requires : goal.finish-requires
