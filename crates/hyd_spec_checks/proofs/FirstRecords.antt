@@ -163,7 +163,7 @@ without header text unread rows certificate all e =
     (ap (λ l. l ++ (10 ∷ unread)) k.can.0.is ∙ sym (append_assoc (header_words header) (10 ∷ []) unread))
     (goes_certificate header (k.line ++ (10 ∷ unread)) (goes k.line (k.can.0, refl) rest))
 
-both_rows : (rows more : List Record) (rest : List ℕ)
+pub both_rows : (rows more : List Record) (rest : List ℕ)
     → joined (map record_text rows) ++ (joined (map record_text more) ++ rest)
     ≡ joined (map record_text (rows ++ more)) ++ rest
 both_rows [] more rest = refl

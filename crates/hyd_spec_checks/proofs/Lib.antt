@@ -1,6 +1,11 @@
+pub mod BrokenOff
 pub mod ByEnd
 pub mod ByRecord
+pub mod Compared
 pub mod FirstRecords
+pub mod Lists
 pub mod NeverRefused
 pub mod OfRuns
+pub mod OneReason
 pub mod RunsByRecords
+pub mod ValidRuns

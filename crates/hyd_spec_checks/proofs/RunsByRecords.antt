@@ -9,6 +9,7 @@ use Rattle.hyd_spec_reports.specs.Headline.{Found, IsFound, IsRunFrom, none, mor
 use Rattle.hyd_spec_laws.proofs.OneReport.{one_report}
 use Rattle.hyd_spec_laws.proofs.OneRun.{one_grid}
 use Rattle.hyd_spec_laws.proofs.OneStanding.{one_standing}
+use Rattle.hyd_spec_checks.proofs.Lists.{Begins, begins_more}
 
 module _ (network : Project) where
   -- ---- one period
@@ -112,3 +113,16 @@ module _ (network : Project) where
       let others : rows_of ys ≡ rows_of xs ++ (row ∷ rows) = cc in
       let first = one_first start a b xs ys last other x y same in
       next_valid a.next xs ys row rows last other (steps start a xs last x).goes_on first.goes_on others
+
+  -- a run begins with the periods of another one whose records are the first of its own
+  pub begins_with : (start : Standing) (xs ys : List Found) (rows : List Record) (last other : Standing)
+      → IsRunFrom network start xs last → IsRunFrom network start ys other → rows_of ys ≡ rows_of xs ++ rows
+      → Begins xs ys
+  begins_with start [] ys rows last other x y e = record { more = ys; is = refl }
+  begins_with start (a ∷ xs) [] rows last other x y e = absurd (cc)
+  begins_with start (a ∷ xs) (b ∷ ys) rows last other x y e =
+      let same : a.row ≡ b.row = cc in
+      let others : rows_of ys ≡ rows_of xs ++ rows = cc in
+      let first = one_first start a b xs ys last other x y same in
+      begins_more a b xs ys first.same
+      (begins_with a.next xs ys rows last other (steps start a xs last x).goes_on first.goes_on others)

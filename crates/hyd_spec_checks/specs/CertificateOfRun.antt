@@ -1,9 +1,9 @@
 -- The certificates that hold: those of runs.
 -- Source: this program's.
-use Rattle.std.specs.Prelude.{ℕ, List, length}
+use Rattle.std.specs.Prelude.{◌≡◌, ℕ, List, length}
 use Rattle.hyd_spec.specs.Types.{Project}
 use Rattle.hyd_spec.specs.Network.{junction_count, tank_count}
-use Rattle.hyd_spec_certificates.specs.Record.{Standing}
+use Rattle.hyd_spec_certificates.specs.Record.{Record, Standing}
 use Rattle.hyd_spec_reports.specs.CertificateText.{IsCertificateText, version_of}
 use Rattle.hyd_spec_reports.specs.Headline.{Found, IsRun, rows_of}
 
@@ -15,3 +15,9 @@ pub record IsCertificateOfRun (network : Project) (text : List ℕ) : Type 0 whe
   pub is_run : IsRun network founds left
   pub certificate : IsCertificateText text (version_of network) (junction_count network) (tank_count network)
       (rows_of founds) (length founds) left.finished
+
+-- A run of the network with these records, each with a report, that leaves this standing.
+pub record IsRunOf (network : Project) (rows : List Record) (last : Standing) : Type 0 where
+  pub founds : List Found
+  pub is_run : IsRun network founds last
+  pub records : rows_of founds ≡ rows

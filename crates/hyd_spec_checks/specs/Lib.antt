@@ -1,1 +1,2 @@
 pub mod CertificateOfRun
+pub mod Reasons

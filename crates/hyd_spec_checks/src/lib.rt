@@ -1,22 +1,27 @@
-//! A check never refuses the certificate of a run. The statements on the way to it stand before it, each the contract
-//! of a small function.
+//! A check never refuses the certificate of a run, and records that are valid one after another are those of a run. A
+//! text has one answer and one report, and what is printed when a check is broken off begins that report. The
+//! statements on the way stand before these, each the contract of a small function.
 #![tactic(auto)]
 
 ghost use Rattle.std.specs.Prelude.{◌≡◌, ℕ, Bool, List, ◌∷◌, ◌++◌, length, map, All};
+ghost use Rattle.hyd_net.specs.Sound.{Sound};
 ghost use Rattle.hyd_spec.specs.Types.{Project};
 ghost use Rattle.hyd_spec.specs.Lists.{joined};
+ghost use Rattle.hyd_spec.specs.Network.{junction_count, tank_count};
 ghost use Rattle.hyd_spec_certificates.specs.Grid.{Grid};
 ghost use Rattle.hyd_spec_certificates.specs.Record.{Record, Standing};
-ghost use Rattle.hyd_spec_certificates.specs.Valid.{IsValid};
-ghost use Rattle.hyd_spec_reports.specs.CertificateText.{IsCertificateText, IsRow, header_line, record_text};
+ghost use Rattle.hyd_spec_certificates.specs.Valid.{IsValid, AreValid};
+ghost use Rattle.hyd_spec_reports.specs.CertificateText.{IsCertificateText, IsRow, version_of, header_line};
+ghost use Rattle.hyd_spec_reports.specs.CertificateText.{record_text};
 ghost use Rattle.hyd_spec_reports.specs.ReportLine.{report_text};
 ghost use Rattle.hyd_spec_reports.specs.declared.CertRefused.{CertRefused};
 ghost use Rattle.hyd_spec_reports.specs.Headline.{Found, IsRun, rows_of, lines_of, Sharpness, Outcome, RunWrites};
 ghost use Rattle.hyd_spec_reports.specs.Headline.{accepted_line, CheckAccepts, CheckRefuses, CheckRefusesEnd};
-ghost use Rattle.hyd_recheck.specs.Checks.{CheckRefusal, CheckEnds};
+ghost use Rattle.hyd_recheck.specs.Checks.{CheckRefusal, CheckEnds, CheckBreaksOff};
 ghost use Rattle.hyd_recheck.specs.declared.outcome.CheckEnd.{CheckEnd};
 ghost use Rattle.hyd_recheck.specs.declared.outcome.CheckEnd.TheVariants.{Accepted};
-ghost use Rattle.hyd_spec_checks.specs.CertificateOfRun.{IsCertificateOfRun};
+ghost use Rattle.hyd_spec_checks.specs.CertificateOfRun.{IsCertificateOfRun, IsRunOf};
+ghost use Rattle.hyd_spec_checks.specs.Reasons.{HaveOneReason};
 
 /// The records with which the text of a certificate begins, behind its header line, are the first of its records,
 /// whatever is behind them.
@@ -73,4 +78,45 @@ pub fn checks()
     ensures report { (network : Project) (text printed : List ℕ) (end : CheckEnd) (is : IsCertificateOfRun network text)
         → CheckEnds network text printed end
         → printed ≡ report_text network (lines_of is.founds) (accepted_line (length is.founds) is.left.finished) }
+{}
+
+// ---- valid records
+
+/// Records of a sound network that are valid one after another are those of a run, each with a report. So the text of
+/// such records, with an END line that says what is so, is the certificate of a run, which no check refuses.
+pub fn valid_records()
+    ensures run { (network : Project) → Sound network → (rows : List Record) (last : Standing)
+        → AreValid network rows last → IsRunOf network rows last }
+    ensures certificate { (network : Project) → Sound network → (text : List ℕ) (rows : List Record) (last : Standing)
+        → AreValid network rows last
+        → IsCertificateText text (version_of network) (junction_count network) (tank_count network) rows (length rows)
+        last.finished
+        → IsCertificateOfRun network text }
+    ensures never_refused { (network : Project) → Sound network → (text printed : List ℕ) (rows : List Record)
+        (last : Standing) → AreValid network rows last
+        → IsCertificateText text (version_of network) (junction_count network) (tank_count network) rows (length rows)
+        last.finished
+        → CheckRefusal network text printed → ⊥ }
+{}
+
+// ---- one answer
+
+/// Checks of one text by a sound network that come to their end end in one way: all of them accept it, or all refuse it
+/// for one reason, and they print one report.
+pub fn one_report()
+    ensures end { (network : Project) → Sound network → (text printed other : List ℕ) (a b : CheckEnd)
+        → CheckEnds network text printed a → CheckEnds network text other b → a ≡ b }
+    ensures reason { (network : Project) → Sound network → (text printed other : List ℕ)
+        (a : CheckRefusal network text printed) (b : CheckRefusal network text other)
+        → HaveOneReason network text printed other a b }
+    ensures report { (network : Project) → Sound network → (text printed other : List ℕ) (a b : CheckEnd)
+        → CheckEnds network text printed a → CheckEnds network text other b → printed ≡ other }
+{}
+
+/// What a check that was broken off has printed, in its last line or before, is a front of the report that each check
+/// of the text prints that comes to its end.
+pub fn broken_off()
+    ensures { (network : Project) → Sound network → (text printed report : List ℕ) (end : CheckEnd)
+        → CheckBreaksOff network text printed → CheckEnds network text report end
+        → (unprinted : List ℕ) × (printed ++ unprinted ≡ report) }
 {}

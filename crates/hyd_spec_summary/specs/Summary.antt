@@ -1,7 +1,7 @@
 -- The summary of a run, which is printed in place of its report: what the network has, how many periods were done,
 -- how many events there were, and how the run ended.
 -- Source: this program's format.
-use Rattle.std.specs.Prelude.{◌≡◌, ℕ, Bool, true, false, List, [], ◌∷◌, ◌++◌, length, filter, codes}
+use Rattle.std.specs.Prelude.{◌≡◌, ◌≢◌, ℕ, Bool, true, false, List, [], ◌∷◌, ◌++◌, length, filter, codes}
 use Rattle.std.specs.Prelude.{⊤, Option, MatchOption}
 use Rattle.std.specs.Fmt.{decimal}
 use Rattle.std.specs.List.{AllByRecursion}
@@ -52,8 +52,8 @@ pub record RunSums (network : Project) (rounds : ℕ) (sharpness : Sharpness) (o
   pub summary : printed ≡ summary_text network run.left run.founds outcome
 
 -- A fault of the outside ended the work: what was written is a front of the certificate of a run, as far as it went,
--- what was printed is a front of its summary where the run's end is known, and nothing else; every history agrees with
--- it.
+-- what was printed is a front of its summary where the run's end is known, and nothing else; where something was
+-- printed, nothing of the certificate is unwritten; every history agrees with it.
 pub record SumsBreakOff (network : Project) (rounds : ℕ) (sharpness : Sharpness)
     (written printed : List ℕ) : Type 0 where
   pub founds : List Found
@@ -66,4 +66,5 @@ pub record SumsBreakOff (network : Project) (rounds : ℕ) (sharpness : Sharpnes
   pub front_of_certificate : written ++ unwritten ≡ certificate_so_far network founds last
   pub unprinted : List ℕ
   pub front_of_summary : printed ++ unprinted ≡ option_map_or (summary_text network left founds) last []
+  pub in_order : printed ≢ [] → unwritten ≡ []
   pub every_history : EveryHistoryAgrees network founds

@@ -1,7 +1,7 @@
 -- Runs as far as they have gone, and what is put out of them.
 use Rattle.std.proofs.Common.{◌≡◌, ℕ, ◌+◌, ◌<◌, ◌^◌, List, [], ◌∷◌, ◌++◌, length, length-append, map}
 use Rattle.std.proofs.Common.{Option, Some, None, refl, sym, ap, subst, ◌∙◌, arith, append-nil, append_assoc}
-use Rattle.std.proofs.Common.{Bool, true, false}
+use Rattle.std.proofs.Common.{Bool, true, false, ◌⊎◌, inl, inr}
 use Rattle.std.specs.Prelude.{All, if◌then◌else◌, ◌≤◌, Result, Ok, Err, IfOk, IfErr, OnOk}
 use Rattle.std.specs.List.{AllByRecursion}
 use Rattle.std.proofs.lemmas.List.Elements.{All-push}
@@ -26,7 +26,7 @@ use Rattle.hyd_io.specs.declared.output.OutFault.{OutFault}
 use Rattle.hyd_io.specs.declared.output.Channel.TheVariants.{Cert, Report}
 use Rattle.hyd_io.specs.Output.{PenState}
 use Rattle.hyd_io.specs.Told.{append_known, Moves, PutOut}
-use Rattle.hyd_io.proofs.ToldLemmas.{moves_whole, put_out_more}
+use Rattle.hyd_io.proofs.ToldLemmas.{append_known-nil, moves_whole, put_out_more}
 use Rattle.hyd_sim.specs.View.{SimView, standing_of, header_for}
 use Rattle.hyd_sim.specs.declared.settings.Settings.{Settings}
 use Rattle.hyd_run.specs.Pens.{Moment, PutIn, IsCutOff, OneRose, LeavesRest}
@@ -34,7 +34,7 @@ use Rattle.hyd_run.specs.Runs.{sharpness_of, fresh, outcome_of, IsStep, IsOver}
 use Rattle.hyd_run.specs.declared.outcome.RunEnd.{RunEnd}
 use Rattle.hyd_run.proofs.PenLemmas.{put-then, cut-then}
 use Rattle.hyd_summary.specs.Sums.{IsSummed, IsSumBrokenOff, SumsSoFar, SumsWhole, SumsCutShort, SumsPeriod}
-use Rattle.hyd_summary.specs.Sums.{LosesPeriod, summary_so_far, RunSumsIn}
+use Rattle.hyd_summary.specs.Sums.{LosesPeriod, summary_so_far, IsWritten, RunSumsIn}
 use Rattle.hyd_summary.proofs.EventLemmas.{events-append}
 
 -- ---- texts
@@ -79,6 +79,25 @@ cut-as : (why : OutFault) (a b a' b' : List ℕ) (m n : Moment) → a ≡ a' →
     → IsCutOff why a' b' m n
 cut-as why a b a' b' m n e f cut = subst (λ (x : List ℕ). IsCutOff why x b' m n) e (subst (λ (y : List ℕ). IsCutOff
     why a y m n) f cut)
+
+nothing-before : (front held : List ℕ) → [] ≡ front ++ held → front ≡ []
+nothing-before [] held e = refl
+nothing-before (c ∷ front) held e = absurd (cc)
+
+-- what was put in, with nothing held, was written, and it is still when the other pen is cut off
+written-still : (a b : List ℕ) (why : OutFault) (c : List ℕ) (m n o : Moment) → PutIn a b m n
+    → n.certificate.held ≡ [] → IsCutOff why [] c n o → IsWritten a m o
+written-still a b why c m n o put emptied cut =
+    let later = cut.written.1 in
+    let none : later.front ≡ [] = nothing-before later.front cut.written.0
+    (ap (λ h. h ++ []) (sym emptied) ∙ later.whole) in
+    let still : o.told.written ≡ n.told.written = later.out ∙ (ap (append_known n.told.written) none
+    ∙ append_known-nil n.told.written) in
+    record {
+      front = put.written.front;
+      whole = put.written.whole ∙ ap (λ h. put.written.front ++ h) emptied;
+      out = still ∙ put.written.out;
+    }
 
 -- what would have been printed next isn't printed either
 cut-more : (why : OutFault) (a b : List ℕ) (m n : Moment) → IsCutOff why a [] m n → IsCutOff why a b m n
@@ -153,10 +172,14 @@ begun-cut network settings fault header before now same cut = record {
   sharp = tt;
   last = None;
   ends_so = tt;
-  cut = cut-as fault _ [] _ [] before now
-      (sym (append-nil (header_line (version_of network) (junction_count network) (tank_count network)))) refl
-      (subst (λ (h : Header). IsCutOff fault (header_text h) [] before now) same cut);
+  cut = off;
+  in_order = inl off;
 }
+  where
+    off : IsCutOff fault (certificate_so_far network [] None) [] before now
+    off = cut-as fault _ [] _ [] before now
+        (sym (append-nil (header_line (version_of network) (junction_count network) (tank_count network)))) refl
+        (subst (λ (h : Header). IsCutOff fault (header_text h) [] before now) same cut)
 
 -- a period more, of the run that was begun
 pub more-done : (network : Project) (settings : Settings) (before now : SimView) (start m n : Moment)
@@ -192,12 +215,16 @@ more-lost network settings fault before now start m n events p s lost so_far = r
   sharp = all-more (IsSharpFound network (sharpness_of settings)) so_far.founds lost.found so_far.sharp step.sharp;
   last = None;
   ends_so = tt;
-  cut = cut-as fault _ [] _ [] start n (certificate-more network so_far.founds lost.found) refl
-      (cut-then fault _ [] _ [] start m n so_far.put lost.cut);
+  cut = off;
+  in_order = inl off;
 }
   where
     step : IsStep network (sharpness_of settings) (standing_of before) (standing_of now) lost.found
     step = rw (← p, ← s) lost.step
+
+    off : IsCutOff fault (certificate_so_far network (so_far.founds ++ (lost.found ∷ [])) None) [] start n
+    off = cut-as fault _ [] _ [] start n (certificate-more network so_far.founds lost.found) refl
+        (cut-then fault _ [] _ [] start m n so_far.put lost.cut)
 
 -- the end of a run
 pub over-ends : (network : Project) (settings : Settings) (outcome : Outcome) (before now : SimView) (m n : Moment)
@@ -240,11 +267,14 @@ module _ (network : Project) (settings : Settings) (outcome : Outcome) (left : S
     sharp = so_far.sharp;
     last = Some outcome;
     ends_so = ends;
-    cut = cut-more fault _ (summary_text network left so_far.founds outcome) start now
-        (cut-as fault _ [] _ [] start now (certificate-last network so_far.founds outcome) refl
-        (cut-then fault _ [] _ [] start before now so_far.put
-        (subst (λ (n : ℕ). IsCutOff fault (end_line n (is_finished outcome)) [] before now) same cut)));
+    cut = cut-more fault _ (summary_text network left so_far.founds outcome) start now off;
+    in_order = inl off;
   }
+    where
+      off : IsCutOff fault (certificate_so_far network so_far.founds (Some outcome)) [] start now
+      off = cut-as fault _ [] _ [] start now (certificate-last network so_far.founds outcome) refl
+          (cut-then fault _ [] _ [] start before now so_far.put
+          (subst (λ (n : ℕ). IsCutOff fault (end_line n (is_finished outcome)) [] before now) same cut))
 
   -- the summary in the words of what was found
   text-is : summary_line (junction_count network) (length network.links.list) records events
@@ -274,11 +304,11 @@ module _ (network : Project) (settings : Settings) (outcome : Outcome) (left : S
   }
 
   pub summary-cut : (fault : OutFault) (closed-at now : Moment)
-      → PutIn (end_line records (is_finished outcome)) [] before closed-at
+      → PutIn (end_line records (is_finished outcome)) [] before closed-at → closed-at.certificate.held ≡ []
       → IsCutOff fault [] (summary_line (junction_count network) (length network.links.list) records events
       ++ last_line network left records outcome) closed-at now
       → SumsCutShort network settings fault start now
-  summary-cut fault closed-at now put cut = record {
+  summary-cut fault closed-at now put emptied cut = record {
     founds = so_far.founds;
     left = left;
     is_run = so_far.is_run;
@@ -288,6 +318,8 @@ module _ (network : Project) (settings : Settings) (outcome : Outcome) (left : S
     cut = cut-as fault _ _ _ _ start now (append-nil (certificate_so_far network so_far.founds (Some outcome))) text-is
         (cut-then fault (certificate_so_far network so_far.founds (Some outcome)) [] [] _ start closed-at now
         (closed closed-at put) cut);
+    in_order = inr (written-still (certificate_so_far network so_far.founds (Some outcome)) [] fault _ start closed-at
+        now (closed closed-at put) emptied cut);
   }
 
 -- what the last lines make of a run, as of the one that was begun
@@ -377,13 +409,16 @@ module _ (network : Project) (settings : Settings) (start now : Moment) (sound :
             whole.put.printed;
       }
 
-  broken-off : (fault : OutFault) → SumsCutShort network settings fault start now
+  -- a fault before anything of the summary was put in
+  in-certificate : (fault : OutFault) (short : SumsCutShort network settings fault start now)
+      → IsCutOff fault (certificate_so_far network short.founds short.last) [] start now
       → IsSumBrokenOff network settings start.told now.told
-  broken-off fault short =
+  in-certificate fault short off =
+      let summary = summary_so_far network short.left short.founds short.last in
       let w = out-whole start.told.written now.told.written start.certificate.held
-      (certificate_so_far network short.founds short.last) c-held short.cut.written in
-      let p = out-whole start.told.printed now.told.printed start.report.held
-      (summary_so_far network short.left short.founds short.last) r-held short.cut.printed in
+      (certificate_so_far network short.founds short.last) c-held off.written in
+      let p = out-whole start.told.printed now.told.printed start.report.held [] r-held off.printed in
+      let none : p.1.front ≡ [] = nothing-before p.1.front p.0 p.1.whole in
       record {
         certificate = w.1.front;
         summary = p.1.front;
@@ -396,13 +431,50 @@ module _ (network : Project) (settings : Settings) (start now : Moment) (sound :
           ends_so = short.ends_so;
           unwritten = w.0;
           front_of_certificate = sym w.1.whole;
-          unprinted = p.0;
-          front_of_summary = sym p.1.whole;
+          unprinted = summary;
+          front_of_summary = ap (λ f. f ++ summary) none;
+          in_order = λ printed. absurd (printed none);
           every_history = every_history network sound short.founds short.left short.is_run;
         };
         written = w.1.out;
         printed = p.1.out;
       }
+
+  -- one when the certificate was written whole
+  in-summary : (fault : OutFault) (short : SumsCutShort network settings fault start now)
+      → IsWritten (certificate_so_far network short.founds short.last) start now
+      → IsSumBrokenOff network settings start.told now.told
+  in-summary fault short whole =
+      let a = certificate_so_far network short.founds short.last in
+      let p = out-whole start.told.printed now.told.printed start.report.held
+      (summary_so_far network short.left short.founds short.last) r-held short.cut.printed in
+      record {
+        certificate = a;
+        summary = p.1.front;
+        breaks_off = record {
+          founds = short.founds;
+          left = short.left;
+          is_run = short.is_run;
+          sharp = short.sharp;
+          last = short.last;
+          ends_so = short.ends_so;
+          unwritten = [];
+          front_of_certificate = append-nil a;
+          unprinted = p.0;
+          front_of_summary = sym p.1.whole;
+          in_order = λ printed. refl;
+          every_history = every_history network sound short.founds short.left short.is_run;
+        };
+        written = moved-whole start.told.written now.told.written start.certificate.held a [] c-held refl whole;
+        printed = p.1.out;
+      }
+
+  broken-off : (fault : OutFault) (short : SumsCutShort network settings fault start now)
+      → IsCutOff fault (certificate_so_far network short.founds short.last) [] start now
+      ⊎ IsWritten (certificate_so_far network short.founds short.last) start now
+      → IsSumBrokenOff network settings start.told now.told
+  broken-off fault short (inl off) = in-certificate fault short off
+  broken-off fault short (inr whole) = in-summary fault short whole
 
   pub gives-whole : (result : Result RunEnd OutFault) → RunSumsIn result network settings start now
       → OnOk result (now.certificate.held ≡ []) → OnOk result (now.report.held ≡ [])
@@ -413,7 +485,7 @@ module _ (network : Project) (settings : Settings) (start now : Moment) (sound :
   pub gives-broken : (result : Result RunEnd OutFault) → RunSumsIn result network settings start now
       → IfErr result (λ fault. IsSumBrokenOff network settings start.told now.told)
   gives-broken (Ok end) puts = tt
-  gives-broken (Err fault) puts = broken-off fault puts
+  gives-broken (Err fault) puts = broken-off fault puts puts.in_order
 
   pub gives-rose : (result : Result RunEnd OutFault) → RunSumsIn result network settings start now
       → IfErr result (λ fault. OneRose fault start.told.counts now.told.counts)

@@ -1,6 +1,7 @@
 -- A run whose certificate is put out as it goes, and whose report is replaced by a summary.
 -- Source: this program's.
-use Rattle.std.specs.Prelude.{◌≡◌, suc, ◌<◌, ◌^◌, ⊤, MatchOption, ℕ, List, [], length, All, Option, Some, None}
+use Rattle.std.specs.Prelude.{◌≡◌, suc, ◌<◌, ◌^◌, ⊤, ◌⊎◌, MatchOption, ℕ, List, [], ◌++◌, length, All, Option, Some}
+use Rattle.std.specs.Prelude.{None}
 use Rattle.std.specs.Prelude.{Result, Ok, Err}
 use Rattle.std.specs.Option.{option_map_or}
 use Rattle.std.specs.List.{AllByRecursion}
@@ -14,7 +15,7 @@ use Rattle.hyd_spec_summary.specs.Summary.{event_count, summary_text, RunSums, S
 use Rattle.hyd_io.specs.declared.output.Channel.TheVariants.{Report}
 use Rattle.hyd_io.specs.declared.output.OutFault.{OutFault}
 use Rattle.hyd_io.specs.Output.{PenState}
-use Rattle.hyd_io.specs.Told.{append_known}
+use Rattle.hyd_io.specs.Told.{append_known, Moves}
 use Rattle.hyd_sim.specs.declared.settings.Settings.{Settings}
 use Rattle.hyd_sim.specs.View.{SimView, standing_of}
 use Rattle.hyd_run.specs.Pens.{Told, Moment, moment, PutIn, IsCutOff}
@@ -77,7 +78,12 @@ pub record SumsWhole (network : Project) (settings : Settings) (outcome : Outcom
   pub put : PutIn (certificate_so_far network founds (Some outcome)) (summary_so_far network left founds (Some outcome))
       before now
 
--- A fault cut the run off, whose end is known or isn't.
+-- A text was written whole, and the pen of the certificate held none of it back.
+abbrev pub IsWritten : List ℕ → Moment → Moment → Type 0
+IsWritten text before now = Moves before.told.written now.told.written (before.certificate.held ++ text) []
+
+-- A fault cut the run off, whose end is known or isn't: before anything of its summary was put in, or when its
+-- certificate was written whole.
 pub record SumsCutShort (network : Project) (settings : Settings) (fault : OutFault)
     (before now : Moment) : Type 0 where
   pub founds : List Found
@@ -87,6 +93,8 @@ pub record SumsCutShort (network : Project) (settings : Settings) (fault : OutFa
   pub last : Option Outcome
   pub ends_so : MatchOption last ⊤ (EndsSo network left settings.rounds)
   pub cut : IsCutOff fault (certificate_so_far network founds last) (summary_so_far network left founds last) before now
+  pub in_order : IsCutOff fault (certificate_so_far network founds last) [] before now
+      ⊎ IsWritten (certificate_so_far network founds last) before now
 
 -- ---- a step
 

@@ -35,7 +35,7 @@ pub returns-in-Err-print_summary-clause-puts : goal.returns-in-Err-print_summary
 returns-in-Err-print_summary-clause-puts g c = λ ends start so_far.
     summary-cut _ c.args.sim.now.settings (outcome_of c.args.ended.end) (standing_of c.args.sim.now) c.args.ended.events
     c.number-records.result start _ c.number-records.ensures ends so_far c.in-Err-print_summary.fault _ _
-    (rw c.is_finished.ensures at c.in-Ok.ensures.puts)
+    (rw c.is_finished.ensures at c.in-Ok.ensures.puts) c.in-Ok.ensures.empty
     (report-put _ _ _ _ _ _ _ c.in-Ok.ensures.puts.unbroken
     (rw (c.requires.report, c.project.ensures.project) at (c.in-Err-print_summary.ensures.puts
     (standing_of c.args.sim.now) (sym c.time.ensures))))

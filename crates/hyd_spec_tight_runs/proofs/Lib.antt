@@ -1,0 +1,3 @@
+pub mod TwoRuns
+pub mod Texts
+pub mod BrokenOff
