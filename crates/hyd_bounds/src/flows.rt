@@ -46,7 +46,8 @@ pub fn flow_box(net: &Net, link: u32, low: &[i64], high: &[i64]) -> Span
     requires in_range { link < length net.now.ends }
     requires low { IsVector net.now low.now }
     requires high { IsVector net.now high.now }
-    requires ordered { AreInOrder (pos 0) (all_heads (grid_of net.now) Main Lower low.now) (all_heads (grid_of net.now) Main Upper high.now) }
+    requires ordered { AreInOrder (pos 0) (all_heads (grid_of net.now) Main Lower low.now)
+        (all_heads (grid_of net.now) Main Upper high.now) }
     ensures flow { IfSome (slice_get (grid_of net.now).links link) (λ l.
         IsSpan result (flow_box l (all_heads (grid_of net.now) Main Lower low.now) (all_heads (grid_of net.now) Main Upper high.now))) }
     ensures holds { HoldsFlow (grid_of net.now) low.now high.now link result }

@@ -42,7 +42,8 @@ pub fn tank_inflow(net: &Net, tank: u32, low: &[i64], high: &[i64]) -> Span
     requires low { IsVector net.now low.now }
     requires high { IsVector net.now high.now }
     requires ordered { AreInOrder (tank_width (grid_of net.now) tank)
-        (all_heads (grid_of net.now) (Pinned tank) Lower low.now) (all_heads (grid_of net.now) (Pinned tank) Upper high.now) }
+        (all_heads (grid_of net.now) (Pinned tank) Lower low.now) (all_heads (grid_of net.now) (Pinned tank) Upper
+        high.now) }
     ensures inflow { IsSpan result (inflow_box (grid_of net.now) tank (tank_node_of net.now tank) low.now high.now) }
     ensures holds { HoldsInflow (grid_of net.now) tank low.now high.now result }
     ensures small_lo { unsigned_abs result.lo ≤ 10 ^ 27 }

@@ -169,7 +169,8 @@ pub fn status_of(net: &Net, link: u32, low: &[i64], high: &[i64]) -> StatusWord
         (place : GridLink) → CanHave kind state → slice_get (states_of net.now) link ≡ Some state
         → slice_get (own_laws net.now) link ≡ Some (own_law us bends kind state)
         → slice_get (grid_of net.now).links link ≡ Some place → result ≡ status_of us bends kind state
-        (difference place (all_heads (grid_of net.now) Main Lower low.now) (all_heads (grid_of net.now) Main Upper high.now)) }
+        (difference place (all_heads (grid_of net.now) Main Lower low.now)
+        (all_heads (grid_of net.now) Main Upper high.now)) }
     ensures holds { (us : Bool) (bends : List (ListView HeadPoint)) (kind : LinkKind) (state : LinkState)
         (place : GridLink) → CanHave kind state → slice_get (states_of net.now) link ≡ Some state
         → slice_get (own_laws net.now) link ≡ Some (own_law us bends kind state)

@@ -14,12 +14,12 @@ use Rattle.hyd_spec_input.specs.Faults.{NoneIs, IsWrongWithOthers}
 use Rattle.hyd_spec_input.specs.Keywords.{object_word, attribute_word}
 use Rattle.hyd_spec_input.specs.Network.{node_ids, tank_ids, link_ids, is_asking, is_priority}
 use Rattle.hyd_spec_input.specs.RuleRows as form
-use Rattle.hyd_spec_input.specs.RuleRows.{begins_with, stage_by, is_acting, is_rule, in_order, line_words, words_about}
+use Rattle.hyd_spec_input.specs.RuleRows.{begins_with, stage_by, is_acting, in_order, line_words, words_about}
 use Rattle.hyd_spec_input.specs.RuleRows.{gets_then, can_have, attribute_of, attribute, relation, value}
 use Rattle.hyd_spec_input.specs.RuleRows.{attribute_place, comparison, clause_about}
 use Rattle.hyd_spec_input.specs.Tables.{is_of, words_of}
 use Rattle.hyd_spec_input.specs.WithOthers as others
-use Rattle.hyd_spec_input.specs.WithOthers.{is_part_word, is_action_word, holds_action}
+use Rattle.hyd_spec_input.specs.WithOthers.{is_part_word, is_action_word}
 use Rattle.hyd_spec_input.specs.declared.Attribute.{Attribute}
 use Rattle.hyd_spec_input.specs.declared.ObjectWord.{ObjectWord}
 use Rattle.hyd_spec_input.specs.declared.ObjectWord.TheVariants.{System, Node, Link}

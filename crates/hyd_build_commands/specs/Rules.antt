@@ -6,7 +6,7 @@ use Rattle.hyd_net.specs.declared.rules.Rule.{Rule}
 use Rattle.hyd_spec_input.specs.Network.{rule_groups, lines_at, is_doing, is_otherwise}
 use Rattle.hyd_spec_input.specs.Project.{Match, IsRule}
 use Rattle.hyd_spec_input.specs.RuleRows as form
-use Rattle.hyd_spec_input.specs.RuleRows.{begins_with, stage_after, stage_by, is_rule, until_rule}
+use Rattle.hyd_spec_input.specs.RuleRows.{begins_with, stage_after, is_rule, until_rule}
 use Rattle.hyd_spec_input.specs.Tables.{is_of, words_of}
 use Rattle.hyd_spec_input.specs.WithOthers as others
 use Rattle.hyd_spec_input.specs.declared.RuleWord.{RuleWord}

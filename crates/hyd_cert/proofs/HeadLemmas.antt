@@ -108,7 +108,8 @@ fault_here header i line0 line first now before counts after (Count number) with
 fault_here header i line0 line first now before counts after (Grammar number) within at same h so_far =
     let heads = heads_in header.junctions header.tanks in
     let place = place_head heads i within in
-    let stuck : IsFault header (Head i) now 1 = here (λ next l rest can e. h.1 l rest can.0 e) (λ over. absurd (cc)) in (
+    let stuck : IsFault header (Head i) now 1 = here (λ next l rest can e. h.1 l rest can.0 e)
+    (λ over. absurd (cc)) in (
       i + 1,
       (
         omega (arith, h.0, at),

@@ -1,5 +1,5 @@
 -- A text that goes on with a whole record isn't at fault in the lines of that record.
-use Rattle.std.proofs.Common.{◌≡◌, ℕ, suc, ◌+◌, ◌<◌, ◌≤◌, ◌≢◌, ℤ, List, [], ◌∷◌, ◌++◌, length, All, get_or, Option}
+use Rattle.std.proofs.Common.{◌≡◌, ℕ, suc, ◌+◌, ◌<◌, ◌≤◌, ℤ, List, [], ◌∷◌, ◌++◌, length, All, get_or, Option}
 use Rattle.std.proofs.Common.{Some}
 use Rattle.std.proofs.Common.{Result, Ok, Err, IfErr, refl, sym, ap, ◌∙◌, subst, inl, inr, codes, append_assoc, arith}
 use Rattle.std.specs.Fmt.{decimal, signed_decimal}

@@ -3,7 +3,7 @@ use Rattle.std.proofs.Common.{◌≡◌, ◌≢◌, ℕ, List, [], Option, None,
 use Rattle.std.proofs.Common.{is_some}
 use Rattle.std.specs.Option.{option_map_or}
 use Rattle.std.proofs.lemmas.Bool.{false≢true}
-use Rattle.hyd_io.specs.Told.{Files, where_told, append_known, file_at, content_of, PutOut}
+use Rattle.hyd_io.specs.Told.{Files, where_told, append_known, file_at, content_of}
 use Rattle.hyd_io.specs.Counts.{with_opened, with_created}
 use Rattle.hyd_io.specs.declared.desk.Faults.{Faults}
 use Rattle.hyd_io.specs.declared.desk.Openings.{Openings}

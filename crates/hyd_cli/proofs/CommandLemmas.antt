@@ -5,8 +5,8 @@ use Rattle.std.proofs.lemmas.Bool.{false≢true}
 use Rattle.std.proofs.lemmas.Option.{same_Some}
 use Rattle.std.proofs.lemmas.Slice.Eq.{bytes_eq-Decides}
 use Rattle.hyd_words.specs.Words.{Word, Said, said}
-use Rattle.hyd_words.specs.Orders.{Order, RunOrder, GenOrder, TwoFiles, run, check, gen, order_of, order_named}
-use Rattle.hyd_words.specs.Orders.{run_order, run_command, check_command, gen_command, gen_order, gen_of, differing}
+use Rattle.hyd_words.specs.Orders.{RunOrder, GenOrder, TwoFiles, run, check, gen, order_of}
+use Rattle.hyd_words.specs.Orders.{run_order, run_command, check_command, gen_command, gen_order, differing}
 use Rattle.hyd_words.specs.Orders.{two_files, seed_of, junctions_of, has_names_alone}
 use Rattle.std.specs.Prelude.{codes}
 use Rattle.hyd_words.specs.Seen.{order_seen, run_seen, files_seen, gen_seen}

@@ -7,7 +7,7 @@ use Rattle.hyd_spec.specs.declared.Change.{Change}
 use Rattle.hyd_spec_certificates.specs.Grid.{Grid}
 use Rattle.hyd_spec_certificates.specs.Record.{Record, Standing}
 use Rattle.hyd_spec_certificates.specs.Decided as decided
-use Rattle.hyd_spec_certificates.specs.Decided.{links_at, decided_changes, IsClockLength, IsEarliestEnd, IsLatestEnd}
+use Rattle.hyd_spec_certificates.specs.Decided.{links_at, decided_changes, IsEarliestEnd, IsLatestEnd}
 use Rattle.hyd_spec_certificates.specs.Decided.{IsFirstMatter, NoRuleMatters, EndsBy, by_rules, rule_is_open, by_clock}
 use Rattle.hyd_spec_certificates.specs.Decided.{event_is_open}
 use Rattle.hyd_spec_certificates.specs.Valid as valid

@@ -11,7 +11,7 @@ use Rattle.hyd_spec_certificates.specs.Grid.{Grid}
 use Rattle.hyd_spec_certificates.specs.Record.{Record, Standing}
 use Rattle.hyd_spec_certificates.specs.Verdict.{is_yes, is_unknown}
 use Rattle.hyd_spec_certificates.specs.Decided as decided
-use Rattle.hyd_spec_certificates.specs.Decided.{links_at, rule_truths, decided_changes, RulesMatter, IsTried}
+use Rattle.hyd_spec_certificates.specs.Decided.{links_at, rule_truths, decided_changes, RulesMatter}
 use Rattle.hyd_spec_certificates.specs.Decided.{IsOpenRule}
 use Rattle.hyd_facts.specs.declared.facts.Facts.{Facts}
 use Rattle.hyd_watch.specs.Started.{AreStarted}

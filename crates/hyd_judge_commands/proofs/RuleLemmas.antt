@@ -12,7 +12,7 @@ use Rattle.hyd_spec_input.specs.Capacities.{IsRefusedIn, IsRefusedSetting}
 use Rattle.hyd_spec_input.specs.Columns.{or_else, unless, word}
 use Rattle.hyd_spec_input.specs.Faults.{NoneIs}
 use Rattle.hyd_spec_input.specs.RuleRows as form
-use Rattle.hyd_spec_input.specs.RuleRows.{begins_with, is_rule, is_acting, stage_after, in_order, line_words}
+use Rattle.hyd_spec_input.specs.RuleRows.{begins_with, is_rule, stage_after, in_order, line_words}
 use Rattle.hyd_spec_input.specs.RuleRows.{words_about, gets_then}
 use Rattle.hyd_spec_input.specs.Tables.{is_of, words_of, words_of_row, link_named}
 use Rattle.hyd_spec_input.specs.WithOthers as others

@@ -1,17 +1,16 @@
 -- The numbers of a file stand for one pair: of two that they stand for, neither end of one is above that of the other.
-use Rattle.std.proofs.Common.{◌≡◌, ℕ, zero, suc, ◌*◌, ◌^◌, ◌<◌, ◌≤◌, Bool, refl, sym, subst, arith, mul-pos, inl, inr}
-use Rattle.std.proofs.Math.Nat.{mul-le-mul_right, mul-lt-mul_of_pos_right}
+use Rattle.std.proofs.Common.{◌≡◌, ℕ, zero, suc, ◌<◌, Bool, refl, arith, mul-pos}
 use Rattle.hyd_num.specs.declared.binary.Scaled.{Scaled}
 use Rattle.hyd_num.specs.declared.pairs.Pair.{Pair}
 use Rattle.hyd_num.specs.declared.decimals.Decimal.{Decimal}
 use Rattle.hyd_num.specs.Fraction.{fraction, AtMost}
-use Rattle.hyd_num.specs.Scaled.{numerator, denominator, as_fraction, IsDown, IsUp}
+use Rattle.hyd_num.specs.Scaled.{as_fraction, IsDown, IsUp}
 use Rattle.hyd_num.specs.Pairs.{IsRatio, IsProduct, IsQuotient, IsSum, IsPower, once, even, odd, IsRootDown, IsRootUp}
 use Rattle.hyd_num.specs.Pairs.{IsRoot533}
 use Rattle.hyd_num.specs.Quantity.{billionths}
-use Rattle.hyd_num.specs.Chain.{StandsFor, IsMade, IsMinorPair, IsFrictionPair, IsUnitOver, IsSquareOver}
+use Rattle.hyd_num.specs.Chain.{StandsFor, IsMinorPair, IsFrictionPair, IsUnitOver, IsSquareOver}
 use Rattle.hyd_num.specs.Chain.{IsPipePairWith}
-use Rattle.hyd_spec.specs.Types.{Origin, Pipe, Valve, Pump, Emitter, PressureDemand, Capacity}
+use Rattle.hyd_spec.specs.Types.{Origin, Pipe, Valve, Pump, Emitter, PressureDemand}
 use Rattle.hyd_lemmas.proofs.Fractions.{AtMost-itself, AtMost-along, times-rises, over-rises, plus-rises}
 use Rattle.hyd_lemmas.proofs.Enclosing.{numerator_above, denominator_above, down_below, up_above}
 use Rattle.hyd_lemmas.proofs.SquaredFlows.{ratio-above}

@@ -1,5 +1,5 @@
 -- Each fraction above 0 has a pair, and so has each quotient of pairs.
-use Rattle.std.proofs.Common.{◌≡◌, ℕ, zero, suc, ◌+◌, ◌*◌, ◌/◌, ◌%◌, ◌^◌, ◌<◌, ◌≤◌, ℤ, pos, ◌-ℤ◌, Bool, nat_eq, refl}
+use Rattle.std.proofs.Common.{◌≡◌, ℕ, zero, suc, ◌+◌, ◌*◌, ◌/◌, ◌%◌, ◌^◌, ◌<◌, ◌≤◌, pos, ◌-ℤ◌, Bool, nat_eq, refl}
 use Rattle.std.proofs.Common.{ap, arith, mul-pos, inl, inr, div-lt_iff_lt-mul, le-div_iff_mul-le, mod-lt, div-add-mod'}
 use Rattle.std.proofs.Math.Nat.{mul-le-mul_left, mul-le-mul_right, two-pow-succ}
 use Rattle.std.proofs.lemmas.Nat.{pow_pos, pow-add}
@@ -8,12 +8,12 @@ use Rattle.std.proofs.lemmas.Int.{ints}
 use borrow.Author.Differences.{up, down}
 use Rattle.hyd_num.specs.declared.binary.Scaled.{Scaled}
 use Rattle.hyd_num.specs.declared.pairs.Pair.{Pair}
-use Rattle.hyd_num.specs.Scaled.{numerator, denominator, IsDown, IsUp}
+use Rattle.hyd_num.specs.Scaled.{numerator, denominator}
 use Rattle.hyd_num.specs.Cut.{IsCut}
 use Rattle.hyd_num.specs.Pairs.{IsRatio, IsQuotient}
 use Rattle.hyd_num.proofs.Rounding.{IsCut-ratio, IsDown-from_cut}
 use Rattle.hyd_num.proofs.Ends.{ordered, quotients_ordered, numerator_positive, denominator_positive}
-use Rattle.hyd_lemmas.proofs.Products.{Rounded, raised}
+use Rattle.hyd_lemmas.proofs.Products.{raised}
 
 -- ---- cuts
 

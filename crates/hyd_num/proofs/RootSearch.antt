@@ -186,7 +186,8 @@ none_up_to bound middle t exp e o b = elim (cases_lt (middle.mant * 2 ^ up exp *
     (numerator t * 2 ^ down exp)) [
       | inl l ↦ (let m : middle.mant * (2 ^ up middle.exp * 2 ^ down t.exp) < t.mant
           * (2 ^ up t.exp * 2 ^ down middle.exp) = rw e (omega (arith, l)) in
-          let n : (middle.mant + 1) * (2 ^ up middle.exp * 2 ^ down t.exp) ≤ t.mant * (2 ^ up t.exp * 2 ^ down middle.exp) =
+          let n : (middle.mant + 1) * (2 ^ up middle.exp * 2 ^ down t.exp) ≤ t.mant
+          * (2 ^ up t.exp * 2 ^ down middle.exp) =
           not_below middle.mant t.mant (2 ^ up t.exp * 2 ^ down middle.exp) (2 ^ up middle.exp * 2 ^ down t.exp)
           middle.normal middle.short t.normal t.short (crossed middle t) m in
           let o : (middle.mant + 1) * (2 ^ up exp * 2 ^ down t.exp) ≤ t.mant * (2 ^ up t.exp * 2 ^ down exp) =

@@ -111,7 +111,8 @@ pub fn quotient(a: Scaled, b: Scaled) -> Cut
 /// The sum of two numbers, rounded down.
 pub fn sum(a: Scaled, b: Scaled) -> Cut
     requires { reach a + reach b ≤ 2 ^ 30 }
-    ensures cut { IsCut (numerator a * denominator b + numerator b * denominator a) (denominator a * denominator b) result.down result.exact }
+    ensures cut { IsCut (numerator a * denominator b + numerator b * denominator a) (denominator a * denominator b)
+        result.down result.exact }
     ensures near { reach result.down + 1 ≤ reach a + reach b }
 {
     if a.exp < b.exp {
@@ -125,7 +126,8 @@ pub fn sum(a: Scaled, b: Scaled) -> Cut
 fn sum_in_order(a: Scaled, b: Scaled) -> Cut
     requires near { reach a + reach b ≤ 2 ^ 30 }
     requires in_order { b.exp ≤ℤ a.exp }
-    ensures cut { IsCut (numerator a * denominator b + numerator b * denominator a) (denominator a * denominator b) result.down result.exact }
+    ensures cut { IsCut (numerator a * denominator b + numerator b * denominator a) (denominator a * denominator b)
+        result.down result.exact }
     ensures near { reach result.down + 1 ≤ reach a + reach b }
 {
     let gap = places_between(b.exp, a.exp);

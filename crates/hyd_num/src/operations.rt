@@ -116,7 +116,8 @@ fn quotient_up(a: Scaled, b: Scaled) -> Scaled
 
 fn sum_down(a: Scaled, b: Scaled) -> Scaled
     requires { reach a + reach b ≤ 2 ^ 30 }
-    ensures down { IsDown (numerator a * denominator b + numerator b * denominator a) (denominator a * denominator b) result }
+    ensures down { IsDown (numerator a * denominator b + numerator b * denominator a) (denominator a * denominator b)
+        result }
     ensures near { reach result ≤ reach a + reach b }
 {
     sum(a, b).down
@@ -124,7 +125,8 @@ fn sum_down(a: Scaled, b: Scaled) -> Scaled
 
 fn sum_up(a: Scaled, b: Scaled) -> Scaled
     requires { reach a + reach b ≤ 2 ^ 30 }
-    ensures up { IsUp (numerator a * denominator b + numerator b * denominator a) (denominator a * denominator b) result }
+    ensures up { IsUp (numerator a * denominator b + numerator b * denominator a) (denominator a * denominator b)
+        result }
     ensures near { reach result ≤ reach a + reach b }
 {
     raised(sum(a, b))

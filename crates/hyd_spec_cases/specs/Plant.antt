@@ -1,5 +1,5 @@
 -- A text with rows of pipes, pumps, valves and emitters, and what their words mean.
-use Rattle.std.specs.Prelude.{ℕ, ℤ, List, [], ◌∷◌, ◌++◌, codes, map, flat_map, Option, Some, None}
+use Rattle.std.specs.Prelude.{ℕ, ℤ, List, [], ◌∷◌, ◌++◌, codes, map}
 use Rattle.hyd_spec_lines.specs.Lines.{Row, items_of, rows_in}
 use Rattle.hyd_spec_lines.specs.declared.section.Section.TheVariants.{Junctions, Pipes, Valves}
 use Rattle.hyd_spec_input.specs.Columns.{amount}

@@ -53,7 +53,10 @@ pub fn statuses()
         ∷ (record { lo = neg_ℤ (pos 5); hi = pos 0 }) ∷ (record { lo = neg_ℤ (pos 5); hi = neg_ℤ (pos 1) })
         ∷ (record { lo = pos 3; hi = pos 3 }) ∷ [])
         ≡ WordOpen ∷ WordUnsure ∷ WordUnsure ∷ WordClosed ∷ WordClosed ∷ WordOpen ∷ [] }
-    ensures flow_control { map (status_of false [] (Fcv Linear) (Limit (pos 2000000) (pos 20000))) ((record { lo = pos 0; hi = pos 0 })
+    ensures flow_control { map (status_of false [] (Fcv Linear) (Limit (pos 2000000) (pos 20000))) ((record {
+      lo = pos 0;
+      hi = pos 0;
+    })
         ∷ (record { lo = pos 1; hi = pos 2 }) ∷ (record { lo = pos 2; hi = pos 3 }) ∷ (record {
           lo = pos 3;
           hi = pos 9;

@@ -344,7 +344,8 @@ pub seconds_nest : (walls : Walls) (tank : Tank) (stocks wider : Stocks) (inflow
     → (sooner ≤ earliest) × (latest ≤ later)
 seconds_nest walls tank stocks wider inflow more target rising cap earliest latest sooner later vessel at flow e l f
     m = (
-      first-sooner (may_reach walls tank wider more target rising) (may_reach walls tank stocks inflow target rising) cap
+      first-sooner (may_reach walls tank wider more target rising) (may_reach walls tank stocks inflow target rising)
+          cap
           sooner earliest
           (λ s h. may_nests walls tank stocks wider inflow more target rising s vessel at flow h) f e,
       first-sooner (must_reach walls tank stocks inflow target rising) (must_reach walls tank wider more target rising)

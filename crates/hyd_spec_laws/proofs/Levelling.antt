@@ -496,7 +496,8 @@ module _ (walls : Walls) (tank : Tank) (vessel : IsVessel walls tank) where
     where
       least-below : Leads 1 1 (exact_least walls stocks inflow seconds) (exact_greatest walls stocks inflow seconds)
       least-below = content-leads 1 1 walls (least_stock stocks) (greatest_stock stocks) inflow.lo inflow.hi seconds
-          (content-up walls (least_stock stocks) (greatest_stock stocks) has.level has.volume) (omega (arith, ints, flow))
+          (content-up walls (least_stock stocks) (greatest_stock stocks) has.level has.volume)
+          (omega (arith, ints, flow))
 
       pub carried_ordered : (carried_levels walls tank stocks inflow seconds).lo
           ≤ℤ (carried_levels walls tank stocks inflow seconds).hi

@@ -148,7 +148,8 @@ driven-below least most D c A B S d p q P pl pm some positive law begins part le
                 (cond_both (int_le d (ceiling least)) (pos 0) (if int_le (ceiling most) d then D
                 else int_min D (quadratic_low c (d -ℤ ceiling least))) (λ z. z ≤ℤ D)
                 (λ e. positive)
-                (λ e. cond_both (int_le (ceiling most) d) D (int_min D (quadratic_low c (d -ℤ ceiling least))) (λ z. z ≤ℤ D)
+                (λ e. cond_both (int_le (ceiling most) d) D (int_min D (quadratic_low c (d -ℤ ceiling least)))
+                (λ z. z ≤ℤ D)
                 (λ g. omega (arith, ints)) (λ g. min_left D (quadratic_low c (d -ℤ ceiling least)))))
                 (MatchBool-at_true _ _ held rest)
             | inr below ↦
@@ -204,7 +205,8 @@ driven-above least most D c A B S d p q P pl pm some positive law ends part le f
                 (cond_both (int_le d (floor least)) (pos 0) (if int_le (floor most) d then D
                 else int_min D (quadratic_high c (d -ℤ floor least))) (λ z. D ≤ℤ z)
                 (λ e. absurd (more e))
-                (λ e. cond_both (int_le (floor most) d) D (int_min D (quadratic_high c (d -ℤ floor least))) (λ z. D ≤ℤ z)
+                (λ e. cond_both (int_le (floor most) d) D (int_min D (quadratic_high c (d -ℤ floor least)))
+                (λ z. D ≤ℤ z)
                 (λ g. omega (arith, ints))
                 (λ g. absurd (let a = le-no (floor most) d g in
                 let b = ceiling_least most d pm (over_it S d p most some le
@@ -213,7 +215,8 @@ driven-above least most D c A B S d p q P pl pm some positive law ends part le f
                 (MatchBool-at_true _ _ held rest)
             | inr below ↦
                 let begin = part (MatchBool-at_false (IsWithinTolerance S q (at_scale S D)) P below rest) in
-                let whole : (q -ℤ pos (S * 10)) ≤ℤ (pos S *ℤ D) = law.consistent S p (q -ℤ pos (S * 10)) (pos S *ℤ D) some
+                let whole : (q -ℤ pos (S * 10)) ≤ℤ (pos S *ℤ D) = law.consistent S p (q -ℤ pos (S * 10)) (pos S *ℤ D)
+                some
                 begin (ends (le-no (most.num *ℤ pos S) (p *ℤ pos most.den) below)) in
                 cond_both (int_le d (floor least)) (pos 0) (if int_le (floor most) d then D
                 else int_min D (quadratic_high c (d -ℤ floor least))) (λ z. (q -ℤ pos (S * 10)) ≤ℤ (pos S *ℤ z))
@@ -221,7 +224,8 @@ driven-above least most D c A B S d p q P pl pm some positive law ends part le f
                 (λ e. cond_both (int_le (floor most) d) D (int_min D (quadratic_high c (d -ℤ floor least)))
                 (λ z. (q -ℤ pos (S * 10)) ≤ℤ (pos S *ℤ z))
                 (λ g. whole)
-                (λ g. min_is (λ z. (q -ℤ pos (S * 10)) ≤ℤ (pos S *ℤ z)) D (quadratic_high c (d -ℤ floor least)) (λ h. whole)
+                (λ g. min_is (λ z. (q -ℤ pos (S * 10)) ≤ℤ (pos S *ℤ z)) D (quadratic_high c (d -ℤ floor least))
+                (λ h. whole)
                 (λ h. let b = law.consistent S p (q -ℤ pos (S * 10))
                 (pos S *ℤ quadratic_high c (d +ℤ ceiling (negated least))) some begin
                 (law.encloses_above S d p some le) in

@@ -38,7 +38,10 @@ pub fn pipe()
 pub fn filling()
     ensures { (tank : Tank) → tank.area ≡ pos 314159265400
         → IsLeast (λ s. IsTrue (reaches 1 true (pos (5 * 10 ^ 13))
-        (exact_content (Cylinder (unsigned_abs tank.area)) (record { level = pos 0; volume = pos 0 }) (pos (5 * 10 ^ 10)) s))) 27144 }
+        (exact_content (Cylinder (unsigned_abs tank.area)) (record {
+          level = pos 0;
+          volume = pos 0;
+        }) (pos (5 * 10 ^ 10)) s))) 27144 }
 {}
 
 /// A premise `a OR b AND c` is (a or b) and c.

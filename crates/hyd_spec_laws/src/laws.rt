@@ -54,7 +54,8 @@ pub fn held_ends()
 
 /// The status word of a link holds at each head difference of the interval by which it was chosen.
 pub fn status_words()
-    ensures each { (unit : FlowUnit) (us : Bool) (patterns : List Pattern) (bends : List (ListView HeadPoint)) (kind : LinkKind)
+    ensures each { (unit : FlowUnit) (us : Bool) (patterns : List Pattern) (bends : List (ListView HeadPoint))
+        (kind : LinkKind)
         (state : LinkState) (S : ℕ) (d : Interval) (x : ℤ) → 0 < S → IsKindMade unit kind
         → HasSizes unit patterns bends kind
         → LiesIn S d x → StatusHolds us bends (status_of us bends kind state d) kind state S x }

@@ -26,9 +26,9 @@ use Rattle.hyd_spec_input.specs.ControlRows as alone
 use Rattle.hyd_spec_input.specs.Tables.{is_of, rows_of, own_id, words_of, words_of_row}
 use Rattle.hyd_spec_input.specs.Network.{tank_ids, number_in}
 use Rattle.hyd_spec_input.specs.WithOthers as others
-use Rattle.hyd_spec_input.specs.WithOthers.{us, head, is_check_valve, control_tank}
+use Rattle.hyd_spec_input.specs.WithOthers.{head, is_check_valve, control_tank}
 use Rattle.hyd_spec_input.specs.Project as project
-use Rattle.hyd_spec_input.specs.Project.{Where, IsProject, IsTank, IsKind, IsPipeKind, IsWhen}
+use Rattle.hyd_spec_input.specs.Project.{IsProject, IsTank, IsKind, IsWhen}
 use Rattle.hyd_spec_networks.proofs.Places.{match_all, match_length, kept_stands, kept_passes, source}
 use Rattle.hyd_spec_networks.proofs.Faultless.{AreRight, right_alone, right_among, or_none, all_none}
 use Rattle.hyd_spec_networks.proofs.Occurs.{number_inside}

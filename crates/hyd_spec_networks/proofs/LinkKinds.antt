@@ -45,7 +45,7 @@ use Rattle.hyd_spec_input.specs.WithOthers as others
 use Rattle.hyd_spec_input.specs.WithOthers.{us, is_speed, multipliers_of}
 use Rattle.hyd_spec_input.specs.Project as project
 use Rattle.hyd_spec_input.specs.Project.{Where, IsProject, IsLink, IsKind, IsPipeKind, IsPumpKind, IsValveKind}
-use Rattle.hyd_spec_input.specs.Project.{IsOpenValve, IsLaw, IsShutoffOf, pump_points, bend_points, numbered_links}
+use Rattle.hyd_spec_input.specs.Project.{IsOpenValve, IsShutoffOf, pump_points, bend_points, numbered_links}
 use Rattle.hyd_lemmas.proofs.Each.{all_by}
 use Rattle.hyd_spec_networks.proofs.Places.{match_all}
 use Rattle.hyd_spec_networks.proofs.Faultless.{AreRight, right_alone, right_among, or_none, all_none, unless_none}

@@ -32,7 +32,7 @@ use Rattle.hyd_net.specs.declared.links.OpenValve.TheVariants.{Quadratic, Linear
 use Rattle.hyd_net.specs.declared.project.Project.{Project}
 use Rattle.hyd_spec_input.specs.Columns.{or_else, unless, is_there, up_to, not_negative, word, amount, units}
 use Rattle.hyd_spec_input.specs.NetworkRows as alone
-use Rattle.hyd_spec_input.specs.NetworkRows.{is_throttle, is_general, has_check_valve, is_closed_pipe, pump_speed}
+use Rattle.hyd_spec_input.specs.NetworkRows.{is_throttle, is_general, is_closed_pipe, pump_speed}
 use Rattle.hyd_spec_input.specs.NetworkRows.{pump_speed_word, speed_of, pair_value, pump_pairs, pump_key, pump_value}
 use Rattle.hyd_spec_input.specs.NetworkRows.{and_key}
 use Rattle.hyd_spec_input.specs.declared.EarlierKeys.{EarlierKeys}
@@ -41,7 +41,7 @@ use Rattle.hyd_spec_input.specs.InForce.{unit}
 use Rattle.hyd_spec_input.specs.Network.{link_ids, number_in, status_of}
 use Rattle.hyd_spec_input.specs.WithOthers as others
 use Rattle.hyd_spec_input.specs.WithOthers.{us, flow, is_speed, state_range, is_status, takes_number, is_check_valve}
-use Rattle.hyd_spec_input.specs.WithOthers.{set_link, flow_setting}
+use Rattle.hyd_spec_input.specs.WithOthers.{set_link}
 use Rattle.hyd_spec_input.specs.Project.{Where, IsProject, IsLink, IsKind, IsPipeKind, IsPumpKind, IsValveKind}
 use Rattle.hyd_spec_input.specs.Project.{IsOpenValve, IsLaw, IsThrottle, IsNumberState, IsState, IsStateOf, IsOwnState}
 use Rattle.hyd_spec_input.specs.Project.{IsStart, speed_state, open_state, numbered_links}

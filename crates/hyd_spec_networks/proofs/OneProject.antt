@@ -2,7 +2,7 @@
 -- aside.
 use Rattle.std.proofs.Common.{◌≡◌, ℕ, ◌+◌, ◌*◌, ◌^◌, ℤ, pos, Bool, true, false, List, [], ◌∷◌, map, Option, Some, None}
 use Rattle.std.proofs.Common.{refl, sym, ap, ap₂, ◌∙◌, subst, arith, true≢false}
-use Rattle.std.specs.Prelude.{slice_get, codes, not, ◌&&◌, ◌<ℤ◌, ◌*ℤ◌, if◌then◌else◌}
+use Rattle.std.specs.Prelude.{slice_get, codes, ◌<ℤ◌, ◌*ℤ◌, if◌then◌else◌}
 use Rattle.std.specs.Option.{option_map}
 use Rattle.std.proofs.lemmas.Bool.{and_parts, not-true}
 use Rattle.std.proofs.lemmas.Int.{ints}
@@ -34,7 +34,7 @@ use Rattle.hyd_net.specs.declared.links.Link.{Link}
 use Rattle.hyd_net.specs.declared.links.LinkKind.{LinkKind}
 use Rattle.hyd_net.specs.declared.links.LinkKind.TheVariants.{Pipe, CheckPipe, Pump, CurvePump, Tcv, Fcv, Gpv}
 use Rattle.hyd_net.specs.declared.links.LinkState.{LinkState}
-use Rattle.hyd_net.specs.declared.links.LinkState.TheVariants.{Open, Closed, Speed, Throttle, Limit}
+use Rattle.hyd_net.specs.declared.links.LinkState.TheVariants.{Open, Closed, Throttle, Limit}
 use Rattle.hyd_net.specs.declared.links.OpenValve.{OpenValve}
 use Rattle.hyd_net.specs.declared.links.OpenValve.TheVariants.{Quadratic, Linear}
 use Rattle.hyd_net.specs.declared.links.ShutoffHead.{ShutoffHead}
@@ -52,20 +52,20 @@ use Rattle.hyd_net.specs.declared.rules.Action.{Action}
 use Rattle.hyd_net.specs.declared.rules.Rule.{Rule}
 use Rattle.hyd_net.specs.declared.project.Project.{Project}
 use Rattle.hyd_spec_input.specs.Columns.{word, amount, word_is}
-use Rattle.hyd_spec_input.specs.NetworkRows.{is_throttle, is_general, is_closed_pipe, pump_speed, pump_pattern}
+use Rattle.hyd_spec_input.specs.NetworkRows.{is_throttle, is_general, is_closed_pipe, pump_speed}
 use Rattle.hyd_spec_input.specs.NetworkRows.{valve_minor}
 use Rattle.hyd_spec_input.specs.Tables.{Point, is_of, rows_of, words_of, link_named}
 use Rattle.hyd_spec_input.specs.InForce.{unit}
 use Rattle.hyd_spec_input.specs.Curves.{Drop, drop_of}
-use Rattle.hyd_spec_input.specs.Network.{emitter_of, status_of, pattern_ids, pattern_number, shape_names, bend_names}
+use Rattle.hyd_spec_input.specs.Network.{emitter_of, status_of, pattern_ids, shape_names, bend_names}
 use Rattle.hyd_spec_input.specs.Network.{rule_groups, clause_lines, then_lines, else_lines}
 use Rattle.hyd_spec_input.specs.WithOthers.{us}
 use Rattle.hyd_spec_input.specs.Project as project
-use Rattle.hyd_spec_input.specs.Project.{Match, Where, IsOptions, IsTimes, IsEmitter, IsEmitterOf, HasEnds, IsPipeOf}
+use Rattle.hyd_spec_input.specs.Project.{Match, Where, IsOptions, IsTimes, IsEmitter, IsEmitterOf, IsPipeOf}
 use Rattle.hyd_spec_input.specs.Project.{IsPipeKind, IsPumpOf, IsShutoffOf, pump_points, IsPumpKind, IsValveOf}
-use Rattle.hyd_spec_input.specs.Project.{IsOpenValve, IsLaw, IsValveKind, speed_state, open_state, IsThrottle}
+use Rattle.hyd_spec_input.specs.Project.{IsOpenValve, IsValveKind, speed_state, open_state, IsThrottle}
 use Rattle.hyd_spec_input.specs.Project.{IsNumberState, IsState, IsStateOf, IsOwnState, IsStart, IsKind, IsLink, IsWhen}
-use Rattle.hyd_spec_input.specs.Project.{joined_by, IsWhat, compared, status_value, IsValue, place_of, IsClauseAt}
+use Rattle.hyd_spec_input.specs.Project.{IsWhat, IsValue, IsClauseAt}
 use Rattle.hyd_spec_input.specs.Project.{IsClause, IsAction, numbered_links, shape_points, bend_points, IsProject}
 use Rattle.hyd_spec_input.specs.declared.Attribute.{Attribute}
 use Rattle.hyd_spec_input.specs.declared.Attribute.TheVariants as attribute

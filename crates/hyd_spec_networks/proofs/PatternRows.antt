@@ -16,7 +16,7 @@ use Rattle.hyd_net.specs.Sound as sound
 use Rattle.hyd_net.specs.declared.patterns.Pattern.{Pattern}
 use Rattle.hyd_net.specs.declared.project.Project.{Project}
 use Rattle.hyd_spec_input.specs.Columns as column
-use Rattle.hyd_spec_input.specs.Columns.{Column, first, or_else, needed, id, any, units, word}
+use Rattle.hyd_spec_input.specs.Columns.{Column, first, needed, id, any, units, word}
 use Rattle.hyd_spec_input.specs.DataRows.{each, multipliers}
 use Rattle.hyd_spec_input.specs.Tables.{rows_of, rows_with, own_id, row_multipliers, pattern_named}
 use Rattle.hyd_spec_input.specs.Network.{is_among, pattern_ids}

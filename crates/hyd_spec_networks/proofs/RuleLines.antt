@@ -16,12 +16,11 @@ use Rattle.hyd_spec_input.specs.declared.Stage.{Stage}
 use Rattle.hyd_spec_input.specs.declared.Stage.TheVariants.{Outside, Named, Asking, Acting, Otherwise, Closed}
 use Rattle.hyd_spec_input.specs.RuleRows as alone
 use Rattle.hyd_spec_input.specs.RuleRows.{stage_by, begins_with, stage_after, is_acting, line_words, words_about}
-use Rattle.hyd_spec_input.specs.RuleRows.{in_order, may_follow, is_rule, until_rule, gets_then}
+use Rattle.hyd_spec_input.specs.RuleRows.{in_order, is_rule, until_rule, gets_then}
 use Rattle.hyd_spec_input.specs.Tables.{is_of, rows_of, words_of, words_of_row}
 use Rattle.hyd_spec_input.specs.Network.{rule_groups, lines_at, is_asking, is_doing, is_otherwise}
 use Rattle.hyd_spec_input.specs.WithOthers as others
-use Rattle.hyd_spec_input.specs.WithOthers.{passes, names_rule, is_part_word, is_part, parts_in, is_action_word}
-use Rattle.hyd_spec_input.specs.WithOthers.{holds_action}
+use Rattle.hyd_spec_input.specs.WithOthers.{passes, is_part_word, is_action_word}
 use Rattle.hyd_spec_networks.proofs.Places.{source}
 use Rattle.hyd_spec_networks.proofs.Faultless.{AreRight, right_alone, right_among, all_none}
 

@@ -20,7 +20,7 @@ use Rattle.hyd_net.specs.Ids.{IsId}
 use Rattle.hyd_net.specs.Ranges.{LiesWithin, Numbers}
 use Rattle.hyd_net.specs.Made.{IsValueMade}
 use Rattle.hyd_net.specs.Commands as commands
-use Rattle.hyd_net.specs.Commands.{node_count, HasPressure, HasSetting, SpeaksOf, Compares, IsComparedWith, CanCommand}
+use Rattle.hyd_net.specs.Commands.{node_count, HasPressure, HasSetting, SpeaksOf, Compares, IsComparedWith}
 use Rattle.hyd_net.specs.declared.cause.Cause.TheVariants.{Syntax, Unsupported}
 use Rattle.hyd_net.specs.declared.links.Link.{Link}
 use Rattle.hyd_net.specs.declared.links.LinkKind.{LinkKind}
@@ -48,9 +48,9 @@ use Rattle.hyd_spec_input.specs.declared.RuleWord.TheVariants as rule
 use Rattle.hyd_spec_input.specs.declared.Stage.TheVariants.{Outside}
 use Rattle.hyd_spec_input.specs.Moments.{time_seconds, clock_seconds}
 use Rattle.hyd_spec_input.specs.RuleRows as alone
-use Rattle.hyd_spec_input.specs.RuleRows.{begins_with, stage_by, is_acting, words_about, line_words, can_have}
+use Rattle.hyd_spec_input.specs.RuleRows.{begins_with, is_acting, words_about, can_have}
 use Rattle.hyd_spec_input.specs.RuleRows.{attribute_of, is_equality, relates, relation_of, comparison, clause_about}
-use Rattle.hyd_spec_input.specs.RuleRows.{attribute_place, is_rule}
+use Rattle.hyd_spec_input.specs.RuleRows.{attribute_place}
 use Rattle.hyd_spec_input.specs.Tables.{is_of, is_node, is_link, rows_of, words_of, own_id, node_rows, link_rows}
 use Rattle.hyd_spec_input.specs.Tables.{row_with, node_named, link_named, allows_node, allows_link}
 use Rattle.hyd_spec_input.specs.InForce.{unit}
@@ -59,7 +59,7 @@ use Rattle.hyd_spec_input.specs.Network.{else_lines, rule_id, is_priority, first
 use Rattle.hyd_spec_input.specs.Network.{is_doing, is_otherwise}
 use Rattle.hyd_spec_input.specs.WithOthers.{known_as, link_by_word, can_show, object_known, set_link}
 use Rattle.hyd_spec_input.specs.Project as project
-use Rattle.hyd_spec_input.specs.Project.{IsProject, IsLink, IsKind, IsPumpKind, IsValveKind, IsWhat, IsNumber, compared}
+use Rattle.hyd_spec_input.specs.Project.{IsProject, IsLink, IsPumpKind, IsValveKind, IsWhat, compared}
 use Rattle.hyd_spec_input.specs.Project.{status_value, IsValue, place_of, IsClauseAt, numbered_links}
 use Rattle.hyd_spec_networks.proofs.Places.{all_at, match_all, match_length, of_either, item_at, partner, kept_passes}
 use Rattle.hyd_spec_networks.proofs.Faultless.{AreRight, or_none, all_none, unless_none, needed_none}

@@ -52,8 +52,10 @@ pub fn histories()
 
 /// The histories agree with the runs, by their numbers, and every other history does by the theorem.
 pub fn agreement()
-    ensures curved { AllAgree (basin_network curved) 1000 (initial_links (basin_network curved)) curved_periods curved_founds }
-    ensures spilling { AllAgree (basin_network spilling) 1000 (initial_links (basin_network spilling)) spilling_periods spilling_founds }
+    ensures curved { AllAgree (basin_network curved) 1000 (initial_links (basin_network curved)) curved_periods
+        curved_founds }
+    ensures spilling { AllAgree (basin_network spilling) 1000 (initial_links (basin_network spilling))
+        spilling_periods spilling_founds }
     ensures curved_every { EveryHistoryAgrees (basin_network curved) curved_founds }
     ensures spilling_every { EveryHistoryAgrees (basin_network spilling) spilling_founds }
 {}

@@ -161,21 +161,24 @@ pub fn tank_metres()
 pub fn rules()
     ensures high { (network : Project) → IsHamlet network
         → map (λ level. rule_truths network grid_at_start (hamlet_standing level) (hamlet_row
-        (record { lo = pos 396240000000001; hi = pos 396240000000002 })) 360) (record { lo = pos 30402181382335; hi = pos 30402182094386 }
+        (record { lo = pos 396240000000001; hi = pos 396240000000002 })) 360)
+        (record { lo = pos 30402181382335; hi = pos 30402182094386 }
         ∷ record { lo = pos 30222181382334; hi = pos 30222182094385 }
         ∷ record { lo = pos 30170045602735; hi = pos 30170046314786 }
         ∷ record { lo = pos 30170045602735; hi = pos 30170046314787 } ∷ [])
         ≡ (Yes ∷ []) ∷ (No ∷ []) ∷ (Yes ∷ []) ∷ (Unknown ∷ []) ∷ [] }
     ensures edge { (network : Project) → IsHamlet network
         → map (λ level. rule_truths network grid_at_start (hamlet_standing level) (hamlet_row
-        (record { lo = pos 396240000000000; hi = pos 396240000000001 })) 360) (record { lo = pos 30402181382335; hi = pos 30402182094386 }
+        (record { lo = pos 396240000000000; hi = pos 396240000000001 })) 360)
+        (record { lo = pos 30402181382335; hi = pos 30402182094386 }
         ∷ record { lo = pos 30222181382334; hi = pos 30222182094385 }
         ∷ record { lo = pos 30170045602735; hi = pos 30170046314786 }
         ∷ record { lo = pos 30170045602735; hi = pos 30170046314787 } ∷ [])
         ≡ (Unknown ∷ []) ∷ (No ∷ []) ∷ (Unknown ∷ []) ∷ (Unknown ∷ []) ∷ [] }
     ensures low { (network : Project) → IsHamlet network
         → map (λ level. rule_truths network grid_at_start (hamlet_standing level) (hamlet_row
-        (record { lo = pos 395543595661204; hi = pos 395543595661204 })) 360) (record { lo = pos 30402181382335; hi = pos 30402182094386 }
+        (record { lo = pos 395543595661204; hi = pos 395543595661204 })) 360)
+        (record { lo = pos 30402181382335; hi = pos 30402182094386 }
         ∷ record { lo = pos 30222181382334; hi = pos 30222182094385 }
         ∷ record { lo = pos 30170045602735; hi = pos 30170046314786 }
         ∷ record { lo = pos 30170045602735; hi = pos 30170046314787 } ∷ [])

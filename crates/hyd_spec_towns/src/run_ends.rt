@@ -41,9 +41,11 @@ pub fn fronts()
     ensures first_lines { report_so_far village standing_1 (found_0 ∷ []) None ≡ take 465 printed }
     ensures certificate { certificate_so_far village founds (Some Finished) ≡ written }
     ensures report { report_so_far village left founds (Some Finished) ≡ printed }
-    ensures stopped_certificate { certificate_so_far (village_with shallow) shallow_founds (Some (Stopped (NoCertificate 2 Main Lower 1)))
+    ensures stopped_certificate { certificate_so_far (village_with shallow) shallow_founds
+        (Some (Stopped (NoCertificate 2 Main Lower 1)))
         ≡ shallow_written }
-    ensures stopped_report { report_so_far (village_with shallow) shallow_left shallow_founds (Some (Stopped (NoCertificate 2 Main Lower 1)))
+    ensures stopped_report { report_so_far (village_with shallow) shallow_left shallow_founds
+        (Some (Stopped (NoCertificate 2 Main Lower 1)))
         ≡ shallow_printed }
 {}
 

@@ -74,7 +74,8 @@ pub fn texts()
         ∷ codes "LINK LOWER flow -6390.2924 7318.2919 status ACTIVE\n" ∷ [] }
     ensures text_report { (network : Project) → IsTown network
         → report_text network (control_lines network standing_at_two ++
-        (lines_at_two ++ map (event_line 7313) (events_of network grid_at_two standing_at_two row_at_two))) (done_line 1)
+        (lines_at_two ++ map (event_line 7313) (events_of network grid_at_two standing_at_two row_at_two)))
+        (done_line 1)
         ≡ joined (codes "HYD 1\n" ∷ codes "TIME 2:00:00\n"
         ∷ codes "JUNCTION EAST head 44.9923 44.9924 pressure 34.9923 34.9924 outflow 299.9999 300.0001\n"
         ∷ codes "JUNCTION WEST head 21.5076 21.5077 pressure 16.5076 16.5077 outflow 863.9999 864.0001\n"

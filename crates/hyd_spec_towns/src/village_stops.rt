@@ -42,39 +42,47 @@ pub fn rounds()
 /// What is known of a rule between two readings: one second after the start it is true, after two it is open by its
 /// second clause, after three it is false.
 pub fn truths()
-    ensures first { IsTruthBetween (village_with unsure_rule) 1 (readings_below (village_with unsure_rule) grid_0 standing_0 row_0 1)
+    ensures first { IsTruthBetween (village_with unsure_rule) 1 (readings_below (village_with unsure_rule) grid_0
+        standing_0 row_0 1)
         (readings_above (village_with unsure_rule) grid_0 standing_0 row_0 1) (refill_rule unsure_rule.clauses) True }
-    ensures second { IsTruthBetween (village_with unsure_rule) 2 (readings_below (village_with unsure_rule) grid_0 standing_0 row_0 2)
+    ensures second { IsTruthBetween (village_with unsure_rule) 2 (readings_below (village_with unsure_rule) grid_0
+        standing_0 row_0 2)
         (readings_above (village_with unsure_rule) grid_0 standing_0 row_0 2) (refill_rule unsure_rule.clauses)
         (Open 1 (pos 20014736562746) (pos 20014736577608)) }
-    ensures third { IsTruthBetween (village_with unsure_rule) 3 (readings_below (village_with unsure_rule) grid_0 standing_0 row_0 3)
+    ensures third { IsTruthBetween (village_with unsure_rule) 3 (readings_below (village_with unsure_rule) grid_0
+        standing_0 row_0 3)
         (readings_above (village_with unsure_rule) grid_0 standing_0 row_0 3) (refill_rule unsure_rule.clauses) False }
 {}
 
 /// A rule is open.
 pub fn rule()
-    ensures stops { Stops (village_with unsure_rule) (initial_standing (village_with unsure_rule)) 200 (RuleOpen 0 open_rule.rule open_rule.clause open_rule.lo open_rule.hi) }
-    ensures line { stop_line (village_with unsure_rule) 0 (RuleOpen 0 open_rule.rule open_rule.clause open_rule.lo open_rule.hi)
+    ensures stops { Stops (village_with unsure_rule) (initial_standing (village_with unsure_rule)) 200
+        (RuleOpen 0 open_rule.rule open_rule.clause open_rule.lo open_rule.hi) }
+    ensures line { stop_line (village_with unsure_rule) 0 (RuleOpen 0 open_rule.rule open_rule.clause open_rule.lo
+        open_rule.hi)
         ≡ codes "STOP period 0 time 0:00:00 RULE Refill CLAUSE 2 20014736562746 20014736577608\n" }
 {}
 
 /// The end is open between two seconds.
 pub fn event()
-    ensures stops { Stops (village_with unsure_event) (initial_standing (village_with unsure_event)) 200 (EventOpen 0 5 6) }
+    ensures stops { Stops (village_with unsure_event) (initial_standing (village_with unsure_event)) 200
+        (EventOpen 0 5 6) }
     ensures line { stop_line (village_with unsure_event) 0 (EventOpen 0 5 6)
         ≡ codes "STOP period 0 time 0:00:00 EVENT 5 6\n" }
 {}
 
 /// A level control is open at the end of the period.
 pub fn control()
-    ensures stops { Stops (village_with unsure_control) (initial_standing (village_with unsure_control)) 200 (ControlOpen 0 0 last_level.lo last_level.hi) }
+    ensures stops { Stops (village_with unsure_control) (initial_standing (village_with unsure_control)) 200
+        (ControlOpen 0 0 last_level.lo last_level.hi) }
     ensures line { stop_line (village_with unsure_control) 0 (ControlOpen 0 0 last_level.lo last_level.hi)
         ≡ codes "STOP period 0 time 0:00:00 CONTROL 1 20058946250974 20058946310442\n" }
 {}
 
 /// The state of the tank is open at the end of the period.
 pub fn tank()
-    ensures stops { Stops (village_with unsure_tank) (initial_standing (village_with unsure_tank)) 200 (TankOpen 0 0 last_level.lo last_level.hi) }
+    ensures stops { Stops (village_with unsure_tank) (initial_standing (village_with unsure_tank)) 200
+        (TankOpen 0 0 last_level.lo last_level.hi) }
     ensures line { stop_line (village_with unsure_tank) 0 (TankOpen 0 0 last_level.lo last_level.hi)
         ≡ codes "STOP period 0 time 0:00:00 TANK Tower 20058946250974 20058946310442\n" }
 {}

@@ -197,7 +197,8 @@ module _ (tank : Tank) (points : List VolumePoint) (basin : IsBasin tank points)
           times_one carried.den,
         )
 
-    risen-is : (t : ℤ) → tank.minimum <ℤ t → t ≤ℤ tank.maximum → has_reached 1 (Curve points) tank stock q true t seconds
+    risen-is : (t : ℤ) → tank.minimum <ℤ t → t ≤ℤ tank.maximum
+        → has_reached 1 (Curve points) tank stock q true t seconds
         ≡ (reaches 1 true (volume_at points tank.maximum) exact
         || is_at_most (in_parts 1 (value_at 1 (volume_knots points) t)) exact)
     risen-is t over within = by_lt_z t tank.maximum

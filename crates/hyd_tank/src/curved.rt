@@ -255,8 +255,10 @@ pub(crate) fn first_from(
     requires tank { IsBasin tank.now points.now }
     requires volume { IsWithin (content_bounds (Curve points.now) tank.now) (volumes_of stock.volume) }
     requires inflow { IsInflow inflow }
-    ensures earliest { IsEarliestSecond (Curve points.now) tank.now (stocks_of stock) (inflows_of inflow) level rising cap result.0 }
-    ensures latest { IsLatestSecond (Curve points.now) tank.now (stocks_of stock) (inflows_of inflow) level rising cap result.1 }
+    ensures earliest { IsEarliestSecond (Curve points.now) tank.now (stocks_of stock) (inflows_of inflow) level rising
+        cap result.0 }
+    ensures latest { IsLatestSecond (Curve points.now) tank.now (stocks_of stock) (inflows_of inflow) level rising cap
+        result.1 }
 {
     let volumes = volume_bounds(tank, points);
     if rising {

@@ -140,7 +140,8 @@ fn first_from(tank: &Tank, level: i64, inflow: i128, target: i64, rising: bool, 
     requires level { Lies tank.now.minimum tank.now.maximum level }
     requires inflow { unsigned_abs inflow ≤ 10 ^ 27 }
     requires target { unsigned_abs target ≤ 2 * 10 ^ 17 }
-    ensures { IsFirstSecond (has_reached 1 (cylinder tank.now) tank.now (level_stock level) inflow rising target) cap result }
+    ensures { IsFirstSecond (has_reached 1 (cylinder tank.now) tank.now (level_stock level) inflow rising target) cap
+        result }
 {
     let breadth = breadth_of(tank);
     if rising {
@@ -171,8 +172,10 @@ fn first_seconds(
     requires level { IsWithin (level_bounds tank.now) (levels_of level) }
     requires inflow { IsInflow inflow }
     requires target { unsigned_abs target ≤ 2 * 10 ^ 17 }
-    ensures earliest { IsEarliestSecond (cylinder tank.now) tank.now (stocks_at level) (inflows_of inflow) target rising cap result.0 }
-    ensures latest { IsLatestSecond (cylinder tank.now) tank.now (stocks_at level) (inflows_of inflow) target rising cap result.1 }
+    ensures earliest { IsEarliestSecond (cylinder tank.now) tank.now (stocks_at level) (inflows_of inflow) target
+        rising cap result.0 }
+    ensures latest { IsLatestSecond (cylinder tank.now) tank.now (stocks_at level) (inflows_of inflow) target rising
+        cap result.1 }
 {
     let low = first_from(tank, level.lo, inflow.lo, target, rising, cap);
     let high = first_from(tank, level.hi, inflow.hi, target, rising, cap);
@@ -194,8 +197,10 @@ pub fn first_second(
     requires level { IsWithin (level_bounds tank.now) (levels_of level) }
     requires inflow { IsInflow inflow }
     requires target { unsigned_abs target ≤ 2 * 10 ^ 17 }
-    ensures earliest { IsEarliestSecond (cylinder tank.now) tank.now (stocks_at level) (inflows_of inflow) target rising cap result.0 }
-    ensures latest { IsLatestSecond (cylinder tank.now) tank.now (stocks_at level) (inflows_of inflow) target rising cap result.1 }
+    ensures earliest { IsEarliestSecond (cylinder tank.now) tank.now (stocks_at level) (inflows_of inflow) target
+        rising cap result.0 }
+    ensures latest { IsLatestSecond (cylinder tank.now) tank.now (stocks_at level) (inflows_of inflow) target rising
+        cap result.1 }
     ensures ordered { level.lo ≤ℤ level.hi → result.0 ≤ result.1 }
 
     // The first second of each level of the interval under each inflow lies between them, at every scale.

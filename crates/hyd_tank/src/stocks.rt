@@ -109,8 +109,10 @@ fn first_of(
     requires held { AreHeld (walls_of project.now tank.now) tank.now (stocks_of stock) }
     requires inflow { IsInflow inflow }
     requires target { unsigned_abs target ≤ 2 * 10 ^ 17 }
-    ensures earliest { IsEarliestSecond (walls_of project.now tank.now) tank.now (stocks_of stock) (inflows_of inflow) target rising cap result.0 }
-    ensures latest { IsLatestSecond (walls_of project.now tank.now) tank.now (stocks_of stock) (inflows_of inflow) target rising cap result.1 }
+    ensures earliest { IsEarliestSecond (walls_of project.now tank.now) tank.now (stocks_of stock) (inflows_of inflow)
+        target rising cap result.0 }
+    ensures latest { IsLatestSecond (walls_of project.now tank.now) tank.now (stocks_of stock) (inflows_of inflow)
+        target rising cap result.1 }
 {
     match tank.shape {
         None => first_second(tank, stock.level, inflow, target, rising, cap),

@@ -77,7 +77,8 @@ impl Search {
             (Comes tight (F.told finder.old) (grid_of net.now) (length net.now.tanks) self.old.rounds)
             (length net.now.tanks) (turn problem side) (row_of row.old) }
         ensures found { OnOk result (EachBefore
-            (IsSought tight (F.told finder.old) (grid_of net.now) (length net.now.tanks)) (length net.now.tanks) (turn problem side + 1) (row_of row.new)) }
+            (IsSought tight (F.told finder.old) (grid_of net.now) (length net.now.tanks)) (length net.now.tanks)
+            (turn problem side + 1) (row_of row.new)) }
         ensures comes { OnOk result (EachBefore
             (Comes tight (F.told finder.old) (grid_of net.now) (length net.now.tanks) self.old.rounds)
             (length net.now.tanks) (turn problem side + 1) (row_of row.new)) }
@@ -122,7 +123,8 @@ impl Search {
             (Comes tight (F.told finder.old) (grid_of net.now) (length net.now.tanks) self.old.rounds)
             (length net.now.tanks) (turn problem Upper) (row_of row.old) }
         ensures found { OnOk result (EachBefore
-            (IsSought tight (F.told finder.old) (grid_of net.now) (length net.now.tanks)) (length net.now.tanks) (turn problem Upper + 2) (row_of row.new)) }
+            (IsSought tight (F.told finder.old) (grid_of net.now) (length net.now.tanks)) (length net.now.tanks)
+            (turn problem Upper + 2) (row_of row.new)) }
         ensures comes { OnOk result (EachBefore
             (Comes tight (F.told finder.old) (grid_of net.now) (length net.now.tanks) self.old.rounds)
             (length net.now.tanks) (turn problem Upper + 2) (row_of row.new)) }
@@ -150,7 +152,8 @@ impl Search {
         requires room { self.old.junctions ≡ length net.now.junctions }
         requires fits { Fits net.now (header_of row.old) }
         requires order { InOrder (grid_of net.now) }
-        ensures found { OnOk result (OfEach (IsSought tight (F.told finder.old) (grid_of net.now) (length net.now.tanks))
+        ensures found { OnOk result (OfEach (IsSought tight (F.told finder.old) (grid_of net.now)
+            (length net.now.tanks))
             (length net.now.tanks) (row_of row.new)) }
         ensures comes { OnOk result (OfEach
             (Comes tight (F.told finder.old) (grid_of net.now) (length net.now.tanks) self.old.rounds)

@@ -1,5 +1,4 @@
 -- The text has a network or a fault, and never both.
-use Rattle.std.proofs.Common.{◌∙◌}
 use Rattle.hyd_spec_input.specs.Faults.{IsFault}
 use Rattle.hyd_spec_networks.proofs.OneFault.{one_fault, no_fault_beside}
 use Rattle.hyd_words.specs.Seen.{files_seen}

@@ -1,4 +1,3 @@
-use Rattle.std.proofs.Common.{◌≡◌}
 use Rattle.hyd_close.specs.Closing.{by_rules, by_clock}
 use Rattle.hyd_close.proofs.deciding.decide.Goals as goal
 

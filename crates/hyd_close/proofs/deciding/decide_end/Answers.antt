@@ -1,6 +1,4 @@
-use Rattle.std.proofs.Common.{◌≡◌, ◌++◌, ℕ, List, length, take, drop, ◌∙◌}
-use Rattle.std.specs.Prelude.{IfOk}
-use Rattle.hyd_spec.specs.Types.{LinkState}
+use Rattle.std.proofs.Common.{◌≡◌, ◌++◌, ℕ, length, take, drop, ◌∙◌}
 use Rattle.hyd_graph.proofs.Refilling.{refilled}
 use Rattle.hyd_end.specs.Endings.{ForPeriod}
 use Rattle.hyd_close.specs.Closing.{Decides}

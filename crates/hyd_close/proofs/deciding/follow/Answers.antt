@@ -1,4 +1,4 @@
-use Rattle.std.proofs.Common.{◌≡◌, subst}
+use Rattle.std.proofs.Common.{subst}
 use Rattle.hyd_next.specs.Next.{IsUnsettled}
 use Rattle.hyd_close.proofs.Finishing.{open-tank, open-control}
 use Rattle.hyd_close.proofs.deciding.follow.Goals as goal

@@ -1,4 +1,3 @@
-use Rattle.std.proofs.Common.{◌≡◌, arith}
 use Rattle.hyd_cert.specs.RecordView.{row_of}
 use Rattle.hyd_graph.specs.GridOf.{grid_of}
 use Rattle.hyd_close.proofs.Bounding.{lower-is, upper-is, in-order, each-low, each-high, each-flow, pinned-of}

@@ -1,5 +1,5 @@
-use Rattle.std.proofs.Common.{◌≡◌, ℕ, sym, subst, ap, ◌∙◌}
-use Rattle.std.specs.Prelude.{length, map}
+use Rattle.std.proofs.Common.{ℕ, sym, ap, ◌∙◌}
+use Rattle.std.specs.Prelude.{map}
 use Rattle.hyd_spec_certificates.specs.Decided.{carried_at}
 use Rattle.hyd_facts.specs.OfPeriod.{levels_of}
 use Rattle.hyd_close.proofs.telling.tell_end.Goals as goal

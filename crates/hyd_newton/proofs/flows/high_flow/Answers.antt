@@ -1,7 +1,7 @@
-use Rattle.std.proofs.Common.{◌≡◌, arith, length}
+use Rattle.std.proofs.Common.{arith}
 use Rattle.std.proofs.lemmas.Int.{ints}
 use Rattle.hyd_graph.specs.GridOf.{grid_of}
-use Rattle.hyd_check.proofs.Shares.{StandsFor, stands-for}
+use Rattle.hyd_check.proofs.Shares.{stands-for}
 use Rattle.hyd_newton.proofs.flows.high_flow.Goals as goal
 
 pub high-requires-clause-sound : goal.high-requires-clause-sound

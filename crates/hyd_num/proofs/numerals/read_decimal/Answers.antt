@@ -5,7 +5,7 @@ use Rattle.hyd_num.specs.Numeral.{is_numeral, magnitude_of, nano_of, signed, num
 use Rattle.hyd_num.proofs.NumeralParts.{Parts, parts_of, unmarked, test_is, Passed, passed, magnitude_is, above_limit}
 use Rattle.hyd_num.proofs.NumeralParts.{within_limit}
 use Rattle.hyd_num.proofs.numerals.read_decimal.Goals as goal
-use Rattle.hyd_num.proofs.numerals.read_decimal.Goals.{After-has_mark, After-is_numeral, After-magnitude-magnitude}
+use Rattle.hyd_num.proofs.numerals.read_decimal.Goals.{After-is_numeral, After-magnitude-magnitude}
 
 pub is_numeral-requires : goal.is_numeral-requires
 is_numeral-requires c = unmarked c.args.text.now c.before_point-whole.result.now c.behind_point-decimals.result.now

@@ -1,9 +1,9 @@
-use Rattle.std.proofs.Common.{◌≡◌, refl}
+use Rattle.std.proofs.Common.{refl}
 use Rattle.hyd_spec_certificates.specs.Record.{Record}
 use Rattle.hyd_cert.specs.RecordView.{row_of}
 use Rattle.hyd_graph.specs.GridOf.{grid_of}
 use Rattle.hyd_close.specs.Opens.{SharesVectors}
-use Rattle.hyd_close.proofs.Finishing.{closed-of, have-changed, have-ended, started-changed, started-shared}
+use Rattle.hyd_close.proofs.Finishing.{closed-of, started-changed, started-shared}
 use Rattle.hyd_close.proofs.Finishing.{read-shared}
 use Rattle.hyd_close.proofs.close.Close.finish.Goals as goal
 
