@@ -116,7 +116,8 @@ fn starts_are_the_tight_vectors(rt: HostRuntime) -> Result<(), Fail> {
 }
 
 #[test]
-fn proposals_for_a_generated_network_are_certificates(rt: HostRuntime) -> Result<(), Fail> {
+fn proposals_for_generated_networks_are_certificates(rt: HostRuntime) -> Result<(), Fail> {
     assert!(rt; is_proposed_generated(rt.alloc(), 7, 100)?);
+    assert!(rt; is_proposed_generated(rt.alloc(), 7, 2_000)?);
     Ok(())
 }

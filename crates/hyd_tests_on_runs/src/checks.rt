@@ -5,7 +5,7 @@ use crate::given::{owned, status_on};
 use crate::periods::{CONTROLS, LEVELS, OPTIONS, RULES, Run, STOPS};
 use crate::rows::{OTHERS, PIPES, REFUSALS, Row, VALVES};
 use crate::runs::are;
-use hyd_cli::{Status, tool};
+use hyd_cli::Status;
 use hyd_io::{MemDesk, Openings};
 use std::alloc::{AllocError, Global};
 use std::test::Fail;
@@ -93,7 +93,7 @@ fn cut_line(front: &[u8]) -> Option<&'static &'static str> {
 /// Whether a certificate that is cut off behind these bytes is refused for its grammar.
 fn refuses_cut(alloc: Global, words: &[String], front: &[u8]) -> Result<bool, AllocError> {
     let mut desk = desk_with(alloc, IDLE, front)?;
-    let status = tool(alloc, words, &mut desk);
+    let status = status_on(alloc, words, &mut desk);
     let Some(line) = cut_line(front) else {
         return Ok(false);
     };
@@ -151,7 +151,7 @@ fn certificate_of(alloc: Global, run: &Run) -> Result<Vec<u8>, AllocError> {
         words.push(String::from_str(alloc, word)?)?;
     }
     let mut desk = desk_with(alloc, run.text, b"")?;
-    tool(alloc, &words, &mut desk);
+    status_on(alloc, &words, &mut desk);
     match desk.file("n.cert") {
         Some(bytes) => Vec::from_slice(alloc, bytes),
         None => Ok(Vec::new(alloc)),
@@ -213,7 +213,7 @@ fn certificates_of_stopped_runs_are_accepted(rt: HostRuntime) -> Result<(), Fail
 /// Whether the check of a text that is refused prints that line alone, and opens NET alone.
 fn refuses_text(alloc: Global, words: &[String], row: &Row) -> Result<bool, AllocError> {
     let mut desk = desk_with(alloc, row.text, IDLE_CERTIFICATE.as_bytes())?;
-    let status = tool(alloc, words, &mut desk);
+    let status = status_on(alloc, words, &mut desk);
     let net_alone = Openings {
         opened: 1,
         created: 0,
@@ -258,7 +258,7 @@ fn a_check_changes_no_file(rt: HostRuntime) -> Result<(), Fail> {
     let alloc = rt.alloc();
     let words = owned(alloc, &CHECK)?;
     let mut desk = desk_with(alloc, IDLE, IDLE_CERTIFICATE.as_bytes())?;
-    assert_eq!(rt; tool(alloc, &words, &mut desk), Status::Done);
+    assert_eq!(rt; status_on(alloc, &words, &mut desk), Status::Done);
     assert!(rt; holds_both(&desk));
     Ok(())
 }
@@ -268,9 +268,9 @@ fn a_check_without_its_files_is_a_fault_of_reading(rt: HostRuntime) -> Result<()
     let alloc = rt.alloc();
     let words = owned(alloc, &CHECK)?;
     let mut desk = MemDesk::new(alloc);
-    assert_eq!(rt; tool(alloc, &words, &mut desk), Status::ReadFault);
+    assert_eq!(rt; status_on(alloc, &words, &mut desk), Status::ReadFault);
     desk.add("n.inp", IDLE.as_bytes())?;
-    assert_eq!(rt; tool(alloc, &words, &mut desk), Status::ReadFault);
+    assert_eq!(rt; status_on(alloc, &words, &mut desk), Status::ReadFault);
     assert!(rt; desk.printed().is_empty());
     Ok(())
 }

@@ -2,7 +2,7 @@
 
 use crate::given::{WORDS, owned, status_on};
 use crate::rows::VALVES;
-use hyd_cli::{Status, tool};
+use hyd_cli::Status;
 use hyd_io::{MemDesk, Openings};
 use std::alloc::{AllocError, Global};
 use std::test::Fail;
@@ -72,7 +72,7 @@ fn ends_so(alloc: Global, words: &[String], fault: &Fault) -> Result<bool, Alloc
     desk.add("n.inp", VALVES[0].text.as_bytes())?;
     desk.fail(fault.failing)?;
     desk.starve(fault.starving)?;
-    let status = tool(alloc, words, &mut desk);
+    let status = status_on(alloc, words, &mut desk);
     let written = fault.written.map(|text| text.as_bytes());
     Ok(status == fault.status && desk.printed().is_empty() && desk.file("n.cert") == written)
 }

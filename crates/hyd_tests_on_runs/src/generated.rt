@@ -1,9 +1,9 @@
 //! The command `gen` on a desk in memory: the network and the summary to the byte, and a check of the certificate.
 
-use crate::given::owned;
+use crate::given::{owned, status_on};
 use crate::periods::Bytes;
 use crate::runs::are;
-use hyd_cli::{Status, tool};
+use hyd_cli::Status;
 use hyd_io::{MemDesk, Openings};
 use std::alloc::{AllocError, Global};
 use std::test::Fail;
@@ -43,7 +43,7 @@ fn desk_after(alloc: Global, made: &Made) -> Result<Option<MemDesk>, AllocError>
         &["gen", made.seed, made.junctions, "g.inp", "g.cert"],
     )?;
     let mut desk = MemDesk::new(alloc);
-    let status = tool(alloc, &words, &mut desk);
+    let status = status_on(alloc, &words, &mut desk);
     if status != Status::Done || desk.printed() != made.printed.as_bytes() {
         return Ok(None);
     }
@@ -61,14 +61,14 @@ fn holds(desk: &MemDesk, name: &str, wanted: Bytes) -> bool {
 /// Whether the check of what was made comes to its end.
 fn is_accepted(alloc: Global, desk: &mut MemDesk) -> Result<bool, AllocError> {
     let words = owned(alloc, &["check", "g.inp", "g.cert"])?;
-    let status = tool(alloc, &words, desk);
+    let status = status_on(alloc, &words, desk);
     Ok(status == Status::Done && desk.printed().ends_with(b"\nDONE 25\n"))
 }
 
 /// Whether a run of what was made writes the same certificate.
 fn runs_alike(alloc: Global, desk: &mut MemDesk) -> Result<bool, AllocError> {
     let words = owned(alloc, &["run", "g.inp", "h.cert"])?;
-    let status = tool(alloc, &words, desk);
+    let status = status_on(alloc, &words, desk);
     Ok(status == Status::Done && desk.file("h.cert") == desk.file("g.cert"))
 }
 
@@ -100,7 +100,7 @@ fn making_creates_both_files(rt: HostRuntime) -> Result<(), Fail> {
         &["gen", "2147483647", "1", "--", "-g.inp", "-g.cert"],
     )?;
     let mut desk = MemDesk::new(alloc);
-    assert_eq!(rt; tool(alloc, &words, &mut desk), Status::Done);
+    assert_eq!(rt; status_on(alloc, &words, &mut desk), Status::Done);
     assert!(rt; desk.file("-g.inp").is_some());
     assert!(rt; desk.file("-g.cert").is_some());
     let both = Openings {

@@ -1,4 +1,4 @@
-//! The tests of the top call on a desk in memory: whole texts, faults of the desk, words.
+//! The tests of the top call on a desk in memory: whole texts, limits, faults of the desk, finders, words.
 #![tactic(auto)]
 
 #[cfg(test)]
@@ -15,6 +15,10 @@ mod finders;
 mod generated;
 #[cfg(test)]
 mod given;
+#[cfg(test)]
+mod limits;
+#[cfg(test)]
+mod offers;
 #[cfg(test)]
 mod orders;
 #[cfg(test)]

@@ -1,8 +1,8 @@
 //! Words of commands, and words that are none.
 
-use crate::given::{WORDS, owned};
+use crate::given::{WORDS, owned, status_on};
 use crate::rows::VALVES;
-use hyd_cli::{Status, start, tool};
+use hyd_cli::{Status, start};
 use hyd_io::MemDesk;
 use std::alloc::{AllocError, Global};
 use std::test::Fail;
@@ -48,7 +48,7 @@ const NONE: &[&[&str]] = &[
 fn are_none(alloc: Global, words: &[&str]) -> Result<bool, AllocError> {
     let words = owned(alloc, words)?;
     let mut desk = MemDesk::new(alloc);
-    let status = tool(alloc, &words, &mut desk);
+    let status = status_on(alloc, &words, &mut desk);
     Ok(status == Status::Usage && desk.printed() == USAGE_LINE.as_bytes())
 }
 
@@ -65,7 +65,7 @@ fn status_with(alloc: Global, words: &[&str]) -> Result<Status, AllocError> {
     let words = owned(alloc, words)?;
     let mut desk = MemDesk::new(alloc);
     desk.add("n.inp", VALVES[0].text.as_bytes())?;
-    Ok(tool(alloc, &words, &mut desk))
+    Ok(status_on(alloc, &words, &mut desk))
 }
 
 #[test]

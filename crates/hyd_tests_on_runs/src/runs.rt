@@ -1,8 +1,8 @@
 //! The top call on a desk in memory: what it answers, prints and writes for runs over time, to the byte.
 
-use crate::given::{WORDS, owned};
+use crate::given::{WORDS, owned, status_on};
 use crate::periods::{Bytes, CONTROLS, LEVELS, OPTIONS, RULES, Run, STOPS};
-use hyd_cli::{Status, tool};
+use hyd_cli::Status;
 use hyd_io::MemDesk;
 use std::alloc::{AllocError, Global};
 use std::test::Fail;
@@ -47,7 +47,7 @@ fn runs_so(alloc: Global, run: &Run) -> Result<bool, AllocError> {
     }
     let mut desk = MemDesk::new(alloc);
     desk.add("n.inp", run.text.as_bytes())?;
-    let status = tool(alloc, &words, &mut desk);
+    let status = status_on(alloc, &words, &mut desk);
     Ok(status == run.status && are(desk.printed(), run.printed) && has_written(&desk, run.written))
 }
 
@@ -97,7 +97,7 @@ fn a_day_of_minutes_is_written_in_few_calls(rt: HostRuntime) -> Result<(), Fail>
     let mut desk = MemDesk::new(alloc);
     desk.add("n.inp", MINUTES.as_bytes())?;
     assert_eq!(rt;
-        tool(alloc, &owned(alloc, &WORDS)?, &mut desk),
+        status_on(alloc, &owned(alloc, &WORDS)?, &mut desk),
         Status::Done
     );
     assert!(rt; are(desk.printed(), Bytes::Sum(4_456, 0x59a3_83fa_cfd9_00ee)));
@@ -116,7 +116,7 @@ fn a_write_that_fails_in_the_middle_leaves_a_beginning(rt: HostRuntime) -> Resul
     // The calls before the first write are open, two reads and create.
     desk.fail(9)?;
     assert_eq!(rt;
-        tool(alloc, &owned(alloc, &WORDS)?, &mut desk),
+        status_on(alloc, &owned(alloc, &WORDS)?, &mut desk),
         Status::WriteFault
     );
     assert!(rt; desk.printed().is_empty());
