@@ -127,11 +127,11 @@ def lines_of(path):
         return sum(block.count(b'\n') for block in iter(lambda: text.read(MEBIBYTE), b''))
 
 
-def timed(program, folder):
-    """The seconds of the clock and of the processor, the most memory in MiB, the status and the last line of a check."""
+def timed(program, folder, command='check'):
+    """The seconds of the clock and of the processor, the most memory in MiB, the status and the last line of a command."""
     with open(folder / 'out', 'wb') as out:
         before = time.monotonic()
-        child = subprocess.Popen([program, 'check', 'n.inp', 'n.cert'], cwd=folder, stdin=subprocess.DEVNULL,
+        child = subprocess.Popen([program, command, 'n.inp', 'n.cert'], cwd=folder, stdin=subprocess.DEVNULL,
                                  stdout=out, stderr=out)
         limit = threading.Timer(SECONDS, child.kill)
         limit.start()
