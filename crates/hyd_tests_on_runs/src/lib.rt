@@ -16,10 +16,6 @@ mod generated;
 #[cfg(test)]
 mod given;
 #[cfg(test)]
-mod limits;
-#[cfg(test)]
-mod offers;
-#[cfg(test)]
 mod orders;
 #[cfg(test)]
 mod periods;
