@@ -49,7 +49,8 @@ pub fn flow_box(net: &Net, link: u32, low: &[i64], high: &[i64]) -> Span
     requires ordered { AreInOrder (pos 0) (all_heads (grid_of net.now) Main Lower low.now)
         (all_heads (grid_of net.now) Main Upper high.now) }
     ensures flow { IfSome (slice_get (grid_of net.now).links link) (λ l.
-        IsSpan result (flow_box l (all_heads (grid_of net.now) Main Lower low.now) (all_heads (grid_of net.now) Main Upper high.now))) }
+        IsSpan result (flow_box l (all_heads (grid_of net.now) Main Lower low.now)
+        (all_heads (grid_of net.now) Main Upper high.now))) }
     ensures holds { HoldsFlow (grid_of net.now) low.now high.now link result }
     ensures small_lo { unsigned_abs result.lo ≤ 10 ^ 27 }
     ensures small_hi { unsigned_abs result.hi ≤ 10 ^ 27 }

@@ -14,7 +14,7 @@ use Rattle.hyd_spec_input.specs.Tables.{is_of, words_of}
 use Rattle.hyd_spec_input.specs.declared.Stage.{Stage}
 use Rattle.hyd_spec_input.specs.declared.Stage.TheVariants.{Named, Outside}
 use Rattle.hyd_spec_networks.proofs.RuleLines.{rule_is}
-use Rattle.hyd_by_itself.proofs.StageLemmas.{next_stage}
+use Rattle.hyd_judge_alone.proofs.StageLemmas.{next_stage}
 use Rattle.hyd_build_commands.specs.Rules.{lines_from, rest_of_rule, stage_at, AreParts, AreRules}
 use Rattle.hyd_build_commands.proofs.ControlLemmas.{match_push}
 

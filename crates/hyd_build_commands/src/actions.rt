@@ -16,10 +16,10 @@ ghost use Rattle.hyd_build_commands.specs.Rows.{IsRightAction};
 
 use crate::numbers::number_of;
 use hyd_lex::{Line, Lines};
+use hyd_link_states::link_state;
 use hyd_net::{Action, LinkState, Names};
 use hyd_num::FlowUnit;
 use hyd_opts::{asked_at, or_empty};
-use hyd_states::link_state;
 use hyd_tables::Table;
 
 // What stands for an action of a file with a fault.

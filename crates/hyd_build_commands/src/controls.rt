@@ -19,10 +19,10 @@ ghost use Rattle.hyd_build_commands.specs.Controls.{IsRightWhen, AreControls};
 
 use crate::numbers::{level_ticks, number_of};
 use hyd_lex::{Line, Lines, Section};
+use hyd_link_states::link_state;
 use hyd_net::{Control, LinkState, List, Names, OutOfMemory, When};
 use hyd_num::FlowUnit;
 use hyd_opts::{WhenLine, or_empty, read_control};
-use hyd_states::link_state;
 use hyd_tables::Table;
 use std::alloc::Global;
 

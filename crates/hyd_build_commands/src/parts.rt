@@ -26,7 +26,7 @@ ghost use Rattle.hyd_build_commands.specs.Rules.{is_clause_word, IsRightClause, 
 
 use crate::actions::action_of;
 use crate::clauses::clause_of;
-use hyd_by_itself::{first_word, is_rule, is_rules, stage_by};
+use hyd_judge_alone::{first_word, is_rule, is_rules, stage_by};
 use hyd_lex::{Line, Lines};
 use hyd_net::{
     Action, Clause, Joined, List, Names, OutOfMemory, Relation, RuleClause, Value, What,

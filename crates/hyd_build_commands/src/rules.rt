@@ -16,7 +16,7 @@ ghost use Rattle.hyd_tables.specs.Tables.{IsTable};
 ghost use Rattle.hyd_build_commands.specs.Rules.{NamesRule, AreRules, rest_of_rule};
 
 use crate::parts::{Branch, actions_of, clauses_of, priority_of};
-use hyd_by_itself::{first_word, is_rule, is_rules};
+use hyd_judge_alone::{first_word, is_rule, is_rules};
 use hyd_lex::{Line, Lines};
 use hyd_net::{List, Names, OutOfMemory, Rule};
 use hyd_num::FlowUnit;

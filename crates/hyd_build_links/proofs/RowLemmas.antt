@@ -23,7 +23,7 @@ use Rattle.hyd_spec_input.specs.WithOthers as others
 use Rattle.hyd_spec_networks.proofs.Faultless.{right_alone}
 use Rattle.hyd_spec_networks.proofs.LinkKinds.{PipeNumbers, pipe_numbers, ValveNumbers, valve_numbers, CurveRight}
 use Rattle.hyd_spec_networks.proofs.LinkKinds.{straight_range, pump_right}
-use Rattle.hyd_states.proofs.RangeLemmas.{throttle_alone, coefficient_right}
+use Rattle.hyd_link_states.proofs.RangeLemmas.{throttle_alone, coefficient_right}
 use Rattle.hyd_build_links.specs.Pumps.{ArePumpPoints}
 use Rattle.hyd_build_links.specs.Sources.{IsRowOf, rows_from}
 use Rattle.hyd_curves.specs.Points.{points_in}

@@ -32,13 +32,13 @@ use Rattle.hyd_spec_networks.proofs.LinkKinds.{not_of}
 use Rattle.hyd_spec_networks.proofs.LinkStates.{valve_range}
 use Rattle.hyd_spec_networks.proofs.Names.{row_named, link_new}
 use Rattle.hyd_spec_networks.proofs.Occurs.{same_name}
-use Rattle.hyd_states.proofs.StateLemmas as states
-use Rattle.hyd_states.specs.States.{IsRightLink, IsSettable, IsThrottled, limit_fault}
+use Rattle.hyd_link_states.proofs.StateLemmas as states
+use Rattle.hyd_link_states.specs.States.{IsRightLink, IsSettable, IsThrottled, limit_fault}
 use Rattle.hyd_tables.proofs.SectionLemmas.{all_rows}
-use Rattle.hyd_states.proofs.RightLinks.{right_link}
+use Rattle.hyd_link_states.proofs.RightLinks.{right_link}
 use Rattle.hyd_build_links.specs.Sources.{IsRowOf, rows_from}
 use Rattle.hyd_build_links.specs.declared.source.LinkSource.{LinkSource}
-use Rattle.hyd_states.proofs.RangeLemmas.{throttle_alone}
+use Rattle.hyd_link_states.proofs.RangeLemmas.{throttle_alone}
 use Rattle.hyd_build_links.proofs.SourceLemmas.{right_source, free_row}
 
 -- ---- pipes

@@ -17,9 +17,9 @@ ghost use Rattle.hyd_build_links.specs.Statuses.{AreStatuses};
 use crate::source::LinkSource;
 use crate::statuses::status_line;
 use hyd_lex::{Line, Lines, Section};
+use hyd_link_states::{limit_state, link_state, speed_state, throttle_state};
 use hyd_net::LinkState;
 use hyd_rows::{PipeStatus, ValveSetting, read_pipe, read_pump, read_status, read_valve};
-use hyd_states::{limit_state, link_state, speed_state, throttle_state};
 use hyd_tables::own_id;
 
 // The state of a pipe's status word; a pipe with a check valve is open.

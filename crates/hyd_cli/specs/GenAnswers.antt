@@ -60,7 +60,7 @@ pub record TextCutShort (text net : List ℕ) (before now : Seen) : Type 0 where
 
 -- A fault broke the run off: NET holds the text, what was written to CERT, where files are told, is a front of the
 -- certificate of the run as far as it went, what was printed is a front of its summary where its end is known, and
--- every history agrees with it.
+-- nothing was unless the certificate was written whole, and every history agrees with it.
 pub record GeneratedShort (network : Project) (text : List ℕ) (names : TwoFiles) (before now : Seen) : Type 0 where
   pub certificate : List ℕ
   pub summary : List ℕ

@@ -19,12 +19,12 @@ use crate::tables::gather_tables;
 use hyd_build_commands::{build_controls, build_rules};
 use hyd_build_links::LinkSource;
 use hyd_build_nodes::{build_junctions, build_reservoirs, build_tanks};
+use hyd_build_settings::{build_patterns, options_in_force, times_in_force};
 use hyd_curves::{gather_bends, gather_points, gather_shapes};
 use hyd_judge::unit_in_force;
 use hyd_lex::{Line, Lines};
 use hyd_net::{OutOfMemory, Project};
 use hyd_num::FlowUnit;
-use hyd_numbers::{build_patterns, options_in_force, times_in_force};
 use std::alloc::Global;
 
 // Junctions, reservoirs and tanks, and the volume curves of tanks.

@@ -10,7 +10,7 @@ ghost use Rattle.hyd_tables.specs.Found.{rows_at};
 use crate::fault::{InpFault, line_cause};
 use crate::lack::lack;
 use crate::with_others::first_with_others;
-use hyd_by_itself::first_by_itself;
+use hyd_judge_alone::first_by_itself;
 use hyd_lex::{LexFault, Line, Lines};
 use hyd_net::{Cause, OutOfMemory};
 use hyd_tables::gather;

@@ -9,9 +9,9 @@ ghost use Rattle.hyd_spec_input.specs.Faults.{NoneIs, IsWrongWithOthers};
 ghost use Rattle.hyd_tables.specs.Found.{rows_at};
 ghost use Rattle.hyd_inp.specs.Parts.{AreNumbers};
 
+use hyd_build_settings::{link_ids, node_ids, pattern_ids, tank_ids};
 use hyd_lex::{Line, Lines};
 use hyd_net::{Names, OutOfMemory};
-use hyd_numbers::{link_ids, node_ids, pattern_ids, tank_ids};
 use std::alloc::Global;
 
 /// IDs in the order of their numbers.

@@ -24,8 +24,8 @@ use Rattle.hyd_tables.specs.Found.{IsVerdict, kept}
 use Rattle.hyd_tables.specs.Sections.{IsWrongIn, IsFaultThen}
 use Rattle.hyd_tables.proofs.SectionLemmas.{none_of, verdict_with_capacity, other_section}
 use Rattle.hyd_tables.proofs.FoundLemmas.{filter_same, found_skip, found_kept}
-use Rattle.hyd_by_itself.specs.Stages.{stage_with}
-use Rattle.hyd_by_itself.proofs.StageLemmas.{next_stage}
+use Rattle.hyd_judge_alone.specs.Stages.{stage_with}
+use Rattle.hyd_judge_alone.proofs.StageLemmas.{next_stage}
 use Rattle.hyd_judge_commands.proofs.CommandLemmas.{last_fault}
 use Rattle.hyd_judge_commands.proofs.RuleCounting.{counted_elsewhere}
 use Rattle.hyd_judge_commands.specs.Rules.{AreCounted, AreRules, IsRuleFault, acting_at}

@@ -14,7 +14,7 @@ ghost use Rattle.hyd_spec_input.specs.Faults.{NoneIs};
 ghost use Rattle.hyd_spec_input.specs.InForce as force;
 ghost use Rattle.hyd_spec_input.specs.Tables.{place as section_place, is_of, link_rows, node_rows};
 ghost use Rattle.hyd_spec_input.specs.WithOthers as others;
-ghost use Rattle.hyd_states.specs.States.{IsRightLink};
+ghost use Rattle.hyd_link_states.specs.States.{IsRightLink};
 ghost use Rattle.hyd_tables.specs.Found.{HasFound, rows_at};
 ghost use Rattle.hyd_tables.specs.Sections.{IsWrongIn, IsFaultThen};
 ghost use Rattle.hyd_tables.specs.Tables.{IsTable, IsEven};
@@ -24,10 +24,10 @@ ghost use Rattle.hyd_judge_commands.specs.Controls.{commanded_fault as fault_of_
 use crate::names::{named_link, named_node};
 use crate::states::capacity_fault;
 use hyd_lex::{Line, Lines, Section};
+use hyd_link_states::state_fault;
 use hyd_net::Cause;
 use hyd_num::FlowUnit;
 use hyd_opts::{ControlLine, WhenLine, or_empty, read_control};
-use hyd_states::state_fault;
 use hyd_tables::{Found, Table, head_fault, kept, limit};
 
 const MOST_CONTROLS: usize = 10_000;

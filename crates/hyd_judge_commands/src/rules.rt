@@ -19,7 +19,7 @@ ghost use Rattle.hyd_judge_commands.specs.declared.parts.Part.TheVariants as par
 ghost use Rattle.hyd_judge_commands.specs.Rules.{AreCounted, AreRules, IsPartAt, IsRuleFault};
 
 use crate::parts::{Part, action_fault, clause_fault, read_part};
-use hyd_by_itself::{is_acting, is_rules, next_stage};
+use hyd_judge_alone::{is_acting, is_rules, next_stage};
 use hyd_lex::{Line, Lines};
 use hyd_net::{Cause, Names, OutOfMemory};
 use hyd_num::FlowUnit;

@@ -7,14 +7,14 @@ ghost use Rattle.hyd_opts.specs.Meanings.{IsAsked};
 ghost use Rattle.hyd_spec_input.specs.Capacities.{IsRefusedSetting};
 ghost use Rattle.hyd_spec_input.specs.InForce as force;
 ghost use Rattle.hyd_spec_input.specs.WithOthers as others;
-ghost use Rattle.hyd_states.specs.States.{IsRightLink, IsAllowed};
+ghost use Rattle.hyd_link_states.specs.States.{IsRightLink, IsAllowed};
 ghost use Rattle.hyd_tables.specs.Sections.{IsCapacityFault, IsFaultThen};
 
 use hyd_lex::{Line, Lines};
+use hyd_link_states::{is_refused, state_fault};
 use hyd_net::Cause;
 use hyd_num::FlowUnit;
 use hyd_opts::Asked;
-use hyd_states::{is_refused, state_fault};
 
 /// Limit 13 where the setting that is asked of a throttle control valve makes a capacity out of range.
 pub(crate) fn capacity_fault(

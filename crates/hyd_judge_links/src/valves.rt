@@ -13,7 +13,7 @@ ghost use Rattle.hyd_spec_input.specs.Columns.{first};
 ghost use Rattle.hyd_spec_input.specs.NetworkRows as row;
 ghost use Rattle.hyd_spec_input.specs.Tables.{node_rows, rows_of};
 ghost use Rattle.hyd_spec_input.specs.WithOthers as others;
-ghost use Rattle.hyd_states.specs.States.{IsThrottleCoefficient};
+ghost use Rattle.hyd_link_states.specs.States.{IsThrottleCoefficient};
 ghost use Rattle.hyd_tables.specs.Ranges as range;
 ghost use Rattle.hyd_tables.specs.Sections.{IsCapacityFault, IsFaultThen};
 ghost use Rattle.hyd_tables.specs.Tables.{IsTable, IsEven};
@@ -25,10 +25,10 @@ use crate::ends::ends_fault;
 use crate::tables::LinkTables;
 use hyd_curves::Verdicts;
 use hyd_lex::{Line, Lines};
+use hyd_link_states::is_refused_valve;
 use hyd_net::Cause;
 use hyd_num::{Decimal, FlowUnit};
 use hyd_rows::{ValveRow, ValveSetting, read_valve};
-use hyd_states::is_refused_valve;
 use hyd_tables::{Table, flow_fault, unknown_curve};
 
 // What is wrong with a throttle control valve: Limit 13 where its capacity, fully open or at its setting, is out of

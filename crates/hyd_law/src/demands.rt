@@ -61,7 +61,7 @@ fn lesser(a: i128, b: i128) -> i128
     a.min(b)
 }
 
-// A pressure above another.
+// A head difference less a pressure.
 fn above(d: i64, pressure: i128) -> i64
     requires { IsDifference (d -ℤ pressure) }
     ensures { result ≡ d -ℤ pressure }

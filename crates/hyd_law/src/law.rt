@@ -19,7 +19,8 @@ pub trait Law {
     /// At least the exact flow.
     ghost high: { Self → ℤ → ℤ };
 
-    /// The numbers of the law are those that a network gives it: capacities enclose, lifts are rounded, knots rise.
+    /// The numbers of the law are those that a network gives it: capacities enclose, lifts are rounded, knots rise, the
+    /// minimum pressure isn't below 0.
     ghost sound: { Self → Type 0 };
 
     /// The head differences at which both are computed.

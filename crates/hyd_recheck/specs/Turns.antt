@@ -23,7 +23,7 @@ use Rattle.hyd_cert.specs.RecordView.{row_of}
 use Rattle.hyd_graph.specs.GridOf.{grid_of, states_of}
 use Rattle.hyd_graph.specs.Settings.{AreStates}
 use Rattle.hyd_bounds.specs.Bounds.{TanksInOrder}
-use Rattle.hyd_watch.specs.Started.{HaveTanks}
+use Rattle.hyd_watched_levels.specs.Started.{HaveTanks}
 use Rattle.hyd_report.specs.Lines.{texts}
 use Rattle.hyd_sim.specs.View.{SimView, standing_of, header_for}
 use Rattle.hyd_run.specs.Runs.{periods_left}

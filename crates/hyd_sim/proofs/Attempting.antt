@@ -26,12 +26,12 @@ use Rattle.hyd_facts.specs.OfPeriod.{levels_of, volumes_of, flows_of}
 use Rattle.hyd_facts.specs.declared.facts.Facts.{Facts}
 use Rattle.hyd_graph.specs.GridOf.{grid_of}
 use Rattle.hyd_graph.specs.NetView.{NetView}
-use Rattle.hyd_watch.specs.Started.{HaveTanks}
-use Rattle.hyd_close.specs.Begun.{AreBegun, AreReady}
-use Rattle.hyd_close.specs.Closing.{AreKeptIn, IsClosed}
-use Rattle.hyd_close.specs.declared.close.Close.{Close}
-use Rattle.hyd_close.proofs.Bounding.{have-tanks}
-use Rattle.hyd_vectors.specs.Vectors.{OfEach, IsSought, Comes}
+use Rattle.hyd_watched_levels.specs.Started.{HaveTanks}
+use Rattle.hyd_period_close.specs.Begun.{AreBegun, AreReady}
+use Rattle.hyd_period_close.specs.Closing.{AreKeptIn, IsClosed}
+use Rattle.hyd_period_close.specs.declared.close.Close.{Close}
+use Rattle.hyd_period_close.proofs.Bounding.{have-tanks}
+use Rattle.hyd_period_vectors.specs.Vectors.{OfEach, IsSought, Comes}
 use Rattle.hyd_sim.specs.Attempts.{AreSought, IsMade, IsOver, IsStarted}
 use Rattle.hyd_sim.specs.View.{IsStanding, standing_for}
 use Rattle.hyd_sim.specs.declared.standing.Standing.{Standing as Here}

@@ -13,8 +13,8 @@ use Rattle.hyd_cert.specs.declared.record.Record.{Record as Row}
 use Rattle.hyd_cert.proofs.VectorLemmas.{vector_at, vector_within}
 use Rattle.hyd_graph.specs.NetView.{NetView}
 use Rattle.hyd_graph.specs.Nets.{HasProblem}
-use Rattle.hyd_vectors.specs.Vectors.{EachBefore}
-use Rattle.hyd_vectors.proofs.Turning.{own-turn}
+use Rattle.hyd_period_vectors.specs.Vectors.{EachBefore}
+use Rattle.hyd_period_vectors.proofs.Turning.{own-turn}
 
 -- a problem of a net is one of its tanks
 pub problem-there : (net : NetView) (tanks : ℕ) (problem : Problem) → tanks ≡ length net.tanks → HasProblem net problem

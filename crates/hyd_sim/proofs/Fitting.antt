@@ -23,10 +23,10 @@ use Rattle.hyd_facts.specs.declared.facts.Facts.{Facts}
 use Rattle.hyd_graph.specs.GridOf.{grid_of}
 use Rattle.hyd_graph.specs.NetView.{NetView}
 use Rattle.hyd_inflows.proofs.Numbered.{as_long}
-use Rattle.hyd_close.specs.Begun.{AreBegun, AreReady}
-use Rattle.hyd_close.specs.Opens.{SharesVectors, IsOpenAt}
-use Rattle.hyd_close.specs.declared.close.Close.{Close}
-use Rattle.hyd_vectors.specs.Vectors.{HaveSame, InOrder}
+use Rattle.hyd_period_close.specs.Begun.{AreBegun, AreReady}
+use Rattle.hyd_period_close.specs.Opens.{SharesVectors, IsOpenAt}
+use Rattle.hyd_period_close.specs.declared.close.Close.{Close}
+use Rattle.hyd_period_vectors.specs.Vectors.{HaveSame, InOrder}
 use Rattle.hyd_sim.specs.Attempts.{AreSought, IsFault, IsMade, IsStarted, fault_stop_of, later_standing, next_standing}
 use Rattle.hyd_sim.specs.Sharp.{AreNarrow}
 use Rattle.hyd_sim.specs.Steps.{AreTight, AreToldOrLeft, IsAdvanced, IsDone, IsProposal, IsSharp, IsSharpAsSought}

@@ -10,10 +10,11 @@ use Rattle.hyd_spec_certificates.specs.Certificate.{IsCertificate}
 use Rattle.hyd_spec_certificates.specs.Record.{Record, vector_of}
 use Rattle.hyd_spec_laws.specs.Laws.{IsSteady}
 use Rattle.hyd_spec_laws.proofs.OneStanding.{one_vector}
-use Rattle.hyd_vectors.specs.Vectors.{IsAtHand, IsFound, IsReached, IsSought, IsTold, InOrder, Comes, Tells, Lacks}
-use Rattle.hyd_vectors.specs.Vectors.{AreTold, HaveSame, LacksFirst, OfEach}
-use Rattle.hyd_vectors.specs.declared.lack.Lack.{Lack}
-use Rattle.hyd_vectors.specs.declared.lack.Lack.TheVariants.{NoCertificate, RoundsSpent}
+use Rattle.hyd_period_vectors.specs.Vectors.{IsAtHand, IsFound, IsReached, IsSought, IsTold}
+use Rattle.hyd_period_vectors.specs.Vectors.{InOrder, Comes, Tells, Lacks}
+use Rattle.hyd_period_vectors.specs.Vectors.{AreTold, HaveSame, LacksFirst, OfEach}
+use Rattle.hyd_period_vectors.specs.declared.lack.Lack.{Lack}
+use Rattle.hyd_period_vectors.specs.declared.lack.Lack.TheVariants.{NoCertificate, RoundsSpent}
 use Rattle.hyd_sim.specs.Attempts.{AreSought}
 use Rattle.hyd_sim.specs.Sharp.{LacksOne}
 use Rattle.hyd_sim.specs.Steps.{IsLeftToRounds, AreToldOrLeft}

@@ -15,9 +15,9 @@ use Rattle.hyd_cert.specs.declared.record.Record.{Record as Row}
 use Rattle.hyd_facts.specs.declared.facts.Facts.{Facts}
 use Rattle.hyd_graph.specs.GridOf.{grid_of}
 use Rattle.hyd_graph.specs.NetView.{NetView}
-use Rattle.hyd_next.specs.Room.{HasRoom as HasNextRoom}
-use Rattle.hyd_close.specs.Closing.{HasRoom, AreKeptIn}
-use Rattle.hyd_close.specs.declared.close.Close.{Close}
+use Rattle.hyd_period_start.specs.Room.{HasRoom as HasNextRoom}
+use Rattle.hyd_period_close.specs.Closing.{HasRoom, AreKeptIn}
+use Rattle.hyd_period_close.specs.declared.close.Close.{Close}
 use Rattle.hyd_sim.specs.Attempts.{IsMade, later_standing}
 use Rattle.hyd_sim.specs.View.{IsStanding, standing_at, standing_for}
 use Rattle.hyd_sim.specs.declared.standing.Standing.{Standing as Here}

@@ -11,12 +11,12 @@ use Rattle.hyd_spec_certificates.specs.Record.{Record, Standing, Vectors, no_vec
 use Rattle.hyd_spec_certificates.specs.Valid.{IsValid, LeadsOn, Continues, continues, finishes, levels_next}
 use Rattle.hyd_spec_laws.proofs.OneLength.{one_length}
 use Rattle.hyd_spec_laws.proofs.OneStanding.{one_standing}
-use Rattle.hyd_close.specs.Opens.{SharesVectors, IsOpenAt, EndsWith, IsFirstControl}
-use Rattle.hyd_close.specs.declared.open.Open.{Open}
-use Rattle.hyd_close.specs.declared.open.Open.TheVariants.{Rule, Event, Tank, Control}
-use Rattle.hyd_next.specs.Next.{IsFirstOpen}
-use Rattle.hyd_trial.specs.Trial.{open_rule}
-use Rattle.hyd_vectors.specs.Vectors.{HaveSame}
+use Rattle.hyd_period_close.specs.Opens.{SharesVectors, IsOpenAt, EndsWith, IsFirstControl}
+use Rattle.hyd_period_close.specs.declared.open.Open.{Open}
+use Rattle.hyd_period_close.specs.declared.open.Open.TheVariants.{Rule, Event, Tank, Control}
+use Rattle.hyd_period_start.specs.Next.{IsFirstOpen}
+use Rattle.hyd_rule_trials.specs.Trial.{open_rule}
+use Rattle.hyd_period_vectors.specs.Vectors.{HaveSame}
 use Rattle.hyd_sim.proofs.Proposing.{not-last, not-last-left, not-open-by-rule, not-open-by-event, same-seconds}
 use Rattle.hyd_sim.proofs.Proposing.{no-open-tank, no-open-control}
 

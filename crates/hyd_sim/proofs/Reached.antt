@@ -11,8 +11,8 @@ use Rattle.hyd_spec_raises.proofs.Beginnings.{start-end}
 use Rattle.hyd_spec_raises.proofs.Raising.{start-tight}
 use Rattle.hyd_sweep.specs.Strides.{AreLeapingRounds, no_round, one_round}
 use Rattle.hyd_sweep.proofs.Walking.{round-start}
-use Rattle.hyd_vectors.specs.Vectors.{InOrder, IsAtHand, IsReached}
-use Rattle.hyd_vectors.proofs.Nearing.{start-across}
+use Rattle.hyd_period_vectors.specs.Vectors.{InOrder, IsAtHand, IsReached}
+use Rattle.hyd_period_vectors.proofs.Nearing.{start-across}
 
 module _ (grid : Grid) (steady : IsSteady grid) (order : InOrder grid) (problem : Problem) (side : Side) where
   -- every certificate lies beyond what is at hand

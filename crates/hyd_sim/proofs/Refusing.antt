@@ -21,12 +21,12 @@ use Rattle.hyd_spec_laws.proofs.OneRefusal.{refused_invalid}
 use Rattle.hyd_cert.specs.RecordView.{row_of, IsProblemOf}
 use Rattle.hyd_cert.specs.Vectors.{two_vectors, behind_two, problems_in}
 use Rattle.hyd_cert.specs.declared.record.Record.{Record as Row}
-use Rattle.hyd_close.specs.Opens.{SharesVectors, IsOpenAt}
-use Rattle.hyd_close.specs.declared.open.Open.{Open}
-use Rattle.hyd_close.specs.declared.open.Open.TheVariants.{Rule as RuleIsFound, Event as EventIsFound}
-use Rattle.hyd_close.specs.declared.open.Open.TheVariants.{Tank as TankIsFound, Control as ControlIsFound}
-use Rattle.hyd_trial.specs.Trial.{open_rule}
-use Rattle.hyd_close.specs.declared.close.Close.{Close}
+use Rattle.hyd_period_close.specs.Opens.{SharesVectors, IsOpenAt}
+use Rattle.hyd_period_close.specs.declared.open.Open.{Open}
+use Rattle.hyd_period_close.specs.declared.open.Open.TheVariants.{Rule as RuleIsFound, Event as EventIsFound}
+use Rattle.hyd_period_close.specs.declared.open.Open.TheVariants.{Tank as TankIsFound, Control as ControlIsFound}
+use Rattle.hyd_rule_trials.specs.Trial.{open_rule}
+use Rattle.hyd_period_close.specs.declared.close.Close.{Close}
 use Rattle.hyd_facts.specs.declared.facts.Facts.{Facts}
 use Rattle.hyd_graph.specs.NetView.{NetView}
 use Rattle.hyd_sim.specs.Acceptance.{FailsAt, IsTaken}

@@ -22,15 +22,15 @@ use Rattle.hyd_cert.specs.Vectors.{problems_in, behind_two}
 use Rattle.hyd_graph.proofs.Sounding.{long_zipped}
 use Rattle.hyd_graph.specs.NetView.{NetView}
 use Rattle.hyd_graph.specs.Periods.{IsNetOf}
-use Rattle.hyd_vectors.specs.Vectors.{OfEach, Lacks, HasNone, AreSpent}
-use Rattle.hyd_vectors.specs.declared.lack.Lack.{Lack}
-use Rattle.hyd_vectors.specs.declared.lack.Lack.TheVariants.{NoCertificate as LacksCertificate}
-use Rattle.hyd_vectors.specs.declared.lack.Lack.TheVariants.{RoundsSpent as SpentRounds}
-use Rattle.hyd_close.specs.Opens.{IsOpenAt}
-use Rattle.hyd_close.specs.declared.close.Close.{Close}
-use Rattle.hyd_close.specs.declared.open.Open.{Open}
-use Rattle.hyd_close.specs.declared.open.Open.TheVariants.{Rule as RuleIsFound, Event as EventIsFound}
-use Rattle.hyd_close.specs.declared.open.Open.TheVariants.{Tank as TankIsFound, Control as ControlIsFound}
+use Rattle.hyd_period_vectors.specs.Vectors.{OfEach, Lacks, HasNone, AreSpent}
+use Rattle.hyd_period_vectors.specs.declared.lack.Lack.{Lack}
+use Rattle.hyd_period_vectors.specs.declared.lack.Lack.TheVariants.{NoCertificate as LacksCertificate}
+use Rattle.hyd_period_vectors.specs.declared.lack.Lack.TheVariants.{RoundsSpent as SpentRounds}
+use Rattle.hyd_period_close.specs.Opens.{IsOpenAt}
+use Rattle.hyd_period_close.specs.declared.close.Close.{Close}
+use Rattle.hyd_period_close.specs.declared.open.Open.{Open}
+use Rattle.hyd_period_close.specs.declared.open.Open.TheVariants.{Rule as RuleIsFound, Event as EventIsFound}
+use Rattle.hyd_period_close.specs.declared.open.Open.TheVariants.{Tank as TankIsFound, Control as ControlIsFound}
 use Rattle.hyd_sim.specs.Sharp.{LacksOne, stop_of, open_stop_of}
 use Rattle.hyd_sim.specs.Attempts.{next_standing, last_standing, later_standing}
 use Rattle.hyd_sim.specs.Steps.{AreTight}

@@ -21,8 +21,8 @@ use Rattle.hyd_facts.specs.OfPeriod.{levels_of, volumes_of}
 use Rattle.hyd_facts.specs.Room.{HasRoom}
 use Rattle.hyd_facts.specs.declared.facts.Facts.{Facts}
 use Rattle.hyd_graph.specs.Settings.{AreStates}
-use Rattle.hyd_next.specs.Next.{stocks_among}
-use Rattle.hyd_close.specs.Begun.{AreReady}
+use Rattle.hyd_period_start.specs.Next.{stocks_among}
+use Rattle.hyd_period_close.specs.Begun.{AreReady}
 use Rattle.hyd_sim.specs.View.{IsStanding}
 use Rattle.hyd_sim.specs.declared.standing.Standing.{Standing as Here}
 use Rattle.hyd_sim.proofs.Proposing.{no-open-control}

@@ -15,8 +15,8 @@ use Rattle.hyd_graph.specs.GridOf.{grid_of, states_of}
 use Rattle.hyd_graph.specs.NetView.{NetView}
 use Rattle.hyd_graph.specs.Settings.{AreStates}
 use Rattle.hyd_bounds.specs.Bounds.{TanksInOrder}
-use Rattle.hyd_watch.specs.Started.{HaveTanks}
-use Rattle.hyd_vectors.specs.Vectors.{EachBefore}
+use Rattle.hyd_watched_levels.specs.Started.{HaveTanks}
+use Rattle.hyd_period_vectors.specs.Vectors.{EachBefore}
 use Rattle.hyd_sim.specs.View.{SimView, standing_of}
 use Rattle.hyd_sim.specs.declared.vectors.Failing.{Failing}
 

@@ -15,12 +15,12 @@ use Rattle.hyd_graph.specs.NetView.{NetView}
 use Rattle.hyd_graph.specs.Settings.{AreStates}
 use Rattle.hyd_bounds.specs.Bounds.{TanksInOrder}
 use Rattle.hyd_spec_reports.specs.declared.StopCause.{StopCause}
-use Rattle.hyd_close.specs.Begun.{AreBegun, AreReady}
-use Rattle.hyd_close.specs.Closing.{AreKeptIn}
-use Rattle.hyd_close.specs.Opens.{IsOpenAt, SharesVectors}
-use Rattle.hyd_close.specs.declared.close.Close.{Close}
-use Rattle.hyd_watch.specs.Started.{HaveTanks}
-use Rattle.hyd_vectors.specs.Vectors.{OfEach, IsSought, Comes, LacksFirst}
+use Rattle.hyd_period_close.specs.Begun.{AreBegun, AreReady}
+use Rattle.hyd_period_close.specs.Closing.{AreKeptIn}
+use Rattle.hyd_period_close.specs.Opens.{IsOpenAt, SharesVectors}
+use Rattle.hyd_period_close.specs.declared.close.Close.{Close}
+use Rattle.hyd_watched_levels.specs.Started.{HaveTanks}
+use Rattle.hyd_period_vectors.specs.Vectors.{OfEach, IsSought, Comes, LacksFirst}
 use Rattle.hyd_sim.specs.Sharp.{stop_of, open_stop_of}
 use Rattle.hyd_sim.specs.View.{standing_at, standing_for}
 use Rattle.hyd_sim.specs.declared.attempt.Fault.{Fault}
@@ -75,7 +75,8 @@ pub record IsMade (network : Project) (here : Here) (net : NetView) (row : Row) 
   pub links : states_of net ≡ facts.links.list
 
 -- each vector of a record is what is sought of its problem and side, whatever becomes of the others: the tight one, or
--- a certificate, and the finder's where that is one; and it comes by no more rounds than a search may make
+-- a certificate, and the finder's where that is one; the tight one comes by no more rounds than a search may make, and
+-- so does a certificate, beside a finder that tells its vectors, unless it is one of these
 pub record AreSought (tight : Bool) (told : Option (List ℤ)) (grid : Grid) (tanks rounds : ℕ) (row : Record)
     : Type 0 where
   pub each : OfEach (IsSought tight told grid tanks) tanks row

@@ -15,12 +15,12 @@ use Rattle.hyd_spec_reports.specs.declared.StopCause.{StopCause}
 use Rattle.hyd_spec_reports.specs.declared.StopCause.TheVariants.{NoCertificate, RoundsSpent, RuleOpen, EventOpen}
 use Rattle.hyd_spec_reports.specs.declared.StopCause.TheVariants.{TankOpen, ControlOpen}
 use Rattle.hyd_cert.specs.RecordView.{IsProblemOf}
-use Rattle.hyd_close.specs.declared.open.Open.{Open}
-use Rattle.hyd_close.specs.declared.open.Open.TheVariants.{Rule, Event, Tank, Control}
-use Rattle.hyd_vectors.specs.Vectors.{Lacks}
-use Rattle.hyd_vectors.specs.declared.lack.Lack.{Lack}
-use Rattle.hyd_vectors.specs.declared.lack.Lack.TheVariants.{NoCertificate as LacksCertificate}
-use Rattle.hyd_vectors.specs.declared.lack.Lack.TheVariants.{RoundsSpent as SpentRounds}
+use Rattle.hyd_period_close.specs.declared.open.Open.{Open}
+use Rattle.hyd_period_close.specs.declared.open.Open.TheVariants.{Rule, Event, Tank, Control}
+use Rattle.hyd_period_vectors.specs.Vectors.{Lacks}
+use Rattle.hyd_period_vectors.specs.declared.lack.Lack.{Lack}
+use Rattle.hyd_period_vectors.specs.declared.lack.Lack.TheVariants.{NoCertificate as LacksCertificate}
+use Rattle.hyd_period_vectors.specs.declared.lack.Lack.TheVariants.{RoundsSpent as SpentRounds}
 
 -- head intervals between two vectors and level intervals before and after a period are narrow for a width
 pub record AreNarrow (W : ℤ) (upper lower : List ℤ) (before after : List Interval) : Type 0 where

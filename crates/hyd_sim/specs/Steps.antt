@@ -19,9 +19,9 @@ use Rattle.hyd_graph.specs.GridOf.{grid_of, states_of}
 use Rattle.hyd_graph.specs.NetView.{NetView}
 use Rattle.hyd_graph.specs.Settings.{AreStates}
 use Rattle.hyd_bounds.specs.Bounds.{TanksInOrder}
-use Rattle.hyd_watch.specs.Started.{HaveTanks}
-use Rattle.hyd_close.specs.declared.close.Close.{Close}
-use Rattle.hyd_vectors.specs.Vectors.{IsTold, Tells, AreSpent, OfEach}
+use Rattle.hyd_watched_levels.specs.Started.{HaveTanks}
+use Rattle.hyd_period_close.specs.declared.close.Close.{Close}
+use Rattle.hyd_period_vectors.specs.Vectors.{IsTold, Tells, AreSpent, OfEach}
 use Rattle.hyd_sim.specs.Attempts.{next_standing, IsMade, AreSought}
 use Rattle.hyd_sim.specs.View.{SimView, standing_for, standing_of}
 use Rattle.hyd_sim.specs.declared.settings.Settings.{Settings}
@@ -51,8 +51,8 @@ IsSharpAsSought told network settings standing grid row next =
     ⊎ (IsNarrow settings.width standing row next
     × AreSought false told grid (tank_count network) settings.rounds row))
 
--- a vector is left to rounds: the finder tells no certificate of this problem and side, this is the tight one, and
--- plain rounds, as many as a search may make, aren't spent on the way to it
+-- a vector is left to rounds: the finder tells no certificate of this problem and side, this is the tight one, and it
+-- isn't so that as many plain rounds as a search may make lead to no certificate
 pub record IsLeftToRounds (told : Option (List ℤ)) (grid : Grid) (tanks rounds : ℕ) (problem : Problem) (side : Side)
     (u : List ℤ) : Type 0 where
   pub untold : (w : List ℤ) → IsTold told grid tanks problem side w → ⊥

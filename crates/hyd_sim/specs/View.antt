@@ -16,11 +16,11 @@ use Rattle.hyd_facts.specs.declared.facts.Facts.{Facts}
 use Rattle.hyd_facts.specs.Room.{HasRoom}
 use Rattle.hyd_graph.specs.NetView.{NetView}
 use Rattle.hyd_graph.specs.Periods.{IsNetOf}
-use Rattle.hyd_next.specs.Room.{HasRoom as HasNextRoom}
-use Rattle.hyd_next.specs.declared.next.Next.{Next}
-use Rattle.hyd_close.specs.Closing.{HasRoom as HasCloseRoom, AreKeptIn}
-use Rattle.hyd_close.specs.declared.close.Close.{Close}
-use Rattle.hyd_vectors.specs.Room.{Room}
+use Rattle.hyd_period_start.specs.Room.{HasRoom as HasNextRoom}
+use Rattle.hyd_period_start.specs.declared.next.Next.{Next}
+use Rattle.hyd_period_close.specs.Closing.{HasRoom as HasCloseRoom, AreKeptIn}
+use Rattle.hyd_period_close.specs.declared.close.Close.{Close}
+use Rattle.hyd_period_vectors.specs.Room.{Room}
 use Rattle.hyd_sim.specs.declared.settings.Settings.{Settings}
 use Rattle.hyd_sim.specs.declared.standing.Standing.{Standing as Here}
 

@@ -10,9 +10,9 @@ ghost use Rattle.hyd_cert.specs.RecordView.{header_of, row_of};
 ghost use Rattle.hyd_facts.specs.Room.{HasRoom};
 ghost use Rattle.hyd_graph.specs.GridOf.{grid_of};
 ghost use Rattle.hyd_graph.specs.Periods.{IsNetOf};
-ghost use Rattle.hyd_close.specs.Closing.{HasRoom as HasCloseRoom};
-ghost use Rattle.hyd_close.specs.Opens.{SharesVectors};
-ghost use Rattle.hyd_vectors.specs.Vectors.{Stays};
+ghost use Rattle.hyd_period_close.specs.Closing.{HasRoom as HasCloseRoom};
+ghost use Rattle.hyd_period_close.specs.Opens.{SharesVectors};
+ghost use Rattle.hyd_period_vectors.specs.Vectors.{Stays};
 ghost use Rattle.hyd_sim.specs.Acceptance.{IsAccepted, IsTaken};
 ghost use Rattle.hyd_sim.specs.Attempts.{IsMade, IsStarted};
 ghost use Rattle.hyd_sim.specs.View.{IsStanding, header_for, standing_for, standing_of};
@@ -23,10 +23,10 @@ use crate::sim::Sim;
 use crate::standing::Standing;
 use crate::vectors::{check_vectors, take_vectors};
 use hyd_cert::Record;
-use hyd_close::Close;
 use hyd_facts::Facts;
 use hyd_graph::Net;
 use hyd_net::{LinkState, Project};
+use hyd_period_close::Close;
 use hyd_spec_reports::CertRefused;
 
 // Decides whether a record is the one that is due: the run isn't over, and its number and its time are the next.

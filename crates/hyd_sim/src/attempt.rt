@@ -10,23 +10,23 @@ ghost use Rattle.hyd_facts.specs.Room.{HasRoom};
 ghost use Rattle.hyd_graph.specs.GridOf.{grid_of};
 ghost use Rattle.hyd_graph.specs.Periods.{IsNetOf};
 ghost use Rattle.hyd_bounds.specs.Bounds.{TanksInOrder};
-ghost use Rattle.hyd_close.specs.Begun.{AreBegun, AreReady};
-ghost use Rattle.hyd_close.specs.Closing.{HasRoom as HasCloseRoom};
-ghost use Rattle.hyd_close.specs.declared.close.Close as closes;
-ghost use Rattle.hyd_close.specs.Opens.{IsOpenAt, SharesVectors};
+ghost use Rattle.hyd_period_close.specs.Begun.{AreBegun, AreReady};
+ghost use Rattle.hyd_period_close.specs.Closing.{HasRoom as HasCloseRoom};
+ghost use Rattle.hyd_period_close.specs.declared.close.Close as closes;
+ghost use Rattle.hyd_period_close.specs.Opens.{IsOpenAt, SharesVectors};
 ghost use Rattle.hyd_spec_certificates.specs.Record.{Record as Row};
 ghost use Rattle.hyd_sim.specs.View.{IsStanding, header_for, standing_for};
 ghost use Rattle.hyd_sim.specs.Attempts.{AreSought, IsFault, IsMade, IsOver, IsStarted};
 
 use crate::standing::Standing;
 use hyd_cert::Record;
-use hyd_close::{Close, Open};
 use hyd_facts::Facts;
 use hyd_graph::Net;
 use hyd_inflows::put_inflows;
 use hyd_net::Project;
 use hyd_newton::Finder;
-use hyd_vectors::{Lack, Search};
+use hyd_period_close::{Close, Open};
+use hyd_period_vectors::{Lack, Search};
 
 /// Why an attempt failed.
 #[derive(Debug, Clone, Copy, PartialEq, Eq, Drop)]

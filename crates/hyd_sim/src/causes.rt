@@ -4,10 +4,10 @@
 ghost use Rattle.std.specs.Prelude.{◌≡◌, false, IfErr, IfOk};
 ghost use Rattle.hyd_sim.specs.Sharp.{SaysNone, stop_of, open_stop_of};
 
-use hyd_close::Open;
 use hyd_graph::PeriodDemand;
+use hyd_period_close::Open;
+use hyd_period_vectors::Lack;
 use hyd_spec_reports::StopCause;
-use hyd_vectors::Lack;
 
 /// The stop at the period of a number whose demand is out of range.
 pub(crate) fn demand_stop(number: u32, fault: PeriodDemand) -> StopCause

@@ -12,8 +12,8 @@ ghost use Rattle.hyd_cert.specs.RecordView.{header_of, row_of};
 ghost use Rattle.hyd_facts.specs.Room.{HasRoom};
 ghost use Rattle.hyd_graph.specs.GridOf.{grid_of};
 ghost use Rattle.hyd_graph.specs.Periods.{IsNetOf};
-ghost use Rattle.hyd_close.specs.Closing.{HasRoom as HasCloseRoom};
-ghost use Rattle.hyd_vectors.specs.Vectors.{HaveSame};
+ghost use Rattle.hyd_period_close.specs.Closing.{HasRoom as HasCloseRoom};
+ghost use Rattle.hyd_period_vectors.specs.Vectors.{HaveSame};
 ghost use Rattle.hyd_sim.specs.Attempts.{AreSought, IsMade, IsStarted, fault_stop_of, next_standing};
 ghost use Rattle.hyd_sim.specs.Sharp.{SaysNone};
 ghost use Rattle.hyd_sim.specs.Steps.{AreTight, IsAdvanced, IsDone, IsProposal};
@@ -26,14 +26,14 @@ use crate::settings::Settings;
 use crate::standing::Standing;
 use crate::start::begin;
 use hyd_cert::Record;
-use hyd_close::Close;
 use hyd_facts::Facts;
 use hyd_graph::Net;
 use hyd_net::{LinkState, Project};
 use hyd_newton::Finder;
+use hyd_period_close::Close;
+use hyd_period_vectors::Search;
 use hyd_spec_certificates::{Problem, Side};
 use hyd_spec_reports::StopCause;
-use hyd_vectors::Search;
 
 // Whether the record of a period that is over is narrow.
 fn is_narrow(

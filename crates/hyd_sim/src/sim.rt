@@ -3,12 +3,12 @@
 use crate::settings::Settings;
 use crate::standing::Standing;
 use hyd_cert::Record;
-use hyd_close::Close;
 use hyd_facts::Facts;
 use hyd_graph::Net;
 use hyd_net::{LinkState, Project};
+use hyd_period_close::Close;
+use hyd_period_vectors::Search;
 use hyd_spec_reports::StopCause;
-use hyd_vectors::Search;
 use std::marker::Model;
 
 /// A run of a network: the standing between two periods, and what the last period left. Contracts see its parts.

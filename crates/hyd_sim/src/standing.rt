@@ -5,11 +5,11 @@ ghost use Rattle.std.specs.Prelude.{◌≡◌, ◌≤◌, ◌+◌, ◌^◌, true
 ghost use Rattle.hyd_net.specs.Sound.{Sound};
 
 use hyd_cert::Record;
-use hyd_close::Close;
 use hyd_facts::Facts;
 use hyd_graph::Net;
 use hyd_net::{LinkState, Project};
-use hyd_next::Next;
+use hyd_period_close::Close;
+use hyd_period_start::Next;
 use std::mem::swap;
 
 /// What is known where the next period begins.
@@ -28,7 +28,7 @@ pub(crate) struct Standing {
 }
 
 impl Standing {
-    ghost use Rattle.hyd_close.specs.Closing.{HasRoom};
+    ghost use Rattle.hyd_period_close.specs.Closing.{HasRoom};
     ghost use Rattle.hyd_sim.specs.Attempts.{IsMade, next_standing};
     ghost use Rattle.hyd_sim.specs.View.{IsStanding, standing_for};
 

@@ -1,7 +1,7 @@
 //! The start of a period.
 #![tactic(auto)]
 
-ghost use Rattle.std.specs.Prelude.{◌≡◌, ◌≤◌, ◌+◌, ◌++◌, [], length, map};
+ghost use Rattle.std.specs.Prelude.{◌≡◌, ◌≤◌, ◌+◌, length, map};
 ghost use Rattle.hyd_net.specs.Sound.{Sound};
 ghost use Rattle.hyd_spec.specs.Start.{started};
 ghost use Rattle.hyd_spec.specs.Network.{tank_count};
@@ -11,14 +11,14 @@ ghost use Rattle.hyd_spec_reports.specs.Report.{start_changes};
 ghost use Rattle.hyd_facts.specs.OfPeriod.{levels_of};
 ghost use Rattle.hyd_facts.specs.Room.{HasRoom};
 ghost use Rattle.hyd_graph.specs.Settings.{AreStates};
-ghost use Rattle.hyd_close.specs.Begun.{AreBegun, AreReady};
+ghost use Rattle.hyd_period_close.specs.Begun.{AreBegun, AreReady};
 ghost use Rattle.hyd_sim.specs.View.{IsStanding, standing_for};
 
 use crate::standing::Standing;
 use hyd_ctrl::{Changes, settle};
 use hyd_facts::Facts;
 use hyd_net::{LinkState, List, Project};
-use hyd_next::Next;
+use hyd_period_start::Next;
 use hyd_spec_certificates::LevelSpan;
 
 // Makes a list these items, for which it has room.

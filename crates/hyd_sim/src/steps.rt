@@ -1,13 +1,13 @@
 //! One period after another.
 #![tactic(auto)]
 
-ghost use Rattle.std.specs.Prelude.{◌≡◌, Some, None, true, false, length, IfErr, IsOk, OnOk, OnErr};
+ghost use Rattle.std.specs.Prelude.{◌≡◌, Some, None, true, false, IfErr, IsOk, OnOk, OnErr};
 ghost use Rattle.hyd_spec.specs.Network.{tank_count};
 ghost use Rattle.hyd_spec_certificates.specs.Record.{Record as Row};
 ghost use Rattle.hyd_spec_reports.specs.Stops.{Stops};
 ghost use Rattle.hyd_cert.specs.RecordView.{row_of};
 ghost use Rattle.hyd_graph.specs.GridOf.{grid_of};
-ghost use Rattle.hyd_vectors.specs.Vectors.{HaveSame};
+ghost use Rattle.hyd_period_vectors.specs.Vectors.{HaveSame};
 ghost use Rattle.hyd_sim.specs.Steps.{StepGives, IsPeriod, IsProposal, IsSharpAsSought};
 ghost use Rattle.hyd_sim.specs.View.{standing_of};
 
@@ -59,10 +59,11 @@ impl Sim {
         )
     }
 
-    /// Does the period that is due, with vectors that the finder proposes or that rounds of raises find; where these
-    /// leave a matter open or their record isn't narrow, and where tight vectors are asked for, with the tight ones. It
-    /// takes no memory. Stops with the cause that holds at the standing, which then stays; after that it answers the
-    /// same cause again. Finished comes exactly where the period at the end of the run is over.
+    /// Does the period that is due, with vectors that the finder proposes or that rounds of raises find; where the
+    /// rounds toward one are spent, where these leave a matter open or their record isn't narrow, and where tight
+    /// vectors are asked for, with the tight ones. It takes no memory. Stops with the cause that holds at the standing,
+    /// which then stays; after that it answers the same cause again. Finished comes exactly where the period at the end
+    /// of the run is over.
     pub fn step<F: Finder>(&mut self, finder: &mut F) -> Step
         ensures gives { StepGives self.old self.new result }
         ensures sought { result ≡ Step.Period → IsSharpAsSought (F.told finder.old) self.old.project self.old.settings

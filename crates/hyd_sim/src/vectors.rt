@@ -8,7 +8,7 @@ ghost use Rattle.hyd_spec_reports.specs.Stops.{turn};
 ghost use Rattle.hyd_cert.specs.RecordView.{header_of, row_of};
 ghost use Rattle.hyd_graph.specs.GridOf.{grid_of};
 ghost use Rattle.hyd_graph.specs.Nets.{HasProblem};
-ghost use Rattle.hyd_vectors.specs.Vectors.{EachBefore, OfEach, Fits, Stays};
+ghost use Rattle.hyd_period_vectors.specs.Vectors.{EachBefore, OfEach, Fits, Stays};
 ghost use Rattle.hyd_sim.specs.Acceptance.{FailsAt};
 
 use hyd_cert::Record;

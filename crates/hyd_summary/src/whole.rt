@@ -57,7 +57,7 @@ fn put_run<D: Desk, F: Finder>(
 /// - `Stalled`: such a call took nothing, and the stalls rose by one.
 ///
 /// After either nothing more is called, and what was written and printed are fronts of the certificate and of the
-/// summary of the run as far as it went.
+/// summary of the run as far as it went; nothing was printed unless the certificate was written whole.
 pub fn run_summed<D: Desk, F: Finder>(
     sim: &mut Sim,
     finder: &mut F,

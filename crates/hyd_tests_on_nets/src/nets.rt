@@ -11,11 +11,11 @@ ghost use Rattle.hyd_graph.specs.Settings.{AreStates};
 
 use crate::given::read;
 use crate::parts::{Part, Row, TEXT, emitters, parts};
-use hyd_given::{Order, command, is_problem, set, span, starts};
 use hyd_graph::{Net, PeriodDemand};
 use hyd_law::{Law, Quad};
 use hyd_net::{LinkState, OutOfMemory, Project};
 use hyd_spec_certificates::{Problem, Side};
+use hyd_test_periods::{Order, command, is_problem, set, span, starts};
 use std::alloc::Global;
 use std::test::Fail;
 

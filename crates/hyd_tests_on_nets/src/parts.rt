@@ -1,9 +1,9 @@
 //! One network in four periods: its text, and what its net is in each, by an independent program.
 #![tactic(auto)]
 
-use hyd_given::Order;
 use hyd_spec::TankState;
 use hyd_spec_certificates::{Problem, Side};
+use hyd_test_periods::Order;
 
 /// Links of each kind, in each of their states and settings, between two tanks.
 pub(crate) const TEXT: &str =

@@ -10,10 +10,10 @@ use crate::given::read;
 use crate::networks::{Network, generated, networks, two_junctions, without_source};
 use crate::tight::{are_found, are_proposed, are_spent, are_starts};
 use hyd_gen::generate;
-use hyd_given::put_at;
 use hyd_graph::Net;
 use hyd_inp::read_project;
 use hyd_net::{OutOfMemory, Project};
+use hyd_test_periods::put_at;
 use std::alloc::Global;
 use std::test::Fail;
 

@@ -7,12 +7,12 @@ ghost use Rattle.hyd_graph.specs.Nets.{HasProblem};
 
 use crate::networks::Row;
 use hyd_check::{Fails, check};
-use hyd_given::is_problem;
 use hyd_graph::Net;
 use hyd_net::OutOfMemory;
 use hyd_newton::{Finder, Gradient};
 use hyd_spec_certificates::{Problem, Side};
 use hyd_sweep::{Sweeper, Swept, begin};
+use hyd_test_periods::is_problem;
 use std::alloc::Global;
 
 // So many rounds at most toward a tight vector, from where sweeps begin: what they found, and the heads.

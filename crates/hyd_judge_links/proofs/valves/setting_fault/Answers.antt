@@ -4,7 +4,7 @@ use Rattle.hyd_opts.specs.Judged.{words_at}
 use Rattle.hyd_rows.specs.Rows.{IsValveSetting}
 use Rattle.hyd_rows.specs.declared.valves.ValveSetting.{ValveSetting}
 use Rattle.hyd_spec_networks.proofs.LinkKinds.{valve_numbers}
-use Rattle.hyd_states.proofs.RangeLemmas.{coefficient_up_to, coefficient_right, throttle_alone}
+use Rattle.hyd_link_states.proofs.RangeLemmas.{coefficient_up_to, coefficient_right, throttle_alone}
 use Rattle.hyd_judge_links.proofs.ValveLemmas.{throttle_verdict, flow_verdict}
 use Rattle.hyd_judge_links.proofs.valves.setting_fault.Goals as goal
 

@@ -10,8 +10,8 @@ use Rattle.hyd_cert.specs.Lines.{Header}
 use Rattle.hyd_cert.specs.Vectors.{behind_two}
 use Rattle.hyd_cert.specs.RecordView.{row_of}
 use Rattle.hyd_graph.specs.GridOf.{grid_of}
-use Rattle.hyd_vectors.specs.Room.{Room}
-use Rattle.hyd_vectors.specs.Vectors.{LacksFirst}
+use Rattle.hyd_period_vectors.specs.Room.{Room}
+use Rattle.hyd_period_vectors.specs.Vectors.{LacksFirst}
 use Rattle.hyd_sim.specs.Attempts.{AreSought, IsFault, next_standing}
 use Rattle.hyd_sim.specs.Sharp.{stop_of}
 use Rattle.hyd_sim.specs.View.{standing_for}

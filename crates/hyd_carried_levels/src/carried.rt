@@ -1,0 +1,63 @@
+//! Carried levels of all tanks.
+#![tactic(auto)]
+
+ghost use Rattle.std.specs.Prelude.{◌≡◌, ◌<◌, ◌≤◌, ◌+◌, ◌^◌, ◌++◌, ◌∷◌, [], Some, length, map, slice_get};
+ghost use Rattle.hyd_net.specs.Sound.{Sound};
+ghost use Rattle.hyd_spec.specs.Types.{Tank};
+ghost use Rattle.hyd_spec.specs.Network.{tank_count};
+ghost use Rattle.hyd_spec_certificates.specs.Grid.{Grid};
+ghost use Rattle.hyd_spec_certificates.specs.Record.{Record, Standing};
+ghost use Rattle.hyd_spec_certificates.specs.Decided.{carried_at};
+ghost use Rattle.hyd_facts.specs.OfPeriod.{levels_of};
+ghost use Rattle.hyd_watched_levels.specs.Started.{HaveTanks, AreStarted};
+ghost use Rattle.hyd_carried_levels.specs.Carried.{carried_in};
+
+use hyd_facts::Facts;
+use hyd_net::{List, Project};
+use hyd_spec_certificates::LevelSpan;
+use hyd_watched_levels::{inflow_at, stock_at};
+
+// The carried levels of one tank.
+fn carried_of(project: &Project, facts: &Facts, tank: u32, seconds: u32) -> LevelSpan
+    requires sound { Sound project.now }
+    requires tanks { HaveTanks project.now facts.now }
+    requires in_range { tank < length project.now.tanks.list }
+    requires seconds { seconds ≤ 10 ^ 8 }
+    ensures { (each : Tank) → slice_get project.now.tanks.list tank ≡ Some each
+        → levels_of result ≡ carried_in project.now facts.now seconds tank each }
+{
+    let stock = stock_at(facts, tank);
+    let inflow = inflow_at(facts, tank);
+    let carried = hyd_tank::stock_at(project, tank, stock, inflow, seconds);
+    carried.level
+}
+
+// Appends levels, for which there is room.
+fn add_level(levels: &mut List<LevelSpan>, level: LevelSpan)
+    requires { 0 < levels.old.spare }
+    ensures list { levels.new.list ≡ levels.old.list ++ level ∷ [] }
+    ensures spare { levels.old.spare ≤ levels.new.spare + 1 }
+{
+    levels.push(level).unwrap();
+}
+
+/// Puts the levels of tanks carried to so many seconds after the start of a period. The facts hold the stocks at its
+/// start and what flows into its tanks. What the list held before goes. It has room for an item for each tank, so no
+/// memory is taken.
+pub fn put_carried(project: &Project, facts: &Facts, seconds: u32, levels: &mut List<LevelSpan>)
+    requires sound { Sound project.now }
+    requires tanks { HaveTanks project.now facts.now }
+    requires seconds { seconds ≤ 10 ^ 8 }
+    requires room { tank_count project.now ≤ length levels.old.list + levels.old.spare }
+    ensures levels { (grid : Grid) (standing : Standing) (row : Record)
+        → AreStarted project.now grid standing row facts.now
+        → map levels_of levels.new.list ≡ carried_at project.now grid standing row seconds }
+    ensures count { length levels.new.list ≡ tank_count project.now }
+    ensures room { length levels.old.list + levels.old.spare ≤ length levels.new.list + levels.new.spare }
+{
+    levels.clear();
+    for tank in 0..project.tanks.len() {
+        let level = carried_of(project, facts, tank as u32, seconds);
+        add_level(levels, level);
+    }
+}

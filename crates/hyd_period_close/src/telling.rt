@@ -1,0 +1,47 @@
+//! What the end of a period brings.
+#![tactic(auto)]
+
+ghost use Rattle.std.specs.Prelude.{◌≡◌, ◌≤◌, ◌+◌, ◌^◌, length, map};
+ghost use Rattle.hyd_net.specs.Sound.{Sound};
+ghost use Rattle.hyd_spec.specs.Network.{tank_count};
+ghost use Rattle.hyd_spec_certificates.specs.Grid.{Grid};
+ghost use Rattle.hyd_spec_certificates.specs.Record.{Record, Standing};
+ghost use Rattle.hyd_spec_reports.specs.Report.{events_of};
+ghost use Rattle.hyd_facts.specs.Room.{Takes};
+ghost use Rattle.hyd_watched_levels.specs.Started.{AreStarted, HaveTanks};
+
+use hyd_carried_levels::put_carried;
+use hyd_facts::Facts;
+use hyd_net::{List, Project};
+use hyd_period_events::put_events;
+use hyd_spec_certificates::LevelSpan;
+
+/// Puts how long a period lasts, and the events of its end.
+pub(crate) fn tell_end(
+    project: &Project,
+    facts: &mut Facts,
+    seconds: u32,
+    carried: &mut List<LevelSpan>,
+)
+    requires sound { Sound project.now }
+    requires tanks { HaveTanks project.now facts.old }
+    requires seconds { seconds ≤ 10 ^ 8 }
+    requires carried { Takes carried.old (tank_count project.now) }
+    requires events { Takes facts.old.events (tank_count project.now + length project.now.controls.list) }
+    ensures events { (grid : Grid) (standing : Standing) (row : Record)
+        → AreStarted project.now grid standing row facts.old → row.length ≡ seconds
+        → facts.new.events.list ≡ events_of project.now grid standing row }
+    ensures keeps { facts.new ≡ record facts.old { length = seconds; events = facts.new.events } }
+    ensures events_room { Takes facts.new.events (tank_count project.now + length project.now.controls.list) }
+    ensures room { Takes carried.new (tank_count project.now) }
+{
+    put_carried(project, facts, seconds, carried);
+    put_events(
+        project,
+        facts.tanks.as_slice(),
+        facts.levels.as_slice(),
+        carried.as_slice(),
+        &mut facts.events,
+    );
+    facts.length = seconds;
+}

@@ -1,0 +1,17 @@
+-- A certificate of the other side as a start.
+use Rattle.std.proofs.Common.{List, ℤ}
+use Rattle.std.specs.Prelude.{None}
+use Rattle.hyd_spec_certificates.specs.declared.Problem.{Problem}
+use Rattle.hyd_spec_certificates.specs.declared.Problem.TheVariants.{Main}
+use Rattle.hyd_spec_certificates.specs.declared.Side.{Side}
+use Rattle.hyd_spec_certificates.specs.Grid.{Grid, opposite}
+use Rattle.hyd_spec_certificates.specs.Certificate.{IsCertificate}
+use Rattle.hyd_spec_certificates.specs.Climbing.{IsStart}
+use Rattle.hyd_spec_laws.specs.Laws.{IsSteady}
+use Rattle.hyd_spec_raises.proofs.Beginnings.{start-other, main-fixed}
+use Rattle.hyd_period_vectors.specs.Vectors.{InOrder}
+
+pub start-across : (grid : Grid) → IsSteady grid → InOrder grid → (problem : Problem) (side : Side) (u : List ℤ)
+    → IsCertificate grid Main (opposite side) u → IsStart None grid problem side u
+start-across grid steady order problem side u is =
+    start-other grid steady side None problem Main (main-fixed grid side problem order) u is tt
