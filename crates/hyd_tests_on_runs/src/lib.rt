@@ -1,8 +1,6 @@
-//! The tests of the top call on a desk in memory: whole texts, limits, faults of the desk, finders, words.
+//! The tests of the top call on a desk in memory: whole texts, limits, faults of the desk, words.
 #![tactic(auto)]
 
-#[cfg(test)]
-mod accepts;
 #[cfg(test)]
 mod certificates;
 #[cfg(test)]
@@ -10,11 +8,11 @@ mod checks;
 #[cfg(test)]
 mod faults;
 #[cfg(test)]
-mod finders;
-#[cfg(test)]
 mod generated;
 #[cfg(test)]
 mod given;
+#[cfg(test)]
+mod limits;
 #[cfg(test)]
 mod orders;
 #[cfg(test)]

@@ -1,8 +1,8 @@
 //! Records handed to a run as those of the periods that are due.
 
-ghost use Rattle.std.specs.Prelude.{◌≡◌, None, IfOk};
+ghost use Rattle.std.specs.Prelude.{◌≡◌, None};
 
-use crate::certificates::IDLE;
+use crate::offers::IDLE;
 use hyd_cert::Record;
 use hyd_inp::read_project;
 use hyd_sim::{Settings, Sim};
@@ -20,19 +20,6 @@ fn record_of(alloc: Global, upper: i64, lower: i64) -> Result<Record, Fail> {
     row.set_vector(Problem::Main, Side::Upper, &[upper]);
     row.set_vector(Problem::Main, Side::Lower, &[lower]);
     Ok(row)
-}
-
-/// A run of the network at its start. Checking finds no vectors.
-fn opened(alloc: Global) -> Result<Sim, Fail>
-    ensures running { IfOk result (λ sim. sim.stopped ≡ None) }
-{
-    let project = read_project(alloc, IDLE.as_bytes())?;
-    let settings = Settings {
-        rounds: 0,
-        width: 0,
-        tight: false,
-    };
-    Ok(Sim::open(alloc, project, settings)?)
 }
 
 /// What a run answers to a record, if the record has as many junctions and tanks as the network.
@@ -60,12 +47,23 @@ fn answers(sim: &mut Sim, wrong: &Record, right: &Record) -> [Answer; 3]
     [first, second, third]
 }
 
+/// The answers of a run of the network from its start. Checking finds no vectors.
+fn answers_of_run(alloc: Global, wrong: &Record, right: &Record) -> Result<[Answer; 3], Fail> {
+    let project = read_project(alloc, IDLE.as_bytes())?;
+    let settings = Settings {
+        rounds: 0,
+        width: 0,
+        tight: false,
+    };
+    let mut sim = Sim::open(alloc, project, settings)?;
+    Ok(answers(&mut sim, wrong, right))
+}
+
 #[test]
 fn a_record_that_is_refused_leaves_the_run_where_it_was(rt: HostRuntime) -> Result<(), Fail> {
     let alloc = rt.alloc();
     let wrong = record_of(alloc, 1_000_000_000_000_000, 999_999_999_999_999)?;
     let right = record_of(alloc, 1_000_000_000_000_001, 999_999_999_999_999)?;
-    let mut sim = opened(alloc)?;
     let fails = CertRefused::Fails {
         period: 0,
         problem: Problem::Main,
@@ -74,7 +72,7 @@ fn a_record_that_is_refused_leaves_the_run_where_it_was(rt: HostRuntime) -> Resu
     };
     let after = CertRefused::After { period: 1 };
     assert_eq!(rt;
-        answers(&mut sim, &wrong, &right),
+        answers_of_run(alloc, &wrong, &right)?,
         [
             (Some(Err(fails)), 0),
             (Some(Ok(())), 1),
