@@ -10,14 +10,14 @@ ghost use Rattle.hyd_sim.specs.Steps.{IsPeriod};
 ghost use Rattle.hyd_sim.specs.View.{header_for, standing_of};
 ghost use Rattle.hyd_run.specs.Pens.{told};
 ghost use Rattle.hyd_run.specs.Runs.{IsPutOut, outcome_of};
-ghost use Rattle.hyd_recheck.specs.Checks.{CheckEnds};
-ghost use Rattle.hyd_recheck.specs.Turns.{IsPrinted};
+ghost use Rattle.hyd_cert_check.specs.Checks.{CheckEnds};
+ghost use Rattle.hyd_cert_check.specs.Turns.{IsPrinted};
 
 use hyd_cert::{CertReader, Record, version_of};
+use hyd_cert_check::{CheckEnd, CheckFault, check};
 use hyd_io::{Channel, Desk, MemDesk, OutFault, Pen};
 use hyd_net::{OutOfMemory, Project};
 use hyd_newton::Gradient;
-use hyd_recheck::{CheckEnd, CheckFault, check};
 use hyd_run::{RunEnd, run};
 use hyd_sim::{Sim, Step};
 use hyd_spec_certificates::{Problem, Side};

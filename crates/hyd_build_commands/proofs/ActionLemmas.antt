@@ -17,7 +17,7 @@ use Rattle.hyd_spec_input.specs.WithOthers.{is_part_word, is_action_word, holds_
 use Rattle.hyd_spec_input.specs.declared.RuleWord.{RuleWord}
 use Rattle.hyd_spec_input.specs.declared.RuleWord.TheVariants.{Rule, If, And, Or, Then, Else, Priority}
 use Rattle.hyd_spec_networks.proofs.Faultless.{or_none, all_none, section_is}
-use Rattle.hyd_tables.proofs.SectionLemmas.{none_of}
+use Rattle.hyd_row_tables.proofs.SectionLemmas.{none_of}
 use Rattle.hyd_judge_commands.proofs.RuleLemmas.{action_is_right}
 use Rattle.hyd_build_commands.specs.Rows.{IsRightAction}
 use Rattle.hyd_build_commands.proofs.ControlLemmas.{known}

@@ -31,8 +31,8 @@ use Rattle.hyd_spec_input.specs.Tables.{allows_link}
 use Rattle.hyd_spec_input.specs.WithOthers as others
 use Rattle.hyd_spec_networks.proofs.Faultless.{or_none, all_none, unless_none, needed_none, section_is}
 use Rattle.hyd_spec_networks.proofs.Points.{is_head_lies}
-use Rattle.hyd_tables.proofs.FoundLemmas.{filter_more, filter_same}
-use Rattle.hyd_tables.proofs.SectionLemmas.{none_of}
+use Rattle.hyd_row_tables.proofs.FoundLemmas.{filter_more, filter_same}
+use Rattle.hyd_row_tables.proofs.SectionLemmas.{none_of}
 use Rattle.hyd_build_commands.specs.Controls.{IsRightWhen, AreControls}
 use Rattle.hyd_build_commands.specs.Rows.{IsRightControl}
 use Rattle.hyd_build_commands.proofs.NumberLemmas.{tank_numbered}

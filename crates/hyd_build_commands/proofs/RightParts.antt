@@ -5,8 +5,8 @@ use Rattle.hyd_spec_lines.specs.Lines.{Row}
 use Rattle.hyd_spec_lines.specs.declared.section.Section.{Section}
 use Rattle.hyd_spec_lines.specs.declared.section.Section.TheVariants.{Rules}
 use Rattle.hyd_net.specs.declared.cause.Cause.TheVariants.{Syntax}
-use Rattle.hyd_opts.specs.Meanings.{IsClauseLine, ClauseSays}
-use Rattle.hyd_opts.specs.declared.rules.ClauseLine.{ClauseLine}
+use Rattle.hyd_options_and_rules.specs.Meanings.{IsClauseLine, ClauseSays}
+use Rattle.hyd_options_and_rules.specs.declared.rules.ClauseLine.{ClauseLine}
 use Rattle.hyd_spec_input.specs.ByItself as itself
 use Rattle.hyd_spec_input.specs.ByItself.{IsWrongByItself}
 use Rattle.hyd_spec_input.specs.Columns.{first, unless, needed, ends, number, id, word}
@@ -29,7 +29,7 @@ use Rattle.hyd_spec_input.specs.declared.Stage.{Stage}
 use Rattle.hyd_spec_input.specs.declared.Stage.TheVariants.{Outside, Named, Asking, Acting, Otherwise, Closed}
 use Rattle.hyd_spec_networks.proofs.Faultless.{or_none, all_none, unless_none, needed_none, section_is}
 use Rattle.hyd_spec_networks.proofs.RuleLines.{not_rule}
-use Rattle.hyd_tables.proofs.SectionLemmas.{none_of}
+use Rattle.hyd_row_tables.proofs.SectionLemmas.{none_of}
 use Rattle.hyd_build_commands.specs.Clauses.{HasNumber}
 use Rattle.hyd_build_commands.specs.Rows.{IsRightAction}
 use Rattle.hyd_build_commands.specs.Rules.{is_clause_word, IsRightClause, is_of_branch, stage_at}

@@ -10,17 +10,17 @@ ghost use Rattle.hyd_spec_input.specs.InForce as force;
 ghost use Rattle.hyd_spec_input.specs.Network.{link_ids};
 ghost use Rattle.hyd_spec_input.specs.Project.{IsAction};
 ghost use Rattle.hyd_spec_input.specs.Tables.{link_rows};
-ghost use Rattle.hyd_tables.specs.Found.{rows_at};
-ghost use Rattle.hyd_tables.specs.Tables.{IsTable};
+ghost use Rattle.hyd_row_tables.specs.Found.{rows_at};
+ghost use Rattle.hyd_row_tables.specs.Tables.{IsTable};
 ghost use Rattle.hyd_build_commands.specs.Rows.{IsRightAction};
 
 use crate::numbers::number_of;
+use hyd_asked_states::link_state;
 use hyd_lex::{Line, Lines};
-use hyd_link_states::link_state;
 use hyd_net::{Action, LinkState, Names};
 use hyd_num::FlowUnit;
-use hyd_opts::{asked_at, or_empty};
-use hyd_tables::Table;
+use hyd_options_and_rules::{asked_at, or_empty};
+use hyd_row_tables::Table;
 
 // What stands for an action of a file with a fault.
 const NO_ACTION: Action = Action {

@@ -11,8 +11,8 @@ ghost use Rattle.hyd_spec_input.specs.InForce as force;
 ghost use Rattle.hyd_spec_input.specs.Network.{node_ids, tank_ids, link_ids, rule_groups};
 ghost use Rattle.hyd_spec_input.specs.Project.{Match, IsRule};
 ghost use Rattle.hyd_spec_input.specs.Tables.{words_of, link_rows};
-ghost use Rattle.hyd_tables.specs.Found.{rows_at};
-ghost use Rattle.hyd_tables.specs.Tables.{IsTable};
+ghost use Rattle.hyd_row_tables.specs.Found.{rows_at};
+ghost use Rattle.hyd_row_tables.specs.Tables.{IsTable};
 ghost use Rattle.hyd_build_commands.specs.Rules.{NamesRule, AreRules, rest_of_rule};
 
 use crate::parts::{Branch, actions_of, clauses_of, priority_of};
@@ -20,8 +20,8 @@ use hyd_judge_alone::{first_word, is_rule, is_rules};
 use hyd_lex::{Line, Lines};
 use hyd_net::{List, Names, OutOfMemory, Rule};
 use hyd_num::FlowUnit;
-use hyd_opts::or_empty;
-use hyd_tables::Table;
+use hyd_options_and_rules::or_empty;
+use hyd_row_tables::Table;
 use std::alloc::Global;
 
 fn bytes_of(alloc: Global, word: &[u8]) -> Result<List<u8>, OutOfMemory>

@@ -22,8 +22,8 @@ use Rattle.hyd_spec_networks.proofs.Names.{First, Second, Third, one_of_three, n
 use Rattle.hyd_spec_networks.proofs.Names.{link_new, named_stands}
 use Rattle.hyd_spec_networks.proofs.Occurs.{itself, occurs, occurs_append, occurs_at, has_number, kept_once}
 use Rattle.hyd_spec_networks.proofs.Places.{kept_stands, kept_passes}
-use Rattle.hyd_tables.specs.Found.{rows_at}
-use Rattle.hyd_tables.specs.Tables.{AreFirsts}
+use Rattle.hyd_row_tables.specs.Found.{rows_at}
+use Rattle.hyd_row_tables.specs.Tables.{AreFirsts}
 use Rattle.hyd_build_links.specs.Sources.{HasNumber}
 
 -- a name that occurs has a number

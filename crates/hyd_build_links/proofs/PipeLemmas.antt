@@ -5,10 +5,10 @@ use Rattle.hyd_num.specs.Chain.{IsMade}
 use Rattle.hyd_num.specs.declared.capacities.Capacity.{Capacity}
 use Rattle.hyd_num.specs.declared.capacities.Origin.TheVariants.{Pipe}
 use Rattle.hyd_spec_lines.specs.Lines.{Row}
-use Rattle.hyd_rows.specs.Rows.{IsPipeRow, pipe_status}
-use Rattle.hyd_rows.specs.declared.pipes.PipeRow.{PipeRow}
-use Rattle.hyd_rows.specs.declared.pipes.PipeStatus.{PipeStatus}
-use Rattle.hyd_rows.specs.declared.pipes.PipeStatus.TheVariants.{Open, Closed, CheckValve}
+use Rattle.hyd_network_rows.specs.Rows.{IsPipeRow, pipe_status}
+use Rattle.hyd_network_rows.specs.declared.pipes.PipeRow.{PipeRow}
+use Rattle.hyd_network_rows.specs.declared.pipes.PipeStatus.{PipeStatus}
+use Rattle.hyd_network_rows.specs.declared.pipes.PipeStatus.TheVariants.{Open, Closed, CheckValve}
 use Rattle.hyd_spec_input.specs.Columns.{amount}
 use Rattle.hyd_spec_input.specs.NetworkRows.{has_check_valve, is_closed_pipe, pipe_minor}
 use Rattle.hyd_spec_input.specs.Project.{IsPipeOf}

@@ -11,9 +11,9 @@ use Rattle.hyd_spec_lines.specs.declared.line.Line.{Line}
 use Rattle.hyd_spec_lines.specs.declared.section.Section.TheVariants.{Pipes, Pumps, Valves}
 use Rattle.hyd_net.specs.Ranges.{IsUpTo}
 use Rattle.hyd_net.specs.declared.cause.Cause.{Cause}
-use Rattle.hyd_rows.specs.Rows.{IsPipeRow, IsValveRow}
-use Rattle.hyd_rows.specs.declared.pipes.PipeRow.{PipeRow}
-use Rattle.hyd_rows.specs.declared.valves.ValveRow.{ValveRow}
+use Rattle.hyd_network_rows.specs.Rows.{IsPipeRow, IsValveRow}
+use Rattle.hyd_network_rows.specs.declared.pipes.PipeRow.{PipeRow}
+use Rattle.hyd_network_rows.specs.declared.valves.ValveRow.{ValveRow}
 use Rattle.hyd_spec_input.specs.Capacities.{IsRefusedPipe, IsRefusedValve}
 use Rattle.hyd_spec_input.specs.Columns.{or_empty, amount}
 use Rattle.hyd_spec_input.specs.Curves.{is_bent}
@@ -23,7 +23,7 @@ use Rattle.hyd_spec_input.specs.WithOthers as others
 use Rattle.hyd_spec_networks.proofs.Faultless.{right_alone}
 use Rattle.hyd_spec_networks.proofs.LinkKinds.{PipeNumbers, pipe_numbers, ValveNumbers, valve_numbers, CurveRight}
 use Rattle.hyd_spec_networks.proofs.LinkKinds.{straight_range, pump_right}
-use Rattle.hyd_link_states.proofs.RangeLemmas.{throttle_alone, coefficient_right}
+use Rattle.hyd_asked_states.proofs.RangeLemmas.{throttle_alone, coefficient_right}
 use Rattle.hyd_build_links.specs.Pumps.{ArePumpPoints}
 use Rattle.hyd_build_links.specs.Sources.{IsRowOf, rows_from}
 use Rattle.hyd_curves.specs.Points.{points_in}

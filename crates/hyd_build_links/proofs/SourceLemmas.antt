@@ -14,7 +14,7 @@ use Rattle.hyd_spec_input.specs.Tables.{is_of}
 use Rattle.hyd_spec_input.specs.WithOthers as others
 use Rattle.hyd_spec_networks.proofs.Faultless.{AreRight, section_is}
 use Rattle.hyd_spec_networks.proofs.Places.{source}
-use Rattle.hyd_tables.proofs.SectionLemmas.{none_of}
+use Rattle.hyd_row_tables.proofs.SectionLemmas.{none_of}
 use Rattle.hyd_build_links.specs.Sources.{IsRightSource, rows_from}
 use Rattle.hyd_build_links.specs.declared.source.LinkSource.{LinkSource}
 

@@ -12,11 +12,11 @@ use Rattle.hyd_spec_lines.specs.declared.section.Section.TheVariants.{Pipes, Pum
 use Rattle.hyd_net.specs.declared.links.LinkState.{LinkState}
 use Rattle.hyd_net.specs.declared.links.LinkState.TheVariants.{Throttle}
 use Rattle.hyd_net.specs.declared.links.LinkState.TheVariants as state
-use Rattle.hyd_opts.specs.Meanings.{IsAsked}
-use Rattle.hyd_opts.specs.declared.controls.Asked.{Asked}
-use Rattle.hyd_rows.specs.Rows.{pipe_status}
-use Rattle.hyd_rows.specs.declared.pipes.PipeStatus.{PipeStatus}
-use Rattle.hyd_rows.specs.declared.pipes.PipeStatus.TheVariants.{Closed}
+use Rattle.hyd_options_and_rules.specs.Meanings.{IsAsked}
+use Rattle.hyd_options_and_rules.specs.declared.controls.Asked.{Asked}
+use Rattle.hyd_network_rows.specs.Rows.{pipe_status}
+use Rattle.hyd_network_rows.specs.declared.pipes.PipeStatus.{PipeStatus}
+use Rattle.hyd_network_rows.specs.declared.pipes.PipeStatus.TheVariants.{Closed}
 use Rattle.hyd_spec_input.specs.Capacities.{IsRefusedSetting}
 use Rattle.hyd_spec_input.specs.Columns.{word, amount, is_option_keyword}
 use Rattle.hyd_spec_input.specs.DataRows as data_row
@@ -32,13 +32,13 @@ use Rattle.hyd_spec_networks.proofs.LinkKinds.{not_of}
 use Rattle.hyd_spec_networks.proofs.LinkStates.{valve_range}
 use Rattle.hyd_spec_networks.proofs.Names.{row_named, link_new}
 use Rattle.hyd_spec_networks.proofs.Occurs.{same_name}
-use Rattle.hyd_link_states.proofs.StateLemmas as states
-use Rattle.hyd_link_states.specs.States.{IsRightLink, IsSettable, IsThrottled, limit_fault}
-use Rattle.hyd_tables.proofs.SectionLemmas.{all_rows}
-use Rattle.hyd_link_states.proofs.RightLinks.{right_link}
+use Rattle.hyd_asked_states.proofs.StateLemmas as states
+use Rattle.hyd_asked_states.specs.States.{IsRightLink, IsSettable, IsThrottled, limit_fault}
+use Rattle.hyd_row_tables.proofs.SectionLemmas.{all_rows}
+use Rattle.hyd_asked_states.proofs.RightLinks.{right_link}
 use Rattle.hyd_build_links.specs.Sources.{IsRowOf, rows_from}
 use Rattle.hyd_build_links.specs.declared.source.LinkSource.{LinkSource}
-use Rattle.hyd_link_states.proofs.RangeLemmas.{throttle_alone}
+use Rattle.hyd_asked_states.proofs.RangeLemmas.{throttle_alone}
 use Rattle.hyd_build_links.proofs.SourceLemmas.{right_source, free_row}
 
 -- ---- pipes

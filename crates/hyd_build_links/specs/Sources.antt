@@ -8,8 +8,8 @@ use Rattle.hyd_spec_input.specs.Faults.{NoneIs, IsWrongWithOthers}
 use Rattle.hyd_spec_input.specs.InForce as force
 use Rattle.hyd_spec_input.specs.Network.{number_in, node_ids, pattern_ids, bend_names}
 use Rattle.hyd_spec_input.specs.Tables.{link_rows}
-use Rattle.hyd_tables.specs.Found.{rows_at}
-use Rattle.hyd_tables.specs.Tables.{IsTable}
+use Rattle.hyd_row_tables.specs.Found.{rows_at}
+use Rattle.hyd_row_tables.specs.Tables.{IsTable}
 use Rattle.hyd_curves.specs.Points.{ArePoints}
 use Rattle.hyd_build_links.specs.declared.source.LinkSource.{LinkSource}
 

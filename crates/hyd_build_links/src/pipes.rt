@@ -5,7 +5,7 @@ ghost use Rattle.std.specs.Prelude.{◌≡◌, List};
 ghost use Rattle.hyd_spec_lines.specs.Lines.{Row, row_of};
 ghost use Rattle.hyd_spec_lines.specs.declared.section.Section.TheVariants.{Pipes};
 ghost use Rattle.hyd_resist.specs.Ranges.{IsLength, IsDiameter, IsRoughness, IsMinorCoefficient};
-ghost use Rattle.hyd_rows.specs.Rows.{IsPipeRow};
+ghost use Rattle.hyd_network_rows.specs.Rows.{IsPipeRow};
 ghost use Rattle.hyd_spec_input.specs.Capacities.{IsRefusedPipe};
 ghost use Rattle.hyd_spec_input.specs.Project.{IsPipeKind};
 ghost use Rattle.hyd_spec_input.specs.Tables.{is_of};
@@ -15,8 +15,8 @@ ghost use Rattle.hyd_build_links.specs.Sources.{IsRowOf, rows_from};
 use crate::source::LinkSource;
 use hyd_lex::{Line, Lines};
 use hyd_net::LinkKind;
+use hyd_network_rows::{PipeRow, PipeStatus, read_pipe};
 use hyd_resist::pipe_capacity;
-use hyd_rows::{PipeRow, PipeStatus, read_pipe};
 
 /// What a pipe is whose capacity is in range.
 pub(crate) fn pipe_of(pipe: &PipeRow<'_>, us: bool) -> LinkKind

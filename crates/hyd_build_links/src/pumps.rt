@@ -12,7 +12,7 @@ use crate::numbers::{number, pattern_number};
 use crate::source::LinkSource;
 use hyd_lex::{Line, Lines};
 use hyd_net::LinkKind;
-use hyd_rows::read_pump;
+use hyd_network_rows::read_pump;
 
 /// What the pump of a row is.
 pub(crate) fn pump_kind(text: &Lines<'_>, line: &Line, source: &LinkSource<'_>) -> LinkKind

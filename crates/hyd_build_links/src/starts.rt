@@ -4,7 +4,7 @@
 ghost use Rattle.std.specs.Prelude.{◌≡◌, List, ℕ, Some, length, if◌then◌else◌};
 ghost use Rattle.hyd_spec_lines.specs.Lines.{LiesIn, row_of};
 ghost use Rattle.hyd_spec_lines.specs.declared.section.Section.TheVariants.{Pumps, Valves};
-ghost use Rattle.hyd_rows.specs.Rows.{pipe_status};
+ghost use Rattle.hyd_network_rows.specs.Rows.{pipe_status};
 ghost use Rattle.hyd_spec_input.specs.Columns.{word, amount};
 ghost use Rattle.hyd_spec_input.specs.Network.{status_of};
 ghost use Rattle.hyd_spec_input.specs.NetworkRows as row;
@@ -16,11 +16,11 @@ ghost use Rattle.hyd_build_links.specs.Statuses.{AreStatuses};
 
 use crate::source::LinkSource;
 use crate::statuses::status_line;
+use hyd_asked_states::{limit_state, link_state, speed_state, throttle_state};
 use hyd_lex::{Line, Lines, Section};
-use hyd_link_states::{limit_state, link_state, speed_state, throttle_state};
 use hyd_net::LinkState;
-use hyd_rows::{PipeStatus, ValveSetting, read_pipe, read_pump, read_status, read_valve};
-use hyd_tables::own_id;
+use hyd_network_rows::{PipeStatus, ValveSetting, read_pipe, read_pump, read_status, read_valve};
+use hyd_row_tables::own_id;
 
 // The state of a pipe's status word; a pipe with a check valve is open.
 fn status_state(status: PipeStatus) -> LinkState

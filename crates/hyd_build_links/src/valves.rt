@@ -9,10 +9,10 @@ ghost use Rattle.hyd_build_links.specs.Sources.{IsRowOf, rows_from};
 
 use crate::numbers::number;
 use crate::source::LinkSource;
+use hyd_asked_states::valve_law;
 use hyd_lex::{Line, Lines};
-use hyd_link_states::valve_law;
 use hyd_net::LinkKind;
-use hyd_rows::{ValveSetting, read_valve};
+use hyd_network_rows::{ValveSetting, read_valve};
 
 /// What the valve of a row is.
 pub(crate) fn valve_kind(text: &Lines<'_>, line: &Line, source: &LinkSource<'_>) -> LinkKind

@@ -18,8 +18,8 @@ use Rattle.hyd_spec_lines.specs.declared.section.Section.TheVariants.{Demands}
 use Rattle.hyd_net.specs.ListView.{ListView}
 use Rattle.hyd_net.specs.Ranges.{IsFlow}
 use Rattle.hyd_net.specs.declared.nodes.Demand.{Demand}
-use Rattle.hyd_rows.specs.Rows.{IsDemandRow}
-use Rattle.hyd_rows.specs.declared.data.DemandRow.{DemandRow}
+use Rattle.hyd_network_rows.specs.Rows.{IsDemandRow}
+use Rattle.hyd_network_rows.specs.declared.data.DemandRow.{DemandRow}
 use Rattle.hyd_spec_input.specs.Columns.{amount, word, or_empty}
 use Rattle.hyd_spec_input.specs.Faults.{NoneIs, IsWrongWithOthers}
 use Rattle.hyd_spec_input.specs.InForce as force
@@ -28,11 +28,11 @@ use Rattle.hyd_spec_input.specs.Tables.{is_of, rows_of, rows_with, own_id, node_
 use Rattle.hyd_spec_input.specs.WithOthers as others
 use Rattle.hyd_spec_networks.proofs.Faultless.{all_none}
 use Rattle.hyd_spec_networks.proofs.NodeRanges.{flow_right}
-use Rattle.hyd_tables.specs.Found.{rows_at}
-use Rattle.hyd_tables.specs.Tables.{AreFirsts}
-use Rattle.hyd_tables.proofs.FoundLemmas.{filter_more, filter_same}
-use Rattle.hyd_tables.proofs.SectionLemmas.{all_rows}
-use Rattle.hyd_tables.proofs.TableLemmas.{even}
+use Rattle.hyd_row_tables.specs.Found.{rows_at}
+use Rattle.hyd_row_tables.specs.Tables.{AreFirsts}
+use Rattle.hyd_row_tables.proofs.FoundLemmas.{filter_more, filter_same}
+use Rattle.hyd_row_tables.proofs.SectionLemmas.{all_rows}
+use Rattle.hyd_row_tables.proofs.TableLemmas.{even}
 use Rattle.hyd_build_nodes.specs.Gathered.{demand_by, each, AreEmpty, IsSetAt, value_of, AreDemands}
 use Rattle.hyd_build_nodes.proofs.RightLemmas.{among}
 use Rattle.hyd_build_nodes.proofs.ReservoirLemmas.{pattern_is}

@@ -15,8 +15,8 @@ use Rattle.hyd_spec_lines.specs.declared.section.Section.{Section}
 use Rattle.hyd_spec_lines.specs.declared.section.Section.TheVariants.{Emitters}
 use Rattle.hyd_net.specs.Ranges.{Lies}
 use Rattle.hyd_net.specs.declared.cause.Cause.TheVariants.{Limit}
-use Rattle.hyd_rows.specs.Rows.{IsEmitterRow}
-use Rattle.hyd_rows.specs.declared.data.EmitterRow.{EmitterRow}
+use Rattle.hyd_network_rows.specs.Rows.{IsEmitterRow}
+use Rattle.hyd_network_rows.specs.declared.data.EmitterRow.{EmitterRow}
 use Rattle.hyd_spec_input.specs.ByItself.{IsWrongByItself}
 use Rattle.hyd_spec_input.specs.Capacities.{IsRefusedEmitter, IsRefusedIn}
 use Rattle.hyd_spec_input.specs.Columns.{amount, word, or_empty, needed, id, up_to, ends, units}
@@ -28,11 +28,11 @@ use Rattle.hyd_spec_input.specs.Project.{IsEmitter}
 use Rattle.hyd_spec_input.specs.Tables.{is_of, rows_of, own_id, node_rows}
 use Rattle.hyd_spec_input.specs.WithOthers as others
 use Rattle.hyd_spec_networks.proofs.Faultless.{all_none, needed_none, within, section_is}
-use Rattle.hyd_tables.specs.Found.{rows_at}
-use Rattle.hyd_tables.specs.Tables.{AreFirsts}
-use Rattle.hyd_tables.proofs.FoundLemmas.{filter_more, filter_same}
-use Rattle.hyd_tables.proofs.SectionLemmas.{none_of, all_rows}
-use Rattle.hyd_tables.proofs.TableLemmas.{even}
+use Rattle.hyd_row_tables.specs.Found.{rows_at}
+use Rattle.hyd_row_tables.specs.Tables.{AreFirsts}
+use Rattle.hyd_row_tables.proofs.FoundLemmas.{filter_more, filter_same}
+use Rattle.hyd_row_tables.proofs.SectionLemmas.{none_of, all_rows}
+use Rattle.hyd_row_tables.proofs.TableLemmas.{even}
 use Rattle.hyd_build_nodes.specs.Gathered.{IsSetAt, value_of, AreNone, AreEmitters}
 use Rattle.hyd_build_nodes.proofs.RightLemmas.{alone, among}
 use Rattle.hyd_build_nodes.proofs.GatherLemmas.{set_named, default_at, known_there}

@@ -15,8 +15,8 @@ use Rattle.hyd_spec_lines.specs.declared.section.Section.TheVariants.{Junctions,
 use Rattle.hyd_net.specs.ListView.{ListView}
 use Rattle.hyd_net.specs.declared.nodes.Demand.{Demand}
 use Rattle.hyd_net.specs.declared.nodes.Junction.{Junction}
-use Rattle.hyd_rows.specs.Rows.{IsJunctionRow}
-use Rattle.hyd_rows.specs.declared.nodes.JunctionRow.{JunctionRow}
+use Rattle.hyd_network_rows.specs.Rows.{IsJunctionRow}
+use Rattle.hyd_network_rows.specs.declared.nodes.JunctionRow.{JunctionRow}
 use Rattle.hyd_spec_input.specs.Columns.{amount, amount_or, word, or_empty}
 use Rattle.hyd_spec_input.specs.Faults.{NoneIs, IsWrongWithOthers}
 use Rattle.hyd_spec_input.specs.InForce as force
@@ -27,7 +27,7 @@ use Rattle.hyd_spec_input.specs.Tables.{is_of, is_node, rows_of, rows_with, own_
 use Rattle.hyd_spec_input.specs.WithOthers as others
 use Rattle.hyd_spec_networks.proofs.Faultless.{all_none}
 use Rattle.hyd_spec_networks.proofs.NodeRanges.{head_right, flow_right}
-use Rattle.hyd_tables.specs.Tables.{AreFirsts}
+use Rattle.hyd_row_tables.specs.Tables.{AreFirsts}
 use Rattle.hyd_build_nodes.specs.Built.{IsSmall}
 use Rattle.hyd_build_nodes.specs.Gathered.{demand_by, each, value_of, AreDemands, AreEmitters}
 use Rattle.hyd_build_nodes.specs.Joined.{IsJunctionBy, AreParts}

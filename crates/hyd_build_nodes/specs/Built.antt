@@ -8,8 +8,8 @@ use Rattle.hyd_net.specs.declared.nodes.Reservoir.{Reservoir}
 use Rattle.hyd_net.specs.declared.nodes.Tank.{Tank}
 use Rattle.hyd_spec_input.specs.Columns.{amount}
 use Rattle.hyd_spec_input.specs.Network.{number_in}
-use Rattle.hyd_rows.specs.Rows.{IsTankRow}
-use Rattle.hyd_rows.specs.declared.tanks.TankRow.{TankRow}
+use Rattle.hyd_network_rows.specs.Rows.{IsTankRow}
+use Rattle.hyd_network_rows.specs.declared.tanks.TankRow.{TankRow}
 use Rattle.hyd_spec_lines.specs.Bytes.{text_of}
 
 -- the number of a name that may be given

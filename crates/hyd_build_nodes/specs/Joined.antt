@@ -7,11 +7,11 @@ use Rattle.hyd_spec_lines.specs.Bytes.{text_of}
 use Rattle.hyd_spec_lines.specs.Lines.{Row}
 use Rattle.hyd_net.specs.declared.nodes.Demand.{Demand}
 use Rattle.hyd_net.specs.declared.nodes.Junction.{Junction}
-use Rattle.hyd_rows.specs.declared.nodes.JunctionRow.{JunctionRow}
+use Rattle.hyd_network_rows.specs.declared.nodes.JunctionRow.{JunctionRow}
 use Rattle.hyd_spec_input.specs.InForce as force
 use Rattle.hyd_spec_input.specs.Network.{pattern_ids, or_own}
 use Rattle.hyd_spec_input.specs.Tables.{node_rows}
-use Rattle.hyd_tables.specs.Tables.{IsTable}
+use Rattle.hyd_row_tables.specs.Tables.{IsTable}
 use Rattle.hyd_build_nodes.specs.Gathered.{demand_by, each, AreDemands, AreEmitters}
 use Rattle.hyd_build_nodes.specs.declared.junctions.Parts.{Parts}
 

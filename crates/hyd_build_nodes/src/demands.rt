@@ -11,17 +11,17 @@ ghost use Rattle.hyd_spec_input.specs.Faults.{NoneIs, IsWrongWithOthers};
 ghost use Rattle.hyd_spec_input.specs.InForce as force;
 ghost use Rattle.hyd_spec_input.specs.Network.{pattern_ids};
 ghost use Rattle.hyd_spec_input.specs.Tables.{place as section_place, node_rows};
-ghost use Rattle.hyd_tables.specs.Found.{rows_at};
-ghost use Rattle.hyd_tables.specs.Tables.{IsTable};
+ghost use Rattle.hyd_row_tables.specs.Found.{rows_at};
+ghost use Rattle.hyd_row_tables.specs.Tables.{IsTable};
 ghost use Rattle.hyd_build_nodes.specs.Gathered.{AreDemands, AreEmpty, each, IsSetAt, demand_by as demand_as};
 ghost use Rattle.hyd_spec_lines.specs.Bytes.{text_of};
 
 use crate::quantities::{flow_of, number_named};
 use hyd_lex::{Line, Lines, Section};
 use hyd_net::{Demand, List, Names, OutOfMemory};
+use hyd_network_rows::read_demand;
 use hyd_num::{Decimal, FlowUnit};
-use hyd_rows::read_demand;
-use hyd_tables::Table;
+use hyd_row_tables::Table;
 use std::alloc::Global;
 
 fn is_demands(section: Section) -> bool

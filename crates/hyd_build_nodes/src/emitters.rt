@@ -10,16 +10,16 @@ ghost use Rattle.hyd_spec_input.specs.Faults.{NoneIs, IsWrongWithOthers};
 ghost use Rattle.hyd_spec_input.specs.InForce as force;
 ghost use Rattle.hyd_spec_input.specs.Project.{IsEmitter};
 ghost use Rattle.hyd_spec_input.specs.Tables.{place as section_place, node_rows};
-ghost use Rattle.hyd_tables.specs.Found.{rows_at};
-ghost use Rattle.hyd_tables.specs.Tables.{IsTable};
+ghost use Rattle.hyd_row_tables.specs.Found.{rows_at};
+ghost use Rattle.hyd_row_tables.specs.Tables.{IsTable};
 ghost use Rattle.hyd_build_nodes.specs.Gathered.{AreEmitters, AreNone};
 
 use hyd_lex::{Line, Lines, Section};
 use hyd_net::OutOfMemory;
+use hyd_network_rows::read_emitter;
 use hyd_num::{Capacity, Decimal, FlowUnit};
 use hyd_resist::emitter_capacity;
-use hyd_rows::read_emitter;
-use hyd_tables::Table;
+use hyd_row_tables::Table;
 use std::alloc::Global;
 
 fn is_emitters(section: Section) -> bool

@@ -15,8 +15,8 @@ ghost use Rattle.hyd_spec_input.specs.Network as network;
 ghost use Rattle.hyd_spec_input.specs.Network.{pattern_ids};
 ghost use Rattle.hyd_spec_input.specs.Project.{Match, IsJunction};
 ghost use Rattle.hyd_spec_input.specs.Tables.{place as section_place, rows_of, node_rows};
-ghost use Rattle.hyd_tables.specs.Found.{rows_at};
-ghost use Rattle.hyd_tables.specs.Tables.{IsTable};
+ghost use Rattle.hyd_row_tables.specs.Found.{rows_at};
+ghost use Rattle.hyd_row_tables.specs.Tables.{IsTable};
 ghost use Rattle.hyd_build_nodes.specs.Built.{IsSmall};
 ghost use Rattle.hyd_build_nodes.specs.Gathered as gathered;
 ghost use Rattle.hyd_build_nodes.specs.Joined.{AreParts, IsJunctionBy};
@@ -26,9 +26,9 @@ use crate::emitters::gather_emitters;
 use crate::quantities::head_of;
 use hyd_lex::{Line, Lines, Section};
 use hyd_net::{Demand, Junction, List, Names, OutOfMemory};
+use hyd_network_rows::{JunctionRow, read_junction};
 use hyd_num::{Capacity, FlowUnit};
-use hyd_rows::{JunctionRow, read_junction};
-use hyd_tables::Table;
+use hyd_row_tables::Table;
 use std::alloc::Global;
 
 /// What junctions are made of besides their rows: the table of nodes and, by the numbers of their IDs, demands and

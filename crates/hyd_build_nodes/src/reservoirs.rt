@@ -7,7 +7,7 @@ ghost use Rattle.hyd_num.specs.Quantity as quantity;
 ghost use Rattle.hyd_num.specs.Quantity.{is_us_unit};
 ghost use Rattle.hyd_spec_lines.specs.Lines.{LiesIn, row_of};
 ghost use Rattle.hyd_spec_lines.specs.declared.section.Section.TheVariants.{Reservoirs};
-ghost use Rattle.hyd_opts.specs.Judged.{words_at};
+ghost use Rattle.hyd_options_and_rules.specs.Judged.{words_at};
 ghost use Rattle.hyd_spec_input.specs.ByItself.{IsWrongByItself};
 ghost use Rattle.hyd_spec_input.specs.Columns.{amount};
 ghost use Rattle.hyd_spec_input.specs.Faults.{NoneIs, IsWrongWithOthers};
@@ -16,14 +16,14 @@ ghost use Rattle.hyd_spec_input.specs.Network.{pattern_ids};
 ghost use Rattle.hyd_spec_input.specs.NetworkRows as row;
 ghost use Rattle.hyd_spec_input.specs.Project.{Match, IsReservoir};
 ghost use Rattle.hyd_spec_input.specs.Tables.{place as section_place, rows_of};
-ghost use Rattle.hyd_tables.specs.Found.{rows_at};
+ghost use Rattle.hyd_row_tables.specs.Found.{rows_at};
 ghost use Rattle.hyd_build_nodes.specs.Built.{IsReservoirOf};
 
 use crate::quantities::{head_of, number_named};
 use hyd_lex::{Line, Lines, Section};
 use hyd_net::{List, Names, OutOfMemory, Reservoir};
+use hyd_network_rows::read_reservoir;
 use hyd_num::FlowUnit;
-use hyd_rows::read_reservoir;
 use std::alloc::Global;
 
 fn is_reservoirs(section: Section) -> bool

@@ -8,7 +8,7 @@ ghost use Rattle.hyd_num.specs.Quantity.{is_us_unit, head_ticks};
 ghost use Rattle.hyd_num.specs.Roots.{IsFloor};
 ghost use Rattle.hyd_spec_lines.specs.Lines.{LiesIn, row_of};
 ghost use Rattle.hyd_spec_lines.specs.declared.section.Section.TheVariants.{Tanks};
-ghost use Rattle.hyd_opts.specs.Judged.{words_at};
+ghost use Rattle.hyd_options_and_rules.specs.Judged.{words_at};
 ghost use Rattle.hyd_spec_input.specs.ByItself.{IsWrongByItself};
 ghost use Rattle.hyd_spec_input.specs.Faults.{NoneIs, IsWrongWithOthers};
 ghost use Rattle.hyd_spec_input.specs.InForce as force;
@@ -16,14 +16,14 @@ ghost use Rattle.hyd_spec_input.specs.Network.{shape_names};
 ghost use Rattle.hyd_spec_input.specs.NetworkRows as row;
 ghost use Rattle.hyd_spec_input.specs.Project.{Match, IsTank};
 ghost use Rattle.hyd_spec_input.specs.Tables.{place as section_place, rows_of};
-ghost use Rattle.hyd_tables.specs.Found.{rows_at};
+ghost use Rattle.hyd_row_tables.specs.Found.{rows_at};
 ghost use Rattle.hyd_build_nodes.specs.Built.{AreSmall, HasTankMore, IsSmall, IsTankBy};
 
 use crate::quantities::{head_of, number_named};
 use hyd_lex::{Line, Lines, Section};
 use hyd_net::{List, Names, OutOfMemory, Tank};
+use hyd_network_rows::{TankRow, read_tank};
 use hyd_num::{Decimal, FlowUnit};
-use hyd_rows::{TankRow, read_tank};
 use std::alloc::Global;
 
 fn is_tanks(section: Section) -> bool

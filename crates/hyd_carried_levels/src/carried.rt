@@ -8,12 +8,12 @@ ghost use Rattle.hyd_spec.specs.Network.{tank_count};
 ghost use Rattle.hyd_spec_certificates.specs.Grid.{Grid};
 ghost use Rattle.hyd_spec_certificates.specs.Record.{Record, Standing};
 ghost use Rattle.hyd_spec_certificates.specs.Decided.{carried_at};
-ghost use Rattle.hyd_facts.specs.OfPeriod.{levels_of};
+ghost use Rattle.hyd_period_facts.specs.OfPeriod.{levels_of};
 ghost use Rattle.hyd_watched_levels.specs.Started.{HaveTanks, AreStarted};
 ghost use Rattle.hyd_carried_levels.specs.Carried.{carried_in};
 
-use hyd_facts::Facts;
 use hyd_net::{List, Project};
+use hyd_period_facts::Facts;
 use hyd_spec_certificates::LevelSpan;
 use hyd_watched_levels::{inflow_at, stock_at};
 

@@ -11,15 +11,15 @@ use Rattle.hyd_spec_lines.specs.Lines.{items_of, rows_in}
 use Rattle.hyd_net.specs.declared.cause.Cause.{Cause}
 use Rattle.hyd_spec.specs.Types.{Project}
 use Rattle.hyd_spec_input.specs.Project.{IsProject}
-use Rattle.hyd_recheck.specs.Checks.{CheckEnds, CheckBreaksOff}
-use Rattle.hyd_recheck.specs.Printing.{Rose}
-use Rattle.hyd_recheck.specs.Turns.{IsPrinted}
-use Rattle.hyd_recheck.specs.declared.outcome.CheckEnd.{CheckEnd}
-use Rattle.hyd_recheck.specs.declared.outcome.CheckEnd.TheVariants.{Accepted, Refused}
-use Rattle.hyd_recheck.specs.declared.outcome.CheckFault.{CheckFault}
-use Rattle.hyd_recheck.specs.declared.outcome.CheckFault.TheVariants.{Read, Output}
+use Rattle.hyd_cert_check.specs.Checks.{CheckEnds, CheckBreaksOff}
+use Rattle.hyd_cert_check.specs.Printing.{Rose}
+use Rattle.hyd_cert_check.specs.Turns.{IsPrinted}
+use Rattle.hyd_cert_check.specs.declared.outcome.CheckEnd.{CheckEnd}
+use Rattle.hyd_cert_check.specs.declared.outcome.CheckEnd.TheVariants.{Accepted, Refused}
+use Rattle.hyd_cert_check.specs.declared.outcome.CheckFault.{CheckFault}
+use Rattle.hyd_cert_check.specs.declared.outcome.CheckFault.TheVariants.{Read, Output}
 use Rattle.hyd_spec_checks.proofs.NeverRefused.{never_refused}
-use Rattle.hyd_words.specs.Orders.{TwoFiles, check}
+use Rattle.hyd_command_words.specs.Orders.{TwoFiles, check}
 use Rattle.hyd_cli.specs.Answers.{Seen, IsUntouched, OnlyPrinted, OnlyPrintedFront, OnlyPrintedSome, HasCause, Leaves}
 use Rattle.hyd_cli.specs.Answers.{AnswersRefused}
 use Rattle.hyd_cli.specs.CheckAnswers.{AnswersCert, AnswersCheck, ReadsCert, ReadsBoth, status_of_check}

@@ -18,8 +18,8 @@ use Rattle.hyd_spec_input.specs.Project.{IsProject}
 use Rattle.hyd_spec_reports.specs.Headline.{Outcome}
 use Rattle.hyd_sim.specs.declared.settings.Settings.{Settings}
 use Rattle.hyd_run.specs.Pens.{Told, LeavesRest}
-use Rattle.hyd_summary.specs.Sums.{IsSummed, IsSumBrokenOff}
-use Rattle.hyd_words.specs.Orders.{TwoFiles}
+use Rattle.hyd_summed_run.specs.Sums.{IsSummed, IsSumBrokenOff}
+use Rattle.hyd_command_words.specs.Orders.{TwoFiles}
 use Rattle.hyd_cli.specs.Answers.{Seen, NothingPut, OpensCert, LeavesRun, AnswersRefused, status_of}
 use Rattle.hyd_cli.specs.GenAnswers.{usual_settings, Generated, TextWritten, TextCutShort, GenBreaksOff, nothing}
 use Rattle.hyd_cli.specs.GenAnswers.{in_network, in_run, AnswersGenerated, AnswersGen, CreatesBoth}

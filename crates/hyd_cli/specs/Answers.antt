@@ -16,7 +16,7 @@ use Rattle.hyd_spec_reports.specs.Headline.{Outcome, RunWrites, RunBreaksOff, ou
 use Rattle.hyd_report.specs.RefusedText.{refused_text_line}
 use Rattle.hyd_run.specs.Runs.{sharpness_of}
 use Rattle.hyd_sim.specs.declared.settings.Settings.{Settings}
-use Rattle.hyd_words.specs.Orders.{Order, RunOrder, run, check, gen}
+use Rattle.hyd_command_words.specs.Orders.{Order, RunOrder, run, check, gen}
 use Rattle.hyd_cli.specs.Statuses.{number_of}
 use Rattle.hyd_cli.specs.Words.{usage_line}
 use Rattle.hyd_cli.specs.declared.status.Status.{Status}

@@ -6,7 +6,7 @@ use Rattle.hyd_io.specs.declared.desk.Openings.{Openings}
 use Rattle.hyd_io.specs.Told.{IsTold}
 use Rattle.hyd_net.specs.declared.cause.Cause.{Cause}
 use Rattle.hyd_spec_input.specs.Faults.{IsFault, HasNoFault}
-use Rattle.hyd_words.specs.Orders.{RunOrder, GenOrder, TwoFiles}
+use Rattle.hyd_command_words.specs.Orders.{RunOrder, GenOrder, TwoFiles}
 use Rattle.hyd_cli.specs.Answers.{Seen, OnlyPrintedSome, ChangesOnly, OpensOnce, Holds, settings_of, AnswersRefused}
 use Rattle.hyd_cli.specs.Answers.{AnswersText}
 use Rattle.hyd_cli.specs.CheckAnswers.{AnswersCheck, ReadsBoth}

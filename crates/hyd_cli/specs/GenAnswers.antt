@@ -10,7 +10,7 @@ use Rattle.hyd_spec_reports.specs.Headline.{Outcome, outcome_number}
 use Rattle.hyd_spec_summary.specs.Summary.{RunSums, SumsBreakOff}
 use Rattle.hyd_run.specs.Runs.{sharpness_of}
 use Rattle.hyd_sim.specs.declared.settings.Settings.{Settings}
-use Rattle.hyd_words.specs.Orders.{GenOrder, TwoFiles}
+use Rattle.hyd_command_words.specs.Orders.{GenOrder, TwoFiles}
 use Rattle.hyd_cli.specs.Answers.{Seen, IsUntouched, NothingPut, OfNetwork}
 use Rattle.hyd_cli.specs.Statuses.{number_of}
 use Rattle.hyd_cli.specs.declared.status.Status.{Status}

@@ -4,8 +4,8 @@ ghost use Rattle.std.specs.Prelude.{◌≡◌, ◌≢◌, ℕ, List, Option, Som
 ghost use Rattle.hyd_io.specs.Told.{IsTold, file_at};
 ghost use Rattle.hyd_net.specs.declared.cause.Cause.{Cause};
 ghost use Rattle.hyd_spec_input.specs.Faults.{IsFault, HasNoFault};
-ghost use Rattle.hyd_words.specs.Orders.{Order, RunOrder, GenOrder, TwoFiles, order_of, run, check, gen};
-ghost use Rattle.hyd_words.specs.Seen.{order_seen};
+ghost use Rattle.hyd_command_words.specs.Orders.{Order, RunOrder, GenOrder, TwoFiles, order_of, run, check, gen};
+ghost use Rattle.hyd_command_words.specs.Seen.{order_seen};
 ghost use Rattle.hyd_cli.specs.Answers.{seen, MayUse, ChangesOnly, HasCause, OpensOnce, Leaves, LeavesRun, Holds};
 ghost use Rattle.hyd_cli.specs.Answers.{AnswersUsage, AnswersRefused, AnswersText};
 ghost use Rattle.hyd_cli.specs.Commands.{DoesRun, DoesCheck, DoesGen};
@@ -18,9 +18,9 @@ use crate::output::{print_usage, refuse_text};
 use crate::reading::{Unread, read_network};
 use crate::status::{Status, fault_status};
 use crate::words::settings_of;
+use hyd_command_words::{Command, read_words};
 use hyd_io::Desk;
 use hyd_sim::Settings;
-use hyd_words::{Command, read_words};
 use std::alloc::Global;
 
 /// Runs the command of the words after the program's name.

@@ -12,8 +12,8 @@ ghost use Rattle.hyd_spec_input.specs.Faults.{IsFault, HasNoFault};
 ghost use Rattle.hyd_sim.specs.View.{standing_of};
 ghost use Rattle.hyd_run.specs.Pens.{told, OneRose, LeavesRest};
 ghost use Rattle.hyd_run.specs.Runs.{outcome_of};
-ghost use Rattle.hyd_words.specs.Orders.{GenOrder, gen};
-ghost use Rattle.hyd_words.specs.Seen.{files_seen, gen_seen};
+ghost use Rattle.hyd_command_words.specs.Orders.{GenOrder, gen};
+ghost use Rattle.hyd_command_words.specs.Seen.{files_seen, gen_seen};
 ghost use Rattle.hyd_cli.specs.Answers.{seen, HasCause, Leaves, NothingPut, ChangesOnly, AnswersRefused};
 ghost use Rattle.hyd_cli.specs.GenAnswers.{text_of, usual_settings, TextWritten, TextCutShort, Generated};
 ghost use Rattle.hyd_cli.specs.GenAnswers.{GenBreaksOff, AnswersGenerated, AnswersGen, ChangesBoth, CreatesBoth};
@@ -24,14 +24,14 @@ use crate::network::status_of_end;
 use crate::output::refuse_text;
 use crate::reading::{Unread, network_of};
 use crate::status::{Status, fault_status};
+use hyd_command_words::{Files, GenWords};
 use hyd_gen::generate;
 use hyd_io::{Channel, Desk, OutFault, Pen};
 use hyd_net::Project;
 use hyd_newton::{Finder, Gradient};
 use hyd_run::RunEnd;
 use hyd_sim::{Settings, Sim};
-use hyd_summary::run_summed;
-use hyd_words::{Files, GenWords};
+use hyd_summed_run::run_summed;
 use std::alloc::Global;
 
 /// What the run of a generated network is asked for.

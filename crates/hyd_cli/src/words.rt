@@ -1,11 +1,11 @@
 //! What the words of a run ask it for.
 
 ghost use Rattle.std.specs.Prelude.{◌≡◌};
-ghost use Rattle.hyd_words.specs.Seen.{run_seen};
+ghost use Rattle.hyd_command_words.specs.Seen.{run_seen};
 ghost use Rattle.hyd_cli.specs.Answers.{settings_of};
 
+use hyd_command_words::RunWords;
 use hyd_sim::Settings;
-use hyd_words::RunWords;
 
 /// What an order asks a run for.
 pub(crate) fn settings_of(words: &RunWords<'_>) -> Settings

@@ -39,9 +39,9 @@ use Rattle.hyd_spec_input.specs.Project.{Match, bend_points}
 use Rattle.hyd_spec_input.specs.Tables.{Point, place, is_of, rows_of, curve_named}
 use Rattle.hyd_spec_input.specs.WithOthers as others
 use Rattle.hyd_spec_input.specs.WithOthers.{us}
-use Rattle.hyd_tables.specs.Found.{rows_at}
-use Rattle.hyd_tables.proofs.FoundLemmas.{filter_more, filter_same}
-use Rattle.hyd_tables.proofs.SectionLemmas.{none_of, all_rows}
+use Rattle.hyd_row_tables.specs.Found.{rows_at}
+use Rattle.hyd_row_tables.proofs.FoundLemmas.{filter_more, filter_same}
+use Rattle.hyd_row_tables.proofs.SectionLemmas.{none_of, all_rows}
 use Rattle.hyd_curves.specs.Bends.{begins_and_ends, loss_passes}
 use Rattle.hyd_curves.specs.Named.{with_name}
 use Rattle.hyd_curves.specs.NamedBends.{IsSmallHead, AreBends, AreOf, AreOfPumps, AreOfValves, pump_names, valve_names}

@@ -25,13 +25,13 @@ use Rattle.hyd_spec_input.specs.Network.{number_in}
 use Rattle.hyd_spec_input.specs.Tables.{Point, place, is_of, rows_of, rows_with, own_id, point_of, curve_named}
 use Rattle.hyd_spec_input.specs.Tables.{row_with, has_id}
 use Rattle.hyd_spec_input.specs.Columns.{word, or_empty}
-use Rattle.hyd_rows.specs.Rows.{IsCurveRow}
-use Rattle.hyd_rows.specs.declared.data.CurveRow.{CurveRow}
-use Rattle.hyd_tables.specs.Tables.{AreFirsts}
-use Rattle.hyd_tables.proofs.FoundLemmas.{filter_more, filter_same}
-use Rattle.hyd_tables.proofs.SectionLemmas.{none_of, all_rows}
-use Rattle.hyd_tables.specs.Found.{rows_at}
-use Rattle.hyd_tables.proofs.TableLemmas.{not_found, has_id-is, even}
+use Rattle.hyd_network_rows.specs.Rows.{IsCurveRow}
+use Rattle.hyd_network_rows.specs.declared.data.CurveRow.{CurveRow}
+use Rattle.hyd_row_tables.specs.Tables.{AreFirsts}
+use Rattle.hyd_row_tables.proofs.FoundLemmas.{filter_more, filter_same}
+use Rattle.hyd_row_tables.proofs.SectionLemmas.{none_of, all_rows}
+use Rattle.hyd_row_tables.specs.Found.{rows_at}
+use Rattle.hyd_row_tables.proofs.TableLemmas.{not_found, has_id-is, even}
 use Rattle.hyd_curves.specs.Points.{points_in, point_in, each, list_of, ArePoints, AreEmpty, AreGathered, HasOneMore}
 use Rattle.hyd_curves.specs.declared.points.CurvePoint.{CurvePoint}
 use Rattle.hyd_curves.specs.declared.points.Points.{Points}

@@ -30,9 +30,9 @@ use Rattle.hyd_spec_input.specs.Project.{Match, shape_points}
 use Rattle.hyd_spec_input.specs.Tables.{place, is_of, rows_of, node_rows}
 use Rattle.hyd_spec_input.specs.WithOthers as others
 use Rattle.hyd_spec_input.specs.WithOthers.{us}
-use Rattle.hyd_tables.proofs.FoundLemmas.{filter_more, filter_same}
-use Rattle.hyd_tables.specs.Found.{rows_at}
-use Rattle.hyd_tables.proofs.SectionLemmas.{none_of, all_rows}
+use Rattle.hyd_row_tables.proofs.FoundLemmas.{filter_more, filter_same}
+use Rattle.hyd_row_tables.specs.Found.{rows_at}
+use Rattle.hyd_row_tables.proofs.SectionLemmas.{none_of, all_rows}
 use Rattle.hyd_spec_lines.specs.declared.line.Line.{Line}
 use Rattle.hyd_spec_input.specs.InForce as force
 use Rattle.hyd_curves.specs.Asked.{tank_curve_fault}

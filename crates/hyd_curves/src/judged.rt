@@ -22,7 +22,7 @@ use crate::valves::valve_fault;
 use hyd_net::{Cause, OutOfMemory};
 use hyd_num::{Decimal, FlowUnit};
 use hyd_resist::pump_capacity;
-use hyd_tables::Table;
+use hyd_row_tables::Table;
 use std::alloc::Global;
 
 /// What is wrong with a curve as a pump's, and as a general purpose valve's.

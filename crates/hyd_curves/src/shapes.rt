@@ -10,7 +10,7 @@ ghost use Rattle.hyd_spec_input.specs.InForce as force;
 ghost use Rattle.hyd_spec_input.specs.Network.{shape_names};
 ghost use Rattle.hyd_spec_input.specs.Project.{Match, shape_points};
 ghost use Rattle.hyd_spec_input.specs.Tables.{place as section_place};
-ghost use Rattle.hyd_tables.specs.Found.{rows_at};
+ghost use Rattle.hyd_row_tables.specs.Found.{rows_at};
 ghost use Rattle.hyd_curves.specs.Named.{IsSmallVolume, AreShapesAt, AreShapes, with_name};
 ghost use Rattle.hyd_curves.specs.Points.{ArePoints, points_in, point_in};
 
@@ -18,9 +18,9 @@ use crate::points::{CurvePoint, Points};
 use crate::ticks::volume_point;
 use hyd_lex::{Line, Lines, Section};
 use hyd_net::{Names, OutOfMemory, VolumePoint};
+use hyd_network_rows::read_tank;
 use hyd_num::FlowUnit;
-use hyd_rows::read_tank;
-use hyd_tables::Table;
+use hyd_row_tables::Table;
 use std::alloc::Global;
 
 /// The volume curves that tanks name, each once, in the order in which they are first named.

@@ -18,7 +18,7 @@ use crate::ticks::{GREATEST_HEAD, Ticks, is_within, rises, volume_point};
 use crate::volumes::volume_up_to;
 use hyd_net::Cause;
 use hyd_num::{Decimal, FlowUnit};
-use hyd_tables::Table;
+use hyd_row_tables::Table;
 use hyd_units::head_ticks;
 
 const GREATEST_VOLUME: i128 = 1_000_000_000_000_000_000;

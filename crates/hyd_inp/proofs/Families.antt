@@ -12,9 +12,9 @@ use Rattle.hyd_spec_input.specs.Capacities.{IsRefusedIn}
 use Rattle.hyd_spec_input.specs.Faults.{IsWrongWithOthers}
 use Rattle.hyd_spec_input.specs.WithOthers.{section_fault, holds_action}
 use Rattle.hyd_inp.specs.Families.{Both, is_judged, IsWrongOf}
-use Rattle.hyd_tables.specs.declared.found.Found.{Found}
-use Rattle.hyd_tables.specs.Found.{HasFound, IsWrongAmong, Either, least, rows_at}
-use Rattle.hyd_tables.proofs.LeastLemmas.{found_least}
+use Rattle.hyd_row_tables.specs.declared.found.Found.{Found}
+use Rattle.hyd_row_tables.specs.Found.{HasFound, IsWrongAmong, Either, least, rows_at}
+use Rattle.hyd_row_tables.proofs.LeastLemmas.{found_least}
 
 -- where two notions of a wrong row are one
 pub found_as : (rows : List Row) (One Other : ℕ → Cause → Type 0) (n : ℕ) (found : Option Found)

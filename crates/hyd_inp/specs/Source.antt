@@ -8,8 +8,8 @@ use Rattle.hyd_spec_input.specs.ByItself.{IsWrongByItself}
 use Rattle.hyd_spec_input.specs.Faults.{NoneIs, IsWrongWithOthers}
 use Rattle.hyd_spec_input.specs.InForce as force
 use Rattle.hyd_spec_input.specs.Tables.{node_rows, link_rows, rows_of}
-use Rattle.hyd_tables.specs.Found.{rows_at}
-use Rattle.hyd_tables.specs.Tables.{IsTable}
+use Rattle.hyd_row_tables.specs.Found.{rows_at}
+use Rattle.hyd_row_tables.specs.Tables.{IsTable}
 use Rattle.hyd_inp.specs.Parts.{AreNumbers}
 use Rattle.hyd_inp.specs.declared.source.Source.{Source}
 

@@ -5,7 +5,7 @@ ghost use Rattle.std.specs.Prelude.{◌≡◌, ◌≤◌, ◌^◌, length, IfOk,
 ghost use Rattle.std.specs.List.{All};
 ghost use Rattle.hyd_spec_lines.specs.Lines.{LiesIn, items_of, rows_in, fault_in};
 ghost use Rattle.hyd_spec_input.specs.Faults.{IsFault, IsFaultOf, HasNoFault};
-ghost use Rattle.hyd_tables.specs.Found.{rows_at};
+ghost use Rattle.hyd_row_tables.specs.Found.{rows_at};
 
 use crate::fault::{InpFault, line_cause};
 use crate::lack::lack;
@@ -13,7 +13,7 @@ use crate::with_others::first_with_others;
 use hyd_judge_alone::first_by_itself;
 use hyd_lex::{LexFault, Line, Lines};
 use hyd_net::{Cause, OutOfMemory};
-use hyd_tables::gather;
+use hyd_row_tables::gather;
 use std::alloc::Global;
 
 /// The most bytes of a text.

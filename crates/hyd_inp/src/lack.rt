@@ -6,10 +6,10 @@ ghost use Rattle.std.specs.List.{All, list_any};
 ghost use Rattle.hyd_spec_lines.specs.Lines.{LiesIn};
 ghost use Rattle.hyd_spec_input.specs.Faults as faults;
 ghost use Rattle.hyd_spec_input.specs.InForce as force;
-ghost use Rattle.hyd_tables.specs.Found.{rows_at};
+ghost use Rattle.hyd_row_tables.specs.Found.{rows_at};
 ghost use Rattle.hyd_inp.specs.Sources as sources;
 
-use hyd_judge::last_option;
+use hyd_judge_nodes::last_option;
 use hyd_lex::{Line, Lines, Section};
 use hyd_net::Cause;
 

@@ -13,7 +13,7 @@ use crate::fault::{InpFault, InpRefused};
 use crate::faults::{LONGEST, fault_of};
 use hyd_lex::Lines;
 use hyd_net::{Cause, Project};
-use hyd_tables::gather;
+use hyd_row_tables::gather;
 use std::alloc::Global;
 
 /// Reads the network of a text of the input grammar. A fault is the first in this order: more than 64 MiB (line 0), the

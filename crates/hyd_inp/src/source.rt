@@ -5,7 +5,7 @@ use crate::numbers::Numbers;
 use hyd_curves::Points;
 use hyd_lex::Line;
 use hyd_num::FlowUnit;
-use hyd_tables::Table;
+use hyd_row_tables::Table;
 
 /// The rows of a file, the numbers of its names, and what its rows name.
 #[derive(Clone, Copy, Drop)]

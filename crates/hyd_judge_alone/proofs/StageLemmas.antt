@@ -16,8 +16,8 @@ use Rattle.hyd_spec_input.specs.Tables.{is_of, words_of, words_of_row, rows_of}
 use Rattle.hyd_spec_input.specs.declared.Stage.{Stage}
 use Rattle.hyd_spec_input.specs.declared.Stage.TheVariants.{Outside}
 use Rattle.hyd_net.specs.declared.cause.Cause.{Cause}
-use Rattle.hyd_tables.specs.Found.{HasFound, IsFirstAt, rows_at}
-use Rattle.hyd_tables.proofs.FoundLemmas.{filter_more, filter_same, none_more, none_of, first_here, row_at}
+use Rattle.hyd_row_tables.specs.Found.{HasFound, IsFirstAt, rows_at}
+use Rattle.hyd_row_tables.proofs.FoundLemmas.{filter_more, filter_same, none_more, none_of, first_here, row_at}
 use Rattle.hyd_judge_alone.specs.Stages.{stage_with, fault_at_stage, rule_lines}
 
 -- ---- the stage, one row further

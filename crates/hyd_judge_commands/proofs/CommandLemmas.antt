@@ -10,9 +10,9 @@ use Rattle.hyd_spec_input.specs.Columns.{or_else}
 use Rattle.hyd_spec_input.specs.Tables.{is_of, link_named}
 use Rattle.hyd_spec_input.specs.WithOthers as others
 use Rattle.hyd_spec_input.specs.declared.LinkWord.{LinkWord}
-use Rattle.hyd_tables.specs.Found.{IsVerdict}
-use Rattle.hyd_tables.specs.Sections.{IsWrongIn, IsCapacityFault, IsFaultThen}
-use Rattle.hyd_tables.proofs.SectionLemmas.{other_section}
+use Rattle.hyd_row_tables.specs.Found.{IsVerdict}
+use Rattle.hyd_row_tables.specs.Sections.{IsWrongIn, IsCapacityFault, IsFaultThen}
+use Rattle.hyd_row_tables.proofs.SectionLemmas.{other_section}
 
 -- ---- faults in turn
 

@@ -16,10 +16,10 @@ use Rattle.hyd_spec_input.specs.Tables.{is_of, rows_of, words_of, link_named}
 use Rattle.hyd_spec_input.specs.WithOthers as others
 use Rattle.hyd_spec_input.specs.declared.LinkWord.{LinkWord}
 use Rattle.hyd_spec_networks.proofs.Faultless.{section_is}
-use Rattle.hyd_tables.specs.Found.{IsVerdict, kept}
-use Rattle.hyd_tables.specs.Sections.{IsWrongIn, IsFaultThen}
-use Rattle.hyd_tables.proofs.FoundLemmas.{filter_more, filter_same, found_skip, found_kept}
-use Rattle.hyd_tables.proofs.SectionLemmas.{none_of, verdict_with_capacity, other_section}
+use Rattle.hyd_row_tables.specs.Found.{IsVerdict, kept}
+use Rattle.hyd_row_tables.specs.Sections.{IsWrongIn, IsFaultThen}
+use Rattle.hyd_row_tables.proofs.FoundLemmas.{filter_more, filter_same, found_skip, found_kept}
+use Rattle.hyd_row_tables.proofs.SectionLemmas.{none_of, verdict_with_capacity, other_section}
 use Rattle.hyd_judge_commands.specs.Controls.{AreControls, IsControlFault, commanded_fault}
 use Rattle.hyd_judge_commands.specs.declared.controls.Controls.{Controls}
 

@@ -17,7 +17,7 @@ use Rattle.hyd_spec_input.specs.declared.Attribute.TheVariants.{Head, Pressure, 
 use Rattle.hyd_spec_input.specs.declared.Attribute.TheVariants.{Clock}
 use Rattle.hyd_spec_input.specs.declared.LinkWord.{LinkWord}
 use Rattle.hyd_spec_networks.proofs.Faultless.{all_none, needed_none, unless_none}
-use Rattle.hyd_tables.specs.Sections.{IsFaultThen}
+use Rattle.hyd_row_tables.specs.Sections.{IsFaultThen}
 use Rattle.hyd_judge_commands.proofs.CommandLemmas.{command_unknown, command_known}
 
 -- ---- the state of an action

@@ -20,10 +20,10 @@ use Rattle.hyd_spec_input.specs.WithOthers.{is_part_word, is_action_word, holds_
 use Rattle.hyd_spec_input.specs.declared.RuleWord.{RuleWord}
 use Rattle.hyd_spec_input.specs.declared.RuleWord.TheVariants.{Rule, If, And, Or, Then, Else, Priority}
 use Rattle.hyd_spec_networks.proofs.Faultless.{or_none, section_is}
-use Rattle.hyd_tables.specs.Found.{IsVerdict, kept}
-use Rattle.hyd_tables.specs.Sections.{IsWrongIn, IsFaultThen}
-use Rattle.hyd_tables.proofs.SectionLemmas.{none_of, verdict_with_capacity, other_section}
-use Rattle.hyd_tables.proofs.FoundLemmas.{filter_same, found_skip, found_kept}
+use Rattle.hyd_row_tables.specs.Found.{IsVerdict, kept}
+use Rattle.hyd_row_tables.specs.Sections.{IsWrongIn, IsFaultThen}
+use Rattle.hyd_row_tables.proofs.SectionLemmas.{none_of, verdict_with_capacity, other_section}
+use Rattle.hyd_row_tables.proofs.FoundLemmas.{filter_same, found_skip, found_kept}
 use Rattle.hyd_judge_alone.specs.Stages.{stage_with}
 use Rattle.hyd_judge_alone.proofs.StageLemmas.{next_stage}
 use Rattle.hyd_judge_commands.proofs.CommandLemmas.{last_fault}

@@ -14,9 +14,9 @@ use Rattle.hyd_spec_input.specs.Tables.{is_of, link_named, words_of}
 use Rattle.hyd_spec_input.specs.WithOthers as others
 use Rattle.hyd_spec_input.specs.declared.LinkWord.TheVariants.{Link}
 use Rattle.hyd_spec_networks.proofs.Faultless.{section_is}
-use Rattle.hyd_tables.specs.Found.{IsVerdict}
-use Rattle.hyd_tables.specs.Sections.{IsWrongIn, IsFaultThen}
-use Rattle.hyd_tables.proofs.SectionLemmas.{none_of, verdict_with_capacity}
+use Rattle.hyd_row_tables.specs.Found.{IsVerdict}
+use Rattle.hyd_row_tables.specs.Sections.{IsWrongIn, IsFaultThen}
+use Rattle.hyd_row_tables.proofs.SectionLemmas.{none_of, verdict_with_capacity}
 use Rattle.hyd_judge_commands.proofs.CommandLemmas.{last_fault}
 
 pub status_is_right : (rows : List Row) (k : ℕ) (row : Row) → NoneIs (IsWrongByItself rows)

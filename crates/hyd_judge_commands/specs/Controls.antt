@@ -10,8 +10,8 @@ use Rattle.hyd_spec_input.specs.Keywords.{link_word}
 use Rattle.hyd_spec_input.specs.Tables.{rows_of, link_named, node_named}
 use Rattle.hyd_spec_input.specs.WithOthers.{passes, link_by_word, is_at_level, control_node, control_tank}
 use Rattle.hyd_spec_input.specs.WithOthers.{control_level, set_link}
-use Rattle.hyd_tables.specs.Found.{HasFound}
-use Rattle.hyd_tables.specs.Sections.{IsWrongIn, IsFaultThen}
+use Rattle.hyd_row_tables.specs.Found.{HasFound}
+use Rattle.hyd_row_tables.specs.Sections.{IsWrongIn, IsFaultThen}
 use Rattle.hyd_judge_commands.specs.declared.controls.Controls.{Controls}
 
 -- the node at whose level a control acts, where it acts at one

@@ -12,9 +12,9 @@ ghost use Rattle.hyd_spec_input.specs.Faults.{NoneIs};
 ghost use Rattle.hyd_spec_input.specs.InForce as force;
 ghost use Rattle.hyd_spec_input.specs.Tables.{link_rows, node_rows};
 ghost use Rattle.hyd_spec_input.specs.WithOthers as others;
-ghost use Rattle.hyd_tables.specs.Found.{HasFound, rows_at};
-ghost use Rattle.hyd_tables.specs.Sections.{IsWrongIn};
-ghost use Rattle.hyd_tables.specs.Tables.{IsTable};
+ghost use Rattle.hyd_row_tables.specs.Found.{HasFound, rows_at};
+ghost use Rattle.hyd_row_tables.specs.Sections.{IsWrongIn};
+ghost use Rattle.hyd_row_tables.specs.Tables.{IsTable};
 ghost use Rattle.hyd_judge_commands.specs.declared.parts.Part.TheVariants as part_form;
 ghost use Rattle.hyd_judge_commands.specs.Rules.{AreCounted, AreRules, IsPartAt, IsRuleFault};
 
@@ -23,9 +23,9 @@ use hyd_judge_alone::{is_acting, is_rules, next_stage};
 use hyd_lex::{Line, Lines};
 use hyd_net::{Cause, Names, OutOfMemory};
 use hyd_num::FlowUnit;
-use hyd_opts::or_empty;
+use hyd_options_and_rules::or_empty;
+use hyd_row_tables::{Found, Table, kept, limit};
 use hyd_spec_input::Stage;
-use hyd_tables::{Found, Table, kept, limit};
 use std::alloc::Global;
 
 const MOST_RULES: usize = 10_000;

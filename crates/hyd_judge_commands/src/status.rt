@@ -9,18 +9,18 @@ ghost use Rattle.hyd_spec_input.specs.ByItself.{IsWrongByItself};
 ghost use Rattle.hyd_spec_input.specs.Faults.{NoneIs};
 ghost use Rattle.hyd_spec_input.specs.InForce as force;
 ghost use Rattle.hyd_spec_input.specs.Tables.{place as section_place, link_rows};
-ghost use Rattle.hyd_tables.specs.Found.{HasFound, IsVerdict, rows_at};
-ghost use Rattle.hyd_tables.specs.Sections.{IsWrongIn};
-ghost use Rattle.hyd_tables.specs.Tables.{IsTable};
+ghost use Rattle.hyd_row_tables.specs.Found.{HasFound, IsVerdict, rows_at};
+ghost use Rattle.hyd_row_tables.specs.Sections.{IsWrongIn};
+ghost use Rattle.hyd_row_tables.specs.Tables.{IsTable};
 
 use crate::names::named_link;
 use crate::states::asked_fault;
 use hyd_lex::{Line, Lines, Section};
 use hyd_net::Cause;
+use hyd_network_rows::read_status;
 use hyd_num::FlowUnit;
-use hyd_rows::read_status;
+use hyd_row_tables::{Found, Table, kept};
 use hyd_spec_input::LinkWord;
-use hyd_tables::{Found, Table, kept};
 
 fn is_status(section: Section) -> bool
     ensures { result ≡ (section_place section == 10) }

@@ -14,11 +14,11 @@ use Rattle.hyd_spec_input.specs.Faults.{NoneIs}
 use Rattle.hyd_spec_input.specs.InForce as force
 use Rattle.hyd_spec_input.specs.Tables.{place, is_of, is_link, link_rows, own_id, has_id}
 use Rattle.hyd_spec_input.specs.WithOthers as others
-use Rattle.hyd_tables.specs.Found.{IsVerdict, kept}
-use Rattle.hyd_tables.specs.Sections.{IsFaultThen, IsWrongIn}
-use Rattle.hyd_tables.specs.Tables.{AreFirsts}
-use Rattle.hyd_tables.proofs.FoundLemmas.{filter_more, filter_same, found_skip, found_kept}
-use Rattle.hyd_tables.proofs.SectionLemmas.{none_of, verdict_with_capacity, fault_then_alike}
+use Rattle.hyd_row_tables.specs.Found.{IsVerdict, kept}
+use Rattle.hyd_row_tables.specs.Sections.{IsFaultThen, IsWrongIn}
+use Rattle.hyd_row_tables.specs.Tables.{AreFirsts}
+use Rattle.hyd_row_tables.proofs.FoundLemmas.{filter_more, filter_same, found_skip, found_kept}
+use Rattle.hyd_row_tables.proofs.SectionLemmas.{none_of, verdict_with_capacity, fault_then_alike}
 use Rattle.hyd_judge_links.specs.Judged.{AreLinks, IsWrongLink}
 use Rattle.hyd_judge_links.specs.Links.{link_alone, fault_among, IsRefusedLink}
 use Rattle.hyd_judge_links.specs.declared.links.Links.{Links}

@@ -6,9 +6,9 @@ use Rattle.hyd_net.specs.declared.cause.Cause.{Cause}
 use Rattle.hyd_spec_input.specs.Capacities.{IsRefusedValve}
 use Rattle.hyd_spec_input.specs.Columns.{or_else, amount}
 use Rattle.hyd_spec_input.specs.NetworkRows.{is_throttle, is_general, valve_minor}
-use Rattle.hyd_tables.proofs.SectionLemmas.{fault_then_alike}
-use Rattle.hyd_tables.specs.Ranges.{flow_fault}
-use Rattle.hyd_tables.specs.Sections.{IsCapacityFault, IsFaultThen}
+use Rattle.hyd_row_tables.proofs.SectionLemmas.{fault_then_alike}
+use Rattle.hyd_row_tables.specs.Ranges.{flow_fault}
+use Rattle.hyd_row_tables.specs.Sections.{IsCapacityFault, IsFaultThen}
 use Rattle.hyd_judge_links.specs.Links.{setting_fault, IsRefusedValveOf}
 
 -- the verdict on a throttle control valve

@@ -7,10 +7,10 @@ use Rattle.hyd_num.specs.Quantity.{is_us_unit}
 use Rattle.hyd_net.specs.declared.cause.Cause.{Cause}
 use Rattle.hyd_net.specs.declared.cause.Cause.TheVariants.{DuplicateId}
 use Rattle.hyd_num.specs.declared.units.FlowUnit.{FlowUnit}
-use Rattle.hyd_tables.specs.Ranges.{flow_fault}
-use Rattle.hyd_tables.specs.Tables.{IsEven, IsTable}
+use Rattle.hyd_row_tables.specs.Ranges.{flow_fault}
+use Rattle.hyd_row_tables.specs.Tables.{IsEven, IsTable}
 use Rattle.hyd_curves.specs.Judged.{AreVerdicts}
-use Rattle.hyd_judge.specs.Patterns.{ArePatterns}
+use Rattle.hyd_judge_nodes.specs.Patterns.{ArePatterns}
 use Rattle.hyd_judge_links.specs.declared.tables.LinkTables.{LinkTables}
 use Rattle.hyd_spec_input.specs.Capacities.{IsRefusedPipe, IsRefusedValve, IsRefusedCurve}
 use Rattle.hyd_spec_input.specs.Columns.{or_else, first, unless, word, amount}

@@ -2,9 +2,9 @@
 #![tactic(auto)]
 
 use hyd_curves::Verdicts;
-use hyd_judge::Patterns;
+use hyd_judge_nodes::Patterns;
 use hyd_num::FlowUnit;
-use hyd_tables::Table;
+use hyd_row_tables::Table;
 
 /// What rows of links name, and the unit of flows in force.
 #[derive(Clone, Copy, Drop)]

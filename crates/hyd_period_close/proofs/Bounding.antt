@@ -30,10 +30,10 @@ use Rattle.hyd_graph.proofs.Counts.{junctions_count, links_count}
 use Rattle.hyd_graph.proofs.Sounding.{long_zipped}
 use Rattle.hyd_bounds.specs.Bounds.{TanksInOrder, IsVector, AreInOrder}
 use Rattle.hyd_tank.specs.Spans.{IsInflow}
-use Rattle.hyd_facts.specs.OfPeriod.{flows_of}
-use Rattle.hyd_facts.specs.declared.facts.Facts.{Facts}
-use Rattle.hyd_inflows.specs.Inflows.{ArePinned}
-use Rattle.hyd_inflows.proofs.Numbered.{as_long}
+use Rattle.hyd_period_facts.specs.OfPeriod.{flows_of}
+use Rattle.hyd_period_facts.specs.declared.facts.Facts.{Facts}
+use Rattle.hyd_tank_inflows.specs.Inflows.{ArePinned}
+use Rattle.hyd_tank_inflows.proofs.Numbered.{as_long}
 use Rattle.hyd_rule_trials.specs.Trial.{AreRead}
 use Rattle.hyd_watched_levels.specs.Started.{AreStarted, HaveTanks}
 use Rattle.hyd_period_close.specs.Begun.{AreBegun, AreReady}

@@ -16,13 +16,13 @@ use Rattle.hyd_spec_reports.specs.declared.Event.{Event}
 use Rattle.hyd_spec_reports.specs.Report.{EndBrings, by_rules as brings_by_rules, by_clock as brings_by_clock}
 use Rattle.hyd_spec_reports.specs.Report.{events_of}
 use Rattle.hyd_spec_reports.specs.Stops.{open_states}
-use Rattle.hyd_facts.specs.OfPeriod.{levels_of, volumes_of, flows_of}
-use Rattle.hyd_facts.specs.declared.facts.Facts.{Facts}
+use Rattle.hyd_period_facts.specs.OfPeriod.{levels_of, volumes_of, flows_of}
+use Rattle.hyd_period_facts.specs.declared.facts.Facts.{Facts}
 use Rattle.hyd_ctrl.specs.Instants.{flow_interval}
 use Rattle.hyd_ctrl.specs.Starts.{IsFirstOpen as IsFirstUnsure}
 use Rattle.hyd_ctrl.specs.declared.controls.LevelOpen.{LevelOpen}
-use Rattle.hyd_period_start.specs.Next.{IsFirstOpen}
-use Rattle.hyd_period_start.specs.declared.states.TankOpen.{TankOpen}
+use Rattle.hyd_period_stocks.specs.Next.{IsFirstOpen}
+use Rattle.hyd_period_stocks.specs.declared.states.TankOpen.{TankOpen}
 use Rattle.hyd_rule_trials.specs.Trial.{AreRead}
 use Rattle.hyd_watched_levels.specs.Started.{AreStarted, HaveTanks}
 use Rattle.hyd_period_close.specs.Begun.{AreBegun}

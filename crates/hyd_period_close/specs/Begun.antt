@@ -8,9 +8,9 @@ use Rattle.hyd_spec_certificates.specs.Record.{Standing}
 use Rattle.hyd_spec_certificates.specs.Decided.{links_at}
 use Rattle.hyd_spec_reports.specs.Report.{changes_at}
 use Rattle.hyd_tank.specs.Spans.{AreHeld}
-use Rattle.hyd_facts.specs.OfPeriod.{levels_of, volumes_of}
-use Rattle.hyd_facts.specs.Room.{HasRoom}
-use Rattle.hyd_facts.specs.declared.facts.Facts.{Facts}
+use Rattle.hyd_period_facts.specs.OfPeriod.{levels_of, volumes_of}
+use Rattle.hyd_period_facts.specs.Room.{HasRoom}
+use Rattle.hyd_period_facts.specs.declared.facts.Facts.{Facts}
 use Rattle.hyd_watched_levels.specs.Started.{stocks_in}
 
 -- Facts hold what is known at a standing where a period begins, with the states of links after the controls of the

@@ -10,13 +10,13 @@ use Rattle.hyd_spec_certificates.specs.Record.{Record, Standing}
 use Rattle.hyd_spec_certificates.specs.Decided.{EndsBy, ByRules, WithoutRules, decided_changes}
 use Rattle.hyd_spec_certificates.specs.Valid.{LeavesLinks, levels_next, volumes_next, AreStates, ControlsAreDecided}
 use Rattle.hyd_tank.specs.Spans.{AreHeld}
-use Rattle.hyd_facts.specs.OfPeriod.{AreFacts, levels_of, volumes_of}
-use Rattle.hyd_facts.specs.Room.{Takes}
-use Rattle.hyd_facts.specs.declared.facts.Facts.{Facts}
+use Rattle.hyd_period_facts.specs.OfPeriod.{AreFacts, levels_of, volumes_of}
+use Rattle.hyd_period_facts.specs.Room.{Takes}
+use Rattle.hyd_period_facts.specs.declared.facts.Facts.{Facts}
 use Rattle.hyd_rule_readings.specs.Room.{HasRoom as HasReadingsRoom}
-use Rattle.hyd_period_start.specs.Next.{stocks_among}
-use Rattle.hyd_period_start.specs.Room.{HasRoom as HasNextRoom}
-use Rattle.hyd_period_start.specs.declared.next.Next.{Next}
+use Rattle.hyd_period_stocks.specs.Next.{stocks_among}
+use Rattle.hyd_period_stocks.specs.Room.{HasRoom as HasNextRoom}
+use Rattle.hyd_period_stocks.specs.declared.next.Next.{Next}
 use Rattle.hyd_period_close.specs.declared.close.Close.{Close}
 
 -- there is room for each period of a network

@@ -9,7 +9,7 @@ use Rattle.hyd_spec_certificates.specs.Decided.{EndsBy, RuleIsOpen, EventIsOpen}
 use Rattle.hyd_spec_certificates.specs.Valid.{LeavesLinks, levels_next}
 use Rattle.hyd_spec_reports.specs.Stops.{open_states, is_open_control}
 use Rattle.hyd_ctrl.specs.declared.controls.LevelOpen.{LevelOpen}
-use Rattle.hyd_period_start.specs.Next.{IsFirstOpen}
+use Rattle.hyd_period_stocks.specs.Next.{IsFirstOpen}
 use Rattle.hyd_rule_trials.specs.Trial.{open_rule}
 use Rattle.hyd_period_close.specs.declared.open.Open.{Open}
 use Rattle.hyd_period_close.specs.declared.open.Open.TheVariants.{Rule, Event, Tank, Control}

@@ -11,19 +11,19 @@ ghost use Rattle.hyd_spec_certificates.specs.Record.{Record, Standing};
 ghost use Rattle.hyd_spec_certificates.specs.Valid.{LeavesLinks, AreStates, ControlsAreDecided, levels_next};
 ghost use Rattle.hyd_spec_certificates.specs.Valid.{volumes_next};
 ghost use Rattle.hyd_ctrl.specs.Instants.{IsBounded};
-ghost use Rattle.hyd_facts.specs.OfPeriod.{levels_of, volumes_of};
+ghost use Rattle.hyd_period_facts.specs.OfPeriod.{levels_of, volumes_of};
 ghost use Rattle.hyd_watched_levels.specs.Started.{HaveTanks, AreStarted};
-ghost use Rattle.hyd_period_start.specs.Room.{HasRoom};
-ghost use Rattle.hyd_period_end.specs.Endings.{ForPeriod};
+ghost use Rattle.hyd_period_stocks.specs.Room.{HasRoom};
+ghost use Rattle.hyd_period_length.specs.Endings.{ForPeriod};
 ghost use Rattle.hyd_period_close.specs.Closing.{Decides, AreKeptIn};
 ghost use Rattle.hyd_period_close.specs.Opens.{IsOpenAt};
 
 use crate::open::Open;
-use hyd_facts::Facts;
 use hyd_net::{LinkState, List, Project};
 use hyd_num::Span;
-use hyd_period_end::{Ending, find_end};
-use hyd_period_start::{Next, Unsettled};
+use hyd_period_facts::Facts;
+use hyd_period_length::{Ending, find_end};
+use hyd_period_stocks::{Next, Unsettled};
 use hyd_rule_readings::Readings;
 use hyd_spec_certificates::LevelSpan;
 

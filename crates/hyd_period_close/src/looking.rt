@@ -11,18 +11,18 @@ ghost use Rattle.hyd_ctrl.specs.Instants.{IsBounded};
 ghost use Rattle.hyd_graph.specs.GridOf.{grid_of};
 ghost use Rattle.hyd_graph.specs.Periods.{IsNetOf};
 ghost use Rattle.hyd_bounds.specs.Bounds.{TanksInOrder};
-ghost use Rattle.hyd_facts.specs.Room.{Takes};
+ghost use Rattle.hyd_period_facts.specs.Room.{Takes};
 ghost use Rattle.hyd_rule_readings.specs.Room.{HasRoom};
 ghost use Rattle.hyd_rule_trials.specs.Trial.{AreRead};
 ghost use Rattle.hyd_watched_levels.specs.Started.{AreStarted, HaveTanks};
 ghost use Rattle.hyd_period_close.specs.Begun.{AreBegun, AreReady};
 
 use hyd_cert::Record;
-use hyd_facts::Facts;
 use hyd_graph::Net;
-use hyd_inflows::put_inflows;
 use hyd_net::Project;
+use hyd_period_facts::Facts;
 use hyd_rule_readings::Readings;
+use hyd_tank_inflows::put_inflows;
 
 /// Puts what flows into tanks and what rules look at in a period, by the vectors of its record, which are certificates.
 pub(crate) fn look(

@@ -2,8 +2,8 @@
 #![tactic(auto)]
 
 use hyd_ctrl::LevelOpen;
-use hyd_period_start::TankOpen;
-use hyd_rules::RuleOpen;
+use hyd_period_stocks::TankOpen;
+use hyd_rule_values::RuleOpen;
 
 /// The first matter that the vectors of a period leave open: rules and the end of the period in order of time, then
 /// tanks, then level controls.

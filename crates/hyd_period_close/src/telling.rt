@@ -7,13 +7,13 @@ ghost use Rattle.hyd_spec.specs.Network.{tank_count};
 ghost use Rattle.hyd_spec_certificates.specs.Grid.{Grid};
 ghost use Rattle.hyd_spec_certificates.specs.Record.{Record, Standing};
 ghost use Rattle.hyd_spec_reports.specs.Report.{events_of};
-ghost use Rattle.hyd_facts.specs.Room.{Takes};
+ghost use Rattle.hyd_period_facts.specs.Room.{Takes};
 ghost use Rattle.hyd_watched_levels.specs.Started.{AreStarted, HaveTanks};
 
 use hyd_carried_levels::put_carried;
-use hyd_facts::Facts;
 use hyd_net::{List, Project};
 use hyd_period_events::put_events;
+use hyd_period_facts::Facts;
 use hyd_spec_certificates::LevelSpan;
 
 /// Puts how long a period lasts, and the events of its end.

@@ -10,7 +10,7 @@ ghost use Rattle.hyd_spec.specs.Network.{tank_count};
 ghost use Rattle.hyd_spec_certificates.specs.Verdict.{is_yes};
 ghost use Rattle.hyd_spec_certificates.specs.Decided.{acts_on, control_truth, nowhere};
 ghost use Rattle.hyd_spec_reports.specs.Report.{control_event};
-ghost use Rattle.hyd_facts.specs.OfPeriod.{levels_of};
+ghost use Rattle.hyd_period_facts.specs.OfPeriod.{levels_of};
 
 use crate::listed::add_event;
 use hyd_net::{Control, List, Project, When};

@@ -8,7 +8,7 @@ ghost use Rattle.hyd_spec_certificates.specs.Grid.{Grid};
 ghost use Rattle.hyd_spec_certificates.specs.Record.{Record, Standing};
 ghost use Rattle.hyd_spec_certificates.specs.Decided.{carried_at};
 ghost use Rattle.hyd_spec_reports.specs.Report.{events_of};
-ghost use Rattle.hyd_facts.specs.OfPeriod.{levels_of};
+ghost use Rattle.hyd_period_facts.specs.OfPeriod.{levels_of};
 ghost use Rattle.hyd_period_events.specs.Events.{events_by};
 
 use crate::controls::add_controls;

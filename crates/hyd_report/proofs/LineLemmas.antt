@@ -22,7 +22,7 @@ use Rattle.hyd_spec_certificates.specs.Boxes.{difference, flow_box, out_box}
 use Rattle.hyd_spec_reports.specs.ReportLine.{ReportLine, JunctionLine, ReservoirLine, TankLine, LinkLine, line_text}
 use Rattle.hyd_spec_reports.specs.Report.{status_of}
 use Rattle.hyd_spec_reports.specs.declared.StatusWord.{StatusWord}
-use Rattle.hyd_facts.specs.OfPeriod.{levels_of, flows_of}
+use Rattle.hyd_period_facts.specs.OfPeriod.{levels_of, flows_of}
 use Rattle.hyd_bounds.specs.Bounds.{IsSpan, AreInOrder}
 use Rattle.hyd_report.specs.Printing.{printed, quantity_in, ArePrinted}
 use Rattle.hyd_report.specs.Lines.{texts, junction_between, junction_line, reservoir_line, tank_at, tank_line, no_link}

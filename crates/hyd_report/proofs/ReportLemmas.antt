@@ -20,8 +20,8 @@ use Rattle.hyd_spec_reports.specs.ReportLine.{ReportLine, TimeLine, LinkLine}
 use Rattle.hyd_spec_reports.specs.Report.{Prints, LineEach, IsJunctionLine, IsReservoirLine, IsTankLine, IsLinkLine}
 use Rattle.hyd_spec_reports.specs.Report.{AreStateLines, AreEndLines, IsReport, is_report_time, change_line, event_line}
 use Rattle.hyd_spec_reports.specs.Report.{changes_at, status_of}
-use Rattle.hyd_facts.specs.declared.facts.Facts.{Facts}
-use Rattle.hyd_facts.specs.OfPeriod.{AreFacts, levels_of, flows_of}
+use Rattle.hyd_period_facts.specs.declared.facts.Facts.{Facts}
+use Rattle.hyd_period_facts.specs.OfPeriod.{AreFacts, levels_of, flows_of}
 use Rattle.hyd_graph.specs.GridOf.{links_of}
 use Rattle.hyd_graph.specs.declared.parts.Ends.{Ends}
 use Rattle.hyd_graph.specs.declared.parts.Setting.{Setting}

@@ -11,7 +11,7 @@ use Rattle.hyd_spec_reports.specs.ReportLine.{ReportLine, TimeLine}
 use Rattle.hyd_graph.specs.NetView.{NetView}
 use Rattle.hyd_graph.specs.GridOf.{grid_of}
 use Rattle.hyd_bounds.specs.Bounds.{IsVector, AreInOrder}
-use Rattle.hyd_facts.specs.declared.facts.Facts.{Facts}
+use Rattle.hyd_period_facts.specs.declared.facts.Facts.{Facts}
 use Rattle.hyd_report.specs.Printing.{IsSmall}
 use Rattle.hyd_report.specs.Words.{before_rules}
 use Rattle.hyd_report.specs.Lines.{junction_line, reservoir_line, tank_line, link_line}

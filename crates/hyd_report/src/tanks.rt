@@ -7,7 +7,7 @@ ghost use Rattle.hyd_net.specs.Sound.{Sound};
 ghost use Rattle.hyd_spec.specs.Lists.{map_from};
 ghost use Rattle.hyd_spec_certificates.specs.Interval.{Interval};
 ghost use Rattle.hyd_spec_reports.specs.ReportLine.{TankLine, line_text, tank_word};
-ghost use Rattle.hyd_facts.specs.OfPeriod.{levels_of, flows_of};
+ghost use Rattle.hyd_period_facts.specs.OfPeriod.{levels_of, flows_of};
 ghost use Rattle.hyd_report.specs.Putting.{Puts};
 ghost use Rattle.hyd_report.specs.Printing.{ArePrinted, IsSmall};
 ghost use Rattle.hyd_report.specs.Lines.{texts, tank_at, tank_line};

@@ -16,7 +16,7 @@ use Rattle.hyd_graph.specs.Periods.{IsNetOf, ends_of}
 use Rattle.hyd_graph.proofs.Sounding.{long_zipped}
 use Rattle.hyd_bounds.specs.Bounds.{IsSpan}
 use Rattle.hyd_ctrl.specs.Instants.{flow_interval}
-use Rattle.hyd_inflows.proofs.Numbered.{item_there, item_is}
+use Rattle.hyd_tank_inflows.proofs.Numbered.{item_there, item_is}
 
 -- ---- counts of a net of a project
 

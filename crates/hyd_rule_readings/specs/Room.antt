@@ -7,7 +7,7 @@ use Rattle.hyd_spec_certificates.specs.declared.Side.TheVariants.{Upper, Lower}
 use Rattle.hyd_spec_certificates.specs.Interval.{Interval}
 use Rattle.hyd_spec_certificates.specs.Grid.{Grid, GridLink, all_heads}
 use Rattle.hyd_spec_certificates.specs.Boxes.{flow_box}
-use Rattle.hyd_facts.specs.Room.{Takes}
+use Rattle.hyd_period_facts.specs.Room.{Takes}
 use Rattle.hyd_rule_readings.specs.declared.readings.Readings.{Readings}
 
 -- Nothing is read.

@@ -19,9 +19,9 @@ use Rattle.hyd_spec_certificates.specs.Decided.{greatest_magnitude}
 use Rattle.hyd_ctrl.specs.Alike.{AreAlike}
 use Rattle.hyd_ctrl.specs.Instants.{flow_interval, level_interval, lower_readings, upper_readings}
 use Rattle.hyd_ctrl.proofs.Unseen.{heads_behind}
-use Rattle.hyd_facts.specs.declared.facts.Facts.{Facts}
-use Rattle.hyd_rules.specs.declared.values.RuleOpen.{RuleOpen}
-use Rattle.hyd_rules.specs.Values.{AreKnown, IsFirstOpen}
+use Rattle.hyd_period_facts.specs.declared.facts.Facts.{Facts}
+use Rattle.hyd_rule_values.specs.declared.values.RuleOpen.{RuleOpen}
+use Rattle.hyd_rule_values.specs.Values.{AreKnown, IsFirstOpen}
 use Rattle.hyd_watched_levels.specs.Started.{AreStarted}
 use Rattle.hyd_rule_trials.specs.Trial.{AreRead, AreDecided, open_rule}
 

@@ -9,7 +9,7 @@ use Rattle.hyd_spec_certificates.specs.Record.{Record, Standing}
 use Rattle.hyd_spec_certificates.specs.Verdict.{is_yes, is_unknown}
 use Rattle.hyd_spec_certificates.specs.Decided.{OpenRule, rule_truths, flow_boxes}
 use Rattle.hyd_ctrl.specs.Instants.{flow_interval}
-use Rattle.hyd_rules.specs.declared.values.RuleOpen.{RuleOpen}
+use Rattle.hyd_rule_values.specs.declared.values.RuleOpen.{RuleOpen}
 
 -- the heads of junctions and then of reservoirs are those of a record's vectors with all tanks alike, and the flows of
 -- links are their flow boxes

@@ -13,10 +13,10 @@ ghost use Rattle.hyd_watched_levels.specs.Started.{HaveTanks, AreStarted};
 ghost use Rattle.hyd_rule_trials.specs.Trial.{AreRead, AreDecided, open_rule};
 
 use hyd_carried_levels::put_carried;
-use hyd_facts::Facts;
 use hyd_net::{List, Project};
 use hyd_num::Span;
-use hyd_rules::{RuleOpen, decide_all};
+use hyd_period_facts::Facts;
+use hyd_rule_values::{RuleOpen, decide_all};
 use hyd_spec_certificates::LevelSpan;
 
 /// Tries the rules so many seconds after the start of a period and puts the value of each (EPANET 2.2 User Manual,

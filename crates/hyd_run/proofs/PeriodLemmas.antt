@@ -24,7 +24,7 @@ use Rattle.hyd_graph.specs.Periods.{IsNetOf}
 use Rattle.hyd_graph.proofs.Counts.{junctions_count}
 use Rattle.hyd_graph.proofs.Sounding.{long_zipped}
 use Rattle.hyd_bounds.specs.Bounds.{TanksInOrder}
-use Rattle.hyd_facts.specs.declared.facts.Facts.{Facts}
+use Rattle.hyd_period_facts.specs.declared.facts.Facts.{Facts}
 use Rattle.hyd_report.specs.Periods.{AreBounds, AreTankFacts}
 use Rattle.hyd_watched_levels.specs.Started.{HaveTanks}
 use Rattle.hyd_sim.specs.View.{SimView, IsSim, standing_of}

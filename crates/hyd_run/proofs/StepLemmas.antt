@@ -22,7 +22,7 @@ use Rattle.hyd_net.specs.Sound.{Sound}
 use Rattle.hyd_spec_certificates.specs.Valid.{AreCertificates}
 use Rattle.hyd_spec_reports.specs.CertificateText.{record_text}
 use Rattle.hyd_cert.specs.declared.record.Record.{Record as Row}
-use Rattle.hyd_facts.specs.declared.facts.Facts.{Facts}
+use Rattle.hyd_period_facts.specs.declared.facts.Facts.{Facts}
 use Rattle.hyd_graph.specs.NetView.{NetView}
 use Rattle.hyd_graph.specs.Settings.{AreStates}
 use Rattle.hyd_report.specs.Lines.{texts}

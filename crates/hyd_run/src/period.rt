@@ -11,7 +11,7 @@ ghost use Rattle.hyd_spec_reports.specs.CertificateText.{record_text, end_line};
 ghost use Rattle.hyd_spec_reports.specs.Headline.{last_line, is_finished};
 ghost use Rattle.hyd_spec_reports.specs.Report.{IsReport};
 ghost use Rattle.hyd_cert.specs.RecordView.{row_of};
-ghost use Rattle.hyd_facts.specs.OfPeriod.{AreFacts};
+ghost use Rattle.hyd_period_facts.specs.OfPeriod.{AreFacts};
 ghost use Rattle.hyd_bounds.specs.Bounds.{TanksInOrder};
 ghost use Rattle.hyd_graph.specs.GridOf.{grid_of, states_of};
 ghost use Rattle.hyd_graph.specs.Periods.{IsNetOf};
@@ -25,10 +25,10 @@ ghost use Rattle.hyd_run.specs.Runs.{outcome_of};
 use crate::outcome::RunEnd;
 use crate::pens::{put_end_line, put_row};
 use hyd_cert::Record;
-use hyd_facts::Facts;
 use hyd_graph::Net;
 use hyd_io::{Desk, OutFault, Pen};
 use hyd_net::Project;
+use hyd_period_facts::Facts;
 use hyd_report::{put_done, put_report, put_stop};
 
 // A number is below 2^32.

@@ -22,8 +22,8 @@ use Rattle.hyd_net.specs.ListView.{ListView}
 use Rattle.hyd_cert.specs.RecordView.{row_of, IsProblemOf}
 use Rattle.hyd_cert.specs.declared.record.Record.{Record as Row}
 use Rattle.hyd_tank.specs.Spans.{IsInflow}
-use Rattle.hyd_facts.specs.OfPeriod.{levels_of, volumes_of, flows_of}
-use Rattle.hyd_facts.specs.declared.facts.Facts.{Facts}
+use Rattle.hyd_period_facts.specs.OfPeriod.{levels_of, volumes_of, flows_of}
+use Rattle.hyd_period_facts.specs.declared.facts.Facts.{Facts}
 use Rattle.hyd_graph.specs.GridOf.{grid_of}
 use Rattle.hyd_graph.specs.NetView.{NetView}
 use Rattle.hyd_watched_levels.specs.Started.{HaveTanks}

@@ -18,11 +18,11 @@ use Rattle.hyd_spec_laws.specs.Laws.{IsSteady}
 use Rattle.hyd_spec_laws.proofs.OneRun.{one_grid}
 use Rattle.hyd_cert.specs.RecordView.{row_of}
 use Rattle.hyd_cert.specs.declared.record.Record.{Record as Row}
-use Rattle.hyd_facts.specs.OfPeriod.{levels_of}
-use Rattle.hyd_facts.specs.declared.facts.Facts.{Facts}
+use Rattle.hyd_period_facts.specs.OfPeriod.{levels_of}
+use Rattle.hyd_period_facts.specs.declared.facts.Facts.{Facts}
 use Rattle.hyd_graph.specs.GridOf.{grid_of}
 use Rattle.hyd_graph.specs.NetView.{NetView}
-use Rattle.hyd_inflows.proofs.Numbered.{as_long}
+use Rattle.hyd_tank_inflows.proofs.Numbered.{as_long}
 use Rattle.hyd_period_close.specs.Begun.{AreBegun, AreReady}
 use Rattle.hyd_period_close.specs.Opens.{SharesVectors, IsOpenAt}
 use Rattle.hyd_period_close.specs.declared.close.Close.{Close}

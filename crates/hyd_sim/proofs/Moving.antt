@@ -12,10 +12,10 @@ use Rattle.hyd_spec_nesting.specs.Nesting.{IsTidy}
 use Rattle.hyd_spec_nesting.proofs.Holding.{tidy_next}
 use Rattle.hyd_cert.specs.RecordView.{row_of}
 use Rattle.hyd_cert.specs.declared.record.Record.{Record as Row}
-use Rattle.hyd_facts.specs.declared.facts.Facts.{Facts}
+use Rattle.hyd_period_facts.specs.declared.facts.Facts.{Facts}
 use Rattle.hyd_graph.specs.GridOf.{grid_of}
 use Rattle.hyd_graph.specs.NetView.{NetView}
-use Rattle.hyd_period_start.specs.Room.{HasRoom as HasNextRoom}
+use Rattle.hyd_period_stocks.specs.Room.{HasRoom as HasNextRoom}
 use Rattle.hyd_period_close.specs.Closing.{HasRoom, AreKeptIn}
 use Rattle.hyd_period_close.specs.declared.close.Close.{Close}
 use Rattle.hyd_sim.specs.Attempts.{IsMade, later_standing}

@@ -7,8 +7,8 @@ use Rattle.hyd_spec_histories.specs.Agreement.{IsKept}
 use Rattle.hyd_spec_histories.proofs.Stepping.{kept_at_start}
 use Rattle.hyd_spec_nesting.specs.Nesting.{IsTidy}
 use Rattle.hyd_spec_nesting.proofs.Holding.{tidy_at_start}
-use Rattle.hyd_facts.specs.OfPeriod.{levels_of, volumes_of}
-use Rattle.hyd_period_start.specs.Room.{HasRoom}
+use Rattle.hyd_period_facts.specs.OfPeriod.{levels_of, volumes_of}
+use Rattle.hyd_period_stocks.specs.Room.{HasRoom}
 use Rattle.hyd_period_close.specs.Closing.{AreKeptIn}
 use Rattle.hyd_sim.specs.View.{IsStanding, standing_for}
 use Rattle.hyd_sim.specs.declared.standing.Standing.{Standing as Here}

@@ -15,10 +15,10 @@ use Rattle.hyd_spec_certificates.specs.declared.LevelSpan.{LevelSpan}
 use Rattle.hyd_spec_laws.specs.Laws.{IsWithin}
 use Rattle.hyd_spec_histories.specs.Agreement.{IsKept}
 use Rattle.hyd_spec_nesting.specs.Nesting.{IsTidy}
-use Rattle.hyd_facts.specs.OfPeriod.{levels_of}
+use Rattle.hyd_period_facts.specs.OfPeriod.{levels_of}
 use Rattle.hyd_graph.specs.Periods.{AreLevels, IsSpanOf}
 use Rattle.hyd_bounds.specs.Bounds.{TanksInOrder}
-use Rattle.hyd_inflows.proofs.Numbered.{item_there, item_is}
+use Rattle.hyd_tank_inflows.proofs.Numbered.{item_there, item_is}
 
 mapped-at : (levels : List LevelSpan) (k : ℕ) (d : LevelSpan) → k < length levels
     → slice_index_or (map levels_of levels) k nowhere ≡ levels_of (slice_index_or levels k d)

@@ -14,7 +14,7 @@ use Rattle.hyd_spec_laws.proofs.OneStanding.{one_standing}
 use Rattle.hyd_period_close.specs.Opens.{SharesVectors, IsOpenAt, EndsWith, IsFirstControl}
 use Rattle.hyd_period_close.specs.declared.open.Open.{Open}
 use Rattle.hyd_period_close.specs.declared.open.Open.TheVariants.{Rule, Event, Tank, Control}
-use Rattle.hyd_period_start.specs.Next.{IsFirstOpen}
+use Rattle.hyd_period_stocks.specs.Next.{IsFirstOpen}
 use Rattle.hyd_rule_trials.specs.Trial.{open_rule}
 use Rattle.hyd_period_vectors.specs.Vectors.{HaveSame}
 use Rattle.hyd_sim.proofs.Proposing.{not-last, not-last-left, not-open-by-rule, not-open-by-event, same-seconds}

@@ -27,7 +27,7 @@ use Rattle.hyd_period_close.specs.declared.open.Open.TheVariants.{Rule as RuleIs
 use Rattle.hyd_period_close.specs.declared.open.Open.TheVariants.{Tank as TankIsFound, Control as ControlIsFound}
 use Rattle.hyd_rule_trials.specs.Trial.{open_rule}
 use Rattle.hyd_period_close.specs.declared.close.Close.{Close}
-use Rattle.hyd_facts.specs.declared.facts.Facts.{Facts}
+use Rattle.hyd_period_facts.specs.declared.facts.Facts.{Facts}
 use Rattle.hyd_graph.specs.NetView.{NetView}
 use Rattle.hyd_sim.specs.Acceptance.{FailsAt, IsTaken}
 use Rattle.hyd_sim.specs.Attempts.{IsMade, next_standing}

@@ -17,11 +17,11 @@ use Rattle.hyd_tank.specs.Spans.{AreHeld}
 use Rattle.hyd_tank.specs.declared.spans.VolumeSpan.{VolumeSpan}
 use Rattle.hyd_ctrl.specs.Starts.{IsFirstOpen}
 use Rattle.hyd_ctrl.specs.declared.controls.LevelOpen.{LevelOpen}
-use Rattle.hyd_facts.specs.OfPeriod.{levels_of, volumes_of}
-use Rattle.hyd_facts.specs.Room.{HasRoom}
-use Rattle.hyd_facts.specs.declared.facts.Facts.{Facts}
+use Rattle.hyd_period_facts.specs.OfPeriod.{levels_of, volumes_of}
+use Rattle.hyd_period_facts.specs.Room.{HasRoom}
+use Rattle.hyd_period_facts.specs.declared.facts.Facts.{Facts}
 use Rattle.hyd_graph.specs.Settings.{AreStates}
-use Rattle.hyd_period_start.specs.Next.{stocks_among}
+use Rattle.hyd_period_stocks.specs.Next.{stocks_among}
 use Rattle.hyd_period_close.specs.Begun.{AreReady}
 use Rattle.hyd_sim.specs.View.{IsStanding}
 use Rattle.hyd_sim.specs.declared.standing.Standing.{Standing as Here}

@@ -9,8 +9,8 @@ use Rattle.hyd_spec_certificates.specs.Valid.{IsValid}
 use Rattle.hyd_spec_reports.specs.Stops.{turn}
 use Rattle.hyd_cert.specs.RecordView.{row_of, IsProblemOf}
 use Rattle.hyd_cert.specs.declared.record.Record.{Record as Row}
-use Rattle.hyd_facts.specs.OfPeriod.{AreFacts}
-use Rattle.hyd_facts.specs.declared.facts.Facts.{Facts}
+use Rattle.hyd_period_facts.specs.OfPeriod.{AreFacts}
+use Rattle.hyd_period_facts.specs.declared.facts.Facts.{Facts}
 use Rattle.hyd_graph.specs.GridOf.{grid_of, states_of}
 use Rattle.hyd_graph.specs.NetView.{NetView}
 use Rattle.hyd_graph.specs.Settings.{AreStates}

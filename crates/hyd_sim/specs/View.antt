@@ -11,13 +11,13 @@ use Rattle.hyd_spec_nesting.specs.Nesting.{IsTidy}
 use Rattle.hyd_cert.specs.Lines.{Header}
 use Rattle.hyd_cert.specs.RecordView.{header_of}
 use Rattle.hyd_cert.specs.declared.record.Record.{Record}
-use Rattle.hyd_facts.specs.OfPeriod.{levels_of, volumes_of}
-use Rattle.hyd_facts.specs.declared.facts.Facts.{Facts}
-use Rattle.hyd_facts.specs.Room.{HasRoom}
+use Rattle.hyd_period_facts.specs.OfPeriod.{levels_of, volumes_of}
+use Rattle.hyd_period_facts.specs.declared.facts.Facts.{Facts}
+use Rattle.hyd_period_facts.specs.Room.{HasRoom}
 use Rattle.hyd_graph.specs.NetView.{NetView}
 use Rattle.hyd_graph.specs.Periods.{IsNetOf}
-use Rattle.hyd_period_start.specs.Room.{HasRoom as HasNextRoom}
-use Rattle.hyd_period_start.specs.declared.next.Next.{Next}
+use Rattle.hyd_period_stocks.specs.Room.{HasRoom as HasNextRoom}
+use Rattle.hyd_period_stocks.specs.declared.next.Next.{Next}
 use Rattle.hyd_period_close.specs.Closing.{HasRoom as HasCloseRoom, AreKeptIn}
 use Rattle.hyd_period_close.specs.declared.close.Close.{Close}
 use Rattle.hyd_period_vectors.specs.Room.{Room}

@@ -7,7 +7,7 @@ ghost use Rattle.hyd_spec.specs.Network.{tank_count};
 ghost use Rattle.hyd_spec_certificates.specs.Valid.{AreCertificates};
 ghost use Rattle.hyd_spec_reports.specs.Refusals.{HasItsGrid, IsInPlace, IsRefused};
 ghost use Rattle.hyd_cert.specs.RecordView.{header_of, row_of};
-ghost use Rattle.hyd_facts.specs.Room.{HasRoom};
+ghost use Rattle.hyd_period_facts.specs.Room.{HasRoom};
 ghost use Rattle.hyd_graph.specs.GridOf.{grid_of};
 ghost use Rattle.hyd_graph.specs.Periods.{IsNetOf};
 ghost use Rattle.hyd_period_close.specs.Closing.{HasRoom as HasCloseRoom};
@@ -23,10 +23,10 @@ use crate::sim::Sim;
 use crate::standing::Standing;
 use crate::vectors::{check_vectors, take_vectors};
 use hyd_cert::Record;
-use hyd_facts::Facts;
 use hyd_graph::Net;
 use hyd_net::{LinkState, Project};
 use hyd_period_close::Close;
+use hyd_period_facts::Facts;
 use hyd_spec_reports::CertRefused;
 
 // Decides whether a record is the one that is due: the run isn't over, and its number and its time are the next.

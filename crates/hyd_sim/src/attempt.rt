@@ -6,7 +6,7 @@ ghost use Rattle.hyd_net.specs.Sound.{Sound};
 ghost use Rattle.hyd_spec.specs.Network.{tank_count};
 ghost use Rattle.hyd_spec_certificates.specs.Valid.{AreCertificates};
 ghost use Rattle.hyd_cert.specs.RecordView.{header_of, row_of};
-ghost use Rattle.hyd_facts.specs.Room.{HasRoom};
+ghost use Rattle.hyd_period_facts.specs.Room.{HasRoom};
 ghost use Rattle.hyd_graph.specs.GridOf.{grid_of};
 ghost use Rattle.hyd_graph.specs.Periods.{IsNetOf};
 ghost use Rattle.hyd_bounds.specs.Bounds.{TanksInOrder};
@@ -20,13 +20,13 @@ ghost use Rattle.hyd_sim.specs.Attempts.{AreSought, IsFault, IsMade, IsOver, IsS
 
 use crate::standing::Standing;
 use hyd_cert::Record;
-use hyd_facts::Facts;
 use hyd_graph::Net;
-use hyd_inflows::put_inflows;
 use hyd_net::Project;
 use hyd_newton::Finder;
 use hyd_period_close::{Close, Open};
+use hyd_period_facts::Facts;
 use hyd_period_vectors::{Lack, Search};
+use hyd_tank_inflows::put_inflows;
 
 /// Why an attempt failed.
 #[derive(Debug, Clone, Copy, PartialEq, Eq, Drop)]

@@ -8,7 +8,7 @@ ghost use Rattle.hyd_spec.specs.Lists.{Each};
 ghost use Rattle.hyd_spec_certificates.specs.Interval.{width as width_of};
 ghost use Rattle.hyd_spec_certificates.specs.Narrow as narrow;
 ghost use Rattle.hyd_spec_certificates.specs.Decided.{nowhere};
-ghost use Rattle.hyd_facts.specs.OfPeriod.{levels_of};
+ghost use Rattle.hyd_period_facts.specs.OfPeriod.{levels_of};
 ghost use Rattle.hyd_sim.specs.Sharp.{AreNarrow};
 
 use hyd_spec_certificates::LevelSpan;

@@ -6,7 +6,7 @@ ghost use Rattle.hyd_net.specs.Sound.{Sound};
 ghost use Rattle.hyd_spec_certificates.specs.Record.{initial_standing};
 ghost use Rattle.hyd_cert.specs.RecordView.{header_of};
 ghost use Rattle.hyd_period_close.specs.Closing.{HasRoom as HasCloseRoom};
-ghost use Rattle.hyd_facts.specs.Room.{HasRoom};
+ghost use Rattle.hyd_period_facts.specs.Room.{HasRoom};
 ghost use Rattle.hyd_graph.specs.Periods.{IsNetOf};
 ghost use Rattle.hyd_sim.specs.View.{IsStanding, header_for, standing_for, standing_of};
 
@@ -14,11 +14,11 @@ use crate::settings::Settings;
 use crate::sim::Sim;
 use crate::standing::Standing;
 use hyd_cert::{Record, version_of};
-use hyd_facts::Facts;
 use hyd_graph::Net;
 use hyd_net::{LinkState, OutOfMemory, Project};
 use hyd_period_close::Close;
-use hyd_period_start::Next;
+use hyd_period_facts::Facts;
+use hyd_period_stocks::Next;
 use hyd_period_vectors::Search;
 use std::alloc::Global;
 

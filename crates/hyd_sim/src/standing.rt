@@ -5,11 +5,11 @@ ghost use Rattle.std.specs.Prelude.{◌≡◌, ◌≤◌, ◌+◌, ◌^◌, true
 ghost use Rattle.hyd_net.specs.Sound.{Sound};
 
 use hyd_cert::Record;
-use hyd_facts::Facts;
 use hyd_graph::Net;
 use hyd_net::{LinkState, Project};
 use hyd_period_close::Close;
-use hyd_period_start::Next;
+use hyd_period_facts::Facts;
+use hyd_period_stocks::Next;
 use std::mem::swap;
 
 /// What is known where the next period begins.

@@ -8,17 +8,17 @@ ghost use Rattle.hyd_spec.specs.Network.{tank_count};
 ghost use Rattle.hyd_spec_certificates.specs.Decided.{acts_on};
 ghost use Rattle.hyd_spec_certificates.specs.Valid.{ControlsAreDecided};
 ghost use Rattle.hyd_spec_reports.specs.Report.{start_changes};
-ghost use Rattle.hyd_facts.specs.OfPeriod.{levels_of};
-ghost use Rattle.hyd_facts.specs.Room.{HasRoom};
+ghost use Rattle.hyd_period_facts.specs.OfPeriod.{levels_of};
+ghost use Rattle.hyd_period_facts.specs.Room.{HasRoom};
 ghost use Rattle.hyd_graph.specs.Settings.{AreStates};
 ghost use Rattle.hyd_period_close.specs.Begun.{AreBegun, AreReady};
 ghost use Rattle.hyd_sim.specs.View.{IsStanding, standing_for};
 
 use crate::standing::Standing;
 use hyd_ctrl::{Changes, settle};
-use hyd_facts::Facts;
 use hyd_net::{LinkState, List, Project};
-use hyd_period_start::Next;
+use hyd_period_facts::Facts;
+use hyd_period_stocks::Next;
 use hyd_spec_certificates::LevelSpan;
 
 // Makes a list these items, for which it has room.

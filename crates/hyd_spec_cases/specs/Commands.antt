@@ -1,7 +1,7 @@
 -- Command lines as they are typed, and what they ask for.
 use Rattle.std.specs.Prelude.{ℕ, ◌==◌, Bool, List, Option, Some, is_none, ℤ}
 use Rattle.std.specs.List.{slice_split, list_all}
-use Rattle.hyd_words.specs.Orders.{Order, run, check, gen}
+use Rattle.hyd_command_words.specs.Orders.{Order, run, check, gen}
 
 -- the words of a line, parted by single spaces
 abbrev pub typed : List ℕ → List (List ℕ)

@@ -2,7 +2,7 @@
 #![tactic(auto)]
 
 ghost use Rattle.std.specs.Prelude.{◌≡◌, pos, true, false, [], ◌∷◌, map, codes};
-ghost use Rattle.hyd_words.specs.Orders.{order_of};
+ghost use Rattle.hyd_command_words.specs.Orders.{order_of};
 ghost use Rattle.hyd_spec_cases.specs.Commands.{typed, asks_run, asks_check, asks_gen, are_none};
 
 /// The words of `run`: its options in each form, and where they stand.

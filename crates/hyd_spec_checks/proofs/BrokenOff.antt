@@ -13,12 +13,12 @@ use Rattle.hyd_spec_reports.specs.ReportLine.{ReportLine, report_text, line_text
 use Rattle.hyd_spec_reports.specs.declared.CertRefused.{CertRefused}
 use Rattle.hyd_spec_reports.specs.Headline.{Found, IsRun, rows_of, lines_of, CheckAccepts, CheckRefuses}
 use Rattle.hyd_spec_reports.specs.Headline.{CheckRefusesEnd}
-use Rattle.hyd_recheck.specs.Checks.{refused_counts_line, BeginsWithFound}
-use Rattle.hyd_recheck.specs.Checks.{CheckRefusesGrammar, CheckRefusesCounts, CheckRefusal, CheckEnds, CheckFinds}
-use Rattle.hyd_recheck.specs.Checks.{grammar, counts, record_refused, other_end, CheckBreaksOff, in_last_line}
-use Rattle.hyd_recheck.specs.Checks.{in_records}
-use Rattle.hyd_recheck.specs.declared.outcome.CheckEnd.{CheckEnd}
-use Rattle.hyd_recheck.specs.declared.outcome.CheckEnd.TheVariants.{Accepted, Refused}
+use Rattle.hyd_cert_check.specs.Checks.{refused_counts_line, BeginsWithFound}
+use Rattle.hyd_cert_check.specs.Checks.{CheckRefusesGrammar, CheckRefusesCounts, CheckRefusal, CheckEnds, CheckFinds}
+use Rattle.hyd_cert_check.specs.Checks.{grammar, counts, record_refused, other_end, CheckBreaksOff, in_last_line}
+use Rattle.hyd_cert_check.specs.Checks.{in_records}
+use Rattle.hyd_cert_check.specs.declared.outcome.CheckEnd.{CheckEnd}
+use Rattle.hyd_cert_check.specs.declared.outcome.CheckEnd.TheVariants.{Accepted, Refused}
 use Rattle.hyd_spec_checks.proofs.Compared.{compared, other_header}
 use Rattle.hyd_spec_checks.proofs.FirstRecords.{first_rows}
 use Rattle.hyd_spec_checks.proofs.Lists.{Begins, before_last, joined_append}

@@ -6,10 +6,10 @@ use Rattle.hyd_spec_reports.specs.Headline.{rows_of, lines_of, accepted_line}
 use Rattle.hyd_cert.specs.Sentence.{IsCertificate}
 use Rattle.hyd_cert.proofs.SentenceLemmas.{fault_no_certificate, no_certificate_of_others}
 use Rattle.hyd_sim.specs.View.{header_for}
-use Rattle.hyd_recheck.specs.Checks.{CheckRefusesGrammar, CheckRefusesCounts, CheckRefusal, CheckEnds}
-use Rattle.hyd_recheck.specs.Checks.{grammar, counts, record_refused, other_end}
-use Rattle.hyd_recheck.specs.declared.outcome.CheckEnd.{CheckEnd}
-use Rattle.hyd_recheck.specs.declared.outcome.CheckEnd.TheVariants.{Accepted, Refused}
+use Rattle.hyd_cert_check.specs.Checks.{CheckRefusesGrammar, CheckRefusesCounts, CheckRefusal, CheckEnds}
+use Rattle.hyd_cert_check.specs.Checks.{grammar, counts, record_refused, other_end}
+use Rattle.hyd_cert_check.specs.declared.outcome.CheckEnd.{CheckEnd}
+use Rattle.hyd_cert_check.specs.declared.outcome.CheckEnd.TheVariants.{Accepted, Refused}
 use Rattle.hyd_spec_checks.specs.CertificateOfRun.{IsCertificateOfRun}
 use Rattle.hyd_spec_checks.proofs.ByRecord.{no_record_refused}
 use Rattle.hyd_spec_checks.proofs.ByEnd.{no_other_end, one_report}

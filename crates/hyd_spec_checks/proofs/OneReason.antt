@@ -20,11 +20,11 @@ use Rattle.hyd_spec_laws.proofs.OneRun.{one_left}
 use Rattle.hyd_cert.specs.Sentence.{IsCertificate}
 use Rattle.hyd_cert.proofs.SentenceLemmas.{fault_no_certificate, no_certificate_of_others, one_fault, fault_or_header}
 use Rattle.hyd_sim.specs.View.{header_for}
-use Rattle.hyd_recheck.specs.Checks.{refused_grammar_line, printed_number, BeginsWithFound, CheckRefusesGrammar}
-use Rattle.hyd_recheck.specs.Checks.{CheckRefusesCounts, CheckRefusal, CheckEnds}
-use Rattle.hyd_recheck.specs.Checks.{grammar, counts, record_refused, other_end}
-use Rattle.hyd_recheck.specs.declared.outcome.CheckEnd.{CheckEnd}
-use Rattle.hyd_recheck.specs.declared.outcome.CheckEnd.TheVariants.{Accepted, Refused}
+use Rattle.hyd_cert_check.specs.Checks.{refused_grammar_line, printed_number, BeginsWithFound, CheckRefusesGrammar}
+use Rattle.hyd_cert_check.specs.Checks.{CheckRefusesCounts, CheckRefusal, CheckEnds}
+use Rattle.hyd_cert_check.specs.Checks.{grammar, counts, record_refused, other_end}
+use Rattle.hyd_cert_check.specs.declared.outcome.CheckEnd.{CheckEnd}
+use Rattle.hyd_cert_check.specs.declared.outcome.CheckEnd.TheVariants.{Accepted, Refused}
 use Rattle.hyd_spec_checks.specs.Reasons.{HaveOneReason}
 use Rattle.hyd_spec_checks.proofs.ByEnd.{one_report}
 use Rattle.hyd_spec_checks.proofs.Compared.{AreRows, BeginsWith, compared, other_header}

@@ -2,7 +2,7 @@
 -- Source: this program's.
 use Rattle.std.specs.Prelude.{◌≡◌, ⊤, ℕ, List}
 use Rattle.hyd_spec.specs.Types.{Project}
-use Rattle.hyd_recheck.specs.Checks.{CheckRefusal, grammar, counts, record_refused, other_end}
+use Rattle.hyd_cert_check.specs.Checks.{CheckRefusal, grammar, counts, record_refused, other_end}
 
 -- Two checks refuse a text for one reason: by the same line, by its header line, by the same record and for the same
 -- cause, or by its END line. What they found before is the same.

@@ -17,9 +17,9 @@ ghost use Rattle.hyd_spec_reports.specs.ReportLine.{report_text};
 ghost use Rattle.hyd_spec_reports.specs.declared.CertRefused.{CertRefused};
 ghost use Rattle.hyd_spec_reports.specs.Headline.{Found, IsRun, rows_of, lines_of, Sharpness, Outcome, RunWrites};
 ghost use Rattle.hyd_spec_reports.specs.Headline.{accepted_line, CheckAccepts, CheckRefuses, CheckRefusesEnd};
-ghost use Rattle.hyd_recheck.specs.Checks.{CheckRefusal, CheckEnds, CheckBreaksOff};
-ghost use Rattle.hyd_recheck.specs.declared.outcome.CheckEnd.{CheckEnd};
-ghost use Rattle.hyd_recheck.specs.declared.outcome.CheckEnd.TheVariants.{Accepted};
+ghost use Rattle.hyd_cert_check.specs.Checks.{CheckRefusal, CheckEnds, CheckBreaksOff};
+ghost use Rattle.hyd_cert_check.specs.declared.outcome.CheckEnd.{CheckEnd};
+ghost use Rattle.hyd_cert_check.specs.declared.outcome.CheckEnd.TheVariants.{Accepted};
 ghost use Rattle.hyd_spec_checks.specs.CertificateOfRun.{IsCertificateOfRun, IsRunOf};
 ghost use Rattle.hyd_spec_checks.specs.Reasons.{HaveOneReason};
 

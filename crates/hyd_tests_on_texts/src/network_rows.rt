@@ -4,7 +4,7 @@
 ghost use Rattle.hyd_spec_lines.specs.Lines.{LiesIn};
 
 use hyd_lex::{Line, Lines, Section};
-use hyd_rows::{
+use hyd_network_rows::{
     read_curve, read_demand, read_emitter, read_junction, read_pattern, read_pipe, read_pump,
     read_reservoir, read_status, read_tank, read_valve,
 };

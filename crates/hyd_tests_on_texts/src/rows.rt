@@ -2,7 +2,9 @@
 #![tactic(auto)]
 
 use hyd_lex::Lines;
-use hyd_opts::{read_clock, read_control, read_option, read_rule_line, read_time, read_time_line};
+use hyd_options_and_rules::{
+    read_clock, read_control, read_option, read_rule_line, read_time, read_time_line,
+};
 use std::alloc::Global;
 use std::test::Fail;
 

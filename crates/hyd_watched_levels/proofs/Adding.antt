@@ -15,8 +15,8 @@ use Rattle.hyd_spec_certificates.specs.Decided.{Watch, watches, tank_watches, wa
 use Rattle.hyd_spec_certificates.specs.Decided.{IsLatestEnd}
 use Rattle.hyd_spec_nesting.specs.Nesting.{IsFirstAmong}
 use Rattle.hyd_spec_nesting.proofs.Watched.{none_watched, end_is}
-use Rattle.hyd_facts.specs.OfPeriod.{levels_of}
-use Rattle.hyd_facts.specs.declared.facts.Facts.{Facts}
+use Rattle.hyd_period_facts.specs.OfPeriod.{levels_of}
+use Rattle.hyd_period_facts.specs.declared.facts.Facts.{Facts}
 use Rattle.hyd_watched_levels.specs.declared.watch.Ends.{Ends}
 use Rattle.hyd_watched_levels.specs.Started.{AreStarted}
 use Rattle.hyd_watched_levels.specs.Watched.{IsReachedFirst, IsReachedAmong, AreEnds, most_of, least_of}

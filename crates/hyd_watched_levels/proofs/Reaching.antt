@@ -15,7 +15,7 @@ use Rattle.hyd_spec_certificates.specs.Decided.{Watch, stocks_of_tank, inflow_of
 use Rattle.hyd_spec_nesting.specs.Nesting.{ReachTest, IsFirstAmong}
 use Rattle.hyd_spec_nesting.proofs.Watched.{one_watched, one_more}
 use Rattle.hyd_spec_histories.proofs.Watching.{contains-here, contains-later, contains-cons}
-use Rattle.hyd_facts.specs.declared.facts.Facts.{Facts}
+use Rattle.hyd_period_facts.specs.declared.facts.Facts.{Facts}
 use Rattle.hyd_watched_levels.specs.Started.{AreStarted, stocks_in, inflow_in}
 use Rattle.hyd_watched_levels.specs.Watched.{IsReachedFirst, IsReachedAmong}
 

@@ -11,8 +11,8 @@ use Rattle.hyd_spec_certificates.specs.Record.{Record, Standing}
 use Rattle.hyd_spec_certificates.specs.Stocks.{Stocks}
 use Rattle.hyd_spec_certificates.specs.Decided.{inflow_of_tank, links_at, nowhere}
 use Rattle.hyd_tank.specs.Spans.{IsInflow, AreHeld}
-use Rattle.hyd_facts.specs.OfPeriod.{levels_of, volumes_of, flows_of}
-use Rattle.hyd_facts.specs.declared.facts.Facts.{Facts}
+use Rattle.hyd_period_facts.specs.OfPeriod.{levels_of, volumes_of, flows_of}
+use Rattle.hyd_period_facts.specs.declared.facts.Facts.{Facts}
 
 -- Facts hold what is known at a standing where a period starts, with the states of links after the controls of the
 -- start, and what flows into each tank by the period's record.

@@ -11,8 +11,8 @@ ghost use Rattle.hyd_watched_levels.specs.Started.{HaveTanks};
 ghost use Rattle.hyd_watched_levels.specs.Watched.{AreEnds, most_of, least_of};
 
 use crate::watch::{Ends, Watch, with_watch};
-use hyd_facts::Facts;
 use hyd_net::Project;
+use hyd_period_facts::Facts;
 use hyd_spec::TankState;
 
 fn is_full(facts: &Facts, tank: u32) -> bool

@@ -11,8 +11,8 @@ ghost use Rattle.hyd_watched_levels.specs.Started.{HaveTanks, AreStarted};
 use crate::bounds::bound_ends;
 use crate::controls::with_controls;
 use crate::watch::Ends;
-use hyd_facts::Facts;
 use hyd_net::Project;
+use hyd_period_facts::Facts;
 
 /// The earliest and the latest end of a period, in seconds after its start, which the clock ends after `cap` seconds:
 /// the first second by which a watched level may, or must, have been reached, or the cap where that comes first. The

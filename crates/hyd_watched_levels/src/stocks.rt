@@ -5,11 +5,11 @@ ghost use Rattle.std.specs.Prelude.{◌≡◌, ◌<◌, length, map, slice_index
 ghost use Rattle.std.specs.List.{All};
 ghost use Rattle.hyd_spec_certificates.specs.Decided.{nowhere};
 ghost use Rattle.hyd_tank.specs.Spans.{stocks_of, inflows_of, IsInflow};
-ghost use Rattle.hyd_facts.specs.OfPeriod.{levels_of};
+ghost use Rattle.hyd_period_facts.specs.OfPeriod.{levels_of};
 ghost use Rattle.hyd_watched_levels.specs.Started.{stocks_in, inflow_in};
 
-use hyd_facts::Facts;
 use hyd_num::Span;
+use hyd_period_facts::Facts;
 use hyd_spec_certificates::LevelSpan;
 use hyd_tank::Stock;
 

@@ -9,8 +9,8 @@ ghost use Rattle.hyd_watched_levels.specs.Started.{HaveTanks};
 ghost use Rattle.hyd_watched_levels.specs.Watched.{IsWatch, IsReachedFirst, AreEnds, watch_for};
 
 use crate::stocks::{inflow_at, stock_at};
-use hyd_facts::Facts;
 use hyd_net::Project;
+use hyd_period_facts::Facts;
 use hyd_tank::first_stock;
 
 /// A level of a tank that is watched, in head ticks above its bottom, and whether the tank rises to it or falls to it.

@@ -8,11 +8,11 @@ use Rattle.hyd_spec_input.specs.Network.{number_in, link_ids}
 use Rattle.hyd_spec_input.specs.Project.{IsAction}
 use Rattle.hyd_spec_input.specs.Tables.{link_rows, link_named}
 use Rattle.hyd_spec_input.specs.WithOthers as others
-use Rattle.hyd_link_states.proofs.RightLinks.{right_link}
-use Rattle.hyd_link_states.proofs.StateLemmas.{settable}
+use Rattle.hyd_asked_states.proofs.RightLinks.{right_link}
+use Rattle.hyd_asked_states.proofs.StateLemmas.{settable}
 use Rattle.hyd_judge_commands.proofs.PartLemmas.{action_asks}
-use Rattle.hyd_tables.specs.Found.{rows_at}
-use Rattle.hyd_tables.proofs.FoundLemmas.{row_at}
+use Rattle.hyd_row_tables.specs.Found.{rows_at}
+use Rattle.hyd_row_tables.proofs.FoundLemmas.{row_at}
 use Rattle.hyd_build_commands.proofs.NumberLemmas.{link_numbered}
 use Rattle.hyd_build_commands.proofs.actions.action_of.Goals as goal
 

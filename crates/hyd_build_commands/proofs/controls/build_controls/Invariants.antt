@@ -1,4 +1,4 @@
-use Rattle.hyd_tables.specs.Found.{rows_at}
+use Rattle.hyd_row_tables.specs.Found.{rows_at}
 use Rattle.hyd_build_commands.specs.Controls.{AreControls}
 use Rattle.hyd_build_commands.proofs.controls.build_controls.Given as goal
 

@@ -9,10 +9,10 @@ use Rattle.hyd_spec_input.specs.Network.{number_in, link_ids}
 use Rattle.hyd_spec_input.specs.Project.{IsControl}
 use Rattle.hyd_spec_input.specs.Tables.{link_rows, link_named}
 use Rattle.hyd_spec_input.specs.WithOthers as others
-use Rattle.hyd_link_states.proofs.RightLinks.{right_link}
-use Rattle.hyd_link_states.proofs.StateLemmas.{settable}
-use Rattle.hyd_tables.specs.Found.{rows_at}
-use Rattle.hyd_tables.proofs.FoundLemmas.{row_at}
+use Rattle.hyd_asked_states.proofs.RightLinks.{right_link}
+use Rattle.hyd_asked_states.proofs.StateLemmas.{settable}
+use Rattle.hyd_row_tables.specs.Found.{rows_at}
+use Rattle.hyd_row_tables.proofs.FoundLemmas.{row_at}
 use Rattle.hyd_build_commands.proofs.ControlLemmas.{right_control, right_when}
 use Rattle.hyd_build_commands.proofs.NumberLemmas.{link_numbered}
 use Rattle.hyd_build_commands.proofs.controls.control_of.Goals as goal

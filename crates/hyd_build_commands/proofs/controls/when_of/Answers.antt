@@ -3,8 +3,8 @@ use Rattle.std.proofs.lemmas.Int.{ints}
 use Rattle.hyd_spec_lines.specs.Lines.{row_of}
 use Rattle.hyd_num.specs.Quantity.{is_us_unit, head_ticks}
 use Rattle.hyd_num.specs.declared.units.FlowUnit.{FlowUnit}
-use Rattle.hyd_opts.specs.Meanings as meaning
-use Rattle.hyd_opts.specs.declared.controls.WhenLine.{WhenLine}
+use Rattle.hyd_options_and_rules.specs.Meanings as meaning
+use Rattle.hyd_options_and_rules.specs.declared.controls.WhenLine.{WhenLine}
 use Rattle.hyd_spec_input.specs.Columns.{word, amount}
 use Rattle.hyd_spec_input.specs.Network.{number_in, tank_ids}
 use Rattle.hyd_build_commands.proofs.controls.when_of.Goals as goal

@@ -1,6 +1,6 @@
 use Rattle.hyd_spec_input.specs.Network.{is_asking}
 use Rattle.hyd_spec_input.specs.Project.{IsClause}
-use Rattle.hyd_tables.specs.Found.{rows_at}
+use Rattle.hyd_row_tables.specs.Found.{rows_at}
 use Rattle.hyd_build_commands.specs.Rules.{AreParts}
 use Rattle.hyd_build_commands.proofs.parts.clauses_of.Given as goal
 

@@ -1,6 +1,6 @@
 use Rattle.std.proofs.Common.{◌≡◌}
 use Rattle.hyd_spec_input.specs.Network.{priority_of}
-use Rattle.hyd_tables.specs.Found.{rows_at}
+use Rattle.hyd_row_tables.specs.Found.{rows_at}
 use Rattle.hyd_build_commands.specs.Rules.{rest_of_rule}
 use Rattle.hyd_build_commands.proofs.parts.priority_of.Given as goal
 

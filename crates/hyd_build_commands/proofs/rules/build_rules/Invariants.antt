@@ -1,4 +1,4 @@
-use Rattle.hyd_tables.specs.Found.{rows_at}
+use Rattle.hyd_row_tables.specs.Found.{rows_at}
 use Rattle.hyd_build_commands.specs.Rules.{AreRules}
 use Rattle.hyd_build_commands.proofs.rules.build_rules.Given as goal
 

@@ -4,8 +4,8 @@ use Rattle.hyd_spec_lines.specs.declared.line.Line.{Line}
 use Rattle.hyd_spec_lines.specs.declared.section.Section.TheVariants.{Junctions}
 use Rattle.hyd_spec_input.specs.Network.{is_asking, is_doing, is_otherwise, clause_lines, then_lines, else_lines}
 use Rattle.hyd_spec_input.specs.Project.{Match, IsClause, IsAction, IsRule}
-use Rattle.hyd_tables.specs.Found.{rows_at}
-use Rattle.hyd_tables.proofs.FoundLemmas.{row_at}
+use Rattle.hyd_row_tables.specs.Found.{rows_at}
+use Rattle.hyd_row_tables.proofs.FoundLemmas.{row_at}
 use Rattle.hyd_build_commands.specs.Rules.{rest_of_rule}
 use Rattle.hyd_build_commands.proofs.RuleLists.{named_after, lines_behind, priority_behind}
 use Rattle.hyd_build_commands.proofs.rules.rule_of.Goals as goal

@@ -2,9 +2,9 @@
 use Rattle.std.proofs.Common.{◌≡◌, ◌∙◌, Some, sym, subst, rules}
 use Rattle.hyd_io.specs.declared.desk.Faults.{Faults}
 use Rattle.hyd_io.specs.Told.{file_at}
-use Rattle.hyd_recheck.specs.Checks.{CheckEnds, CheckBreaksOff}
-use Rattle.hyd_recheck.specs.Printing.{Rose}
-use Rattle.hyd_words.specs.Orders.{check}
+use Rattle.hyd_cert_check.specs.Checks.{CheckEnds, CheckBreaksOff}
+use Rattle.hyd_cert_check.specs.Printing.{Rose}
+use Rattle.hyd_command_words.specs.Orders.{check}
 use Rattle.hyd_cli.specs.Answers.{seen, HasCause, Leaves}
 use Rattle.hyd_cli.specs.CheckAnswers.{AnswersCert, ReadsCert}
 use Rattle.hyd_cli.specs.declared.status.Status.{Status}

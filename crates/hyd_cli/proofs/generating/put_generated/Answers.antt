@@ -3,7 +3,7 @@ use Rattle.std.proofs.Common.{rules}
 use Rattle.std.proofs.lemmas.Result.{IfOk-weaker, IfErr-weaker}
 use Rattle.hyd_run.specs.Pens.{told}
 use Rattle.hyd_run.specs.Runs.{outcome_of}
-use Rattle.hyd_words.specs.Seen.{files_seen}
+use Rattle.hyd_command_words.specs.Seen.{files_seen}
 use Rattle.hyd_cli.specs.Answers.{seen}
 use Rattle.hyd_cli.proofs.GenLemmas.{Created, text_breaks_off, no_certificate, generated, generated_short}
 use Rattle.hyd_cli.proofs.generating.put_generated.Goals as goal

@@ -1,7 +1,7 @@
 -- The text has a network or a fault, and never both.
 use Rattle.hyd_spec_input.specs.Faults.{IsFault}
 use Rattle.hyd_spec_networks.proofs.OneFault.{one_fault, no_fault_beside}
-use Rattle.hyd_words.specs.Seen.{files_seen}
+use Rattle.hyd_command_words.specs.Seen.{files_seen}
 use Rattle.hyd_cli.specs.Answers.{seen, AnswersRefused}
 use Rattle.hyd_cli.proofs.AnswerLemmas.{same_refusal, refusal_never_usage}
 use Rattle.hyd_cli.proofs.GenLemmas.{generated_leaves, generated_never_usage, generated_answers, gen_refusal_leaves}

@@ -1,4 +1,4 @@
-use Rattle.hyd_tables.specs.Found.{rows_at}
+use Rattle.hyd_row_tables.specs.Found.{rows_at}
 use Rattle.hyd_curves.specs.NamedBends.{AreOfValves}
 use Rattle.hyd_curves.proofs.bends.gather_bends.Given as goal
 

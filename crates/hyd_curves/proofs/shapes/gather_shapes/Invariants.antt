@@ -1,4 +1,4 @@
-use Rattle.hyd_tables.specs.Found.{rows_at}
+use Rattle.hyd_row_tables.specs.Found.{rows_at}
 use Rattle.hyd_curves.specs.Named.{AreShapesAt}
 use Rattle.hyd_curves.proofs.shapes.gather_shapes.Given as goal
 

@@ -1,5 +1,5 @@
 use Rattle.std.proofs.Common.{sym, ◌∙◌}
-use Rattle.hyd_tables.specs.Found.{rows_at}
+use Rattle.hyd_row_tables.specs.Found.{rows_at}
 use Rattle.hyd_inp.proofs.Whole.{some_sources, lacks_sources, lacks_nothing}
 use Rattle.hyd_inp.proofs.lack.lack.Goals as goal
 

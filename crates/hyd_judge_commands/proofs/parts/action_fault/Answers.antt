@@ -6,9 +6,9 @@ use Rattle.hyd_spec_input.specs.Capacities.{IsRefusedSetting}
 use Rattle.hyd_spec_input.specs.Columns.{asked, needed, word}
 use Rattle.hyd_spec_input.specs.Tables.{link_named}
 use Rattle.hyd_spec_input.specs.WithOthers as others
-use Rattle.hyd_tables.specs.Found.{rows_at}
-use Rattle.hyd_tables.specs.Sections.{IsFaultThen}
-use Rattle.hyd_tables.proofs.FoundLemmas.{row_at}
+use Rattle.hyd_row_tables.specs.Found.{rows_at}
+use Rattle.hyd_row_tables.specs.Sections.{IsFaultThen}
+use Rattle.hyd_row_tables.proofs.FoundLemmas.{row_at}
 use Rattle.hyd_judge_commands.proofs.PartLemmas.{action_asks, action_unknown, action_known}
 use Rattle.hyd_judge_commands.proofs.parts.action_fault.Goals as goal
 

@@ -4,8 +4,8 @@ use Rattle.hyd_spec_lines.specs.declared.line.Line.{Line}
 use Rattle.hyd_spec_lines.specs.declared.section.Section.TheVariants.{Junctions}
 use Rattle.hyd_spec_input.specs.Columns.{or_else}
 use Rattle.hyd_spec_input.specs.WithOthers as others
-use Rattle.hyd_tables.specs.Found.{rows_at}
-use Rattle.hyd_tables.proofs.FoundLemmas.{row_at}
+use Rattle.hyd_row_tables.specs.Found.{rows_at}
+use Rattle.hyd_row_tables.proofs.FoundLemmas.{row_at}
 use Rattle.hyd_judge_commands.specs.Rules.{IsPart, IsRuleFault, acting_at}
 use Rattle.hyd_judge_commands.specs.declared.parts.Part.{Part}
 use Rattle.hyd_judge_commands.proofs.RuleLemmas.{action_is_right, rule_fault_is, clause_fault_is, action_fault_is}

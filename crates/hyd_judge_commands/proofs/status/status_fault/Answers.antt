@@ -5,8 +5,8 @@ use Rattle.hyd_spec_lines.specs.declared.section.Section.TheVariants.{Junctions,
 use Rattle.hyd_spec_input.specs.Columns.{word}
 use Rattle.hyd_spec_input.specs.DataRows as row_form
 use Rattle.hyd_spec_input.specs.declared.LinkWord.TheVariants.{Link}
-use Rattle.hyd_tables.specs.Found.{rows_at}
-use Rattle.hyd_tables.proofs.FoundLemmas.{row_at}
+use Rattle.hyd_row_tables.specs.Found.{rows_at}
+use Rattle.hyd_row_tables.proofs.FoundLemmas.{row_at}
 use Rattle.hyd_judge_commands.proofs.CommandLemmas.{command_unknown, command_known, none_elsewhere}
 use Rattle.hyd_judge_commands.proofs.StatusLemmas.{status_is_right, status_verdict}
 use Rattle.hyd_judge_commands.proofs.status.status_fault.Goals as goal

@@ -1,4 +1,4 @@
-use Rattle.hyd_tables.specs.Found.{rows_at}
+use Rattle.hyd_row_tables.specs.Found.{rows_at}
 use Rattle.hyd_judge_links.specs.Judged.{AreLinks}
 use Rattle.hyd_judge_links.proofs.links.judge_links.Given as goal
 

@@ -1,6 +1,6 @@
 use Rattle.std.proofs.Common.{◌≡◌, ◌++◌, ℕ, length, take, drop, ◌∙◌}
 use Rattle.hyd_graph.proofs.Refilling.{refilled}
-use Rattle.hyd_period_end.specs.Endings.{ForPeriod}
+use Rattle.hyd_period_length.specs.Endings.{ForPeriod}
 use Rattle.hyd_period_close.specs.Closing.{Decides}
 use Rattle.hyd_period_close.proofs.Finishing.{if-ok, read-at}
 use Rattle.hyd_period_close.proofs.deciding.decide_end.Goals as goal

@@ -1,5 +1,5 @@
 use Rattle.std.proofs.Common.{subst}
-use Rattle.hyd_period_start.specs.Next.{IsUnsettled}
+use Rattle.hyd_period_stocks.specs.Next.{IsUnsettled}
 use Rattle.hyd_period_close.proofs.Finishing.{open-tank, open-control}
 use Rattle.hyd_period_close.proofs.deciding.follow.Goals as goal
 

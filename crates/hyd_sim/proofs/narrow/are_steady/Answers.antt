@@ -4,7 +4,7 @@ use Rattle.std.proofs.lemmas.Int.{ints}
 use Rattle.std.proofs.lemmas.List.{length-map}
 use Rattle.hyd_spec_certificates.specs.Interval.{width as width_of}
 use Rattle.hyd_spec_certificates.specs.Decided.{nowhere}
-use Rattle.hyd_facts.specs.OfPeriod.{levels_of}
+use Rattle.hyd_period_facts.specs.OfPeriod.{levels_of}
 use Rattle.hyd_sim.proofs.Widths.{each-within, not-each, one-more}
 use Rattle.hyd_sim.proofs.narrow.are_steady.Goals as goal
 

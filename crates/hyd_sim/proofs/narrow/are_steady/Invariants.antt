@@ -2,7 +2,7 @@ use Rattle.std.proofs.Common.{◌<◌, ℕ, ℤ, pos, ◌+ℤ◌, ◌*ℤ◌, �
 use Rattle.std.specs.Prelude.{slice_index_or}
 use Rattle.hyd_spec_certificates.specs.Interval.{width}
 use Rattle.hyd_spec_certificates.specs.Decided.{nowhere}
-use Rattle.hyd_facts.specs.OfPeriod.{levels_of}
+use Rattle.hyd_period_facts.specs.OfPeriod.{levels_of}
 use Rattle.hyd_sim.proofs.narrow.are_steady.Given as goal
 
 abbrev pub invariant-loop-tank : goal.invariant-loop-tank

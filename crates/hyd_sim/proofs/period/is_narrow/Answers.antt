@@ -4,7 +4,7 @@ use Rattle.hyd_sim.specs.Sharp.{AreNarrow}
 use Rattle.std.specs.Prelude.{length, map}
 use Rattle.hyd_spec_certificates.specs.Narrow.{IsNarrow}
 use Rattle.hyd_cert.specs.RecordView.{row_of}
-use Rattle.hyd_facts.specs.OfPeriod.{levels_of}
+use Rattle.hyd_period_facts.specs.OfPeriod.{levels_of}
 use Rattle.hyd_sim.specs.Attempts.{last_standing, later_standing}
 use Rattle.hyd_sim.specs.View.{standing_for}
 use Rattle.hyd_sim.proofs.Fitting.{narrow-there, narrow-here}

@@ -7,7 +7,7 @@ use Rattle.hyd_spec_certificates.specs.Valid.{IsGridAt}
 use Rattle.hyd_spec_certificates.specs.declared.LevelSpan.{LevelSpan}
 use Rattle.hyd_spec_reports.specs.Stops.{Stops}
 use Rattle.hyd_spec_reports.specs.declared.StopCause.{StopCause}
-use Rattle.hyd_facts.specs.OfPeriod.{levels_of}
+use Rattle.hyd_period_facts.specs.OfPeriod.{levels_of}
 use Rattle.hyd_graph.specs.GridOf.{grid_of}
 use Rattle.hyd_graph.specs.Periods.{AreLevels}
 use Rattle.hyd_graph.specs.Settings.{AreStates}

@@ -9,8 +9,8 @@ use Rattle.hyd_spec_certificates.specs.declared.LevelSpan.{LevelSpan}
 use Rattle.hyd_spec_reports.specs.Report.{start_changes}
 use Rattle.hyd_spec_histories.specs.Agreement.{IsOwnState}
 use Rattle.hyd_spec_histories.proofs.Commanding.{started_own}
-use Rattle.hyd_facts.specs.OfPeriod.{levels_of, volumes_of}
-use Rattle.hyd_facts.specs.declared.facts.Facts.{Facts}
+use Rattle.hyd_period_facts.specs.OfPeriod.{levels_of, volumes_of}
+use Rattle.hyd_period_facts.specs.declared.facts.Facts.{Facts}
 use Rattle.hyd_graph.specs.Settings.{AreStates}
 use Rattle.hyd_sim.proofs.Starting.{own-states, ready-of, zip-length}
 use Rattle.hyd_sim.proofs.start.begin.Goals as goal

@@ -6,8 +6,8 @@ use Rattle.hyd_spec_lines.specs.declared.section.Section.TheVariants.{Junctions}
 use Rattle.hyd_spec_input.specs.Curves.{head_points}
 use Rattle.hyd_spec_input.specs.Project.{bend_points}
 use Rattle.hyd_spec_input.specs.Tables.{curve_named}
-use Rattle.hyd_tables.specs.Found.{rows_at}
-use Rattle.hyd_tables.proofs.FoundLemmas.{row_at}
+use Rattle.hyd_row_tables.specs.Found.{rows_at}
+use Rattle.hyd_row_tables.proofs.FoundLemmas.{row_at}
 use Rattle.hyd_curves.specs.NamedBends.{IsSmallHead, pump_names}
 use Rattle.hyd_curves.specs.Points.{points_in}
 use Rattle.hyd_curves.proofs.BendRowLemmas.{other_pump, next_pump, as_before, with_one, pump_small, pump_is_right, many}

@@ -5,8 +5,8 @@ use Rattle.hyd_spec_lines.specs.declared.section.Section.TheVariants.{Junctions}
 use Rattle.hyd_spec_input.specs.Columns.{word}
 use Rattle.hyd_spec_input.specs.WithOthers.{has_rule, rules_in}
 use Rattle.std.specs.Prelude.{take}
-use Rattle.hyd_tables.specs.Found.{rows_at}
-use Rattle.hyd_tables.proofs.FoundLemmas.{row_at}
+use Rattle.hyd_row_tables.specs.Found.{rows_at}
+use Rattle.hyd_row_tables.proofs.FoundLemmas.{row_at}
 use Rattle.hyd_judge_commands.specs.Rules.{IsPart, acting_at}
 use Rattle.hyd_judge_commands.specs.declared.parts.Part.{Part}
 use Rattle.hyd_judge_commands.proofs.RuleCounting.{new_is, counted_rule, counted_part, counted_other}

@@ -1,0 +1,49 @@
+-- One turn of a check after another.
+use Rattle.std.proofs.Common.{◌≡◌, sym, subst}
+use Rattle.hyd_net.specs.Sound.{Sound}
+use Rattle.hyd_spec.specs.Types.{Project}
+use Rattle.hyd_spec_certificates.specs.Record.{Standing}
+use Rattle.hyd_cert.specs.ReaderView.{IsGoing}
+use Rattle.hyd_cert.specs.declared.answers.Stand.{Stand}
+use Rattle.hyd_sim.specs.View.{SimView, standing_of}
+use Rattle.hyd_cert_check.specs.Printing.{Moment}
+use Rattle.hyd_cert_check.specs.Turns.{CanGoOn, DidRecord, IsOver, IsLost, in_reading, in_report, IsSoFar, IsSo}
+use Rattle.hyd_cert_check.specs.Turns.{AllRead}
+use Rattle.hyd_cert_check.specs.Turns.{IsCutShort}
+use Rattle.hyd_cert_check.specs.declared.outcome.CheckFault.{CheckFault}
+use Rattle.hyd_cert_check.specs.declared.outcome.Verdict.{Verdict}
+use Rattle.hyd_cert_check.proofs.EndLemmas.{so-far-more, so-far-cut, record-cut}
+
+-- the reader goes on behind a record
+pub goes-on : (before now : SimView) (m n : Moment) → DidRecord before now m n → CanGoOn n
+goes-on before now m n did = record {
+  going = subst (λ (s : Stand). IsGoing s) (sym did.read.stands) tt;
+  pen = did.put.open_still;
+}
+
+pub turn-more : (network : Project) (before now : SimView) (start m n : Moment) → now.project ≡ network
+    → DidRecord before now m n → IsSoFar network (standing_of before) start m
+    → IsSoFar network (standing_of now) start n
+turn-more network before now start m n p did =
+    subst (λ (q : Project). IsSoFar q (standing_of before) start m → IsSoFar q (standing_of now) start n) p
+    (so-far-more now.project (standing_of before) (standing_of now) start m n did.found did.step did.read did.put)
+
+pub turn-over : (network : Project) (verdict : Verdict) (before now : SimView) (start m n : Moment)
+    → now.project ≡ network → IsOver verdict before now m n → IsSoFar network (standing_of before) start m
+    → AllRead verdict network (standing_of now) start n
+turn-over network verdict before now start m n p over so_far = record {
+  at_last = m;
+  so_far = subst (λ (s : Standing). IsSoFar network s start m) (sym over.stays) so_far;
+  is_so = subst (λ (q : Project). IsSo verdict q (standing_of now) m n) p over.is_so;
+  put = over.put;
+}
+
+pub turn-lost : (network : Project) (fault : CheckFault) (before now : SimView) (start m n : Moment)
+    → now.project ≡ network → Sound network → IsLost fault before now m n
+    → IsSoFar network (standing_of before) start m → IsCutShort network fault start n
+turn-lost network fault before now start m n p sound (in_reading cut) so_far =
+    so-far-cut network fault (standing_of before) start m n sound cut so_far
+turn-lost network fault before now start m n p sound (in_report lost) so_far =
+    subst (λ (q : Project). Sound q → IsSoFar q (standing_of before) start m → IsCutShort q fault start n) p
+    (λ s far. record-cut now.project fault (standing_of before) (standing_of now) start m n lost.found s lost.step
+    lost.read lost.cut far) sound so_far

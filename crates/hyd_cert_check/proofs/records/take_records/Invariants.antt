@@ -1,0 +1,28 @@
+use Rattle.std.proofs.Common.{◌≡◌, None}
+use Rattle.hyd_cert.specs.RecordView.{header_of}
+use Rattle.hyd_run.specs.Pens.{told}
+use Rattle.hyd_run.specs.Runs.{periods_left}
+use Rattle.hyd_sim.specs.View.{header_for, standing_of}
+use Rattle.hyd_cert_check.specs.Printing.{Moment, moment}
+use Rattle.hyd_cert_check.specs.Turns.{CanGoOn, IsSoFar}
+use Rattle.hyd_cert_check.proofs.records.take_records.Given as goal
+
+-- whatever was put in before as a check so far is one still
+abbrev pub invariant-loop-verdict : goal.invariant-loop-verdict
+invariant-loop-verdict g l =
+    let D = g.D.Desk in
+    record {
+      project : l.sim.project ≡ l.fn.sim.project;
+      running : l.sim.stopped ≡ None;
+      header : header_of l.row ≡ header_for l.fn.sim.project;
+      going : CanGoOn (moment l.reader l.pen
+          (told D.files D.rest D.written D.printed D.target D.ready D.counts D.openings l.desk));
+      so_far : (start : Moment) → IsSoFar l.fn.sim.project (standing_of l.fn.sim) start
+          (moment l.fn.reader l.fn.pen
+          (told D.files D.rest D.written D.printed D.target D.ready D.counts D.openings l.fn.desk))
+          → IsSoFar l.fn.sim.project (standing_of l.sim) start (moment l.reader l.pen
+          (told D.files D.rest D.written D.printed D.target D.ready D.counts D.openings l.desk));
+    }
+
+abbrev pub decreases-loop-verdict : goal.decreases-loop-verdict
+decreases-loop-verdict g l = periods_left l.fn.sim.project (standing_of l.sim)

@@ -1,0 +1,102 @@
+-- What a check of a certificate gives: it accepts it, or refuses it and says why, or is broken off.
+-- Source: this program's.
+use Rattle.std.specs.Prelude.{◌≡◌, ◌≢◌, ℕ, ◌-◌, ◌^◌, ◌⊎◌, min, List, [], ◌∷◌, ◌++◌, map, All, Some, codes, decimal}
+use Rattle.hyd_spec.specs.Types.{Project}
+use Rattle.hyd_spec.specs.Lists.{joined}
+use Rattle.hyd_spec.specs.Network.{junction_count, tank_count}
+use Rattle.hyd_spec_certificates.specs.Record.{Record, Standing}
+use Rattle.hyd_spec_reports.specs.CertificateText.{IsRow, line, version_of, header_line, record_text}
+use Rattle.hyd_spec_reports.specs.ReportLine.{report_text}
+use Rattle.hyd_spec_reports.specs.declared.CertRefused.{CertRefused}
+use Rattle.hyd_spec_reports.specs.Headline.{Found, IsRun, rows_of, lines_of, EveryHistoryAgrees, CheckAccepts}
+use Rattle.hyd_spec_reports.specs.Headline.{CheckRefuses, CheckRefusesEnd}
+use Rattle.hyd_cert.specs.Faults.{HasOtherHeader}
+use Rattle.hyd_cert.specs.Sentence.{IsFirstFault}
+use Rattle.hyd_sim.specs.View.{header_for}
+use Rattle.hyd_cert_check.specs.declared.outcome.CheckEnd.{CheckEnd}
+use Rattle.hyd_cert_check.specs.declared.outcome.CheckEnd.TheVariants.{Accepted, Refused}
+
+-- ---- last lines
+
+-- `BADCERT line N GRAMMAR` where the line of that number, counted from 1, is the first with which the text begins no
+-- certificate.
+abbrev pub refused_grammar_line : ℕ → List ℕ
+refused_grammar_line number = line (codes "BADCERT" ∷ (codes "line" ∷ (decimal number ∷ (codes "GRAMMAR" ∷ []))))
+
+-- `BADCERT line N COUNT` where the header line, the line of that number, has another version or other counts than the
+-- network.
+abbrev pub refused_counts_line : ℕ → List ℕ
+refused_counts_line number = line (codes "BADCERT" ∷ (codes "line" ∷ (decimal number ∷ (codes "COUNT" ∷ []))))
+
+-- The number of a line as it is printed: it stays at 2^64 - 1 once it is there.
+abbrev pub printed_number : ℕ → ℕ
+printed_number number = min number (2 ^ 64 - 1)
+
+-- ---- what a check refuses by its lines
+
+-- The text begins with the header line of the network and the records of what was found; where nothing was found, it
+-- may be any text.
+abbrev pub BeginsWithFound : Project → List Found → List ℕ → Type 0
+BeginsWithFound network founds text =
+    (founds ≡ []) ⊎ ((unread : List ℕ) × (text ≡ header_line (version_of network) (junction_count network) (tank_count
+    network) ++ (joined (map record_text (rows_of founds)) ++ unread)))
+
+-- Behind the header line of the network and the records of what was found, the text doesn't go on with a whole record.
+abbrev pub HasNoMoreRecords : Project → List Found → List ℕ → Type 0
+HasNoMoreRecords network founds text = (row : Record) (unread : List ℕ)
+    → IsRow (junction_count network) (tank_count network) row
+    → text ≢ header_line (version_of network) (junction_count network) (tank_count network)
+    ++ (joined (map record_text (rows_of founds ++ (row ∷ []))) ++ unread)
+
+-- What was read begins as a certificate of a run, up to a line with which, the end of the text counted in, it begins no
+-- certificate; what was printed is the report of all records before it, with that line's number in its last line.
+pub record CheckRefusesGrammar (network : Project) (text printed : List ℕ) : Type 0 where
+  pub founds : List Found
+  pub left : Standing
+  pub is_run : IsRun network founds left
+  pub rows_fit : All (IsRow (junction_count network) (tank_count network)) (rows_of founds)
+  pub begins : BeginsWithFound network founds text
+  pub all_records : HasNoMoreRecords network founds text
+  pub number : ℕ
+  pub is_fault : IsFirstFault (header_for network) text number
+  pub report : printed ≡ report_text network (lines_of founds) (refused_grammar_line (printed_number number))
+  pub every_history : EveryHistoryAgrees network founds
+
+-- What was read begins with the header line of another version or of other counts than the network's; what was printed
+-- is a report without records, with that as its last line.
+pub record CheckRefusesCounts (network : Project) (text printed : List ℕ) : Type 0 where
+  pub other_header : HasOtherHeader (header_for network) (Some text)
+  pub report : printed ≡ report_text network [] (refused_counts_line 1)
+
+-- ---- what a check gives
+
+-- A certificate is refused by its lines, by a record, or by its END line.
+pub data CheckRefusal (network : Project) (text printed : List ℕ) : Type 0 where
+  grammar : CheckRefusesGrammar network text printed → CheckRefusal network text printed
+  counts : CheckRefusesCounts network text printed → CheckRefusal network text printed
+  record_refused : (cause : CertRefused) → CheckRefuses network text printed cause → CheckRefusal network text printed
+  other_end : CheckRefusesEnd network text printed → CheckRefusal network text printed
+
+-- What was printed of a text that was checked to its end.
+abbrev pub CheckEnds : Project → List ℕ → List ℕ → CheckEnd → Type 0
+CheckEnds network text printed Accepted = CheckAccepts network text printed
+CheckEnds network text printed Refused = CheckRefusal network text printed
+
+-- What was found of a text so far: it begins as the certificate of a run, and what is printed of it begins so. Every
+-- history agrees with it.
+pub record CheckFinds (network : Project) (text report : List ℕ) : Type 0 where
+  pub founds : List Found
+  pub left : Standing
+  pub is_run : IsRun network founds left
+  pub rows_fit : All (IsRow (junction_count network) (tank_count network)) (rows_of founds)
+  pub begins : BeginsWithFound network founds text
+  pub report_so_far : report ≡ report_text network (lines_of founds) []
+  pub every_history : EveryHistoryAgrees network founds
+
+-- A fault of the outside broke a check off: what was printed is a front of the whole report of the text, or of that on
+-- the records so far, without a last line.
+pub data CheckBreaksOff (network : Project) (text printed : List ℕ) : Type 0 where
+  in_last_line : (end : CheckEnd) (unprinted : List ℕ) → CheckEnds network text (printed ++ unprinted) end
+      → CheckBreaksOff network text printed
+  in_records : (unprinted : List ℕ) → CheckFinds network text (printed ++ unprinted)
+      → CheckBreaksOff network text printed

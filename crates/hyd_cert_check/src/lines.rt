@@ -1,0 +1,89 @@
+//! The first line of a report, and the last one where a certificate is refused in a line.
+#![tactic(auto)]
+
+ghost use Rattle.std.specs.Prelude.{◌≡◌, ◌++◌, [], codes, decimal, IsTrue, OnOk};
+ghost use Rattle.hyd_io.specs.Output.{OnCert};
+ghost use Rattle.hyd_report.specs.Putting.{Puts};
+ghost use Rattle.hyd_run.specs.Runs.{first_line};
+ghost use Rattle.hyd_cert_check.specs.Checks.{refused_grammar_line, refused_counts_line};
+
+use hyd_io::{Desk, OutFault, Pen};
+use itoa::Buffer;
+
+// Puts a text.
+fn put_text<D: Desk>(text: &[u8], pen: &mut Pen, desk: &mut D) -> Result<(), OutFault>
+    requires { OnCert pen.old.to (IsTrue (D.ready desk.old)) }
+    ensures { Puts D.files D.rest D.written D.printed D.target D.ready D.counts D.openings
+        text.now result pen.old pen.new desk.old desk.new }
+{
+    pen.put(desk, text)
+}
+
+// Puts a number.
+fn put_number<D: Desk>(number: u64, pen: &mut Pen, desk: &mut D) -> Result<(), OutFault>
+    requires { OnCert pen.old.to (IsTrue (D.ready desk.old)) }
+    ensures { Puts D.files D.rest D.written D.printed D.target D.ready D.counts D.openings
+        (decimal number) result pen.old pen.new desk.old desk.new }
+{
+    let mut digits = Buffer::new();
+    put_text(digits.format(number).as_bytes(), pen, desk)
+}
+
+/// Puts the first line of a report.
+pub(crate) fn put_first<D: Desk>(pen: &mut Pen, desk: &mut D) -> Result<(), OutFault>
+    requires { OnCert pen.old.to (IsTrue (D.ready desk.old)) }
+    ensures { Puts D.files D.rest D.written D.printed D.target D.ready D.counts D.openings
+        first_line result pen.old pen.new desk.old desk.new }
+{
+    put_text(b"HYD 1\n", pen, desk)
+}
+
+/// Puts out all that a pen holds.
+pub(crate) fn empty<D: Desk>(pen: &mut Pen, desk: &mut D) -> Result<(), OutFault>
+    requires { OnCert pen.old.to (IsTrue (D.ready desk.old)) }
+    ensures puts { Puts D.files D.rest D.written D.printed D.target D.ready D.counts D.openings
+        [] result pen.old pen.new desk.old desk.new }
+    ensures empty { OnOk result (pen.new.held ≡ []) }
+{
+    pen.flush(desk)
+}
+
+// Puts the line that a certificate is bad in the line of this number, and the word behind it.
+fn put_bad_line<D: Desk>(
+    number: u64,
+    word: &[u8],
+    pen: &mut Pen,
+    desk: &mut D,
+) -> Result<(), OutFault>
+    requires { OnCert pen.old.to (IsTrue (D.ready desk.old)) }
+    ensures { Puts D.files D.rest D.written D.printed D.target D.ready D.counts D.openings
+        (codes "BADCERT line " ++ (decimal number ++ word.now)) result pen.old pen.new desk.old desk.new }
+{
+    match put_text(b"BADCERT line ", pen, desk) {
+        Ok(()) => {}
+        Err(fault) => return Err(fault),
+    }
+    match put_number(number, pen, desk) {
+        Ok(()) => {}
+        Err(fault) => return Err(fault),
+    }
+    put_text(word, pen, desk)
+}
+
+/// Puts the last line where the certificate is no certificate from the line of this number on.
+pub(crate) fn put_grammar<D: Desk>(number: u64, pen: &mut Pen, desk: &mut D) -> Result<(), OutFault>
+    requires { OnCert pen.old.to (IsTrue (D.ready desk.old)) }
+    ensures { Puts D.files D.rest D.written D.printed D.target D.ready D.counts D.openings
+        (refused_grammar_line number) result pen.old pen.new desk.old desk.new }
+{
+    put_bad_line(number, b" GRAMMAR\n", pen, desk)
+}
+
+/// Puts the last line where the header line, the line of this number, has another version or other counts.
+pub(crate) fn put_counts<D: Desk>(number: u64, pen: &mut Pen, desk: &mut D) -> Result<(), OutFault>
+    requires { OnCert pen.old.to (IsTrue (D.ready desk.old)) }
+    ensures { Puts D.files D.rest D.written D.printed D.target D.ready D.counts D.openings
+        (refused_counts_line number) result pen.old pen.new desk.old desk.new }
+{
+    put_bad_line(number, b" COUNT\n", pen, desk)
+}

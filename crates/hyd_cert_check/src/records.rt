@@ -1,0 +1,167 @@
+//! The records of a certificate, one after another.
+#![tactic(auto)]
+
+ghost use Rattle.std.specs.Prelude.{◌≡◌, None, IsTrue, OnOk, []};
+ghost use Rattle.hyd_io.specs.Output.{OnCert};
+ghost use Rattle.hyd_cert.specs.ReaderView.{ReaderView};
+ghost use Rattle.hyd_cert.specs.RecordView.{header_of, row_of};
+ghost use Rattle.hyd_graph.specs.GridOf.{grid_of, states_of};
+ghost use Rattle.hyd_report.specs.Lines.{texts};
+ghost use Rattle.hyd_report.specs.Periods.{lines_of};
+ghost use Rattle.hyd_report.specs.Putting.{Puts};
+ghost use Rattle.hyd_run.specs.Pens.{told};
+ghost use Rattle.hyd_sim.specs.View.{header_for, standing_of};
+ghost use Rattle.hyd_cert_check.specs.Printing.{Moment, moment, IsOpen, PutIn};
+ghost use Rattle.hyd_cert_check.specs.Turns.{CanGoOn, IsEnd, IsOfPeriod, IsRead, IsSo, TryGives, TurnGives, TurnsGive};
+ghost use Rattle.hyd_cert_check.specs.Turns.{end_number};
+
+use crate::outcome::{CheckFault, Verdict};
+use hyd_cert::{CertFault, CertNext, CertReader, Record};
+use hyd_io::{Desk, OutFault, Pen};
+use hyd_report::put_report;
+use hyd_sim::Sim;
+use hyd_spec_reports::CertRefused;
+
+// The number of the END line behind the records of a run that stands where it does.
+fn end_number(sim: &Sim, row: &Record) -> u64
+    requires { header_of row.now ≡ header_for sim.now.project }
+    ensures { result ≡ end_number sim.now.project (standing_of sim.now) }
+{
+    // The counts of a network are small.
+    let _project = sim.project();
+    let records = u64::from(sim.number());
+    let heads = row.vectors.len() as u64;
+    records * (heads + 1) + 2
+}
+
+// What an END line says of the records before it.
+fn judge_end(sim: &Sim, row: &Record, periods: u32, finished: bool) -> Verdict
+    requires { header_of row.now ≡ header_for sim.now.project }
+    ensures { (before now : Moment) → IsEnd sim.now.project periods finished before
+        → IsSo result sim.now.project (standing_of sim.now) before now }
+{
+    let other = Verdict::OtherEnd(end_number(sim, row));
+    if periods != sim.number() {
+        return other;
+    }
+    if finished != sim.is_finished() {
+        return other;
+    }
+    Verdict::Accepted(finished)
+}
+
+// Puts the report of the last period of a run.
+fn put_period<D: Desk>(sim: &Sim, pen: &mut Pen, desk: &mut D) -> Result<(), OutFault>
+    requires period { IsOfPeriod sim.now }
+    requires ready { OnCert pen.old.to (IsTrue (D.ready desk.old)) }
+    ensures { Puts D.files D.rest D.written D.printed D.target D.ready D.counts D.openings
+        (texts sim.now.project (lines_of sim.now.project (grid_of sim.now.net) (states_of sim.now.net)
+        (row_of sim.now.row) sim.now.facts)) result pen.old pen.new desk.old desk.new }
+{
+    let project = sim.project();
+    let net = sim.net();
+    // Certificates are ordered where the net is steady.
+    let _junctions = net.junctions();
+    put_report(project, net, sim.row(), sim.facts(), pen, desk)
+}
+
+// Tries a record as that of the period that is due, and puts its report. Answers why it is refused.
+fn try_record<D: Desk>(
+    sim: &mut Sim,
+    row: &Record,
+    pen: &mut Pen,
+    desk: &mut D,
+) -> Result<Option<CertRefused>, OutFault>
+    requires running { sim.old.stopped ≡ None }
+    requires header { header_of row.now ≡ header_for sim.old.project }
+    requires unbroken { IsOpen pen.old }
+    ensures tries { (before : Moment) (reader : ReaderView)
+        → IsRead (header_for sim.old.project) (row_of row.now) before (moment reader pen.old
+        (told D.files D.rest D.written D.printed D.target D.ready D.counts D.openings desk.old))
+        → PutIn [] before (moment reader pen.old
+        (told D.files D.rest D.written D.printed D.target D.ready D.counts D.openings desk.old))
+        → TryGives result sim.old sim.new before (moment reader pen.new
+        (told D.files D.rest D.written D.printed D.target D.ready D.counts D.openings desk.new)) }
+    ensures running { sim.new.stopped ≡ None }
+    ensures project { sim.new.project ≡ sim.old.project }
+{
+    match sim.accept(row) {
+        Ok(()) => {}
+        Err(cause) => return Ok(Some(cause)),
+    }
+    // The run stands behind a period of its network.
+    let _project = sim.project();
+    match put_period(sim, pen, desk) {
+        Ok(()) => Ok(None),
+        Err(fault) => Err(fault),
+    }
+}
+
+// Reads the next record, tries it as that of the period that is due, and puts its report. Answers what is found where
+// there is none.
+fn take_record<D: Desk>(
+    sim: &mut Sim,
+    reader: &mut CertReader,
+    row: &mut Record,
+    pen: &mut Pen,
+    desk: &mut D,
+) -> Result<Option<Verdict>, CheckFault>
+    requires running { sim.old.stopped ≡ None }
+    requires header { header_of row.old ≡ header_for sim.old.project }
+    requires going { CanGoOn (moment reader.old pen.old
+        (told D.files D.rest D.written D.printed D.target D.ready D.counts D.openings desk.old)) }
+    ensures gives { TurnGives result sim.old sim.new
+        (moment reader.old pen.old
+        (told D.files D.rest D.written D.printed D.target D.ready D.counts D.openings desk.old))
+        (moment reader.new pen.new
+        (told D.files D.rest D.written D.printed D.target D.ready D.counts D.openings desk.new)) }
+    ensures running { sim.new.stopped ≡ None }
+    ensures project { sim.new.project ≡ sim.old.project }
+    ensures header { header_of row.new ≡ header_of row.old }
+{
+    match reader.next(desk, row) {
+        Ok(CertNext::Record) => {}
+        Ok(CertNext::End { periods, finished }) => {
+            return Ok(Some(judge_end(sim, row, periods, finished)));
+        }
+        Err(CertFault::Read) => return Err(CheckFault::Read),
+        Err(CertFault::Grammar { line }) => return Ok(Some(Verdict::Grammar(line))),
+        Err(CertFault::Count { line }) => return Ok(Some(Verdict::Counts(line))),
+    }
+    match try_record(sim, row, pen, desk) {
+        Ok(None) => Ok(None),
+        Ok(Some(cause)) => Ok(Some(Verdict::Refused(cause))),
+        Err(fault) => Err(CheckFault::Output(fault)),
+    }
+}
+
+/// Takes the records of a certificate, as many as are accepted. Answers what is found where they end.
+pub(crate) fn take_records<D: Desk>(
+    sim: &mut Sim,
+    reader: &mut CertReader,
+    row: &mut Record,
+    pen: &mut Pen,
+    desk: &mut D,
+) -> Result<Verdict, CheckFault>
+    requires running { sim.old.stopped ≡ None }
+    requires header { header_of row.old ≡ header_for sim.old.project }
+    requires going { CanGoOn (moment reader.old pen.old
+        (told D.files D.rest D.written D.printed D.target D.ready D.counts D.openings desk.old)) }
+    ensures give { TurnsGive result sim.old sim.new
+        (moment reader.old pen.old
+        (told D.files D.rest D.written D.printed D.target D.ready D.counts D.openings desk.old))
+        (moment reader.new pen.new
+        (told D.files D.rest D.written D.printed D.target D.ready D.counts D.openings desk.new)) }
+    ensures unbroken { OnOk result (IsOpen pen.new) }
+    ensures project { sim.new.project ≡ sim.old.project }
+{
+    // The network is sound.
+    let _project = sim.project();
+    loop {
+        match take_record(sim, reader, row, pen, desk) {
+            Ok(None) => {}
+            Ok(Some(verdict)) => return Ok(verdict),
+            Err(fault) => return Err(fault),
+        }
+    }
+}

@@ -1,0 +1,25 @@
+//! The rows of nodes, links and what belongs to them (EPANET 2.2 User Manual, appendix C), each read by itself: what it
+//! says, or the first thing that is wrong with it, word by word from the left.
+#![tactic(auto)]
+
+mod columns;
+mod data;
+mod ends;
+mod nodes;
+mod patterns;
+mod pipes;
+mod pumps;
+mod tanks;
+mod valves;
+
+pub use data::{
+    CurveRow, DemandRow, EmitterRow, StatusRow, read_curve, read_demand, read_emitter, read_status,
+};
+pub use ends::LinkEnds;
+pub use hyd_options_and_rules::Asked;
+pub use nodes::{JunctionRow, ReservoirRow, read_junction, read_reservoir};
+pub use patterns::{PatternRow, read_pattern};
+pub use pipes::{PipeRow, PipeStatus, read_pipe};
+pub use pumps::{PumpRow, read_pump};
+pub use tanks::{TankRow, read_tank};
+pub use valves::{ValveRow, ValveSetting, read_valve};

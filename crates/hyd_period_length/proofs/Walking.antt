@@ -1,0 +1,67 @@
+-- From one instant at which the rules are tried to the next, whatever period the facts are of.
+use Rattle.std.proofs.Common.{◌≡◌, ℕ, ◌+◌, ◌*◌, ◌-◌, ◌/◌, ◌%◌, ◌<◌, ◌≤◌, ℤ, List, ap, sym, ◌∙◌, subst, arith}
+use Rattle.std.proofs.lemmas.Nat.{div-add-mod'}
+use Rattle.std.proofs.Math.Nat.{mod-lt, mul-mod_left, add-mod_right}
+use Rattle.hyd_num.specs.declared.decimals.Span.{Span}
+use Rattle.hyd_spec.specs.Types.{Project, LinkState}
+use Rattle.hyd_spec.specs.declared.Change.{Change}
+use Rattle.hyd_spec_certificates.specs.Decided.{RulesMatter}
+use Rattle.hyd_spec_nesting.specs.Nesting.{IsWalked}
+use Rattle.hyd_spec_nesting.proofs.Walking as walking
+use Rattle.hyd_period_facts.specs.declared.facts.Facts.{Facts}
+use Rattle.hyd_period_length.specs.declared.ending.Ending.{Ending}
+use Rattle.hyd_period_length.specs.Endings.{ForPeriod, IsBrought, IsFirstBrought}
+use Rattle.hyd_period_length.proofs.Trying.{brought_first}
+
+-- a time less what it is past a multiple of a step, and a step more, is a multiple
+pub first_multiple : (time step : ℕ) → 1 ≤ step → (time + (step - time % step)) % step ≡ 0
+first_multiple time step some =
+    let a = div-add-mod' time step in
+    let b : time % step < step = mod-lt time some in
+    let e : time + (step - time % step) ≡ ((time / step) + 1) * step = omega (arith, a, b) in
+    ap (λ (m : ℕ). m % step) e ∙ mul-mod_left ((time / step) + 1) step
+
+-- and so is a multiple and a step more
+pub next_multiple : (time seconds step : ℕ) → (time + seconds) % step ≡ 0 → (time + (seconds + step)) % step ≡ 0
+next_multiple time seconds step multiple =
+    let e : time + (seconds + step) ≡ (time + seconds) + step = omega arith in
+    ap (λ (m : ℕ). m % step) e ∙ add-mod_right (time + seconds) step ∙ multiple
+
+module _ (network : Project) (facts : Facts) (low high : List ℤ) (flows : List Span) where
+  abbrev pub AreWalked : ℕ → Type 0
+  AreWalked seconds = ForPeriod network facts low high flows
+      (λ grid standing row. IsWalked network grid standing row seconds)
+
+  pub walk_starts : 1 ≤ network.times.rule → AreWalked (network.times.rule - facts.time % network.times.rule)
+  walk_starts some = λ grid standing row started read.
+      subst (λ (t : ℕ). IsWalked network grid standing row (network.times.rule - t % network.times.rule))
+      (sym started.time) (walking.walk_begins network grid standing row some)
+
+  pub walk_goes_on : (seconds : ℕ) → (facts.time + seconds) % network.times.rule ≡ 0
+      → ForPeriod network facts low high flows
+      (λ grid standing row. RulesMatter network grid standing row seconds → ⊥)
+      → AreWalked seconds → AreWalked (seconds + network.times.rule)
+  walk_goes_on seconds multiple idle walked = λ grid standing row started read.
+      walking.walk_on network grid standing row seconds
+      (subst (λ (t : ℕ). (t + seconds) % network.times.rule ≡ 0) started.time multiple)
+      (idle grid standing row started read) (walked grid standing row started read)
+
+  pub walk_ends : (seconds last : ℕ) → last < seconds → AreWalked seconds → ForPeriod network facts low high flows
+      (λ grid standing row. (s : ℕ) → RulesMatter network grid standing row s → last < s)
+  walk_ends seconds last past walked = λ grid standing row started read s matters.
+      let l = (walked grid standing row started read).none_before s matters in omega (arith, l, past)
+
+  pub walk_finds : (seconds last : ℕ) (before after : List Change) (links : List LinkState) (ending : Ending)
+      → 0 < seconds → (facts.time + seconds) % network.times.rule ≡ 0 → seconds ≤ last → AreWalked seconds
+      → ForPeriod network facts low high flows
+      (λ grid standing row. IsBrought network grid standing row seconds before after links ending)
+      → ForPeriod network facts low high flows
+      (λ grid standing row. IsFirstBrought network grid standing row last before after links ending)
+  walk_finds seconds last before after links ending later multiple in_time walked brought =
+      λ grid standing row started read.
+      brought_first network grid standing row seconds last before after links ending
+      (record {
+        later = later;
+        is_multiple = subst (λ (t : ℕ). (t + seconds) % network.times.rule ≡ 0) started.time multiple;
+      })
+      (walked grid standing row started read) in_time (brought grid standing row started read)

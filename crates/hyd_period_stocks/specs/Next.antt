@@ -1,0 +1,43 @@
+-- What the next period begins with.
+-- Source: EPANET 2.2 User Manual, chapter 3 (tanks), between two ends.
+use Rattle.std.specs.Prelude.{◌≡◌, ℕ, List, Some, None, map, slice_get, slice_index_or, position}
+use Rattle.hyd_spec.specs.Types.{Project, Tank}
+use Rattle.hyd_spec.specs.Tank.{walls_of}
+use Rattle.hyd_spec_certificates.specs.Interval.{Interval}
+use Rattle.hyd_spec_certificates.specs.Stocks.{Stocks, next_stocks}
+use Rattle.hyd_spec_certificates.specs.Decided.{nowhere}
+use Rattle.hyd_spec_certificates.specs.declared.LevelSpan.{LevelSpan}
+use Rattle.hyd_spec_reports.specs.Stops.{open_states}
+use Rattle.hyd_tank.specs.declared.spans.VolumeSpan.{VolumeSpan}
+use Rattle.hyd_period_facts.specs.OfPeriod.{levels_of, volumes_of}
+use Rattle.hyd_period_facts.specs.declared.facts.Facts.{Facts}
+use Rattle.hyd_watched_levels.specs.Started.{stocks_in, inflow_in}
+use Rattle.hyd_ctrl.specs.Starts.{IsFirstOpen as IsFirstControl}
+use Rattle.hyd_period_stocks.specs.declared.states.TankOpen.{TankOpen}
+use Rattle.hyd_period_stocks.specs.declared.settled.Unsettled.{Unsettled}
+use Rattle.hyd_period_stocks.specs.declared.settled.Unsettled.TheVariants.{Tank as TankIsOpen, Control as ControlIsOpen}
+
+-- the stocks of a tank some seconds after the start of the period of some facts
+abbrev pub next_in : Project → Facts → ℕ → ℕ → Tank → Stocks
+next_in network facts seconds k tank = next_stocks (walls_of network tank) tank (stocks_in facts k)
+    (inflow_in facts k) seconds
+
+-- the stocks of a tank among levels and volumes
+abbrev pub stocks_among : List LevelSpan → List VolumeSpan → ℕ → Stocks
+stocks_among levels volumes k = record {
+  level = slice_index_or (map levels_of levels) k nowhere;
+  volume = slice_index_or (map volumes_of volumes) k nowhere;
+}
+
+-- the first tank whose state is open at level intervals, and its interval
+pub record IsFirstOpen (network : Project) (levels : List Interval) (found : TankOpen) : Type 0 where
+  pub first : position (λ is_open. is_open) (open_states network levels) ≡ Some found.tank
+  pub level : slice_get levels found.tank ≡ Some (record { lo = found.lo; hi = found.hi })
+
+-- the first matter of tanks that is open at levels: the first tank whose state is, or where each state is decided the
+-- first level control that is
+abbrev pub IsUnsettled : Project → List LevelSpan → Unsettled → Type 0
+IsUnsettled network levels (TankIsOpen found) = IsFirstOpen network (map levels_of levels) found
+IsUnsettled network levels (ControlIsOpen found) =
+    (position (λ is_open. is_open) (open_states network (map levels_of levels)) ≡ None)
+    × IsFirstControl network levels found

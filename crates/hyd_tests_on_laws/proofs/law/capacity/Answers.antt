@@ -1,0 +1,5 @@
+use Rattle.hyd_spec_laws.proofs.EachLaw.{IsSoundCapacity-made}
+use Rattle.hyd_tests_on_laws.proofs.law.capacity.Goals as goal
+
+pub returns : goal.returns
+returns c = IsSoundCapacity-made c.pda_capacity.result c.pda_capacity.ensures.made
