@@ -120,6 +120,13 @@ text_breaks_off network text names before now (inr h) = in_network h
 
 -- ---- the run, once the text was written
 
+-- NET holds the text still when CERT was created and written to.
+pub text_stays : (text : List ℕ) (names : TwoFiles) (before between : Seen) (created after : Told)
+    → names.net ≢ names.cert → TextWritten text names.net before between → Created names.cert between created
+    → LeavesRest created after → file_at after.files names.net ≡ where_told before.files text
+text_stays text names before between created after apart w made leaves =
+    others_stay names.cert names.net between created after made leaves apart ∙ w.held
+
 -- the text that was written is a front of itself, where CERT couldn't be created
 pub no_certificate : (network : Project) (text : List ℕ) (names : TwoFiles) (before between now : Seen)
     → TextWritten text names.net before between → NothingPut between now
@@ -153,7 +160,7 @@ module _ (network : Project) (settings : Settings) (text : List ℕ) (names : Tw
         printed = printed_since before.printed created.printed after.printed out.summary (made.printed ∙ w.printed)
             out.printed;
         held = holds_written names.cert between created after made leaves content;
-        network_held = others_stay names.cert names.net between created after made leaves apart ∙ w.held;
+        network_held = text_stays text names before between created after apart w made leaves;
       }
 
   pub generated_short : settings ≡ usual_settings → names.net ≢ names.cert → TextWritten text names.net before between
@@ -172,7 +179,7 @@ module _ (network : Project) (settings : Settings) (text : List ℕ) (names : Tw
         printed = printed_since before.printed created.printed after.printed out.summary (made.printed ∙ w.printed)
             out.printed;
         held = holds_written names.cert between created after made leaves content;
-        network_held = others_stay names.cert names.net between created after made leaves apart ∙ w.held;
+        network_held = text_stays text names before between created after apart w made leaves;
       })
 
 -- ---- how it ended

@@ -10,7 +10,7 @@ use Rattle.hyd_command_words.specs.Orders.{RunOrder, GenOrder, TwoFiles}
 use Rattle.hyd_cli.specs.Answers.{Seen, OnlyPrintedSome, ChangesOnly, OpensOnce, Holds, settings_of, AnswersRefused}
 use Rattle.hyd_cli.specs.Answers.{AnswersText}
 use Rattle.hyd_cli.specs.CheckAnswers.{AnswersCheck, ReadsBoth}
-use Rattle.hyd_cli.specs.GenAnswers.{text_of, AnswersGen, ChangesBoth, CreatesBoth}
+use Rattle.hyd_cli.specs.GenAnswers.{text_of, AnswersGen, ChangesBoth, CreatesBoth, KeepsCert, KeepsNet}
 use Rattle.hyd_cli.specs.declared.status.Status.{Status}
 use Rattle.hyd_cli.specs.declared.status.Status.TheVariants.{InputRefused}
 
@@ -37,9 +37,12 @@ pub record DoesCheck (files : TwoFiles) (status : Status) (before now : Seen) (o
   pub once : ReadsBoth status opened opens
 
 -- `gen`: where the generated text has a fault it is refused with it, and where it has none it is written and run; no
--- other files are changed; NET and CERT are created once at most.
+-- other files are changed; NET and CERT are created once at most; CERT is as it was, unless NET holds the whole text,
+-- and NET, unless a file was created.
 pub record DoesGen (order : GenOrder) (status : Status) (before now : Seen) (opened opens : Openings) : Type 0 where
   pub refused : (line : ℕ) (why : Cause) → IsFault (text_of order) line why → AnswersRefused line why status before now
   pub generates : HasNoFault (text_of order) → AnswersGen (text_of order) order.files status before now
   pub others : ChangesBoth order.files before now
   pub once : CreatesBoth status opened opens
+  pub keeps_cert : KeepsCert (text_of order) order.files before now opened opens
+  pub keeps_net : KeepsNet order.files before now opened opens

@@ -114,3 +114,13 @@ CreatesBoth Stalled before now =
 abbrev pub ChangesBoth : TwoFiles → Seen → Seen → Type 0
 ChangesBoth names before now = (other : List ℕ) → other ≢ names.net → other ≢ names.cert
     → file_at now.files other ≡ file_at before.files other
+
+-- CERT is as it was, unless both files were created and NET holds the whole text.
+abbrev pub KeepsCert : List ℕ → TwoFiles → Seen → Seen → Openings → Openings → Type 0
+KeepsCert text names before now opened opens = (file_at now.files names.cert ≡ file_at before.files names.cert)
+    ⊎ ((opens ≡ with_created (with_created opened)) × (file_at now.files names.net ≡ where_told before.files text))
+
+-- NET is as it was, unless one file or both were created.
+abbrev pub KeepsNet : TwoFiles → Seen → Seen → Openings → Openings → Type 0
+KeepsNet names before now opened opens = (file_at now.files names.net ≡ file_at before.files names.net)
+    ⊎ ((opens ≡ with_created opened) ⊎ (opens ≡ with_created (with_created opened)))

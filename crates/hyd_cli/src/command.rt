@@ -31,7 +31,8 @@ use std::alloc::Global;
 /// - `gen SEED JUNCTIONS NET CERT` makes a network, writes it to NET, runs it as `run` does, and prints a summary.
 ///
 /// NET and CERT are each opened or created once at most. What is created, and CERT of a check, waits until all memory
-/// is taken that the command needs. `gen` replaces NET before CERT is created.
+/// is taken that the command needs. `gen` replaces NET before CERT is created, and leaves CERT as it was unless NET
+/// holds the whole text.
 ///
 /// - `Usage`: the words aren't a command.
 /// - `InputRefused`: the text of the network has a fault (one of more than 64 MiB among them).

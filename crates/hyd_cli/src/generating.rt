@@ -17,6 +17,7 @@ ghost use Rattle.hyd_command_words.specs.Seen.{files_seen, gen_seen};
 ghost use Rattle.hyd_cli.specs.Answers.{seen, HasCause, Leaves, NothingPut, ChangesOnly, AnswersRefused};
 ghost use Rattle.hyd_cli.specs.GenAnswers.{text_of, usual_settings, TextWritten, TextCutShort, Generated};
 ghost use Rattle.hyd_cli.specs.GenAnswers.{GenBreaksOff, AnswersGenerated, AnswersGen, ChangesBoth, CreatesBoth};
+ghost use Rattle.hyd_cli.specs.GenAnswers.{KeepsCert, KeepsNet};
 ghost use Rattle.hyd_cli.specs.Statuses.{status_of_outcome};
 ghost use Rattle.hyd_cli.specs.declared.status.Status.TheVariants.{Usage};
 
@@ -107,6 +108,12 @@ fn put_generated<D: Desk, F: Finder>(
     ensures creates { OnOk result (D.openings desk.new ≡ with_created (with_created (D.openings desk.old))) }
     ensures creates_once { OnErr result ((D.openings desk.new ≡ with_created (D.openings desk.old))
         ⊎ (D.openings desk.new ≡ with_created (with_created (D.openings desk.old)))) }
+    ensures keeps_cert { KeepsCert text.now (files_seen files.entry)
+        (seen D.files D.written D.printed desk.old) (seen D.files D.written D.printed desk.new)
+        (D.openings desk.old) (D.openings desk.new) }
+    ensures keeps_net { KeepsNet (files_seen files.entry)
+        (seen D.files D.written D.printed desk.old) (seen D.files D.written D.printed desk.new)
+        (D.openings desk.old) (D.openings desk.new) }
 {
     match write_text(files.net, text, desk) {
         Ok(()) => {}
@@ -139,6 +146,12 @@ fn run_generated<D: Desk, F: Finder>(
     ensures others { ChangesBoth (files_seen files.entry)
         (seen D.files D.written D.printed desk.old) (seen D.files D.written D.printed desk.new) }
     ensures once { CreatesBoth result (D.openings desk.old) (D.openings desk.new) }
+    ensures keeps_cert { KeepsCert text.now (files_seen files.entry)
+        (seen D.files D.written D.printed desk.old) (seen D.files D.written D.printed desk.new)
+        (D.openings desk.old) (D.openings desk.new) }
+    ensures keeps_net { KeepsNet (files_seen files.entry)
+        (seen D.files D.written D.printed desk.old) (seen D.files D.written D.printed desk.new)
+        (D.openings desk.old) (D.openings desk.new) }
 {
     match put_generated(sim, finder, text, files, desk) {
         Ok(end) => status_of_end(end),
@@ -165,6 +178,12 @@ fn run_by_gradient<D: Desk>(
     ensures others { ChangesBoth (files_seen files.entry)
         (seen D.files D.written D.printed desk.old) (seen D.files D.written D.printed desk.new) }
     ensures once { CreatesBoth result (D.openings desk.old) (D.openings desk.new) }
+    ensures keeps_cert { KeepsCert text.now (files_seen files.entry)
+        (seen D.files D.written D.printed desk.old) (seen D.files D.written D.printed desk.new)
+        (D.openings desk.old) (D.openings desk.new) }
+    ensures keeps_net { KeepsNet (files_seen files.entry)
+        (seen D.files D.written D.printed desk.old) (seen D.files D.written D.printed desk.new)
+        (D.openings desk.old) (D.openings desk.new) }
 {
     match Gradient::open(alloc, sim.net()) {
         Ok(mut finder) => run_generated(sim, &mut finder, text, files, desk),
@@ -190,6 +209,12 @@ fn run_project<D: Desk>(
     ensures others { ChangesBoth (files_seen files.entry)
         (seen D.files D.written D.printed desk.old) (seen D.files D.written D.printed desk.new) }
     ensures once { CreatesBoth result (D.openings desk.old) (D.openings desk.new) }
+    ensures keeps_cert { KeepsCert text.now (files_seen files.entry)
+        (seen D.files D.written D.printed desk.old) (seen D.files D.written D.printed desk.new)
+        (D.openings desk.old) (D.openings desk.new) }
+    ensures keeps_net { KeepsNet (files_seen files.entry)
+        (seen D.files D.written D.printed desk.old) (seen D.files D.written D.printed desk.new)
+        (D.openings desk.old) (D.openings desk.new) }
 {
     match Sim::open(alloc, project, USUAL) {
         Ok(mut sim) => run_by_gradient(alloc, &mut sim, text, files, desk),
@@ -213,6 +238,12 @@ fn run_text<D: Desk>(alloc: Global, text: &[u8], files: Files<'_>, desk: &mut D)
     ensures others { ChangesBoth (files_seen files.entry)
         (seen D.files D.written D.printed desk.old) (seen D.files D.written D.printed desk.new) }
     ensures once { CreatesBoth result (D.openings desk.old) (D.openings desk.new) }
+    ensures keeps_cert { KeepsCert text.now (files_seen files.entry)
+        (seen D.files D.written D.printed desk.old) (seen D.files D.written D.printed desk.new)
+        (D.openings desk.old) (D.openings desk.new) }
+    ensures keeps_net { KeepsNet (files_seen files.entry)
+        (seen D.files D.written D.printed desk.old) (seen D.files D.written D.printed desk.new)
+        (D.openings desk.old) (D.openings desk.new) }
 {
     match network_of(alloc, text) {
         Ok(project) => run_project(alloc, project, text, files, desk),
@@ -240,6 +271,12 @@ pub(crate) fn generate_network<D: Desk>(alloc: Global, words: &GenWords<'_>, des
     ensures others { ChangesBoth (gen_seen words.now).files
         (seen D.files D.written D.printed desk.old) (seen D.files D.written D.printed desk.new) }
     ensures once { CreatesBoth result (D.openings desk.old) (D.openings desk.new) }
+    ensures keeps_cert { KeepsCert (text_of (gen_seen words.now)) (gen_seen words.now).files
+        (seen D.files D.written D.printed desk.old) (seen D.files D.written D.printed desk.new)
+        (D.openings desk.old) (D.openings desk.new) }
+    ensures keeps_net { KeepsNet (gen_seen words.now).files
+        (seen D.files D.written D.printed desk.old) (seen D.files D.written D.printed desk.new)
+        (D.openings desk.old) (D.openings desk.new) }
 {
     match generate(alloc, words.seed, words.junctions) {
         Ok(text) => run_text(alloc, &text, words.files, desk),

@@ -81,4 +81,6 @@ returns-in-Some-Gen-clause-generates g c order asked =
       generates = c.generate_network.ensures.answers;
       others = c.generate_network.ensures.others;
       once = c.generate_network.ensures.once;
+      keeps_cert = c.generate_network.ensures.keeps_cert;
+      keeps_net = c.generate_network.ensures.keeps_net;
     })

@@ -1,11 +1,14 @@
 -- The text was written, and then a run was put out.
-use Rattle.std.proofs.Common.{rules}
+use Rattle.std.proofs.Common.{rules, inl, inr, sym, ap, ◌∙◌}
 use Rattle.std.proofs.lemmas.Result.{IfOk-weaker, IfErr-weaker}
+use Rattle.hyd_io.specs.declared.desk.Openings.{Openings}
+use Rattle.hyd_io.specs.Counts.{with_created}
 use Rattle.hyd_run.specs.Pens.{told}
 use Rattle.hyd_run.specs.Runs.{outcome_of}
 use Rattle.hyd_command_words.specs.Seen.{files_seen}
 use Rattle.hyd_cli.specs.Answers.{seen}
-use Rattle.hyd_cli.proofs.GenLemmas.{Created, text_breaks_off, no_certificate, generated, generated_short}
+use Rattle.hyd_cli.proofs.GenLemmas.{Created, text_breaks_off, no_certificate, text_stays, generated}
+use Rattle.hyd_cli.proofs.GenLemmas.{generated_short}
 use Rattle.hyd_cli.proofs.generating.put_generated.Goals as goal
 
 -- ---- NET couldn't be created or written
@@ -14,6 +17,10 @@ pub returns-in-Err-clause-broken_off : goal.returns-in-Err-clause-broken_off
 returns-in-Err-clause-broken_off g c =
     text_breaks_off c.args.sim.now.project c.args.text.now (files_seen c.args.files) _ _ c.in-Err.ensures.cut_short
 
+pub returns-in-Err-clause-keeps_cert : goal.returns-in-Err-clause-keeps_cert
+returns-in-Err-clause-keeps_cert g c =
+    inl (c.write_text.ensures.others c.args.files.cert.now (λ same. c.requires.apart (sym same)))
+
 -- ---- CERT couldn't be created
 
 pub returns-then-is_err-clause-broken_off : goal.returns-then-is_err-clause-broken_off
@@ -21,6 +28,13 @@ returns-then-is_err-clause-broken_off g c =
     no_certificate c.args.sim.now.project c.args.text.now (files_seen c.args.files) _ _ _ c.in-Ok.ensures.whole
     (record { written = search rules; printed = c.create.ensures.printed_stays })
     (c.create.ensures.others c.args.files.net.now c.requires.apart)
+
+pub returns-then-is_err-clause-keeps_cert : goal.returns-then-is_err-clause-keeps_cert
+returns-then-is_err-clause-keeps_cert g c =
+    inr (
+      c.create.ensures.creates_once ∙ ap (λ (o : Openings). with_created o) c.write_text.ensures.creates,
+      c.create.ensures.others c.args.files.net.now c.requires.apart ∙ c.in-Ok.ensures.whole.held,
+    )
 
 -- ---- both were created
 
@@ -63,3 +77,25 @@ returns-clause-broken_off g c =
     c.args.sim.now.settings c.args.text.now (files_seen c.args.files) before between created after c.requires.usual
     c.requires.apart c.in-Ok.ensures.whole made c.run_summed.ensures.leaves (search rules) out)
     c.run_summed.ensures.broken_off
+
+pub returns-clause-keeps_cert : goal.returns-clause-keeps_cert
+returns-clause-keeps_cert g c =
+    let before = seen g.D.Desk.files g.D.Desk.written g.D.Desk.printed c.args.desk.now in
+    let between = seen g.D.Desk.files g.D.Desk.written g.D.Desk.printed c.write_text.new.desk in
+    let created = told g.D.Desk.files g.D.Desk.rest g.D.Desk.written g.D.Desk.printed g.D.Desk.target g.D.Desk.ready
+    g.D.Desk.counts g.D.Desk.openings c.create.new.self in
+    let after = told g.D.Desk.files g.D.Desk.rest g.D.Desk.written g.D.Desk.printed g.D.Desk.target g.D.Desk.ready
+    g.D.Desk.counts g.D.Desk.openings c.run_summed.new.desk in
+    let made : Created c.args.files.cert.now between created = record {
+      begun = search rules;
+      printed = c.create.ensures.printed_stays;
+      target = search rules;
+      still_told = c.create.ensures.still_told;
+      others = c.create.ensures.others;
+    } in
+    inr (
+      c.run_summed.ensures.leaves.openings_stay ∙ (c.create.ensures.creates_once
+          ∙ ap (λ (o : Openings). with_created o) c.write_text.ensures.creates),
+      text_stays c.args.text.now (files_seen c.args.files) before between created after c.requires.apart
+          c.in-Ok.ensures.whole made c.run_summed.ensures.leaves,
+    )

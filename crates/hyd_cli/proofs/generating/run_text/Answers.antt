@@ -1,4 +1,5 @@
 -- The text has a network or a fault, and never both.
+use Rattle.std.proofs.Common.{inl}
 use Rattle.hyd_spec_input.specs.Faults.{IsFault}
 use Rattle.hyd_spec_networks.proofs.OneFault.{one_fault, no_fault_beside}
 use Rattle.hyd_command_words.specs.Seen.{files_seen}
@@ -64,3 +65,9 @@ returns-in-Err-Fault-clause-others g c other net cert = c.refuse_text.ensures.ot
 pub returns-in-Err-Fault-clause-once : goal.returns-in-Err-Fault-clause-once
 returns-in-Err-Fault-clause-once g c =
     refusal_creates _ _ c.refuse_text.result _ _ _ _ c.refuse_text.ensures.answers c.refuse_text.ensures.opens
+
+pub returns-in-Err-Fault-clause-keeps_cert : goal.returns-in-Err-Fault-clause-keeps_cert
+returns-in-Err-Fault-clause-keeps_cert g c = inl (c.refuse_text.ensures.others c.args.files.cert.now)
+
+pub returns-in-Err-Fault-clause-keeps_net : goal.returns-in-Err-Fault-clause-keeps_net
+returns-in-Err-Fault-clause-keeps_net g c = inl (c.refuse_text.ensures.others c.args.files.net.now)

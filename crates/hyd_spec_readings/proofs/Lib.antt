@@ -1,0 +1,17 @@
+pub mod Inner
+pub mod Quantities
+pub mod Laws
+pub mod Starting
+pub mod Ruling
+pub mod Looking
+pub mod Gridding
+pub mod Ending
+pub mod Leading
+pub mod Reading
+pub mod Headers
+pub mod Following
+pub mod Lasting
+pub mod Happening
+pub mod Reporting
+pub mod Running
+pub mod OneNetwork
