@@ -2,16 +2,22 @@
 //! or run the network whole at a desk in memory, or check the certificate that a run left there.
 #![tactic(auto)]
 
-ghost use Rattle.std.specs.Prelude.{◌≡◌, ℕ, List, Some, None, IsTrue, IfOk};
+ghost use Rattle.std.specs.Prelude.{◌≡◌, ◌≢◌, ◌⊎◌, ℕ, List, Some, None, IsTrue, IsFalse, IfOk, IfErr, OnOk, IsErrOf};
 ghost use Rattle.hyd_net.specs.Sound.{Sound};
+ghost use Rattle.hyd_io.specs.Counts.{with_opened, with_created};
+ghost use Rattle.hyd_io.specs.MemoryView.{memory};
 ghost use Rattle.hyd_spec_certificates.specs.Record.{initial_standing};
 ghost use Rattle.hyd_cert.specs.RecordView.{header_of};
 ghost use Rattle.hyd_sim.specs.Steps.{IsPeriod};
 ghost use Rattle.hyd_sim.specs.View.{header_for, standing_of};
-ghost use Rattle.hyd_run.specs.Pens.{told};
-ghost use Rattle.hyd_run.specs.Runs.{IsPutOut, outcome_of};
-ghost use Rattle.hyd_cert_check.specs.Checks.{CheckEnds};
+ghost use Rattle.hyd_run.specs.Pens.{told, LeavesRest, OneRose};
+ghost use Rattle.hyd_run.specs.Runs.{IsPutOut, IsBrokenOff, outcome_of};
+ghost use Rattle.hyd_cert_check.specs.Checks.{CheckEnds, CheckBreaksOff};
+ghost use Rattle.hyd_cert_check.specs.Printing.{Rose};
 ghost use Rattle.hyd_cert_check.specs.Turns.{IsPrinted};
+ghost use Rattle.hyd_as_library.specs.Periods.{HasNoPeriod, PeriodFails};
+ghost use Rattle.hyd_as_library.specs.AtDesk.{IsRunAt, RunFails, RunHasCause, ChangesOnly};
+ghost use Rattle.hyd_as_library.specs.AtDesk.{IsCheckAt, CheckFails, CheckHasCause, LeavesFiles};
 
 use hyd_cert::{CertReader, Record, version_of};
 use hyd_cert_check::{CheckEnd, CheckFault, check};
@@ -25,7 +31,7 @@ use std::alloc::Global;
 use std::io;
 
 /// The name of the certificate at the desk.
-const CERTIFICATE: &str = "one-valve.cert";
+pub const CERTIFICATE: &str = "one-valve.cert";
 
 /// Why nothing more is done.
 #[derive(Clone, Copy)]
@@ -53,13 +59,21 @@ fn print_heads(rt: &impl Print, row: &Record) -> io::Result<()> {
 /// Does the period that is due, and tells whether one was. Its record is valid then where the run stood, and as sharp
 /// as the settings ask.
 fn does_period(sim: &mut Sim, finder: &mut Gradient) -> bool
-    ensures { IsTrue result → IsPeriod sim.old sim.new }
+    ensures period { IsTrue result → IsPeriod sim.old sim.new }
+    ensures no_period { IsFalse result → HasNoPeriod sim.old sim.new }
+    ensures project { sim.new.project ≡ sim.old.project }
+    ensures settings { sim.new.settings ≡ sim.old.settings }
 {
     matches!(sim.step(finder), Step::Period)
 }
 
 /// Does the period that is due, and prints its heads.
-fn print_period(rt: &impl Print, sim: &mut Sim, finder: &mut Gradient) -> Result<(), Ended> {
+fn print_period(rt: &impl Print, sim: &mut Sim, finder: &mut Gradient) -> Result<(), Ended>
+    ensures period { OnOk result (IsPeriod sim.old sim.new) }
+    ensures fails { IfErr result (λ why. PeriodFails why sim.old sim.new) }
+    ensures project { sim.new.project ≡ sim.old.project }
+    ensures settings { sim.new.settings ≡ sim.old.settings }
+{
     if !does_period(sim, finder) {
         return Err(Ended::NoPeriod);
     }
@@ -69,8 +83,18 @@ fn print_period(rt: &impl Print, sim: &mut Sim, finder: &mut Gradient) -> Result
     }
 }
 
-/// Does and prints the first period, with proposals of the gradient method.
-pub fn first_period(alloc: Global, rt: &impl Print, sim: &mut Sim) -> Result<(), Ended> {
+/// Does and prints the period that is due, the first one of a run at its start, with proposals of the gradient method.
+/// Its record is valid where the run stood, and as sharp as the settings ask.
+///
+/// - `OutOfMemory`: the run is as it was.
+/// - `NoPeriod`: the run is over, or it can't go on from where it stood.
+/// - `Print`: the period was done, and a print failed.
+pub fn first_period(alloc: Global, rt: &impl Print, sim: &mut Sim) -> Result<(), Ended>
+    ensures period { OnOk result (IsPeriod sim.old sim.new) }
+    ensures fails { IfErr result (λ why. PeriodFails why sim.old sim.new) }
+    ensures project { sim.new.project ≡ sim.old.project }
+    ensures settings { sim.new.settings ≡ sim.old.settings }
+{
     match Gradient::open(alloc, sim.net()) {
         Ok(mut finder) => print_period(rt, sim, &mut finder),
         Err(_) => Err(Ended::OutOfMemory),
@@ -78,13 +102,23 @@ pub fn first_period(alloc: Global, rt: &impl Print, sim: &mut Sim) -> Result<(),
 }
 
 /// Puts a run out: its certificate into the file that was created, and its report. Every history that obeys the network
-/// lies inside, as `whole` says.
+/// lies inside, as `whole` says. What a fault leaves are fronts of both.
 fn put_run<D: Desk>(sim: &mut Sim, finder: &mut Gradient, desk: &mut D) -> Result<RunEnd, OutFault>
     requires start { standing_of sim.old ≡ initial_standing sim.old.project }
     requires ready { IsTrue (D.ready desk.old) }
     ensures whole { IfOk result (λ end. IsPutOut sim.old.project sim.old.settings (outcome_of end)
         (told D.files D.rest D.written D.printed D.target D.ready D.counts D.openings desk.old)
         (told D.files D.rest D.written D.printed D.target D.ready D.counts D.openings desk.new)) }
+    ensures broken_off { IfErr result (λ fault. IsBrokenOff sim.old.project sim.old.settings
+        (told D.files D.rest D.written D.printed D.target D.ready D.counts D.openings desk.old)
+        (told D.files D.rest D.written D.printed D.target D.ready D.counts D.openings desk.new)) }
+    ensures cause { IfErr result (λ fault. OneRose fault (D.counts desk.old) (D.counts desk.new)) }
+    ensures steady { OnOk result (D.counts desk.new ≡ D.counts desk.old) }
+    ensures leaves { LeavesRest
+        (told D.files D.rest D.written D.printed D.target D.ready D.counts D.openings desk.old)
+        (told D.files D.rest D.written D.printed D.target D.ready D.counts D.openings desk.new) }
+    ensures project { sim.new.project ≡ sim.old.project }
+    ensures settings { sim.new.settings ≡ sim.old.settings }
 {
     let mut certificate = Pen::new(Channel::Cert);
     let mut report = Pen::new(Channel::Report);
@@ -94,6 +128,17 @@ fn put_run<D: Desk>(sim: &mut Sim, finder: &mut Gradient, desk: &mut D) -> Resul
 /// Runs the network at a desk, with a finder.
 fn run_with(sim: &mut Sim, finder: &mut Gradient, desk: &mut MemDesk) -> Result<RunEnd, Ended>
     requires start { standing_of sim.old ≡ initial_standing sim.old.project }
+    ensures whole { IfOk result (λ end. IsRunAt sim.old.project sim.old.settings CERTIFICATE.now end
+        (memory desk.old) (memory desk.new)) }
+    ensures fails { IfErr result (λ why. RunFails sim.old.project sim.old.settings CERTIFICATE.now why
+        (memory desk.old) (memory desk.new)) }
+    ensures cause { IfErr result (λ why. RunHasCause why (memory desk.old).counts (memory desk.new).counts) }
+    ensures steady { OnOk result ((memory desk.new).counts ≡ (memory desk.old).counts) }
+    ensures others { ChangesOnly CERTIFICATE.now (memory desk.old) (memory desk.new) }
+    ensures creates_once { (memory desk.new).openings ≡ with_created (memory desk.old).openings }
+    ensures takes_no_memory { result ≢ Err Ended.OutOfMemory }
+    ensures project { sim.new.project ≡ sim.old.project }
+    ensures settings { sim.new.settings ≡ sim.old.settings }
 {
     if desk.create(CERTIFICATE).is_err() {
         return Err(Ended::Desk);
@@ -104,9 +149,25 @@ fn run_with(sim: &mut Sim, finder: &mut Gradient, desk: &mut MemDesk) -> Result<
     }
 }
 
-/// Runs the network at a desk.
+/// Runs the network at a desk: its certificate goes to the file `CERTIFICATE`, and its report is printed behind what
+/// was printed before. Every history that obeys the network lies inside.
+///
+/// - `OutOfMemory`: the run and the desk are as they were.
+/// - `Desk`: the file couldn't be created, or a call broke the run off, and both are beginnings of such texts.
 pub fn run_at(alloc: Global, sim: &mut Sim, desk: &mut MemDesk) -> Result<RunEnd, Ended>
     requires start { standing_of sim.old ≡ initial_standing sim.old.project }
+    ensures whole { IfOk result (λ end. IsRunAt sim.old.project sim.old.settings CERTIFICATE.now end
+        (memory desk.old) (memory desk.new)) }
+    ensures fails { IfErr result (λ why. RunFails sim.old.project sim.old.settings CERTIFICATE.now why
+        (memory desk.old) (memory desk.new)) }
+    ensures cause { IfErr result (λ why. RunHasCause why (memory desk.old).counts (memory desk.new).counts) }
+    ensures steady { OnOk result ((memory desk.new).counts ≡ (memory desk.old).counts) }
+    ensures others { ChangesOnly CERTIFICATE.now (memory desk.old) (memory desk.new) }
+    ensures creates_once { IsErrOf result Ended.OutOfMemory
+        ⊎ ((memory desk.new).openings ≡ with_created (memory desk.old).openings) }
+    ensures untouched { IsErrOf result Ended.OutOfMemory → sim.new ≡ sim.old }
+    ensures project { sim.new.project ≡ sim.old.project }
+    ensures settings { sim.new.settings ≡ sim.old.settings }
 {
     match Gradient::open(alloc, sim.net()) {
         Ok(mut finder) => run_with(sim, &mut finder, desk),
@@ -125,7 +186,7 @@ fn record_for(alloc: Global, project: &Project) -> Result<Record, OutOfMemory>
 }
 
 /// Checks the certificate in the file that was opened. One that is accepted is that of a run of the network, whoever
-/// wrote it, and every history that obeys the network lies inside.
+/// wrote it, and every history that obeys the network lies inside. A fault leaves a front of the report printed.
 fn check_opened<D: Desk>(
     sim: &mut Sim,
     row: &mut Record,
@@ -137,6 +198,15 @@ fn check_opened<D: Desk>(
     ensures whole { (text : List ℕ) → D.rest desk.old ≡ Some text → IfOk result (λ end.
         IsPrinted (λ printed. CheckEnds sim.old.project text printed end)
         (D.printed desk.old) (D.printed desk.new)) }
+    ensures broken_off { (text : List ℕ) → D.rest desk.old ≡ Some text → IfErr result (λ fault.
+        IsPrinted (CheckBreaksOff sim.old.project text) (D.printed desk.old) (D.printed desk.new)) }
+    ensures cause { IfErr result (λ fault. Rose fault (D.counts desk.old) (D.counts desk.new)) }
+    ensures steady { OnOk result (D.counts desk.new ≡ D.counts desk.old) }
+    ensures files_stay { D.files desk.new ≡ D.files desk.old }
+    ensures target_stays { D.target desk.new ≡ D.target desk.old }
+    ensures ready_stays { D.ready desk.new ≡ D.ready desk.old }
+    ensures openings_stay { D.openings desk.new ≡ D.openings desk.old }
+    ensures project { sim.new.project ≡ sim.old.project }
 {
     let mut reader = CertReader::new();
     let mut report = Pen::new(Channel::Report);
@@ -148,6 +218,16 @@ fn check_with(sim: &mut Sim, row: &mut Record, desk: &mut MemDesk) -> Result<Che
     requires start { standing_of sim.old ≡ initial_standing sim.old.project }
     requires running { sim.old.stopped ≡ None }
     requires header { header_of row.old ≡ header_for sim.old.project }
+    ensures whole { IfOk result (λ end. IsCheckAt sim.old.project CERTIFICATE.now end
+        (memory desk.old) (memory desk.new)) }
+    ensures fails { IfErr result (λ why. CheckFails sim.old.project CERTIFICATE.now why
+        (memory desk.old) (memory desk.new)) }
+    ensures cause { IfErr result (λ why. CheckHasCause why (memory desk.old).counts (memory desk.new).counts) }
+    ensures steady { OnOk result ((memory desk.new).counts ≡ (memory desk.old).counts) }
+    ensures files { LeavesFiles (memory desk.old) (memory desk.new) }
+    ensures opens_once { (memory desk.new).openings ≡ with_opened (memory desk.old).openings }
+    ensures takes_no_memory { result ≢ Err Ended.OutOfMemory }
+    ensures project { sim.new.project ≡ sim.old.project }
 {
     if desk.open(CERTIFICATE).is_err() {
         return Err(Ended::Desk);
@@ -158,10 +238,26 @@ fn check_with(sim: &mut Sim, row: &mut Record, desk: &mut MemDesk) -> Result<Che
     }
 }
 
-/// Checks the certificate at a desk.
+/// Checks the certificate in the file `CERTIFICATE` at a desk, and prints the report behind what was printed before.
+/// One that is accepted is that of a run of the network, whoever wrote it, and every history that obeys the network
+/// lies inside. One that is refused is wrong in a line, a record or the END line, and the last line printed says which.
+///
+/// - `OutOfMemory`: the run and the desk are as they were.
+/// - `Desk`: the file couldn't be opened, or a call broke the check off, and a beginning of such a report was printed.
 pub fn check_at(alloc: Global, sim: &mut Sim, desk: &mut MemDesk) -> Result<CheckEnd, Ended>
     requires start { standing_of sim.old ≡ initial_standing sim.old.project }
     requires running { sim.old.stopped ≡ None }
+    ensures whole { IfOk result (λ end. IsCheckAt sim.old.project CERTIFICATE.now end
+        (memory desk.old) (memory desk.new)) }
+    ensures fails { IfErr result (λ why. CheckFails sim.old.project CERTIFICATE.now why
+        (memory desk.old) (memory desk.new)) }
+    ensures cause { IfErr result (λ why. CheckHasCause why (memory desk.old).counts (memory desk.new).counts) }
+    ensures steady { OnOk result ((memory desk.new).counts ≡ (memory desk.old).counts) }
+    ensures files { LeavesFiles (memory desk.old) (memory desk.new) }
+    ensures opens_once { IsErrOf result Ended.OutOfMemory
+        ⊎ ((memory desk.new).openings ≡ with_opened (memory desk.old).openings) }
+    ensures untouched { IsErrOf result Ended.OutOfMemory → sim.new ≡ sim.old }
+    ensures project { sim.new.project ≡ sim.old.project }
 {
     match record_for(alloc, sim.project()) {
         Ok(mut row) => check_with(sim, &mut row, desk),
