@@ -1,15 +1,16 @@
 //! The vectors of a network without tanks, and whether the first step of a run finds them.
 
 ghost use Rattle.std.specs.Prelude.{◌≡◌, None, length};
+ghost use Rattle.hyd_net.specs.Sound.{Sound};
 
 use hyd_cert::Record;
 use hyd_graph::Net;
 use hyd_inp::read_project;
+use hyd_net::Project;
 use hyd_newton::Finder;
 use hyd_sim::{Settings, Sim, Step};
 use hyd_spec_certificates::{Problem, Side};
 use std::alloc::Global;
-use std::test::Fail;
 
 /// Heads for UPPER and for LOWER, by junction. As a finder they are offered for certificates and for starts.
 #[derive(Clone, Copy, Drop)]
@@ -75,19 +76,36 @@ fn leads_to<F: Finder>(sim: &mut Sim, finder: &mut F, wanted: Vectors) -> bool {
 }
 
 /// Whether the first step of a run of a network finds these vectors, with 200 rounds and a width of a centimetre.
+fn finds_in<F: Finder>(
+    alloc: Global,
+    project: Project,
+    tight: bool,
+    finder: &mut F,
+    wanted: Vectors,
+) -> bool
+    requires { Sound project }
+{
+    let settings = Settings {
+        rounds: 200,
+        width: 100_000_000_000,
+        tight,
+    };
+    match Sim::open(alloc, project, settings) {
+        Ok(mut sim) => leads_to(&mut sim, finder, wanted),
+        Err(_) => false,
+    }
+}
+
+/// Whether the first step of a run of a text's network finds these vectors.
 pub(crate) fn finds<F: Finder>(
     alloc: Global,
     text: &str,
     tight: bool,
     finder: &mut F,
     wanted: Vectors,
-) -> Result<bool, Fail> {
-    let project = read_project(alloc, text.as_bytes())?;
-    let settings = Settings {
-        rounds: 200,
-        width: 100_000_000_000,
-        tight,
-    };
-    let mut sim = Sim::open(alloc, project, settings)?;
-    Ok(leads_to(&mut sim, finder, wanted))
+) -> bool {
+    match read_project(alloc, text.as_bytes()) {
+        Ok(project) => finds_in(alloc, project, tight, finder, wanted),
+        Err(_) => false,
+    }
 }
