@@ -1,7 +1,0 @@
-//! The tests of the calls of the example library.
-#![tactic(auto)]
-
-#[cfg(test)]
-mod calls;
-#[cfg(test)]
-mod paper;
