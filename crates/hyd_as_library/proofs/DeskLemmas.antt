@@ -5,7 +5,7 @@ use Rattle.hyd_io.specs.Memory.{Memory}
 use Rattle.hyd_io.specs.Told.{append_known}
 use Rattle.hyd_spec.specs.Types.{Project}
 use Rattle.hyd_cert_check.specs.Checks.{CheckEnds, CheckBreaksOff}
-use Rattle.hyd_cert_check.specs.Turns.{IsPrinted}
+use Rattle.hyd_cert_check.specs.RecordByRecord.{IsPrinted}
 use Rattle.hyd_cert_check.specs.declared.outcome.CheckEnd.{CheckEnd}
 use Rattle.hyd_as_library.specs.AtDesk.{NothingPut, IsCheckAt, IsCheckCutShort}
 

@@ -14,7 +14,7 @@ ghost use Rattle.hyd_run.specs.Pens.{told, LeavesRest, OneRose};
 ghost use Rattle.hyd_run.specs.Runs.{IsPutOut, IsBrokenOff, outcome_of};
 ghost use Rattle.hyd_cert_check.specs.Checks.{CheckEnds, CheckBreaksOff};
 ghost use Rattle.hyd_cert_check.specs.Printing.{Rose};
-ghost use Rattle.hyd_cert_check.specs.Turns.{IsPrinted};
+ghost use Rattle.hyd_cert_check.specs.RecordByRecord.{IsPrinted};
 ghost use Rattle.hyd_as_library.specs.Periods.{HasNoPeriod, PeriodFails};
 ghost use Rattle.hyd_as_library.specs.AtDesk.{IsRunAt, RunFails, RunHasCause, ChangesOnly};
 ghost use Rattle.hyd_as_library.specs.AtDesk.{IsCheckAt, CheckFails, CheckHasCause, LeavesFiles};
@@ -83,13 +83,13 @@ fn print_period(rt: &impl Print, sim: &mut Sim, finder: &mut Gradient) -> Result
     }
 }
 
-/// Does and prints the period that is due, the first one of a run at its start, with proposals of the gradient method.
-/// Its record is valid where the run stood, and as sharp as the settings ask.
+/// Does and prints the period that is due, with proposals of the gradient method. Its record is valid where the run
+/// stood, and as sharp as the settings ask.
 ///
 /// - `OutOfMemory`: the run is as it was.
 /// - `NoPeriod`: the run is over, or it can't go on from where it stood.
-/// - `Print`: the period was done, and a print failed.
-pub fn first_period(alloc: Global, rt: &impl Print, sim: &mut Sim) -> Result<(), Ended>
+/// - `Print`: the period was done, and a print failed (the printer tells nothing, so no clause says that one did).
+pub fn print_due_period(alloc: Global, rt: &impl Print, sim: &mut Sim) -> Result<(), Ended>
     ensures period { OnOk result (IsPeriod sim.old sim.new) }
     ensures fails { IfErr result (λ why. PeriodFails why sim.old sim.new) }
     ensures project { sim.new.project ≡ sim.old.project }
@@ -207,6 +207,7 @@ fn check_opened<D: Desk>(
     ensures ready_stays { D.ready desk.new ≡ D.ready desk.old }
     ensures openings_stay { D.openings desk.new ≡ D.openings desk.old }
     ensures project { sim.new.project ≡ sim.old.project }
+    ensures settings { sim.new.settings ≡ sim.old.settings }
 {
     let mut reader = CertReader::new();
     let mut report = Pen::new(Channel::Report);
@@ -228,6 +229,7 @@ fn check_with(sim: &mut Sim, row: &mut Record, desk: &mut MemDesk) -> Result<Che
     ensures opens_once { (memory desk.new).openings ≡ with_opened (memory desk.old).openings }
     ensures takes_no_memory { result ≢ Err Ended.OutOfMemory }
     ensures project { sim.new.project ≡ sim.old.project }
+    ensures settings { sim.new.settings ≡ sim.old.settings }
 {
     if desk.open(CERTIFICATE).is_err() {
         return Err(Ended::Desk);
@@ -258,6 +260,7 @@ pub fn check_at(alloc: Global, sim: &mut Sim, desk: &mut MemDesk) -> Result<Chec
         ⊎ ((memory desk.new).openings ≡ with_opened (memory desk.old).openings) }
     ensures untouched { IsErrOf result Ended.OutOfMemory → sim.new ≡ sim.old }
     ensures project { sim.new.project ≡ sim.old.project }
+    ensures settings { sim.new.settings ≡ sim.old.settings }
 {
     match record_for(alloc, sim.project()) {
         Ok(mut row) => check_with(sim, &mut row, desk),

@@ -10,7 +10,7 @@ use Rattle.hyd_spec_certificates.specs.Grid.{GridLink}
 use Rattle.hyd_spec_certificates.specs.Boxes.{flow_box}
 use Rattle.hyd_law.specs.LinkLaws.{link_low, link_high}
 use Rattle.hyd_law.specs.declared.link_law.LinkLaw.{LinkLaw}
-use Rattle.hyd_graph.specs.declared.parts.Ends.{Ends}
+use Rattle.hyd_graph.specs.declared.network_parts.Ends.{Ends}
 use Rattle.hyd_graph.specs.ExactLaw.{exact_law}
 use Rattle.hyd_check.proofs.Shares.{StandsFor}
 use Rattle.hyd_bounds.specs.Bounds.{IsSpan}

@@ -21,14 +21,14 @@ use Rattle.hyd_spec_certificates.specs.Boxes.{difference, flow_box, out_box, inf
 use Rattle.hyd_spec_reports.specs.Report.{status_of}
 use Rattle.hyd_spec_reports.specs.declared.StatusWord.{StatusWord}
 use Rattle.hyd_spec_reports.specs.Claims.{StatusHolds}
-use Rattle.hyd_spec_laws.specs.Laws.{LiesIn, LieBetween}
-use Rattle.hyd_spec_laws.proofs.Boxed.{heads_between, flow_lies, outflow_lies}
-use Rattle.hyd_spec_laws.proofs.Comparison.{one_each}
-use Rattle.hyd_spec_laws.proofs.NetRising.{item-at}
-use Rattle.hyd_spec_laws.proofs.Pinning.{inflow_lies}
-use Rattle.hyd_spec_laws.proofs.StatusWords.{status_holds}
+use Rattle.hyd_theorems_on_periods.specs.Laws.{LiesIn, LieBetween}
+use Rattle.hyd_theorems_on_periods.proofs.Boxed.{heads_between, flow_lies, outflow_lies}
+use Rattle.hyd_theorems_on_periods.proofs.Comparison.{one_each}
+use Rattle.hyd_theorems_on_periods.proofs.NetRising.{item-at}
+use Rattle.hyd_theorems_on_periods.proofs.Pinning.{inflow_lies}
+use Rattle.hyd_theorems_on_periods.proofs.StatusWords.{status_holds}
 use Rattle.hyd_bounds.specs.Bounds.{IsSpan}
-use Rattle.hyd_bounds.specs.Holding.{interval_of, HoldsFlow, HoldsOutflow, HoldsInflow, HoldsStatus}
+use Rattle.hyd_bounds.specs.Enclosed.{interval_of, HoldsFlow, HoldsOutflow, HoldsInflow, HoldsStatus}
 
 -- what lies in an interval lies in its span
 in-span : (S : ℕ) (span : Span) (interval : Interval) (z : ℤ) → IsSpan span interval → LiesIn S interval z

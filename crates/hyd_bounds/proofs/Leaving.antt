@@ -9,8 +9,8 @@ use Rattle.hyd_spec_certificates.specs.Enclosing.{DemandLaw}
 use Rattle.hyd_spec_certificates.specs.Grid.{Grid, GridJunction}
 use Rattle.hyd_spec_certificates.specs.NetOutflow.{outflow_low, outflow_high}
 use Rattle.hyd_spec_certificates.specs.Boxes.{out_box}
-use Rattle.hyd_spec_laws.specs.Laws.{IsSteady}
-use Rattle.hyd_spec_laws.proofs.NetRising.{item-at, demand-at, outflow-rises}
+use Rattle.hyd_theorems_on_periods.specs.Laws.{IsSteady}
+use Rattle.hyd_theorems_on_periods.proofs.NetRising.{item-at, demand-at, outflow-rises}
 use Rattle.hyd_bounds.specs.Bounds.{IsSpan}
 
 -- by how much outflows may miss

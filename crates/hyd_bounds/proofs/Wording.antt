@@ -17,8 +17,8 @@ use Rattle.hyd_spec_reports.specs.declared.StatusWord.TheVariants.{Unsure as Wor
 use Rattle.hyd_spec_reports.specs.Report.{by_drive, by_knots, status_of}
 use Rattle.hyd_num.proofs.Integers.{times_rises}
 use Rattle.hyd_lemmas.proofs.Integers.{ceiling_high, ceiling_least}
-use Rattle.hyd_spec_laws.proofs.RisingLines.{lt-yes, value-den}
-use Rattle.hyd_spec_laws.proofs.Outflows.{le-yes}
+use Rattle.hyd_theorems_on_periods.proofs.RisingLines.{lt-yes, value-den}
+use Rattle.hyd_theorems_on_periods.proofs.Outflows.{le-yes}
 use Rattle.hyd_graph.specs.ExactLaw.{is_nothing}
 use Rattle.hyd_bounds.specs.Words.{word_of}
 

@@ -10,7 +10,7 @@ ghost use Rattle.hyd_spec_certificates.specs.Boxes.{flow_box};
 ghost use Rattle.hyd_graph.specs.GridOf.{grid_of};
 ghost use Rattle.hyd_law.specs.LinkLaws.{link_low, link_high, IsSoundLink, LinkAccepts};
 ghost use Rattle.hyd_bounds.specs.Bounds.{IsSpan, IsVector, AreInOrder};
-ghost use Rattle.hyd_bounds.specs.Holding.{HoldsFlow};
+ghost use Rattle.hyd_bounds.specs.Enclosed.{HoldsFlow};
 
 use crate::heads::{difference, node_head};
 use hyd_graph::Net;

@@ -8,9 +8,9 @@ ghost use Rattle.hyd_spec_certificates.specs.Grid.{Grid, all_heads};
 ghost use Rattle.hyd_spec_certificates.specs.Boxes.{inflow_box};
 ghost use Rattle.hyd_graph.specs.GridOf.{grid_of};
 ghost use Rattle.hyd_bounds.specs.Bounds.{IsSpan, IsVector, AreInOrder, TanksInOrder, tank_width, tank_node_of};
-ghost use Rattle.hyd_bounds.specs.Holding.{HoldsInflow};
+ghost use Rattle.hyd_bounds.specs.Enclosed.{HoldsInflow};
 ghost use Rattle.hyd_spec_certificates.specs.Certificate.{IsCertificate};
-ghost use Rattle.hyd_spec_laws.specs.Laws.{IsSteady};
+ghost use Rattle.hyd_theorems_on_periods.specs.Laws.{IsSteady};
 ghost use Rattle.hyd_check.specs.Sides.{flows_out};
 ghost use Rattle.hyd_check.specs.Comparing.{FixedWithin};
 

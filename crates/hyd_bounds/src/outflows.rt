@@ -8,7 +8,7 @@ ghost use Rattle.hyd_spec_certificates.specs.Certificate.{IsInBox};
 ghost use Rattle.hyd_spec_certificates.specs.Boxes.{out_box};
 ghost use Rattle.hyd_graph.specs.GridOf.{grid_of, capacity_of};
 ghost use Rattle.hyd_bounds.specs.Bounds.{IsSpan};
-ghost use Rattle.hyd_bounds.specs.Holding.{HoldsOutflow};
+ghost use Rattle.hyd_bounds.specs.Enclosed.{HoldsOutflow};
 
 use crate::flows::TOLERANCE;
 use hyd_check::outflow;

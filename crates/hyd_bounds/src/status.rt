@@ -22,7 +22,7 @@ ghost use Rattle.hyd_law.specs.Wrapped.{IsDifference, IsLift};
 ghost use Rattle.hyd_law.specs.LinkLaws.{IsSoundLink, LinkAccepts};
 ghost use Rattle.hyd_law.specs.declared.link_law.LinkLaw.TheVariants.{Pump, Bent as BentLaw};
 ghost use Rattle.hyd_bounds.specs.Bounds.{IsVector};
-ghost use Rattle.hyd_bounds.specs.Holding.{HoldsStatus};
+ghost use Rattle.hyd_bounds.specs.Enclosed.{HoldsStatus};
 ghost use Rattle.hyd_bounds.specs.Words.{open_word, running_word, limited_word, word_of};
 
 use crate::heads::{difference, node_head};

@@ -1,7 +1,7 @@
 -- What a pipe is made of.
 use Rattle.std.proofs.Common.{◌≡◌, ℕ, Bool, true, false, List, sym, ◌∙◌, inl, inr, if◌then◌else◌}
 use Rattle.std.proofs.lemmas.Bool.{cases_Bool}
-use Rattle.hyd_num.specs.Chain.{IsMade}
+use Rattle.hyd_num.specs.CapacityPairs.{IsMade}
 use Rattle.hyd_num.specs.declared.capacities.Capacity.{Capacity}
 use Rattle.hyd_num.specs.declared.capacities.Origin.TheVariants.{Pipe}
 use Rattle.hyd_spec_lines.specs.Lines.{Row}

@@ -20,14 +20,14 @@ use Rattle.hyd_spec_input.specs.Curves.{is_bent}
 use Rattle.hyd_spec_input.specs.NetworkRows as alone
 use Rattle.hyd_spec_input.specs.Tables.{Point, is_of, curve_named}
 use Rattle.hyd_spec_input.specs.WithOthers as others
-use Rattle.hyd_spec_networks.proofs.Faultless.{right_alone}
-use Rattle.hyd_spec_networks.proofs.LinkKinds.{PipeNumbers, pipe_numbers, ValveNumbers, valve_numbers, CurveRight}
-use Rattle.hyd_spec_networks.proofs.LinkKinds.{straight_range, pump_right}
-use Rattle.hyd_asked_states.proofs.RangeLemmas.{throttle_alone, coefficient_right}
+use Rattle.hyd_theorems_on_input.proofs.Faultless.{right_alone}
+use Rattle.hyd_theorems_on_input.proofs.LinkKinds.{PipeNumbers, pipe_numbers, ValveNumbers, valve_numbers, CurveRight}
+use Rattle.hyd_theorems_on_input.proofs.LinkKinds.{straight_range, pump_right}
+use Rattle.hyd_link_states.proofs.RangeLemmas.{throttle_alone, coefficient_right}
 use Rattle.hyd_build_links.specs.Pumps.{ArePumpPoints}
-use Rattle.hyd_build_links.specs.Sources.{IsRowOf, rows_from}
+use Rattle.hyd_build_links.specs.CheckedRows.{IsRowOf, rows_from}
 use Rattle.hyd_curves.specs.Points.{points_in}
-use Rattle.hyd_build_links.specs.declared.source.LinkSource.{LinkSource}
+use Rattle.hyd_build_links.specs.declared.checked_rows.LinkSource.{LinkSource}
 use Rattle.hyd_curves.specs.declared.points.CurvePoint.{CurvePoint}
 use Rattle.hyd_build_links.proofs.SourceLemmas.{right_source, free_row}
 

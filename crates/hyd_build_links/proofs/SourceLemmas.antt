@@ -12,11 +12,11 @@ use Rattle.hyd_spec_input.specs.ByItself as itself
 use Rattle.hyd_spec_input.specs.Capacities.{IsRefusedIn, IsRefusedRow}
 use Rattle.hyd_spec_input.specs.Tables.{is_of}
 use Rattle.hyd_spec_input.specs.WithOthers as others
-use Rattle.hyd_spec_networks.proofs.Faultless.{AreRight, section_is}
-use Rattle.hyd_spec_networks.proofs.Places.{source}
+use Rattle.hyd_theorems_on_input.proofs.Faultless.{AreRight, section_is}
+use Rattle.hyd_theorems_on_input.proofs.Places.{source}
 use Rattle.hyd_row_tables.proofs.SectionLemmas.{none_of}
-use Rattle.hyd_build_links.specs.Sources.{IsRightSource, rows_from}
-use Rattle.hyd_build_links.specs.declared.source.LinkSource.{LinkSource}
+use Rattle.hyd_build_links.specs.CheckedRows.{IsRightSource, rows_from}
+use Rattle.hyd_build_links.specs.declared.checked_rows.LinkSource.{LinkSource}
 
 -- no word of a line is empty
 line_words : (line : List ℕ) → All (λ w. 1 ≤ length w) (words_in line)

@@ -19,26 +19,26 @@ use Rattle.hyd_network_rows.specs.declared.pipes.PipeStatus.{PipeStatus}
 use Rattle.hyd_network_rows.specs.declared.pipes.PipeStatus.TheVariants.{Closed}
 use Rattle.hyd_spec_input.specs.Capacities.{IsRefusedSetting}
 use Rattle.hyd_spec_input.specs.Columns.{word, amount, is_option_keyword}
-use Rattle.hyd_spec_input.specs.DataRows as data_row
+use Rattle.hyd_spec_input.specs.BelongingRows as data_row
 use Rattle.hyd_spec_input.specs.InForce as force
-use Rattle.hyd_spec_input.specs.Network.{status_of, last_naming}
+use Rattle.hyd_spec_input.specs.RowMeanings.{status_of, last_naming}
 use Rattle.hyd_spec_input.specs.NetworkRows as alone
 use Rattle.hyd_spec_input.specs.Project.{IsNumberState, Where}
 use Rattle.hyd_spec_input.specs.Tables.{is_of, is_link, link_named, rows_of, own_id}
 use Rattle.hyd_spec_input.specs.WithOthers as others
-use Rattle.hyd_spec_networks.proofs.Faultless.{right_alone, right_among, all_none}
-use Rattle.hyd_spec_networks.proofs.InForce.{keyword_same, in_force}
-use Rattle.hyd_spec_networks.proofs.LinkKinds.{not_of}
-use Rattle.hyd_spec_networks.proofs.LinkStates.{valve_range}
-use Rattle.hyd_spec_networks.proofs.Names.{row_named, link_new}
-use Rattle.hyd_spec_networks.proofs.Occurs.{same_name}
-use Rattle.hyd_asked_states.proofs.StateLemmas as states
-use Rattle.hyd_asked_states.specs.States.{IsRightLink, IsSettable, IsThrottled, limit_fault}
+use Rattle.hyd_theorems_on_input.proofs.Faultless.{right_alone, right_among, all_none}
+use Rattle.hyd_theorems_on_input.proofs.InForce.{keyword_same, in_force}
+use Rattle.hyd_theorems_on_input.proofs.LinkKinds.{not_of}
+use Rattle.hyd_theorems_on_input.proofs.LinkStates.{valve_range}
+use Rattle.hyd_theorems_on_input.proofs.Names.{row_named, link_new}
+use Rattle.hyd_theorems_on_input.proofs.Occurs.{same_name}
+use Rattle.hyd_link_states.proofs.StateLemmas as states
+use Rattle.hyd_link_states.specs.States.{IsRightLink, IsSettable, IsThrottled, limit_fault}
 use Rattle.hyd_row_tables.proofs.SectionLemmas.{all_rows}
-use Rattle.hyd_asked_states.proofs.RightLinks.{right_link}
-use Rattle.hyd_build_links.specs.Sources.{IsRowOf, rows_from}
-use Rattle.hyd_build_links.specs.declared.source.LinkSource.{LinkSource}
-use Rattle.hyd_asked_states.proofs.RangeLemmas.{throttle_alone}
+use Rattle.hyd_link_states.proofs.RightLinks.{right_link}
+use Rattle.hyd_build_links.specs.CheckedRows.{IsRowOf, rows_from}
+use Rattle.hyd_build_links.specs.declared.checked_rows.LinkSource.{LinkSource}
+use Rattle.hyd_link_states.proofs.RangeLemmas.{throttle_alone}
 use Rattle.hyd_build_links.proofs.SourceLemmas.{right_source, free_row}
 
 -- ---- pipes

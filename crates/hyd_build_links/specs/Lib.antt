@@ -1,4 +1,4 @@
-pub mod Sources
+pub mod CheckedRows
 pub mod Pumps
 pub mod Statuses
 pub mod Built

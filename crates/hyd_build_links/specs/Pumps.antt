@@ -1,13 +1,13 @@
 -- The laws of pumps with curves of one point or three.
 use Rattle.std.specs.Prelude.{◌≡◌, true, false, List}
 use Rattle.hyd_num.specs.Quantity.{is_us_unit}
-use Rattle.hyd_num.specs.declared.units.FlowUnit.{FlowUnit}
+use Rattle.hyd_num.specs.declared.flow_units.FlowUnit.{FlowUnit}
 use Rattle.hyd_net.specs.Made.{IsShutoffMade}
 use Rattle.hyd_spec_input.specs.Capacities.{IsRefusedPump}
 use Rattle.hyd_spec_input.specs.Curves.{drop_of, is_bent, is_pump_curve, are_flows, has_shutoff}
 use Rattle.hyd_spec_input.specs.Project.{IsPumpOf, IsShutoffOf}
 use Rattle.hyd_spec_input.specs.Tables.{Point}
-use Rattle.hyd_build_links.specs.declared.laws.PumpLaw.{PumpLaw}
+use Rattle.hyd_build_links.specs.declared.pump_laws.PumpLaw.{PumpLaw}
 
 -- the points of a curve of one point or three that a pump can have
 pub record ArePumpPoints (unit : FlowUnit) (points : List Point) : Type 0 where

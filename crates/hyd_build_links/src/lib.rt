@@ -2,15 +2,15 @@
 //! [VALVES] and [STATUS]), of a file whose rows are right by themselves and with the others.
 #![tactic(auto)]
 
-mod laws;
+mod checked_rows;
 mod links;
-mod numbers;
+mod numbering;
 mod pipes;
+mod pump_laws;
 mod pumps;
-mod source;
 mod starts;
 mod statuses;
 mod valves;
 
+pub use checked_rows::LinkSource;
 pub use links::build_links;
-pub use source::LinkSource;

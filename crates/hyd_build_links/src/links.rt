@@ -5,14 +5,14 @@ ghost use Rattle.std.specs.Prelude.{◌≡◌, ◌<◌, ◌+◌, ◌++◌, List,
 ghost use Rattle.hyd_spec_lines.specs.Lines.{Row, row_of};
 ghost use Rattle.hyd_spec_input.specs.Project.{IsKind, IsLink, Match, numbered_links};
 ghost use Rattle.hyd_spec_input.specs.Tables.{place as section_place, is_link, rows_of};
-ghost use Rattle.hyd_build_links.specs.Sources.{IsRightSource, IsRowOf, rows_from};
+ghost use Rattle.hyd_build_links.specs.CheckedRows.{IsRightSource, IsRowOf, rows_from};
 ghost use Rattle.hyd_build_links.specs.Statuses.{AreStatuses};
 ghost use Rattle.hyd_build_links.specs.Built.{AreBuilt, is_link_section};
 
-use crate::numbers::number;
+use crate::checked_rows::LinkSource;
+use crate::numbering::number;
 use crate::pipes::pipe_kind;
 use crate::pumps::pump_kind;
-use crate::source::LinkSource;
 use crate::starts::start_of;
 use crate::statuses::gather_statuses;
 use crate::valves::valve_kind;

@@ -10,9 +10,9 @@ ghost use Rattle.hyd_spec_input.specs.Capacities.{IsRefusedPipe};
 ghost use Rattle.hyd_spec_input.specs.Project.{IsPipeKind};
 ghost use Rattle.hyd_spec_input.specs.Tables.{is_of};
 ghost use Rattle.hyd_spec_input.specs.WithOthers as others;
-ghost use Rattle.hyd_build_links.specs.Sources.{IsRowOf, rows_from};
+ghost use Rattle.hyd_build_links.specs.CheckedRows.{IsRowOf, rows_from};
 
-use crate::source::LinkSource;
+use crate::checked_rows::LinkSource;
 use hyd_lex::{Line, Lines};
 use hyd_net::LinkKind;
 use hyd_network_rows::{PipeRow, PipeStatus, read_pipe};

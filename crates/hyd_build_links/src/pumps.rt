@@ -5,11 +5,11 @@ ghost use Rattle.hyd_spec_lines.specs.Lines.{row_of};
 ghost use Rattle.hyd_spec_lines.specs.declared.section.Section.TheVariants.{Pumps};
 ghost use Rattle.hyd_spec_input.specs.Project.{IsPumpKind};
 ghost use Rattle.hyd_spec_input.specs.Tables.{is_of};
-ghost use Rattle.hyd_build_links.specs.Sources.{IsRowOf, rows_from};
+ghost use Rattle.hyd_build_links.specs.CheckedRows.{IsRowOf, rows_from};
 
-use crate::laws::pump_law;
-use crate::numbers::{number, pattern_number};
-use crate::source::LinkSource;
+use crate::checked_rows::LinkSource;
+use crate::numbering::{number, pattern_number};
+use crate::pump_laws::pump_law;
 use hyd_lex::{Line, Lines};
 use hyd_net::LinkKind;
 use hyd_network_rows::read_pump;

@@ -5,12 +5,12 @@ ghost use Rattle.hyd_spec_lines.specs.Lines.{row_of};
 ghost use Rattle.hyd_spec_lines.specs.declared.section.Section.TheVariants.{Valves};
 ghost use Rattle.hyd_spec_input.specs.Project.{IsValveKind};
 ghost use Rattle.hyd_spec_input.specs.Tables.{is_of};
-ghost use Rattle.hyd_build_links.specs.Sources.{IsRowOf, rows_from};
+ghost use Rattle.hyd_build_links.specs.CheckedRows.{IsRowOf, rows_from};
 
-use crate::numbers::number;
-use crate::source::LinkSource;
-use hyd_asked_states::valve_law;
+use crate::checked_rows::LinkSource;
+use crate::numbering::number;
 use hyd_lex::{Line, Lines};
+use hyd_link_states::valve_law;
 use hyd_net::LinkKind;
 use hyd_network_rows::{ValveSetting, read_valve};
 

@@ -10,7 +10,7 @@ use Rattle.std.proofs.lemmas.List.{map-set, map-append, length-map, get_or-set_s
 use Rattle.std.proofs.lemmas.List.{get_or-map}
 use Rattle.std.proofs.lemmas.List.Elements.{filter-append, All-push, All-map}
 use Rattle.hyd_num.specs.Quantity.{flow_ticks}
-use Rattle.hyd_num.specs.declared.units.FlowUnit.{FlowUnit}
+use Rattle.hyd_num.specs.declared.flow_units.FlowUnit.{FlowUnit}
 use Rattle.hyd_spec_lines.specs.Bytes.{text_of}
 use Rattle.hyd_spec_lines.specs.Lines.{Row}
 use Rattle.hyd_spec_lines.specs.declared.line.Line.{Line}
@@ -19,15 +19,15 @@ use Rattle.hyd_net.specs.ListView.{ListView}
 use Rattle.hyd_net.specs.Ranges.{IsFlow}
 use Rattle.hyd_net.specs.declared.nodes.Demand.{Demand}
 use Rattle.hyd_network_rows.specs.Rows.{IsDemandRow}
-use Rattle.hyd_network_rows.specs.declared.data.DemandRow.{DemandRow}
+use Rattle.hyd_network_rows.specs.declared.belongings.DemandRow.{DemandRow}
 use Rattle.hyd_spec_input.specs.Columns.{amount, word, or_empty}
 use Rattle.hyd_spec_input.specs.Faults.{NoneIs, IsWrongWithOthers}
 use Rattle.hyd_spec_input.specs.InForce as force
-use Rattle.hyd_spec_input.specs.Network.{number_in, pattern_ids, demand_of_row}
+use Rattle.hyd_spec_input.specs.RowMeanings.{number_in, pattern_ids, demand_of_row}
 use Rattle.hyd_spec_input.specs.Tables.{is_of, rows_of, rows_with, own_id, node_rows}
 use Rattle.hyd_spec_input.specs.WithOthers as others
-use Rattle.hyd_spec_networks.proofs.Faultless.{all_none}
-use Rattle.hyd_spec_networks.proofs.NodeRanges.{flow_right}
+use Rattle.hyd_theorems_on_input.proofs.Faultless.{all_none}
+use Rattle.hyd_theorems_on_input.proofs.NodeRanges.{flow_right}
 use Rattle.hyd_row_tables.specs.Found.{rows_at}
 use Rattle.hyd_row_tables.specs.Tables.{AreFirsts}
 use Rattle.hyd_row_tables.proofs.FoundLemmas.{filter_more, filter_same}

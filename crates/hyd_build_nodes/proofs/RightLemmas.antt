@@ -14,7 +14,7 @@ use Rattle.hyd_spec_input.specs.Faults.{NoneIs, IsWrongWithOthers}
 use Rattle.hyd_spec_input.specs.Tables.{is_of, rows_of, words_of}
 use Rattle.hyd_spec_input.specs.WithOthers as others
 use Rattle.hyd_spec_input.specs.Project.{Match}
-use Rattle.hyd_spec_networks.proofs.Faultless.{section_is}
+use Rattle.hyd_theorems_on_input.proofs.Faultless.{section_is}
 use Rattle.hyd_row_tables.specs.Found.{rows_at}
 use Rattle.hyd_row_tables.proofs.FoundLemmas.{filter_more, filter_same}
 use Rattle.hyd_row_tables.proofs.SectionLemmas.{none_of, all_rows}

@@ -9,7 +9,7 @@ ghost use Rattle.hyd_spec_lines.specs.Lines.{LiesIn};
 ghost use Rattle.hyd_spec_input.specs.ByItself.{IsWrongByItself};
 ghost use Rattle.hyd_spec_input.specs.Faults.{NoneIs, IsWrongWithOthers};
 ghost use Rattle.hyd_spec_input.specs.InForce as force;
-ghost use Rattle.hyd_spec_input.specs.Network.{pattern_ids};
+ghost use Rattle.hyd_spec_input.specs.RowMeanings.{pattern_ids};
 ghost use Rattle.hyd_spec_input.specs.Tables.{place as section_place, node_rows};
 ghost use Rattle.hyd_row_tables.specs.Found.{rows_at};
 ghost use Rattle.hyd_row_tables.specs.Tables.{IsTable};

@@ -11,8 +11,8 @@ ghost use Rattle.hyd_spec_lines.specs.declared.section.Section.TheVariants.{Junc
 ghost use Rattle.hyd_spec_input.specs.ByItself.{IsWrongByItself};
 ghost use Rattle.hyd_spec_input.specs.Faults.{NoneIs, IsWrongWithOthers};
 ghost use Rattle.hyd_spec_input.specs.InForce as force;
-ghost use Rattle.hyd_spec_input.specs.Network as network;
-ghost use Rattle.hyd_spec_input.specs.Network.{pattern_ids};
+ghost use Rattle.hyd_spec_input.specs.RowMeanings as network;
+ghost use Rattle.hyd_spec_input.specs.RowMeanings.{pattern_ids};
 ghost use Rattle.hyd_spec_input.specs.Project.{Match, IsJunction};
 ghost use Rattle.hyd_spec_input.specs.Tables.{place as section_place, rows_of, node_rows};
 ghost use Rattle.hyd_row_tables.specs.Found.{rows_at};

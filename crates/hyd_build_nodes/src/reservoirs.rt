@@ -12,7 +12,7 @@ ghost use Rattle.hyd_spec_input.specs.ByItself.{IsWrongByItself};
 ghost use Rattle.hyd_spec_input.specs.Columns.{amount};
 ghost use Rattle.hyd_spec_input.specs.Faults.{NoneIs, IsWrongWithOthers};
 ghost use Rattle.hyd_spec_input.specs.InForce as force;
-ghost use Rattle.hyd_spec_input.specs.Network.{pattern_ids};
+ghost use Rattle.hyd_spec_input.specs.RowMeanings.{pattern_ids};
 ghost use Rattle.hyd_spec_input.specs.NetworkRows as row;
 ghost use Rattle.hyd_spec_input.specs.Project.{Match, IsReservoir};
 ghost use Rattle.hyd_spec_input.specs.Tables.{place as section_place, rows_of};

@@ -12,7 +12,7 @@ ghost use Rattle.hyd_options_and_rules.specs.Judged.{words_at};
 ghost use Rattle.hyd_spec_input.specs.ByItself.{IsWrongByItself};
 ghost use Rattle.hyd_spec_input.specs.Faults.{NoneIs, IsWrongWithOthers};
 ghost use Rattle.hyd_spec_input.specs.InForce as force;
-ghost use Rattle.hyd_spec_input.specs.Network.{shape_names};
+ghost use Rattle.hyd_spec_input.specs.RowMeanings.{shape_names};
 ghost use Rattle.hyd_spec_input.specs.NetworkRows as row;
 ghost use Rattle.hyd_spec_input.specs.Project.{Match, IsTank};
 ghost use Rattle.hyd_spec_input.specs.Tables.{place as section_place, rows_of};

@@ -22,8 +22,8 @@ use Rattle.hyd_spec_input.specs.OptionRows.{demand_words, demand_value, demand_l
 use Rattle.hyd_spec_input.specs.OptionRows.{step_line, step_or_start_line, start_line, time_about, time_line}
 use Rattle.hyd_spec_input.specs.Tables.{rows_of}
 use Rattle.hyd_row_tables.specs.Found.{rows_at}
-use Rattle.hyd_spec_networks.proofs.Faultless.{AreRight, right_alone, or_none, all_none, unless_none, needed_none}
-use Rattle.hyd_spec_networks.proofs.InForce.{IsInForce, in_force, word_is_keyword, first_named_same, is_one_of_same}
+use Rattle.hyd_theorems_on_input.proofs.Faultless.{AreRight, right_alone, or_none, all_none, unless_none, needed_none}
+use Rattle.hyd_theorems_on_input.proofs.InForce.{IsInForce, in_force, word_is_keyword, first_named_same, is_one_of_same}
 use Rattle.hyd_build_options.specs.InForce.{row_in, GivesTime}
 
 -- what each row in force has, a line in force has it

@@ -13,12 +13,13 @@ use Rattle.hyd_spec_lines.specs.Lines.{Row}
 use Rattle.hyd_spec_lines.specs.declared.section.Section.{Section}
 use Rattle.hyd_spec_lines.specs.declared.section.Section.TheVariants.{Junctions, Reservoirs, Tanks, Pipes, Pumps}
 use Rattle.hyd_spec_lines.specs.declared.section.Section.TheVariants.{Valves}
-use Rattle.hyd_spec_input.specs.Network.{is_among, new_names, node_ids, tank_ids, link_ids}
+use Rattle.hyd_spec_input.specs.RowMeanings.{is_among, new_names, node_ids, tank_ids, link_ids}
 use Rattle.hyd_spec_input.specs.Tables.{is_of, rows_of, own_id}
 use Rattle.hyd_row_tables.proofs.FoundLemmas.{filter_more, filter_same}
-use Rattle.hyd_spec_networks.proofs.Occurs.{itself, when, occurs, occurs_append, Once}
-use Rattle.hyd_spec_networks.proofs.Faultless.{AreRight}
-use Rattle.hyd_spec_networks.proofs.Names.{own_ids, node_ids_are, link_ids_are, tank_ids_are, nodes_once, links_once}
+use Rattle.hyd_theorems_on_input.proofs.Occurs.{itself, when, occurs, occurs_append, Once}
+use Rattle.hyd_theorems_on_input.proofs.Faultless.{AreRight}
+use Rattle.hyd_theorems_on_input.proofs.Names.{own_ids, node_ids_are, link_ids_are, tank_ids_are, nodes_once}
+use Rattle.hyd_theorems_on_input.proofs.Names.{links_once}
 
 -- ---- one name more
 

@@ -15,18 +15,19 @@ use Rattle.hyd_spec_lines.specs.declared.section.Section.{Section}
 use Rattle.hyd_net.specs.declared.cause.Cause.{Cause}
 use Rattle.hyd_spec_input.specs.ByItself.{section_fault, IsWrongByItself}
 use Rattle.hyd_spec_input.specs.Columns.{or_empty}
-use Rattle.hyd_spec_input.specs.DataRows.{pattern}
+use Rattle.hyd_spec_input.specs.BelongingRows.{pattern}
 use Rattle.hyd_spec_input.specs.Faults.{NoneIs}
 use Rattle.hyd_net.specs.declared.patterns.Pattern.{Pattern}
-use Rattle.hyd_spec_input.specs.Network.{is_among, new_names, number_in, pattern_ids}
+use Rattle.hyd_spec_input.specs.RowMeanings.{is_among, new_names, number_in, pattern_ids}
 use Rattle.hyd_spec_input.specs.Project.{Match, IsPattern}
 use Rattle.hyd_spec_input.specs.Tables.{is_of, own_id, rows_of, rows_with, row_multipliers, pattern_named, words_of}
-use Rattle.hyd_spec_networks.proofs.Faultless.{section_is}
+use Rattle.hyd_theorems_on_input.proofs.Faultless.{section_is}
 use Rattle.hyd_row_tables.proofs.FoundLemmas.{filter_more, filter_same}
-use Rattle.hyd_spec_networks.proofs.Occurs.{same_name, itself, other_name, when, occurs, Once, occurs_at, names_once}
-use Rattle.hyd_spec_networks.proofs.Occurs.{has_number}
-use Rattle.hyd_spec_networks.proofs.Places.{split_at}
-use Rattle.hyd_build_options.specs.Filled.{each, ids_of, given, all_given, AreFilled, opened}
+use Rattle.hyd_theorems_on_input.proofs.Occurs.{same_name, itself, other_name, when, occurs, Once, occurs_at}
+use Rattle.hyd_theorems_on_input.proofs.Occurs.{names_once}
+use Rattle.hyd_theorems_on_input.proofs.Occurs.{has_number}
+use Rattle.hyd_theorems_on_input.proofs.Places.{split_at}
+use Rattle.hyd_build_options.specs.PatternsSoFar.{each, ids_of, given, all_given, AreFilled, opened}
 use Rattle.hyd_build_options.proofs.NameLemmas.{with_name, one_more}
 
 -- ---- the list of one pattern is written

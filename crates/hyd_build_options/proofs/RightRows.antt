@@ -14,8 +14,8 @@ use Rattle.hyd_spec_input.specs.WithOthers as others
 use Rattle.hyd_spec_input.specs.Faults.{NoneIs, IsWrongWithOthers}
 use Rattle.hyd_row_tables.specs.Found.{rows_at}
 use Rattle.hyd_row_tables.proofs.SectionLemmas.{none_of}
-use Rattle.hyd_spec_networks.proofs.Faultless.{AreRight}
-use Rattle.hyd_spec_networks.proofs.Places.{source}
+use Rattle.hyd_theorems_on_input.proofs.Faultless.{AreRight}
+use Rattle.hyd_theorems_on_input.proofs.Places.{source}
 
 -- no word is empty
 no_empty_word : (line : List ℕ) → All (λ w. 1 ≤ length w) (words_in line)

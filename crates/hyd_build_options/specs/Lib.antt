@@ -1,2 +1,2 @@
 pub mod InForce
-pub mod Filled
+pub mod PatternsSoFar

@@ -9,7 +9,7 @@ ghost use Rattle.hyd_spec_input.specs.ByItself.{IsWrongByItself};
 ghost use Rattle.hyd_spec_input.specs.Faults.{NoneIs, IsWrongWithOthers};
 ghost use Rattle.hyd_spec_input.specs.Columns as column;
 ghost use Rattle.hyd_spec_input.specs.InForce as force;
-ghost use Rattle.hyd_spec_input.specs.Network as network;
+ghost use Rattle.hyd_spec_input.specs.RowMeanings as network;
 ghost use Rattle.hyd_spec_input.specs.Project.{IsOptions};
 ghost use Rattle.hyd_row_tables.specs.Found.{rows_at};
 ghost use Rattle.hyd_build_options.specs.InForce.{row_in};

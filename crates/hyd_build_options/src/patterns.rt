@@ -9,12 +9,12 @@ ghost use Rattle.hyd_spec_lines.specs.Bytes.{words_in};
 ghost use Rattle.hyd_spec_lines.specs.Lines.{LiesIn};
 ghost use Rattle.hyd_spec_input.specs.ByItself.{IsWrongByItself};
 ghost use Rattle.hyd_spec_input.specs.Columns.{within};
-ghost use Rattle.hyd_spec_input.specs.DataRows as row;
+ghost use Rattle.hyd_spec_input.specs.BelongingRows as row;
 ghost use Rattle.hyd_spec_input.specs.Faults.{NoneIs, IsWrongWithOthers};
-ghost use Rattle.hyd_spec_input.specs.Network as network;
+ghost use Rattle.hyd_spec_input.specs.RowMeanings as network;
 ghost use Rattle.hyd_spec_input.specs.Project.{Match, IsPattern};
 ghost use Rattle.hyd_row_tables.specs.Found.{rows_at};
-ghost use Rattle.hyd_build_options.specs.Filled.{each, opened, AreFilled};
+ghost use Rattle.hyd_build_options.specs.PatternsSoFar.{each, opened, AreFilled};
 
 use crate::ids::is_of;
 use hyd_lex::{Line, Lines, Section, split_word};

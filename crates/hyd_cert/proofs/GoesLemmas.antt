@@ -17,7 +17,7 @@ use Rattle.std.proofs.lemmas.List.{append_cancel_left}
 use Rattle.std.proofs.lemmas.Fmt.{decimal_is_IsNumeral_wide}
 use Rattle.std.specs.Str.Parse.{digits_value}
 use Rattle.hyd_cert.specs.Places.{Lacks}
-use Rattle.hyd_cert.specs.Sentence.{IsLines, HasFirstLine, ended, unended}
+use Rattle.hyd_cert.specs.FaultyLine.{IsLines, HasFirstLine, ended, unended}
 use Rattle.hyd_cert.proofs.LineLemmas.{header_is_line, next_is_line, head_is_line, known_short, wide_free}
 use Rattle.hyd_cert.proofs.HeadLemmas.{is_front, end_is}
 

@@ -16,7 +16,7 @@ use Rattle.hyd_cert.specs.declared.answers.CertNext.{CertNext}
 use Rattle.hyd_cert.specs.declared.answers.CertFault.{CertFault}
 use Rattle.hyd_cert.specs.declared.answers.CertFault.TheVariants.{Read, Grammar, Count}
 use Rattle.hyd_spec_reports.specs.CertificateText.{words}
-use Rattle.hyd_spec_laws.proofs.CertificateLines.{header-short}
+use Rattle.hyd_theorems_on_periods.proofs.CertificateLines.{header-short}
 use Rattle.hyd_cert.specs.Cutting.{HasNo}
 use Rattle.hyd_cert.proofs.LineLemmas.{header_is_line}
 use Rattle.hyd_cert.specs.NextLine.{IsPeriodOrEnd}

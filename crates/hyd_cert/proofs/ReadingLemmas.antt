@@ -18,7 +18,7 @@ use Rattle.hyd_cert.specs.Lines.{header_words}
 use Rattle.hyd_cert.specs.Places.{Place, First, Between, Head, Over, CanStand, IsFault, later, front_at, heads_in}
 use Rattle.hyd_cert.specs.Places.{place_after, head_text, Goes, ends, goes}
 use Rattle.hyd_cert.specs.Vectors.{AreVectors, two_vectors, behind_two, problems_in}
-use Rattle.hyd_cert.specs.Sentence.{IsCertificate, lines_of, BeginsWith}
+use Rattle.hyd_cert.specs.FaultyLine.{IsCertificate, lines_of, BeginsWith}
 use Rattle.hyd_cert.proofs.HeadLemmas.{place_head, period_is, end_is}
 use Rattle.hyd_cert.proofs.VectorLemmas.{row_with, row_text, row_is}
 

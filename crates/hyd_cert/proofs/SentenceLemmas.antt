@@ -7,7 +7,7 @@ use Rattle.hyd_cert.specs.Lines.{Header, IsHeaderLine}
 use Rattle.hyd_cert.specs.Cutting.{HasNo}
 use Rattle.hyd_cert.specs.Places.{Place, First, Between, MayStand, IsFault, here, later, Lacks, CanStand, Goes, goes}
 use Rattle.hyd_cert.specs.Faults.{HasOtherHeader}
-use Rattle.hyd_cert.specs.Sentence.{IsCertificate, IsLines, HasFirstLine, ended, unended, IsFirstFault}
+use Rattle.hyd_cert.specs.FaultyLine.{IsCertificate, IsLines, HasFirstLine, ended, unended, IsFirstFault}
 use Rattle.hyd_cert.proofs.Pieces.{cut-same, has_none}
 use Rattle.hyd_cert.proofs.LineLemmas.{header_is_line}
 use Rattle.hyd_cert.proofs.GoesLemmas.{HasRest, between_goes, can_go_on, FaultFrom, fault_from, later_fault}

@@ -5,5 +5,5 @@ pub mod NextLine
 pub mod Places
 pub mod ReaderView
 pub mod RecordView
-pub mod Sentence
+pub mod FaultyLine
 pub mod Vectors

@@ -19,9 +19,9 @@ ghost use Rattle.hyd_cert.specs.RecordView.{header_of, row_of};
 ghost use Rattle.hyd_cert.specs.declared.answers.Stand.TheVariants as stand;
 
 use crate::answers::{CertFault, CertNext, End, Stand};
+use crate::line_reader::Source;
 use crate::lines::{Next, head_line, is_header_line, period_or_end};
 use crate::record::Record;
-use crate::source::Source;
 use crate::writing::{front_of, is_header_of};
 use hyd_io::Desk;
 use std::marker::Model;

@@ -10,19 +10,20 @@ use Rattle.hyd_spec_certificates.specs.Record.{Standing, initial_standing}
 use Rattle.hyd_spec_reports.specs.CertificateText.{IsRow}
 use Rattle.hyd_spec_reports.specs.ReportLine.{report_text}
 use Rattle.hyd_spec_reports.specs.Headline.{Found, IsRun, IsRunFrom, rows_of, lines_of, report_so_far}
-use Rattle.hyd_spec_laws.proofs.Appending.{run_more}
-use Rattle.hyd_spec_histories.proofs.Running.{every_history}
+use Rattle.hyd_theorems_on_periods.proofs.Appending.{run_more}
+use Rattle.hyd_theorems_on_histories.proofs.Running.{every_history}
 use Rattle.hyd_io.specs.Told.{append_known, Moves, PutOut}
 use Rattle.hyd_io.proofs.ToldLemmas.{moves_whole}
 use Rattle.hyd_io.specs.Output.{PenState}
 use Rattle.hyd_cert.specs.ReaderView.{ReaderView, fresh, to_come}
-use Rattle.hyd_report.specs.Lines.{texts}
+use Rattle.hyd_report.specs.LinesOfParts.{texts}
 use Rattle.hyd_run.specs.Runs.{first_line}
 use Rattle.hyd_sim.specs.View.{header_for}
 use Rattle.hyd_cert_check.specs.Checks.{CheckEnds, CheckFinds, CheckBreaksOff, in_last_line, in_records}
 use Rattle.hyd_cert_check.specs.Printing.{Moment, new_pen, LeavesFiles, PutIn, IsCutOff, Rose}
-use Rattle.hyd_cert_check.specs.Turns.{coming, IsReadTo, nothing, IsRead, IsStep, IsSoFar, AllRead, IsWhole, IsCutShort}
-use Rattle.hyd_cert_check.specs.Turns.{IsPrinted, CheckPuts, verdict_line, end_of}
+use Rattle.hyd_cert_check.specs.RecordByRecord.{coming, IsReadTo, nothing, IsRead, IsStep, IsSoFar, AllRead, IsWhole}
+use Rattle.hyd_cert_check.specs.RecordByRecord.{IsCutShort}
+use Rattle.hyd_cert_check.specs.RecordByRecord.{IsPrinted, CheckPuts, verdict_line, end_of}
 use Rattle.hyd_cert_check.specs.declared.outcome.CheckEnd.{CheckEnd}
 use Rattle.hyd_cert_check.specs.declared.outcome.CheckFault.{CheckFault}
 use Rattle.hyd_cert_check.specs.declared.outcome.Verdict.{Verdict}

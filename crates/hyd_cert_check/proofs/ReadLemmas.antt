@@ -11,7 +11,7 @@ use Rattle.hyd_spec_reports.specs.Headline.{Found, rows_of}
 use Rattle.hyd_cert.specs.Lines.{Header, header_text}
 use Rattle.hyd_cert.specs.Places.{heads_in}
 use Rattle.hyd_cert.specs.Faults.{lines_on}
-use Rattle.hyd_cert.specs.Sentence.{lines_of}
+use Rattle.hyd_cert.specs.FaultyLine.{lines_of}
 use Rattle.hyd_cert.specs.ReaderView.{lead, lead_lines}
 use Rattle.hyd_cert.specs.declared.answers.Stand.{Stand}
 use Rattle.hyd_cert.specs.declared.answers.Stand.TheVariants as stand
@@ -19,7 +19,7 @@ use Rattle.hyd_cert.proofs.GoesLemmas.{has_rest}
 use Rattle.hyd_sim.specs.View.{header_for}
 use Rattle.hyd_cert_check.specs.Checks.{BeginsWithFound}
 use Rattle.hyd_cert_check.specs.Printing.{Moment}
-use Rattle.hyd_cert_check.specs.Turns.{coming, IsRead, IsReadTo, nothing, records}
+use Rattle.hyd_cert_check.specs.RecordByRecord.{coming, IsRead, IsReadTo, nothing, records}
 use Rattle.hyd_cert_check.proofs.TextLemmas.{join-more, no-rows, told-is}
 
 -- ---- lines

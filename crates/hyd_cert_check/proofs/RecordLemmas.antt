@@ -24,17 +24,18 @@ use Rattle.hyd_graph.specs.NetView.{NetView}
 use Rattle.hyd_graph.specs.Periods.{ends_of, IsNetOf}
 use Rattle.hyd_graph.specs.Settings.{AreStates}
 use Rattle.hyd_period_facts.specs.declared.facts.Facts.{Facts}
-use Rattle.hyd_spec_laws.specs.Laws.{IsSteady}
-use Rattle.hyd_report.specs.Lines.{texts}
-use Rattle.hyd_report.specs.Periods.{AreBounds, AreTankFacts, lines_of}
+use Rattle.hyd_theorems_on_periods.specs.Laws.{IsSteady}
+use Rattle.hyd_report.specs.LinesOfParts.{texts}
+use Rattle.hyd_report.specs.PeriodLines.{AreBounds, AreTankFacts, lines_of}
 use Rattle.hyd_report.proofs.ReportLemmas.{length-links_of, lines_are_report}
 use Rattle.hyd_run.specs.Runs.{periods_left}
 use Rattle.hyd_run.proofs.PeriodLemmas.{bounds-of, tank-facts-of, few-periods, number-next}
 use Rattle.hyd_sim.specs.View.{SimView, IsSim, standing_of, header_for}
 use Rattle.hyd_sim.specs.Acceptance.{IsAccepted}
 use Rattle.hyd_cert_check.specs.Printing.{Moment, PutIn, IsCutOff}
-use Rattle.hyd_cert_check.specs.Turns.{coming, IsRead, IsStep, IsOfPeriod, DidRecord, LostRecord, IsOver, IsSo, IsEnd}
-use Rattle.hyd_cert_check.specs.Turns.{IsGrammarFault, IsCountsFault}
+use Rattle.hyd_cert_check.specs.RecordByRecord.{coming, IsRead, IsStep, IsOfPeriod, DidRecord, LostRecord, IsOver, IsSo}
+use Rattle.hyd_cert_check.specs.RecordByRecord.{IsEnd}
+use Rattle.hyd_cert_check.specs.RecordByRecord.{IsGrammarFault, IsCountsFault}
 use Rattle.hyd_cert_check.specs.declared.outcome.CheckFault.{CheckFault}
 use Rattle.hyd_cert_check.specs.declared.outcome.Verdict.{Verdict}
 use Rattle.hyd_cert_check.specs.declared.outcome.Verdict.TheVariants.{Refused}

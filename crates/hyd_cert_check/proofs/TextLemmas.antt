@@ -13,7 +13,7 @@ use Rattle.hyd_spec_reports.specs.ReportLine.{line_text, report_text}
 use Rattle.hyd_spec_reports.specs.Headline.{Found, lines_of, rows_of, report_so_far}
 use Rattle.hyd_cert.specs.Lines.{IsHeaderLine, header_words}
 use Rattle.hyd_cert.proofs.HeadLemmas.{header_is}
-use Rattle.hyd_report.specs.Lines.{texts}
+use Rattle.hyd_report.specs.LinesOfParts.{texts}
 use Rattle.hyd_report.proofs.Joining.{map-append}
 use Rattle.hyd_run.specs.Runs.{first_line}
 use Rattle.hyd_sim.specs.View.{header_for}

@@ -7,9 +7,10 @@ use Rattle.hyd_cert.specs.ReaderView.{IsGoing}
 use Rattle.hyd_cert.specs.declared.answers.Stand.{Stand}
 use Rattle.hyd_sim.specs.View.{SimView, standing_of}
 use Rattle.hyd_cert_check.specs.Printing.{Moment}
-use Rattle.hyd_cert_check.specs.Turns.{CanGoOn, DidRecord, IsOver, IsLost, in_reading, in_report, IsSoFar, IsSo}
-use Rattle.hyd_cert_check.specs.Turns.{AllRead}
-use Rattle.hyd_cert_check.specs.Turns.{IsCutShort}
+use Rattle.hyd_cert_check.specs.RecordByRecord.{CanGoOn, DidRecord, IsOver, IsLost, in_reading, in_report, IsSoFar}
+use Rattle.hyd_cert_check.specs.RecordByRecord.{IsSo}
+use Rattle.hyd_cert_check.specs.RecordByRecord.{AllRead}
+use Rattle.hyd_cert_check.specs.RecordByRecord.{IsCutShort}
 use Rattle.hyd_cert_check.specs.declared.outcome.CheckFault.{CheckFault}
 use Rattle.hyd_cert_check.specs.declared.outcome.Verdict.{Verdict}
 use Rattle.hyd_cert_check.proofs.EndLemmas.{so-far-more, so-far-cut, record-cut}

@@ -14,11 +14,11 @@ use Rattle.hyd_spec_reports.specs.ReportLine.{report_text, refused_line, refused
 use Rattle.hyd_spec_reports.specs.declared.CertRefused.{CertRefused}
 use Rattle.hyd_spec_reports.specs.Headline.{Found, rows_of, lines_of, accepted_line, CheckAccepts, CheckRefuses}
 use Rattle.hyd_spec_reports.specs.Headline.{CheckRefusesEnd}
-use Rattle.hyd_spec_histories.proofs.Running.{every_history}
+use Rattle.hyd_theorems_on_histories.proofs.Running.{every_history}
 use Rattle.hyd_cert.specs.Lines.{Header, header_text, header_words}
 use Rattle.hyd_cert.specs.Places.{First, IsFault, heads_in}
 use Rattle.hyd_cert.specs.Faults.{lines_on, HasOtherHeader, LacksRecord}
-use Rattle.hyd_cert.specs.Sentence.{lines_of as record_lines}
+use Rattle.hyd_cert.specs.FaultyLine.{lines_of as record_lines}
 use Rattle.hyd_cert.specs.ReaderView.{place_of}
 use Rattle.hyd_cert.specs.declared.answers.Stand.{Stand}
 use Rattle.hyd_cert.proofs.GoesLemmas.{has_rest}
@@ -30,9 +30,9 @@ use Rattle.hyd_cert_check.specs.Checks.{HasNoMoreRecords}
 use Rattle.hyd_cert_check.specs.Checks.{CheckRefusesGrammar, CheckRefusesCounts, grammar, counts, record_refused}
 use Rattle.hyd_cert_check.specs.Checks.{other_end, CheckEnds, CheckFinds}
 use Rattle.hyd_cert_check.specs.Printing.{Moment}
-use Rattle.hyd_cert_check.specs.Turns.{coming, IsReadTo, nothing, records, IsSoFar, IsSo, IsEnd, IsOtherEnd}
-use Rattle.hyd_cert_check.specs.Turns.{IsRefusedNext}
-use Rattle.hyd_cert_check.specs.Turns.{IsGrammarFault, IsCountsFault, end_number, verdict_line, end_of}
+use Rattle.hyd_cert_check.specs.RecordByRecord.{coming, IsReadTo, nothing, records, IsSoFar, IsSo, IsEnd, IsOtherEnd}
+use Rattle.hyd_cert_check.specs.RecordByRecord.{IsRefusedNext}
+use Rattle.hyd_cert_check.specs.RecordByRecord.{IsGrammarFault, IsCountsFault, end_number, verdict_line, end_of}
 use Rattle.hyd_cert_check.specs.declared.outcome.Verdict.{Verdict}
 use Rattle.hyd_cert_check.specs.declared.outcome.Verdict.TheVariants.{Accepted, Refused, OtherEnd, Grammar, Counts}
 use Rattle.hyd_cert_check.proofs.TextLemmas.{own-header, no-rows}

@@ -11,7 +11,7 @@ use Rattle.hyd_spec_reports.specs.declared.CertRefused.{CertRefused}
 use Rattle.hyd_spec_reports.specs.Headline.{Found, IsRun, rows_of, lines_of, EveryHistoryAgrees, CheckAccepts}
 use Rattle.hyd_spec_reports.specs.Headline.{CheckRefuses, CheckRefusesEnd}
 use Rattle.hyd_cert.specs.Faults.{HasOtherHeader}
-use Rattle.hyd_cert.specs.Sentence.{IsFirstFault}
+use Rattle.hyd_cert.specs.FaultyLine.{IsFirstFault}
 use Rattle.hyd_sim.specs.View.{header_for}
 use Rattle.hyd_cert_check.specs.declared.outcome.CheckEnd.{CheckEnd}
 use Rattle.hyd_cert_check.specs.declared.outcome.CheckEnd.TheVariants.{Accepted, Refused}

@@ -1,3 +1,3 @@
 pub mod Printing
 pub mod Checks
-pub mod Turns
+pub mod RecordByRecord

@@ -2,11 +2,11 @@
 //! report put out through a pen.
 #![tactic(auto)]
 
-mod lines;
+mod first_and_bad_lines;
+mod last_line;
 mod outcome;
 mod records;
-mod verdicts;
-mod whole;
+mod whole_check;
 
 pub use outcome::{CheckEnd, CheckFault};
-pub use whole::check;
+pub use whole_check::check;

@@ -6,14 +6,15 @@ ghost use Rattle.hyd_io.specs.Output.{OnCert};
 ghost use Rattle.hyd_cert.specs.ReaderView.{ReaderView};
 ghost use Rattle.hyd_cert.specs.RecordView.{header_of, row_of};
 ghost use Rattle.hyd_graph.specs.GridOf.{grid_of, states_of};
-ghost use Rattle.hyd_report.specs.Lines.{texts};
-ghost use Rattle.hyd_report.specs.Periods.{lines_of};
+ghost use Rattle.hyd_report.specs.LinesOfParts.{texts};
+ghost use Rattle.hyd_report.specs.PeriodLines.{lines_of};
 ghost use Rattle.hyd_report.specs.Putting.{Puts};
 ghost use Rattle.hyd_run.specs.Pens.{told};
 ghost use Rattle.hyd_sim.specs.View.{header_for, standing_of};
 ghost use Rattle.hyd_cert_check.specs.Printing.{Moment, moment, IsOpen, PutIn};
-ghost use Rattle.hyd_cert_check.specs.Turns.{CanGoOn, IsEnd, IsOfPeriod, IsRead, IsSo, TryGives, TurnGives, TurnsGive};
-ghost use Rattle.hyd_cert_check.specs.Turns.{end_number};
+ghost use Rattle.hyd_cert_check.specs.RecordByRecord.{CanGoOn, IsEnd, IsOfPeriod, IsRead, IsSo, TryGives, TurnGives};
+ghost use Rattle.hyd_cert_check.specs.RecordByRecord.{TurnsGive};
+ghost use Rattle.hyd_cert_check.specs.RecordByRecord.{end_number};
 
 use crate::outcome::{CheckFault, Verdict};
 use hyd_cert::{CertFault, CertNext, CertReader, Record};
@@ -84,6 +85,7 @@ fn try_record<D: Desk>(
         (told D.files D.rest D.written D.printed D.target D.ready D.counts D.openings desk.new)) }
     ensures running { sim.new.stopped ≡ None }
     ensures project { sim.new.project ≡ sim.old.project }
+    ensures settings { sim.new.settings ≡ sim.old.settings }
 {
     match sim.accept(row) {
         Ok(()) => {}
@@ -117,6 +119,7 @@ fn take_record<D: Desk>(
         (told D.files D.rest D.written D.printed D.target D.ready D.counts D.openings desk.new)) }
     ensures running { sim.new.stopped ≡ None }
     ensures project { sim.new.project ≡ sim.old.project }
+    ensures settings { sim.new.settings ≡ sim.old.settings }
     ensures header { header_of row.new ≡ header_of row.old }
 {
     match reader.next(desk, row) {
@@ -154,6 +157,7 @@ pub(crate) fn take_records<D: Desk>(
         (told D.files D.rest D.written D.printed D.target D.ready D.counts D.openings desk.new)) }
     ensures unbroken { OnOk result (IsOpen pen.new) }
     ensures project { sim.new.project ≡ sim.old.project }
+    ensures settings { sim.new.settings ≡ sim.old.settings }
 {
     // The network is sound.
     let _project = sim.project();

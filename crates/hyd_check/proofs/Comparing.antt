@@ -18,10 +18,10 @@ use Rattle.hyd_spec_certificates.specs.declared.Side.TheVariants.{Upper, Lower}
 use Rattle.hyd_spec_certificates.specs.Interval.{Interval}
 use Rattle.hyd_spec_certificates.specs.Grid.{Grid, IsGrid, all_heads, tank_intervals, end_on, tank_side}
 use Rattle.hyd_spec_certificates.specs.Certificate.{IsCertificate}
-use Rattle.hyd_spec_laws.specs.Laws.{IsSteady}
-use Rattle.hyd_spec_laws.proofs.Comparison.{below_main, above_main, one_each}
-use Rattle.hyd_spec_laws.proofs.Pinning.{upper_within, lower_within}
-use Rattle.hyd_spec_nesting.proofs.TwoSides.{lower-below}
+use Rattle.hyd_theorems_on_periods.specs.Laws.{IsSteady}
+use Rattle.hyd_theorems_on_periods.proofs.Comparison.{below_main, above_main, one_each}
+use Rattle.hyd_theorems_on_periods.proofs.Pinning.{upper_within, lower_within}
+use Rattle.hyd_theorems_on_nesting.proofs.TwoSides.{lower-below}
 use Rattle.hyd_check.specs.Comparing.{LiesAbove, LiesBelow, LiesAbovePinned, LiesBelowPinned, LiesAboveLower}
 use Rattle.hyd_check.specs.Comparing.{LiesBelowUpper}
 

@@ -6,7 +6,7 @@ use Rattle.hyd_spec.specs.Assignment.{head_at}
 use Rattle.hyd_spec_certificates.specs.declared.Problem.{Problem}
 use Rattle.hyd_spec_certificates.specs.declared.Side.{Side}
 use Rattle.hyd_spec_certificates.specs.Grid.{Grid, GridJunction, all_heads, fixed_heads}
-use Rattle.hyd_spec_laws.proofs.Nodes.{head_front}
+use Rattle.hyd_theorems_on_periods.proofs.Nodes.{head_front}
 use Rattle.std.proofs.Common.{pos}
 
 pub own-head : (grid : Grid) (problem : Problem) (side : Side) (u : List ℤ) (i : ℕ) (h : ℤ) → i < length u

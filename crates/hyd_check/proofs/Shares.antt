@@ -7,7 +7,7 @@ use Rattle.hyd_spec.specs.Law.{Law}
 use Rattle.hyd_spec.specs.Assignment.{head_at}
 use Rattle.hyd_spec_certificates.specs.Grid.{GridLink}
 use Rattle.hyd_law.specs.declared.link_law.LinkLaw.{LinkLaw}
-use Rattle.hyd_graph.specs.declared.parts.Tie.{Tie}
+use Rattle.hyd_graph.specs.declared.network_parts.Tie.{Tie}
 use Rattle.hyd_graph.specs.Settings.{Stands}
 use Rattle.hyd_graph.specs.Ties.{tie_share}
 

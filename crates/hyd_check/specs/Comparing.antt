@@ -14,7 +14,7 @@ use Rattle.hyd_spec_certificates.specs.declared.Side.TheVariants.{Upper, Lower}
 use Rattle.hyd_spec_certificates.specs.Interval.{Interval}
 use Rattle.hyd_spec_certificates.specs.Grid.{Grid, all_heads, fixed_heads}
 use Rattle.hyd_spec_certificates.specs.Certificate.{IsCertificate}
-use Rattle.hyd_spec_laws.specs.Laws.{IsCompared}
+use Rattle.hyd_theorems_on_periods.specs.Laws.{IsCompared}
 
 -- ---- heads of assignments
 

@@ -6,7 +6,7 @@ ghost use Rattle.std.specs.Option.{option_map, option_copied, IfSome};
 ghost use Rattle.hyd_spec_certificates.specs.Enclosing.{emitter_low, emitter_high};
 ghost use Rattle.hyd_spec_certificates.specs.Grid.{GridJunction};
 ghost use Rattle.hyd_spec_certificates.specs.Certificate.{IsInBox};
-ghost use Rattle.hyd_spec_laws.specs.Laws.{IsSoundCapacity};
+ghost use Rattle.hyd_theorems_on_periods.specs.Laws.{IsSoundCapacity};
 ghost use Rattle.hyd_law.specs.OutLaws.{IsSoundOut, OutAccepts, out_low, out_high};
 ghost use Rattle.hyd_graph.specs.GridOf.{grid_of, capacity_of};
 ghost use Rattle.hyd_check.specs.Sides.{outflow};

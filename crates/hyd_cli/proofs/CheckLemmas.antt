@@ -13,12 +13,12 @@ use Rattle.hyd_spec.specs.Types.{Project}
 use Rattle.hyd_spec_input.specs.Project.{IsProject}
 use Rattle.hyd_cert_check.specs.Checks.{CheckEnds, CheckBreaksOff}
 use Rattle.hyd_cert_check.specs.Printing.{Rose}
-use Rattle.hyd_cert_check.specs.Turns.{IsPrinted}
+use Rattle.hyd_cert_check.specs.RecordByRecord.{IsPrinted}
 use Rattle.hyd_cert_check.specs.declared.outcome.CheckEnd.{CheckEnd}
 use Rattle.hyd_cert_check.specs.declared.outcome.CheckEnd.TheVariants.{Accepted, Refused}
 use Rattle.hyd_cert_check.specs.declared.outcome.CheckFault.{CheckFault}
 use Rattle.hyd_cert_check.specs.declared.outcome.CheckFault.TheVariants.{Read, Output}
-use Rattle.hyd_spec_checks.proofs.NeverRefused.{never_refused}
+use Rattle.hyd_theorems_on_checks.proofs.NeverRefused.{never_refused}
 use Rattle.hyd_command_words.specs.Orders.{TwoFiles, check}
 use Rattle.hyd_cli.specs.Answers.{Seen, IsUntouched, OnlyPrinted, OnlyPrintedFront, OnlyPrintedSome, HasCause, Leaves}
 use Rattle.hyd_cli.specs.Answers.{AnswersRefused}

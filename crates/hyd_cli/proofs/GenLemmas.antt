@@ -1,6 +1,6 @@
 -- How what the command `gen` leaves follows from what the calls in it leave.
-use Rattle.std.proofs.Common.{◌≡◌, ◌≢◌, ℕ, List, [], ◌++◌, Option, None, Some, ◌⊎◌, inl, inr, ◌∙◌, refl, sym, subst}
-use Rattle.std.proofs.Common.{is_some, append-nil}
+use Rattle.std.proofs.Common.{◌≡◌, ◌≢◌, ℕ, Bool, false, List, [], ◌++◌, Option, None, Some, ◌⊎◌, inl, inr, ◌∙◌, refl}
+use Rattle.std.proofs.Common.{sym, subst, is_some}
 use Rattle.std.proofs.lemmas.Bool.{false≢true}
 use Rattle.hyd_io.specs.Told.{where_told, append_known, file_at, content_of, Moves, PutOut}
 use Rattle.hyd_io.specs.Counts.{with_created}
@@ -18,11 +18,12 @@ use Rattle.hyd_spec_input.specs.Project.{IsProject}
 use Rattle.hyd_spec_reports.specs.Headline.{Outcome}
 use Rattle.hyd_sim.specs.declared.settings.Settings.{Settings}
 use Rattle.hyd_run.specs.Pens.{Told, LeavesRest}
-use Rattle.hyd_summed_run.specs.Sums.{IsSummed, IsSumBrokenOff}
+use Rattle.hyd_summarised_run.specs.SummarisedRuns.{IsSummed, IsSumBrokenOff}
 use Rattle.hyd_command_words.specs.Orders.{TwoFiles}
-use Rattle.hyd_cli.specs.Answers.{Seen, NothingPut, OpensCert, LeavesRun, AnswersRefused, status_of}
-use Rattle.hyd_cli.specs.GenAnswers.{usual_settings, Generated, TextWritten, TextCutShort, GenBreaksOff, nothing}
-use Rattle.hyd_cli.specs.GenAnswers.{in_network, in_run, AnswersGenerated, AnswersGen, CreatesBoth}
+use Rattle.hyd_cli.specs.Answers.{Seen, NothingPut, OfNetwork, OpensCert, LeavesRun, AnswersRefused, status_of}
+use Rattle.hyd_cli.specs.GenAnswers.{usual_settings, Generated, TextWritten, TextCutShort, CertStays, GenBreaksOff}
+use Rattle.hyd_cli.specs.GenAnswers.{nothing, in_network, no_certificate, in_run, AnswersGenerated, AnswersGen}
+use Rattle.hyd_cli.specs.GenAnswers.{CreatesBoth}
 use Rattle.hyd_cli.specs.Statuses.{status_of_outcome}
 use Rattle.hyd_cli.specs.declared.status.Status.{Status}
 use Rattle.hyd_cli.specs.declared.status.Status.TheVariants.{Done, OutOfMemory, Usage, ReadFault, WriteFault}
@@ -114,9 +115,11 @@ text_cut_short text net before created after made leaves content printed out = r
 }
 
 pub text_breaks_off : (network : Project) (text : List ℕ) (names : TwoFiles) (before now : Seen)
-    → NothingPut before now ⊎ TextCutShort text names.net before now → GenBreaksOff network text names before now
-text_breaks_off network text names before now (inl h) = nothing h
-text_breaks_off network text names before now (inr h) = in_network h
+    (opened opens : Openings) (writable : Bool) → CertStays names before now → opens ≡ with_created opened
+    → (NothingPut before now × (writable ≡ false)) ⊎ TextCutShort text names.net before now
+    → GenBreaksOff network text names before now opened opens writable
+text_breaks_off network text names before now opened opens writable stays once (inl h) = nothing h.0 stays once h.1
+text_breaks_off network text names before now opened opens writable stays once (inr h) = in_network h stays once
 
 -- ---- the run, once the text was written
 
@@ -127,18 +130,19 @@ pub text_stays : (text : List ℕ) (names : TwoFiles) (before between : Seen) (c
 text_stays text names before between created after apart w made leaves =
     others_stay names.cert names.net between created after made leaves apart ∙ w.held
 
--- the text that was written is a front of itself, where CERT couldn't be created
-pub no_certificate : (network : Project) (text : List ℕ) (names : TwoFiles) (before between now : Seen)
-    → TextWritten text names.net before between → NothingPut between now
-    → file_at now.files names.net ≡ file_at between.files names.net → GenBreaksOff network text names before now
-no_certificate network text names before between now w put same = in_network (record {
-  front = text;
-  unwritten = [];
-  is_front = append-nil text;
-  written = put.written ∙ w.written;
-  held = same ∙ (w.held ∙ sym (put.written ∙ w.written));
-  printed = put.printed ∙ w.printed;
-})
+-- the text stays where CERT couldn't be created
+pub text_alone : (network : Project) (text : List ℕ) (names : TwoFiles) (before between now : Seen)
+    (opened opens : Openings) (writable : Bool) → TextWritten text names.net before between → NothingPut between now
+    → file_at now.files names.net ≡ file_at between.files names.net → is_some now.files ≡ is_some between.files
+    → opens ≡ with_created (with_created opened) → writable ≡ false
+    → GenBreaksOff network text names before now opened opens writable
+text_alone network text names before between now opened opens writable w put same told twice closed =
+    no_certificate (record {
+      written = put.written ∙ w.written;
+      held = same ∙ w.held;
+      printed = put.printed ∙ w.printed;
+      still_told = told ∙ w.still_told;
+    }) twice closed
 
 module _ (network : Project) (settings : Settings) (text : List ℕ) (names : TwoFiles) (before between : Seen)
     (created after : Told) where
@@ -163,11 +167,12 @@ module _ (network : Project) (settings : Settings) (text : List ℕ) (names : Tw
         network_held = text_stays text names before between created after apart w made leaves;
       }
 
-  pub generated_short : settings ≡ usual_settings → names.net ≢ names.cert → TextWritten text names.net before between
+  pub generated_short : (opened : Openings) → after.openings ≡ with_created (with_created opened)
+      → settings ≡ usual_settings → names.net ≢ names.cert → TextWritten text names.net before between
       → Created names.cert between created → LeavesRest created after
       → after.written ≡ content_of after.files after.target → IsSumBrokenOff network settings created after
-      → GenBreaksOff network text names before (seen_of after)
-  generated_short usual apart w made leaves content broken_off =
+      → GenBreaksOff network text names before (seen_of after) opened after.openings after.ready
+  generated_short opened twice usual apart w made leaves content broken_off =
       let out : IsSumBrokenOff network usual_settings created after =
       subst (λ (s : Settings). IsSumBrokenOff network s created after) usual broken_off in
       in_run (record {
@@ -180,15 +185,16 @@ module _ (network : Project) (settings : Settings) (text : List ℕ) (names : Tw
             out.printed;
         held = holds_written names.cert between created after made leaves content;
         network_held = text_stays text names before between created after apart w made leaves;
-      })
+      }) twice
 
 -- ---- how it ended
 
 pub generated_end : (network : Project) (text : List ℕ) (names : TwoFiles) (outcome : Outcome) (before now : Seen)
+    (opened opens : Openings) (writable : Bool)
     → Generated network text names (status_of_outcome outcome) before now
-    → AnswersGenerated network text names (status_of_outcome outcome) before now
-generated_end network text names outcome before now h =
-    by_end (λ status. AnswersGenerated network text names status before now) outcome
+    → AnswersGenerated network text names (status_of_outcome outcome) before now opened opens writable
+generated_end network text names outcome before now opened opens writable h =
+    by_end (λ status. AnswersGenerated network text names status before now opened opens writable) outcome
     (λ e. subst (λ s. Generated network text names s before now) (sym e) h)
     (λ e. subst (λ s. Generated network text names s before now) (sym e) h)
     (λ e. subst (λ s. Generated network text names s before now) (sym e) h)
@@ -200,9 +206,10 @@ creates_of_end outcome before now e =
     by_end (λ status. CreatesBoth status before now) outcome (λ d. e) (λ d. e) (λ d. e) (λ d. e)
 
 pub generated_fault : (network : Project) (text : List ℕ) (names : TwoFiles) (fault : OutFault) (before now : Seen)
-    → GenBreaksOff network text names before now → AnswersGenerated network text names (status_of fault) before now
-generated_fault network text names Fault before now h = h
-generated_fault network text names Stall before now h = h
+    (opened opens : Openings) (writable : Bool) → GenBreaksOff network text names before now opened opens writable
+    → AnswersGenerated network text names (status_of fault) before now opened opens writable
+generated_fault network text names Fault before now opened opens writable h = h
+generated_fault network text names Stall before now opened opens writable h = h
 
 pub creates_of_fault : (fault : OutFault) (before now : Openings)
     → (now ≡ with_created before) ⊎ (now ≡ with_created (with_created before))
@@ -213,44 +220,56 @@ creates_of_fault Stall before now h = inr h
 -- ---- the text that was made
 
 pub generated_leaves : (network : Project) (text : List ℕ) (names : TwoFiles) (status : Status) (before now : Seen)
-    → AnswersGenerated network text names status before now → LeavesRun status before now
-generated_leaves network text names Done before now h = tt
-generated_leaves network text names OutOfMemory before now h = h
-generated_leaves network text names Usage before now h = absurd h
-generated_leaves network text names ReadFault before now h = absurd h
-generated_leaves network text names WriteFault before now h = tt
-generated_leaves network text names InputRefused before now h = absurd h
-generated_leaves network text names Undecided before now h = tt
-generated_leaves network text names RoundsSpent before now h = tt
-generated_leaves network text names Demand before now h = tt
-generated_leaves network text names CertificateRefused before now h = tt
-generated_leaves network text names Stalled before now h = tt
+    (opened opens : Openings) (writable : Bool)
+    → AnswersGenerated network text names status before now opened opens writable → LeavesRun status before now
+generated_leaves network text names Done before now opened opens writable h = tt
+generated_leaves network text names OutOfMemory before now opened opens writable h = h
+generated_leaves network text names Usage before now opened opens writable h = absurd h
+generated_leaves network text names ReadFault before now opened opens writable h = absurd h
+generated_leaves network text names WriteFault before now opened opens writable h = tt
+generated_leaves network text names InputRefused before now opened opens writable h = absurd h
+generated_leaves network text names Undecided before now opened opens writable h = tt
+generated_leaves network text names RoundsSpent before now opened opens writable h = tt
+generated_leaves network text names Demand before now opened opens writable h = tt
+generated_leaves network text names CertificateRefused before now opened opens writable h = tt
+generated_leaves network text names Stalled before now opened opens writable h = tt
 
 pub generated_never_usage : (network : Project) (text : List ℕ) (names : TwoFiles) (status : Status)
-    (before now : Seen) → AnswersGenerated network text names status before now → status ≢ Usage
-generated_never_usage network text names status before now h =
-    λ e. subst (λ s. AnswersGenerated network text names s before now) e h
+    (before now : Seen) (opened opens : Openings) (writable : Bool)
+    → AnswersGenerated network text names status before now opened opens writable → status ≢ Usage
+generated_never_usage network text names status before now opened opens writable h =
+    λ e. subst (λ s. AnswersGenerated network text names s before now opened opens writable) e h
+
+-- what an answer says of the network of a text
+of_network : (text : List ℕ) (network : Project) (names : TwoFiles) (status : Status) (before now : Seen)
+    (opened opens : Openings) (writable : Bool) → IsProject (rows_in (items_of text)) network
+    → AnswersGenerated network text names status before now opened opens writable
+    → OfNetwork text (λ p. AnswersGenerated p text names status before now opened opens writable)
+of_network text network names status before now opened opens writable p h =
+    record { network = network; is_network = p; holds = h }
 
 -- the answer of the network of a text is one of the text
 pub generated_answers : (text : List ℕ) (network : Project) (names : TwoFiles) (status : Status) (before now : Seen)
-    → IsProject (rows_in (items_of text)) network → AnswersGenerated network text names status before now
-    → AnswersGen text names status before now
-generated_answers text network names Done before now p h = record { network = network; is_network = p; holds = h }
-generated_answers text network names OutOfMemory before now p h = h
-generated_answers text network names Usage before now p h = absurd h
-generated_answers text network names ReadFault before now p h = absurd h
-generated_answers text network names WriteFault before now p h = record { network = network; is_network = p; holds = h }
-generated_answers text network names InputRefused before now p h = absurd h
-generated_answers text network names Undecided before now p h = record { network = network; is_network = p; holds = h }
-generated_answers text network names RoundsSpent before now p h = record {
-  network = network;
-  is_network = p;
-  holds =
-      h;
-}
-generated_answers text network names Demand before now p h = record { network = network; is_network = p; holds = h }
-generated_answers text network names CertificateRefused before now p h = absurd h
-generated_answers text network names Stalled before now p h = record { network = network; is_network = p; holds = h }
+    (opened opens : Openings) (writable : Bool) → IsProject (rows_in (items_of text)) network
+    → AnswersGenerated network text names status before now opened opens writable
+    → AnswersGen text names status before now opened opens writable
+generated_answers text network names Done before now opened opens writable p h =
+    of_network text network names Done before now opened opens writable p h
+generated_answers text network names OutOfMemory before now opened opens writable p h = h
+generated_answers text network names Usage before now opened opens writable p h = absurd h
+generated_answers text network names ReadFault before now opened opens writable p h = absurd h
+generated_answers text network names WriteFault before now opened opens writable p h =
+    of_network text network names WriteFault before now opened opens writable p h
+generated_answers text network names InputRefused before now opened opens writable p h = absurd h
+generated_answers text network names Undecided before now opened opens writable p h =
+    of_network text network names Undecided before now opened opens writable p h
+generated_answers text network names RoundsSpent before now opened opens writable p h =
+    of_network text network names RoundsSpent before now opened opens writable p h
+generated_answers text network names Demand before now opened opens writable p h =
+    of_network text network names Demand before now opened opens writable p h
+generated_answers text network names CertificateRefused before now opened opens writable p h = absurd h
+generated_answers text network names Stalled before now opened opens writable p h =
+    of_network text network names Stalled before now opened opens writable p h
 
 -- ---- the text is refused
 

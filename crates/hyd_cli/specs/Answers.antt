@@ -26,7 +26,8 @@ use Rattle.hyd_cli.specs.declared.status.Status.TheVariants.{CertificateRefused,
 
 -- ---- what a desk tells
 
--- What a call on the desk can change: the files, what was written since the last create, and what was printed.
+-- What a call on the desk can change of contents: the files, what was written since the last `create` that succeeded,
+-- and what was printed.
 pub record Seen : Type 0 where
   pub files : Option Files
   pub written : Option (List ℕ)
@@ -36,7 +37,7 @@ pub record Seen : Type 0 where
 abbrev pub seen : {S : Type 0} → (S → Option Files) → (S → Option (List ℕ)) → (S → Option (List ℕ)) → S → Seen
 seen files written printed desk = record { files = files desk; written = written desk; printed = printed desk }
 
--- Nothing was created, written or printed.
+-- All contents are as they were: of files, of what was written, of what was printed.
 pub record IsUntouched (before now : Seen) : Type 0 where
   pub files : now.files ≡ before.files
   pub written : now.written ≡ before.written

@@ -6,8 +6,8 @@ use Rattle.hyd_io.specs.Counts.{with_opened}
 use Rattle.hyd_spec.specs.Types.{Project}
 use Rattle.hyd_spec_reports.specs.Headline.{CheckAccepts}
 use Rattle.hyd_cert_check.specs.Checks.{CheckRefusal, CheckBreaksOff}
-use Rattle.hyd_spec_checks.specs.CertificateOfRun.{IsCertificateOfRun}
-use Rattle.hyd_cert_check.specs.Turns.{IsPrinted}
+use Rattle.hyd_theorems_on_checks.specs.CertificateOfRun.{IsCertificateOfRun}
+use Rattle.hyd_cert_check.specs.RecordByRecord.{IsPrinted}
 use Rattle.hyd_cert_check.specs.declared.outcome.CheckEnd.{CheckEnd}
 use Rattle.hyd_cert_check.specs.declared.outcome.CheckEnd.TheVariants.{Accepted, Refused}
 use Rattle.hyd_cert_check.specs.declared.outcome.CheckFault.{CheckFault}

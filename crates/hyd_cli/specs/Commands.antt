@@ -1,7 +1,7 @@
 -- What each command does, by the name of its answer: what is said of what it was asked, of what the desk told before
--- and tells now, and of how often files were opened and created.
+-- and tells now, of how often files were opened and created, and of whether one can be written to.
 -- Source: this program's.
-use Rattle.std.specs.Prelude.{◌≢◌, ℕ, List}
+use Rattle.std.specs.Prelude.{◌≢◌, ℕ, Bool, List}
 use Rattle.hyd_io.specs.declared.desk.Openings.{Openings}
 use Rattle.hyd_io.specs.Told.{IsTold}
 use Rattle.hyd_net.specs.declared.cause.Cause.{Cause}
@@ -37,11 +37,13 @@ pub record DoesCheck (files : TwoFiles) (status : Status) (before now : Seen) (o
   pub once : ReadsBoth status opened opens
 
 -- `gen`: where the generated text has a fault it is refused with it, and where it has none it is written and run; no
--- other files are changed; NET and CERT are created once at most; CERT is as it was, unless NET holds the whole text,
--- and NET, unless a file was created.
-pub record DoesGen (order : GenOrder) (status : Status) (before now : Seen) (opened opens : Openings) : Type 0 where
+-- other files are changed; `create` is called twice at most; CERT is as it was, unless NET holds the whole text, and
+-- NET, unless `create` was called. `writable` tells whether the file created last can be written to.
+pub record DoesGen (order : GenOrder) (status : Status) (before now : Seen) (opened opens : Openings)
+    (writable : Bool) : Type 0 where
   pub refused : (line : ℕ) (why : Cause) → IsFault (text_of order) line why → AnswersRefused line why status before now
   pub generates : HasNoFault (text_of order) → AnswersGen (text_of order) order.files status before now
+      opened opens writable
   pub others : ChangesBoth order.files before now
   pub once : CreatesBoth status opened opens
   pub keeps_cert : KeepsCert (text_of order) order.files before now opened opens

@@ -1,6 +1,6 @@
 -- What the answers of the command `gen` mean.
 -- Source: this program's.
-use Rattle.std.specs.Prelude.{◌≡◌, ◌≢◌, ℕ, ◌^◌, false, pos, ◌⊎◌, List, ◌++◌, is_some}
+use Rattle.std.specs.Prelude.{◌≡◌, ◌≢◌, ℕ, ◌^◌, Bool, false, pos, ◌⊎◌, List, ◌++◌, is_some}
 use Rattle.hyd_io.specs.declared.desk.Openings.{Openings}
 use Rattle.hyd_io.specs.Counts.{with_created}
 use Rattle.hyd_io.specs.Told.{where_told, append_known, file_at}
@@ -26,9 +26,8 @@ text_of order = generated_text order.seed order.junctions
 abbrev pub usual_settings : Settings
 usual_settings = record { rounds = 200; width = pos (10 ^ 11); tight = false }
 
--- The text was written to the file NET created in this call, and the certificate of a run of its network to the file
--- CERT created then, where files are told; the run's summary was printed, and every history agrees with the
--- certificate. The status says how the run ended.
+-- NET holds the text, and CERT the certificate of a run of its network, which was written last, where files are told;
+-- the run's summary was printed, and every history agrees with the certificate. The status says how the run ended.
 pub record Generated (network : Project) (text : List ℕ) (names : TwoFiles) (status : Status) (before now : Seen) :
     Type 0 where
   pub outcome : Outcome
@@ -41,15 +40,14 @@ pub record Generated (network : Project) (text : List ℕ) (names : TwoFiles) (s
   pub held : file_at now.files names.cert ≡ now.written
   pub network_held : file_at now.files names.net ≡ where_told before.files text
 
--- The text was written to the file NET created in this call, where files are told, and nothing was printed.
+-- NET holds the text, which was written last, where files are told; these are told as before, and nothing was printed.
 pub record TextWritten (text net : List ℕ) (before now : Seen) : Type 0 where
   pub written : now.written ≡ where_told before.files text
   pub held : file_at now.files net ≡ where_told before.files text
   pub printed : now.printed ≡ before.printed
   pub still_told : is_some now.files ≡ is_some before.files
 
--- A fault came before CERT was created: a front of the text was written to the file NET created in this call, where
--- files are told, and nothing was printed.
+-- NET holds a front of the text, which was written last, where files are told; nothing was printed.
 pub record TextCutShort (text net : List ℕ) (before now : Seen) : Type 0 where
   pub front : List ℕ
   pub unwritten : List ℕ
@@ -58,9 +56,9 @@ pub record TextCutShort (text net : List ℕ) (before now : Seen) : Type 0 where
   pub held : file_at now.files net ≡ now.written
   pub printed : now.printed ≡ before.printed
 
--- A fault broke the run off: NET holds the text, what was written to CERT, where files are told, is a front of the
--- certificate of the run as far as it went, what was printed is a front of its summary where its end is known, and
--- nothing was unless the certificate was written whole, and every history agrees with it.
+-- A fault broke a run off: NET holds the text; CERT holds what was written last, where files are told, a front of the
+-- certificate of a run of its network as far as that went; what was printed is a front of its summary where its end is
+-- known, and nothing was unless the certificate was written whole; every history agrees with it.
 pub record GeneratedShort (network : Project) (text : List ℕ) (names : TwoFiles) (before now : Seen) : Type 0 where
   pub certificate : List ℕ
   pub summary : List ℕ
@@ -70,31 +68,51 @@ pub record GeneratedShort (network : Project) (text : List ℕ) (names : TwoFile
   pub held : file_at now.files names.cert ≡ now.written
   pub network_held : file_at now.files names.net ≡ where_told before.files text
 
--- What a fault of output leaves: NET couldn't be created, or it or CERT is cut short.
-pub data GenBreaksOff (network : Project) (text : List ℕ) (names : TwoFiles) (before now : Seen) : Type 0 where
-  nothing : NothingPut before now → GenBreaksOff network text names before now
-  in_network : TextCutShort text names.net before now → GenBreaksOff network text names before now
-  in_run : GeneratedShort network text names before now → GenBreaksOff network text names before now
+-- CERT is as it was.
+abbrev pub CertStays : TwoFiles → Seen → Seen → Type 0
+CertStays names before now = file_at now.files names.cert ≡ file_at before.files names.cert
 
--- What an answer says of a generated text and its network.
-abbrev pub AnswersGenerated : Project → List ℕ → TwoFiles → Status → Seen → Seen → Type 0
-AnswersGenerated network text names Done before now = Generated network text names Done before now
-AnswersGenerated network text names Undecided before now = Generated network text names Undecided before now
-AnswersGenerated network text names RoundsSpent before now = Generated network text names RoundsSpent before now
-AnswersGenerated network text names Demand before now = Generated network text names Demand before now
-AnswersGenerated network text names OutOfMemory before now = IsUntouched before now
-AnswersGenerated network text names WriteFault before now = GenBreaksOff network text names before now
-AnswersGenerated network text names Stalled before now = GenBreaksOff network text names before now
-AnswersGenerated network text names status before now = ⊥
+-- What a fault of output leaves: `create` was called for NET, and NET couldn't be created, or holds a front of its
+-- text, and CERT is as it was; or `create` was called twice, NET holds the text, and CERT couldn't be created or holds
+-- a front of its certificate. Where a file couldn't be created none can be written to, and what that call left of the
+-- file isn't told.
+pub data GenBreaksOff (network : Project) (text : List ℕ) (names : TwoFiles) (before now : Seen)
+    (opened opens : Openings) (writable : Bool) : Type 0 where
+  nothing : NothingPut before now → CertStays names before now → opens ≡ with_created opened → writable ≡ false
+      → GenBreaksOff network text names before now opened opens writable
+  in_network : TextCutShort text names.net before now → CertStays names before now → opens ≡ with_created opened
+      → GenBreaksOff network text names before now opened opens writable
+  no_certificate : TextWritten text names.net before now → opens ≡ with_created (with_created opened)
+      → writable ≡ false → GenBreaksOff network text names before now opened opens writable
+  in_run : GeneratedShort network text names before now → opens ≡ with_created (with_created opened)
+      → GenBreaksOff network text names before now opened opens writable
+
+-- What an answer says of a generated text and its network: of contents, of how often files were opened and created, and
+-- of whether the file created last can be written to.
+abbrev pub AnswersGenerated : Project → List ℕ → TwoFiles → Status → Seen → Seen → Openings → Openings → Bool → Type 0
+AnswersGenerated network text names Done before now opened opens writable =
+    Generated network text names Done before now
+AnswersGenerated network text names Undecided before now opened opens writable =
+    Generated network text names Undecided before now
+AnswersGenerated network text names RoundsSpent before now opened opens writable =
+    Generated network text names RoundsSpent before now
+AnswersGenerated network text names Demand before now opened opens writable =
+    Generated network text names Demand before now
+AnswersGenerated network text names OutOfMemory before now opened opens writable = IsUntouched before now
+AnswersGenerated network text names WriteFault before now opened opens writable =
+    GenBreaksOff network text names before now opened opens writable
+AnswersGenerated network text names Stalled before now opened opens writable =
+    GenBreaksOff network text names before now opened opens writable
+AnswersGenerated network text names status before now opened opens writable = ⊥
 
 -- What an answer says of a generated text without a fault: want of memory leaves all untouched.
-abbrev pub AnswersGen : List ℕ → TwoFiles → Status → Seen → Seen → Type 0
-AnswersGen text names OutOfMemory before now = IsUntouched before now
-AnswersGen text names status before now =
-    OfNetwork text (λ network. AnswersGenerated network text names status before now)
+abbrev pub AnswersGen : List ℕ → TwoFiles → Status → Seen → Seen → Openings → Openings → Bool → Type 0
+AnswersGen text names OutOfMemory before now opened opens writable = IsUntouched before now
+AnswersGen text names status before now opened opens writable =
+    OfNetwork text (λ network. AnswersGenerated network text names status before now opened opens writable)
 
--- How often `gen` creates NET and then CERT: each once at most, when all memory is taken that the run needs. It opens
--- nothing.
+-- How often `gen` calls `create`: twice where the run ended, for want of memory never, and at most twice where a fault
+-- came. It opens nothing.
 abbrev pub CreatesBoth : Status → Openings → Openings → Type 0
 CreatesBoth Done before now = now ≡ with_created (with_created before)
 CreatesBoth OutOfMemory before now = now ≡ before
@@ -115,12 +133,12 @@ abbrev pub ChangesBoth : TwoFiles → Seen → Seen → Type 0
 ChangesBoth names before now = (other : List ℕ) → other ≢ names.net → other ≢ names.cert
     → file_at now.files other ≡ file_at before.files other
 
--- CERT is as it was, unless both files were created and NET holds the whole text.
+-- CERT is as it was, unless `create` was called twice and NET holds the whole text.
 abbrev pub KeepsCert : List ℕ → TwoFiles → Seen → Seen → Openings → Openings → Type 0
 KeepsCert text names before now opened opens = (file_at now.files names.cert ≡ file_at before.files names.cert)
     ⊎ ((opens ≡ with_created (with_created opened)) × (file_at now.files names.net ≡ where_told before.files text))
 
--- NET is as it was, unless one file or both were created.
+-- NET is as it was, unless `create` was called.
 abbrev pub KeepsNet : TwoFiles → Seen → Seen → Openings → Openings → Type 0
 KeepsNet names before now opened opens = (file_at now.files names.net ≡ file_at before.files names.net)
     ⊎ ((opens ≡ with_created opened) ⊎ (opens ≡ with_created (with_created opened)))

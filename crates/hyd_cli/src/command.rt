@@ -13,11 +13,11 @@ ghost use Rattle.hyd_cli.specs.declared.status.Status.TheVariants.{Usage};
 
 use crate::checking::check_files;
 use crate::generating::generate_network;
-use crate::network::run_network;
 use crate::output::{print_usage, refuse_text};
 use crate::reading::{Unread, read_network};
+use crate::run_settings::settings_of;
+use crate::running::run_network;
 use crate::status::{Status, fault_status};
-use crate::words::settings_of;
 use hyd_command_words::{Command, read_words};
 use hyd_io::Desk;
 use hyd_sim::Settings;
@@ -58,7 +58,7 @@ pub fn tool<D: Desk>(alloc: Global, words: &[String], desk: &mut D) -> Status
         (D.openings desk.old) (D.openings desk.new) }
     ensures generates { (order : GenOrder) → order_of (map string_bytes words.now) ≡ Some (gen order) → DoesGen order
         result (seen D.files D.written D.printed desk.old) (seen D.files D.written D.printed desk.new)
-        (D.openings desk.old) (D.openings desk.new) }
+        (D.openings desk.old) (D.openings desk.new) (D.ready desk.new) }
 {
     match read_words(alloc, words) {
         Ok(found) => carry_out(alloc, found, desk),
@@ -86,7 +86,7 @@ fn carry_out<D: Desk>(alloc: Global, found: Option<Command<'_>>, desk: &mut D) -
         (D.openings desk.old) (D.openings desk.new) }
     ensures generates { (order : GenOrder) → option_map order_seen found.entry ≡ Some (gen order) → DoesGen order result
         (seen D.files D.written D.printed desk.old) (seen D.files D.written D.printed desk.new)
-        (D.openings desk.old) (D.openings desk.new) }
+        (D.openings desk.old) (D.openings desk.new) (D.ready desk.new) }
 {
     match found {
         Some(Command::Run(words)) => run(

@@ -1,6 +1,6 @@
 //! The command `gen`: a network is made, written and run.
 
-ghost use Rattle.std.specs.Prelude.{◌≡◌, ◌≢◌, ◌⊎◌, ℕ, List, Some, IsTrue, IfOk, IfErr, OnOk, OnErr};
+ghost use Rattle.std.specs.Prelude.{◌≡◌, ◌≢◌, ◌⊎◌, ℕ, false, List, Some, IsTrue, IfOk, IfErr, OnOk, OnErr};
 ghost use Rattle.hyd_io.specs.declared.output.Channel.TheVariants.{Cert};
 ghost use Rattle.hyd_io.specs.Counts.{with_created};
 ghost use Rattle.hyd_io.specs.Output.{HasOutCause};
@@ -21,9 +21,9 @@ ghost use Rattle.hyd_cli.specs.GenAnswers.{KeepsCert, KeepsNet};
 ghost use Rattle.hyd_cli.specs.Statuses.{status_of_outcome};
 ghost use Rattle.hyd_cli.specs.declared.status.Status.TheVariants.{Usage};
 
-use crate::network::status_of_end;
 use crate::output::refuse_text;
 use crate::reading::{Unread, network_of};
+use crate::running::status_of_end;
 use crate::status::{Status, fault_status};
 use hyd_command_words::{Files, GenWords};
 use hyd_gen::generate;
@@ -32,7 +32,7 @@ use hyd_net::Project;
 use hyd_newton::{Finder, Gradient};
 use hyd_run::RunEnd;
 use hyd_sim::{Settings, Sim};
-use hyd_summed_run::run_summed;
+use hyd_summarised_run::run_summed;
 use std::alloc::Global;
 
 /// What the run of a generated network is asked for.
@@ -67,8 +67,9 @@ fn write_text<D: Desk>(net: &str, text: &[u8], desk: &mut D) -> Result<(), OutFa
     requires { IsTrue (D.may_create net.now) }
     ensures whole { OnOk result (TextWritten text.now net.now
         (seen D.files D.written D.printed desk.old) (seen D.files D.written D.printed desk.new)) }
-    ensures cut_short { OnErr result (NothingPut
+    ensures cut_short { OnErr result ((NothingPut
         (seen D.files D.written D.printed desk.old) (seen D.files D.written D.printed desk.new)
+        × (D.ready desk.new ≡ false))
         ⊎ TextCutShort text.now net.now
         (seen D.files D.written D.printed desk.old) (seen D.files D.written D.printed desk.new)) }
     ensures cause { IfErr result (λ fault. HasOutCause Cert fault (D.counts desk.old) (D.counts desk.new)) }
@@ -100,7 +101,8 @@ fn put_generated<D: Desk, F: Finder>(
         (status_of_outcome (outcome_of end))
         (seen D.files D.written D.printed desk.old) (seen D.files D.written D.printed desk.new)) }
     ensures broken_off { OnErr result (GenBreaksOff sim.old.project text.now (files_seen files.entry)
-        (seen D.files D.written D.printed desk.old) (seen D.files D.written D.printed desk.new)) }
+        (seen D.files D.written D.printed desk.old) (seen D.files D.written D.printed desk.new)
+        (D.openings desk.old) (D.openings desk.new) (D.ready desk.new)) }
     ensures cause { IfErr result (λ fault. OneRose fault (D.counts desk.old) (D.counts desk.new)) }
     ensures steady { OnOk result (D.counts desk.new ≡ D.counts desk.old) }
     ensures others { ChangesBoth (files_seen files.entry)
@@ -142,7 +144,8 @@ fn run_generated<D: Desk, F: Finder>(
     requires apart { files.net.now ≢ files.cert.now }
     ensures cause { HasCause result (D.counts desk.old) (D.counts desk.new) }
     ensures answers { AnswersGenerated sim.old.project text.now (files_seen files.entry) result
-        (seen D.files D.written D.printed desk.old) (seen D.files D.written D.printed desk.new) }
+        (seen D.files D.written D.printed desk.old) (seen D.files D.written D.printed desk.new)
+        (D.openings desk.old) (D.openings desk.new) (D.ready desk.new) }
     ensures others { ChangesBoth (files_seen files.entry)
         (seen D.files D.written D.printed desk.old) (seen D.files D.written D.printed desk.new) }
     ensures once { CreatesBoth result (D.openings desk.old) (D.openings desk.new) }
@@ -174,7 +177,8 @@ fn run_by_gradient<D: Desk>(
     requires apart { files.net.now ≢ files.cert.now }
     ensures cause { HasCause result (D.counts desk.old) (D.counts desk.new) }
     ensures answers { AnswersGenerated sim.old.project text.now (files_seen files.entry) result
-        (seen D.files D.written D.printed desk.old) (seen D.files D.written D.printed desk.new) }
+        (seen D.files D.written D.printed desk.old) (seen D.files D.written D.printed desk.new)
+        (D.openings desk.old) (D.openings desk.new) (D.ready desk.new) }
     ensures others { ChangesBoth (files_seen files.entry)
         (seen D.files D.written D.printed desk.old) (seen D.files D.written D.printed desk.new) }
     ensures once { CreatesBoth result (D.openings desk.old) (D.openings desk.new) }
@@ -205,7 +209,8 @@ fn run_project<D: Desk>(
     requires apart { files.net.now ≢ files.cert.now }
     ensures cause { HasCause result (D.counts desk.old) (D.counts desk.new) }
     ensures answers { AnswersGenerated project text.now (files_seen files.entry) result
-        (seen D.files D.written D.printed desk.old) (seen D.files D.written D.printed desk.new) }
+        (seen D.files D.written D.printed desk.old) (seen D.files D.written D.printed desk.new)
+        (D.openings desk.old) (D.openings desk.new) (D.ready desk.new) }
     ensures others { ChangesBoth (files_seen files.entry)
         (seen D.files D.written D.printed desk.old) (seen D.files D.written D.printed desk.new) }
     ensures once { CreatesBoth result (D.openings desk.old) (D.openings desk.new) }
@@ -234,7 +239,8 @@ fn run_text<D: Desk>(alloc: Global, text: &[u8], files: Files<'_>, desk: &mut D)
     ensures refused { (line : ℕ) (why : Cause) → IsFault text.now line why → AnswersRefused line why result
         (seen D.files D.written D.printed desk.old) (seen D.files D.written D.printed desk.new) }
     ensures answers { HasNoFault text.now → AnswersGen text.now (files_seen files.entry) result
-        (seen D.files D.written D.printed desk.old) (seen D.files D.written D.printed desk.new) }
+        (seen D.files D.written D.printed desk.old) (seen D.files D.written D.printed desk.new)
+        (D.openings desk.old) (D.openings desk.new) (D.ready desk.new) }
     ensures others { ChangesBoth (files_seen files.entry)
         (seen D.files D.written D.printed desk.old) (seen D.files D.written D.printed desk.new) }
     ensures once { CreatesBoth result (D.openings desk.old) (D.openings desk.new) }
@@ -267,7 +273,8 @@ pub(crate) fn generate_network<D: Desk>(alloc: Global, words: &GenWords<'_>, des
         (seen D.files D.written D.printed desk.old) (seen D.files D.written D.printed desk.new) }
     ensures answers { HasNoFault (text_of (gen_seen words.now))
         → AnswersGen (text_of (gen_seen words.now)) (gen_seen words.now).files result
-        (seen D.files D.written D.printed desk.old) (seen D.files D.written D.printed desk.new) }
+        (seen D.files D.written D.printed desk.old) (seen D.files D.written D.printed desk.new)
+        (D.openings desk.old) (D.openings desk.new) (D.ready desk.new) }
     ensures others { ChangesBoth (gen_seen words.now).files
         (seen D.files D.written D.printed desk.old) (seen D.files D.written D.printed desk.new) }
     ensures once { CreatesBoth result (D.openings desk.old) (D.openings desk.new) }

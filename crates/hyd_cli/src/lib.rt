@@ -5,12 +5,12 @@ mod checking;
 mod command;
 mod generating;
 mod messages;
-mod network;
 mod output;
 mod program;
 mod reading;
+mod run_settings;
+mod running;
 mod status;
-mod words;
 
 pub use command::tool;
 pub use program::{run_program, start};

@@ -50,7 +50,7 @@ pub fn start<D: Desk>(alloc: Global, given: io::Result<Args>, desk: &mut D) -> S
         (D.openings desk.old) (D.openings desk.new) }
     ensures generates { (order : GenOrder) → order_of (words_behind_name given) ≡ Some (gen order) → DoesGen order
         result (seen D.files D.written D.printed desk.old) (seen D.files D.written D.printed desk.new)
-        (D.openings desk.old) (D.openings desk.new) }
+        (D.openings desk.old) (D.openings desk.new) (D.ready desk.new) }
 {
     match words_behind(alloc, given) {
         Ok(words) => tool(alloc, &words, desk),

@@ -2,7 +2,7 @@
 use Rattle.std.specs.Prelude.{false, List, map}
 use Rattle.std.specs.Borrow.{Bor}
 use Rattle.hyd_command_words.specs.Words.{Word, Said}
-use Rattle.hyd_command_words.specs.declared.said.Said.{Said as Read}
+use Rattle.hyd_command_words.specs.declared.matched_words.Said.{Said as Read}
 use Rattle.hyd_command_words.specs.Orders.{Order, RunOrder, GenOrder, TwoFiles, run, check, gen}
 use Rattle.hyd_command_words.specs.declared.command.Command.{Command}
 use Rattle.hyd_command_words.specs.declared.command.Command.TheVariants as command

@@ -3,11 +3,11 @@
 #![tactic(auto)]
 
 mod command;
+mod matched_words;
 mod numbers;
 mod orders;
 mod parser;
 mod reader;
-mod said;
 
 pub use command::{Command, Files, GenWords, RunWords};
 pub use reader::read_words;

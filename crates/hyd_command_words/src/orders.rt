@@ -5,8 +5,8 @@ ghost use Rattle.hyd_command_words.specs.Orders as orders;
 ghost use Rattle.hyd_command_words.specs.Seen.{said_seen, texts_seen, order_seen, run_seen, gen_seen, files_seen};
 
 use crate::command::{Command, Files, GenWords, RunWords};
+use crate::matched_words::Said;
 use crate::numbers::{number_within, rounds_of, width_of};
-use crate::said::Said;
 
 /// The command of this name, if what is said behind it fits.
 pub(crate) fn order_named<'a>(name: &str, said: Said<'_, 'a>) -> Option<Command<'a>>

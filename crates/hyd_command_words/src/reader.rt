@@ -5,9 +5,9 @@ ghost use Rattle.hyd_command_words.specs.Orders.{order_of};
 ghost use Rattle.hyd_command_words.specs.Seen.{order_seen};
 
 use crate::command::Command;
+use crate::matched_words::said_by;
 use crate::orders::order_named;
 use crate::parser::matches_in;
-use crate::said::said_by;
 use std::alloc::{AllocError, Global};
 
 /// The command of the words behind the program's name, or `None` exactly where they aren't one. The

@@ -8,7 +8,7 @@ use Rattle.std.proofs.lemmas.Int.{ints}
 use Rattle.std.proofs.lemmas.Option.{slice_get-get_or}
 use Rattle.hyd_num.specs.Quantity.{head_ticks, flow_ticks, pressure_denominator}
 use Rattle.hyd_num.specs.declared.decimals.Span.{Span}
-use Rattle.hyd_net.specs.Commands.{HasPressure}
+use Rattle.hyd_net.specs.ControlsAndRules.{HasPressure}
 use Rattle.hyd_net.specs.Made.{IsRounded, IsExactly, IsAmount, IsValueMade}
 use Rattle.hyd_spec.specs.Quantity.{is_us, pressure_value}
 use Rattle.hyd_num.specs.Rational.{Rational, whole, total_of}

@@ -6,8 +6,8 @@ use Rattle.hyd_spec.specs.History.{tank_states}
 use Rattle.hyd_spec_certificates.specs.Interval.{Interval}
 use Rattle.hyd_spec_certificates.specs.Decided.{acts_on}
 use Rattle.hyd_spec_certificates.specs.Valid.{ControlsAreDecided}
-use Rattle.hyd_spec_laws.specs.Laws.{LevelsLie}
-use Rattle.hyd_spec_histories.proofs.Beginning.{same_links}
+use Rattle.hyd_theorems_on_periods.specs.Laws.{LevelsLie}
+use Rattle.hyd_theorems_on_histories.proofs.Beginning.{same_links}
 
 -- where all level controls are decided, they act at every level as at the intervals
 pub start_is : (network : Project) (S time : ℕ) (intervals : List Interval) (exact : List ℤ) (states : List LinkState)

@@ -2,7 +2,7 @@
 use Rattle.std.proofs.Common.{◌≡◌, ℕ, ◌<◌, Bool, length, subst, arith}
 use Rattle.std.specs.Prelude.{Some, slice_get, slice_index_or}
 use Rattle.std.proofs.lemmas.Option.{get_or_from_slice_get}
-use Rattle.hyd_net.specs.Commands.{IsRule}
+use Rattle.hyd_net.specs.ControlsAndRules.{IsRule}
 use Rattle.hyd_net.specs.Sound.{Sound}
 use Rattle.hyd_spec.specs.Types.{Project, Rule, RuleClause}
 use Rattle.hyd_spec.specs.Rules.{Readings, groups_of, clause_holds, rule_holds}
@@ -10,12 +10,12 @@ use Rattle.hyd_spec_certificates.specs.Verdict.{Verdict}
 use Rattle.hyd_spec_certificates.specs.Decided.{clause_between, rule_between, IsTruthBetween}
 use Rattle.hyd_spec_certificates.specs.declared.Truth.{Truth}
 use Rattle.hyd_spec_certificates.specs.declared.Truth.TheVariants.{True, False, Open}
-use Rattle.hyd_spec_laws.specs.Laws.{Tells}
-use Rattle.hyd_spec_laws.proofs.Deciding.{rule_tells}
-use Rattle.hyd_spec_histories.specs.Agreement.{AreBetween}
-use Rattle.hyd_spec_histories.proofs.Clauses.{clause_tells}
-use Rattle.hyd_spec_histories.proofs.Judging.{each_of, in-groups}
-use Rattle.hyd_spec_nesting.proofs.Refining.{Refines, ends-refine, groups-refine}
+use Rattle.hyd_theorems_on_periods.specs.Laws.{Tells}
+use Rattle.hyd_theorems_on_periods.proofs.Deciding.{rule_tells}
+use Rattle.hyd_theorems_on_histories.specs.Agreement.{AreBetween}
+use Rattle.hyd_theorems_on_histories.proofs.Clauses.{clause_tells}
+use Rattle.hyd_theorems_on_histories.proofs.Judging.{each_of, in-groups}
+use Rattle.hyd_theorems_on_nesting.proofs.Refining.{Refines, ends-refine, groups-refine}
 use Rattle.hyd_ctrl.specs.Truths.{IsTruthOf, IsKnownAs}
 
 rule-at : (network : Project) → Sound network → (k : ℕ) (each : Rule) → k < length network.rules.list

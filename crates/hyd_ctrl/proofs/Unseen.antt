@@ -17,7 +17,7 @@ use Rattle.hyd_spec_certificates.specs.declared.Truth.{Truth}
 use Rattle.hyd_spec_certificates.specs.declared.Truth.TheVariants.{True, False, Open}
 use Rattle.hyd_spec_certificates.specs.Verdict.{Verdict, is_unknown, at_both_ends, either, both, some_holds, all_hold}
 use Rattle.hyd_spec_certificates.specs.Decided.{clause_between, rule_between, IsOpenClause, IsTruthBetween}
-use Rattle.hyd_spec_histories.specs.Agreement.{IsValueBetween, AreBetween}
+use Rattle.hyd_theorems_on_histories.specs.Agreement.{IsValueBetween, AreBetween}
 use Rattle.hyd_ctrl.specs.Alike.{AreAlike}
 
 -- ---- what clauses measure

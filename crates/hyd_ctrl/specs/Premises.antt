@@ -2,7 +2,7 @@
 -- Source: EPANET 2.2 User Manual, chapter 3 (rule-based controls).
 use Rattle.std.specs.Prelude.{◌^◌, ◌≤◌, Bool, List, length, map, Option, Some, None}
 use Rattle.std.specs.Option.{option_map}
-use Rattle.hyd_net.specs.Commands.{IsRule}
+use Rattle.hyd_net.specs.ControlsAndRules.{IsRule}
 use Rattle.hyd_net.specs.Made.{IsRuleMade}
 use Rattle.hyd_spec.specs.Types.{Project, Rule, RuleClause, Clause}
 use Rattle.hyd_spec.specs.Rules.{parts_of, groups_in}

@@ -4,7 +4,7 @@
 ghost use Rattle.std.specs.Prelude.{◌≡◌, ◌+◌, ◌^◌, ◌<◌, ◌≤◌, length, pos, IfSome, IfNone};
 ghost use Rattle.std.specs.List.{All};
 ghost use Rattle.hyd_num.specs.Rational.{Rational, whole};
-ghost use Rattle.hyd_net.specs.Commands.{node_count, HasPressure, SpeaksOf, IsClause};
+ghost use Rattle.hyd_net.specs.ControlsAndRules.{node_count, HasPressure, SpeaksOf, IsClause};
 ghost use Rattle.hyd_net.specs.Made.{IsRounded, IsValueMade};
 ghost use Rattle.hyd_spec.specs.Network.{nodes_before_tanks};
 ghost use Rattle.hyd_spec.specs.Rules.{setting_of, compares, is_word, status_holds, state_word, seconds_of, time_holds};

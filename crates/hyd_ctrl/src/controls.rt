@@ -11,7 +11,7 @@ ghost use Rattle.hyd_spec_certificates.specs.Decided.{acts_on, control_truth};
 ghost use Rattle.hyd_spec_certificates.specs.Valid.{ControlsAreDecided};
 ghost use Rattle.hyd_spec_reports.specs.Report.{control_changes, start_changes};
 ghost use Rattle.hyd_spec_reports.specs.Stops.{is_open_control};
-ghost use Rattle.hyd_spec_laws.specs.Laws.{LevelsLie};
+ghost use Rattle.hyd_theorems_on_periods.specs.Laws.{LevelsLie};
 ghost use Rattle.hyd_ctrl.specs.Verdicts.{verdict_of};
 ghost use Rattle.hyd_ctrl.specs.Instants.{level_interval};
 ghost use Rattle.hyd_ctrl.specs.Starts.{pattern_of, HasPatternThere, IsTankThere, IsLevelOf, IsFirstOpen};

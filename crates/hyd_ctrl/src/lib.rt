@@ -7,11 +7,11 @@ mod changes;
 mod clauses;
 mod clock;
 mod controls;
-pub mod laws;
 mod logic;
 mod offers;
 mod rules;
 mod states;
+pub mod theorems;
 
 pub use actions::act;
 pub use changes::Changes;

@@ -9,7 +9,7 @@ ghost use Rattle.hyd_spec.specs.Network.{nodes_before_tanks, tank_count};
 ghost use Rattle.hyd_spec_certificates.specs.Verdict as logic;
 ghost use Rattle.hyd_spec.specs.Rules.{Readings, rule_holds};
 ghost use Rattle.hyd_spec_certificates.specs.Decided.{rule_between, IsTruthBetween};
-ghost use Rattle.hyd_spec_histories.specs.Agreement.{AreBetween};
+ghost use Rattle.hyd_theorems_on_histories.specs.Agreement.{AreBetween};
 ghost use Rattle.hyd_ctrl.specs.Verdicts.{verdict_of};
 ghost use Rattle.hyd_ctrl.specs.Truths.{IsTruthOf, IsKnownAs};
 ghost use Rattle.hyd_ctrl.specs.Instants.{IsInstant, IsBounded, flow_interval, level_interval, lower_readings};

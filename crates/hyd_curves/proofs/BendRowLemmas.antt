@@ -14,7 +14,7 @@ use Rattle.std.proofs.lemmas.List.Elements.{All-nil, All-cons}
 use lib.Signed.{le_z, lt_z}
 use Rattle.hyd_num.specs.Quantity.{is_us_unit}
 use Rattle.hyd_num.specs.Rational.{Rational, whole, is_at_most}
-use Rattle.hyd_num.specs.declared.units.FlowUnit.{FlowUnit}
+use Rattle.hyd_num.specs.declared.flow_units.FlowUnit.{FlowUnit}
 use Rattle.hyd_spec_lines.specs.Lines.{Row, row_of}
 use Rattle.hyd_spec_lines.specs.declared.line.Line.{Line}
 use Rattle.hyd_spec_lines.specs.declared.section.Section.{Section}
@@ -32,7 +32,7 @@ use Rattle.hyd_spec_input.specs.Curves.{is_pump_curve, is_pump_bend, begins_at_0
 use Rattle.hyd_spec_input.specs.Curves.{head_points}
 use Rattle.hyd_spec_input.specs.Faults.{NoneIs, IsWrongWithOthers}
 use Rattle.hyd_spec_input.specs.InForce as force
-use Rattle.hyd_spec_input.specs.Network.{as_list, bent_name, bend_names, new_names, is_among}
+use Rattle.hyd_spec_input.specs.RowMeanings.{as_list, bent_name, bend_names, new_names, is_among}
 use Rattle.hyd_spec_input.specs.NetworkRows as row_form
 use Rattle.hyd_spec_input.specs.NetworkRows.{pump_curve, pump_pattern, valve_curve}
 use Rattle.hyd_spec_input.specs.Project.{Match, bend_points}
@@ -46,7 +46,7 @@ use Rattle.hyd_curves.specs.Bends.{begins_and_ends, loss_passes}
 use Rattle.hyd_curves.specs.Named.{with_name}
 use Rattle.hyd_curves.specs.NamedBends.{IsSmallHead, AreBends, AreOf, AreOfPumps, AreOfValves, pump_names, valve_names}
 use Rattle.hyd_curves.specs.Points.{points_in, point_in}
-use Rattle.hyd_curves.specs.declared.bends.Bends.{Bends}
+use Rattle.hyd_curves.specs.declared.straight_line_curves.Bends.{Bends}
 use Rattle.hyd_curves.specs.declared.points.CurvePoint.{CurvePoint}
 use Rattle.hyd_curves.proofs.BendLemmas.{lifted}
 use Rattle.hyd_curves.proofs.JudgedLemmas.{match_push}

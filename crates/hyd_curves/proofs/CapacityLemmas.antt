@@ -8,7 +8,7 @@ use lib.Signed.{le_z, lt_z}
 use Rattle.hyd_num.specs.Quantity.{is_us_unit, flow_ticks, head_ticks}
 use Rattle.hyd_num.specs.Refusal.{IsRefused}
 use Rattle.hyd_num.specs.declared.decimals.Decimal.{Decimal}
-use Rattle.hyd_num.specs.declared.units.FlowUnit.{FlowUnit}
+use Rattle.hyd_num.specs.declared.flow_units.FlowUnit.{FlowUnit}
 use Rattle.hyd_num.specs.declared.capacities.Origin.TheVariants.{Pump}
 use Rattle.hyd_net.proofs.Equal.{Decimal-equal}
 use Rattle.hyd_net.specs.declared.cause.Cause.{Cause}

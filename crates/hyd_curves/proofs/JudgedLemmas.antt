@@ -3,7 +3,7 @@ use Rattle.std.proofs.Common.{◌≡◌, ◌≤◌, ◌+◌, ◌<◌, ◌++◌, 
 use Rattle.std.proofs.Common.{get_or, Option, Some, None, refl, sym, ap, ◌∙◌, subst, if◌then◌else◌}
 use Rattle.std.specs.Prelude.{◌&&◌}
 use Rattle.std.proofs.lemmas.List.{take_more, take_all, map-append}
-use Rattle.hyd_num.specs.declared.units.FlowUnit.{FlowUnit}
+use Rattle.hyd_num.specs.declared.flow_units.FlowUnit.{FlowUnit}
 use Rattle.hyd_spec_lines.specs.Lines.{Row}
 use Rattle.hyd_net.specs.ListView.{ListView}
 use Rattle.hyd_net.specs.declared.cause.Cause.{Cause}
@@ -11,7 +11,7 @@ use Rattle.hyd_net.specs.declared.cause.Cause.TheVariants.{Range, Unsupported}
 use Rattle.hyd_spec_input.specs.Columns.{or_else, unless}
 use Rattle.hyd_spec_input.specs.Curves.{is_bent, is_pump_curve, are_flows, has_shutoff, is_pump_bend, head_points}
 use Rattle.hyd_spec_input.specs.InForce as force
-use Rattle.hyd_spec_input.specs.Network.{number_in}
+use Rattle.hyd_spec_input.specs.RowMeanings.{number_in}
 use Rattle.hyd_spec_input.specs.Project.{Match}
 use Rattle.hyd_spec_input.specs.Tables.{Point, curve_named}
 use Rattle.hyd_spec_input.specs.WithOthers as others

@@ -19,14 +19,14 @@ use Rattle.hyd_spec_lines.specs.declared.section.Section.TheVariants.{Curves}
 use Rattle.hyd_net.specs.ListView.{ListView}
 use Rattle.hyd_spec_input.specs.ByItself as itself
 use Rattle.hyd_spec_input.specs.ByItself.{IsWrongByItself}
-use Rattle.hyd_spec_input.specs.DataRows as row_form
+use Rattle.hyd_spec_input.specs.BelongingRows as row_form
 use Rattle.hyd_spec_input.specs.Faults.{NoneIs}
-use Rattle.hyd_spec_input.specs.Network.{number_in}
+use Rattle.hyd_spec_input.specs.RowMeanings.{number_in}
 use Rattle.hyd_spec_input.specs.Tables.{Point, place, is_of, rows_of, rows_with, own_id, point_of, curve_named}
 use Rattle.hyd_spec_input.specs.Tables.{row_with, has_id}
 use Rattle.hyd_spec_input.specs.Columns.{word, or_empty}
 use Rattle.hyd_network_rows.specs.Rows.{IsCurveRow}
-use Rattle.hyd_network_rows.specs.declared.data.CurveRow.{CurveRow}
+use Rattle.hyd_network_rows.specs.declared.belongings.CurveRow.{CurveRow}
 use Rattle.hyd_row_tables.specs.Tables.{AreFirsts}
 use Rattle.hyd_row_tables.proofs.FoundLemmas.{filter_more, filter_same}
 use Rattle.hyd_row_tables.proofs.SectionLemmas.{none_of, all_rows}

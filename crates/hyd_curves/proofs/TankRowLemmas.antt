@@ -23,7 +23,7 @@ use Rattle.hyd_spec_input.specs.ByItself.{IsWrongByItself}
 use Rattle.hyd_spec_input.specs.Columns.{or_else, first, unless, amount}
 use Rattle.hyd_spec_input.specs.Curves.{volume_point, volume_points, is_fuller, in_turn, is_volume_curve, covers}
 use Rattle.hyd_spec_input.specs.Faults.{NoneIs, IsWrongWithOthers}
-use Rattle.hyd_spec_input.specs.Network.{as_list, new_names, shape_names, is_among}
+use Rattle.hyd_spec_input.specs.RowMeanings.{as_list, new_names, shape_names, is_among}
 use Rattle.hyd_spec_input.specs.NetworkRows as row_form
 use Rattle.hyd_spec_input.specs.NetworkRows.{tank_curve}
 use Rattle.hyd_spec_input.specs.Project.{Match, shape_points}
@@ -40,7 +40,7 @@ use Rattle.hyd_curves.specs.Named.{IsSmallVolume, AreShapes, AreShapesAt, with_n
 use Rattle.hyd_curves.specs.Points.{points_in, point_in}
 use Rattle.hyd_curves.specs.Shapes.{IsRight, level_passes, begins_and_ends}
 use Rattle.hyd_curves.specs.declared.points.CurvePoint.{CurvePoint}
-use Rattle.hyd_curves.specs.declared.shapes.Shapes.{Shapes}
+use Rattle.hyd_curves.specs.declared.volume_curves.Shapes.{Shapes}
 use Rattle.hyd_curves.specs.declared.ticks.Ticks.{Ticks}
 use Rattle.hyd_curves.proofs.JudgedLemmas.{match_push}
 use Rattle.hyd_curves.proofs.NamedLemmas.{one_name_more}

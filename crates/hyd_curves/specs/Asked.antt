@@ -1,7 +1,7 @@
 -- What tanks, pumps and general purpose valves ask of a curve, by its points.
 use Rattle.std.specs.Prelude.{◌≡◌, ℕ, Bool, false, ◌&&◌, List, Option, Some, None, if◌then◌else◌, ℤ}
 use Rattle.hyd_num.specs.Quantity.{is_us_unit, head_ticks}
-use Rattle.hyd_num.specs.declared.units.FlowUnit.{FlowUnit}
+use Rattle.hyd_num.specs.declared.flow_units.FlowUnit.{FlowUnit}
 use Rattle.hyd_spec_lines.specs.Lines.{Row}
 use Rattle.hyd_spec_input.specs.Columns.{or_else, unless}
 use Rattle.hyd_spec_input.specs.Curves.{is_volume_curve, volume_points, is_bent, is_pump_curve, are_flows, has_shutoff}

@@ -1,11 +1,11 @@
 -- The verdicts on curves, by the numbers that the curves' names have in a table.
 use Rattle.std.specs.Prelude.{◌≡◌, ℕ, false, List, Option, Some, None, slice_index_or}
 use Rattle.std.specs.Bool.{OnTrue, OnFalse}
-use Rattle.hyd_num.specs.declared.units.FlowUnit.{FlowUnit}
+use Rattle.hyd_num.specs.declared.flow_units.FlowUnit.{FlowUnit}
 use Rattle.hyd_spec_lines.specs.Lines.{Row}
 use Rattle.hyd_net.specs.declared.cause.Cause.TheVariants.{Range, Unsupported}
 use Rattle.hyd_spec_input.specs.Capacities.{IsRefusedCurve}
-use Rattle.hyd_spec_input.specs.Network.{number_in}
+use Rattle.hyd_spec_input.specs.RowMeanings.{number_in}
 use Rattle.hyd_spec_input.specs.Tables.{Point}
 use Rattle.hyd_spec_input.specs.WithOthers as others
 use Rattle.hyd_curves.specs.Asked.{pump_fault, valve_fault, IsRefusedPoints}

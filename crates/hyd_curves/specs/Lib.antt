@@ -1,9 +1,9 @@
 pub mod Points
 pub mod Asked
 pub mod Judged
-pub mod Turns
+pub mod EachWithNext
 pub mod Shapes
-pub mod Lines
+pub mod Interpolation
 pub mod Bends
 pub mod Named
 pub mod NamedBends

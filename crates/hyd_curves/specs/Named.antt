@@ -3,9 +3,9 @@ use Rattle.std.specs.Prelude.{◌≡◌, ◌≤◌, ◌^◌, ℕ, List, [], ◌�
 use Rattle.hyd_spec_lines.specs.Lines.{Row}
 use Rattle.hyd_net.specs.ListView.{ListView}
 use Rattle.hyd_net.specs.declared.curves.VolumePoint.{VolumePoint}
-use Rattle.hyd_spec_input.specs.Network.{is_among, shape_names}
+use Rattle.hyd_spec_input.specs.RowMeanings.{is_among, shape_names}
 use Rattle.hyd_spec_input.specs.Project.{Match, shape_points}
-use Rattle.hyd_curves.specs.declared.shapes.Shapes.{Shapes}
+use Rattle.hyd_curves.specs.declared.volume_curves.Shapes.{Shapes}
 
 -- a level and a volume of at most 10^18 ticks either way
 pub record IsSmallVolume (point : VolumePoint) : Type 0 where

@@ -3,7 +3,7 @@ use Rattle.std.specs.Prelude.{◌≡◌, ◌^◌, Bool, true, ◌&&◌, List, po
 use lib.Signed.{le_z}
 use Rattle.hyd_spec_input.specs.Curves.{is_head, is_fuller, at_start, at_end}
 use Rattle.hyd_net.specs.declared.curves.VolumePoint.{VolumePoint}
-use Rattle.hyd_curves.specs.Turns.{all_in_turn}
+use Rattle.hyd_curves.specs.EachWithNext.{all_in_turn}
 
 -- a level is in range
 abbrev pub level_passes : VolumePoint → Bool

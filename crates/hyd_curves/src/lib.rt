@@ -2,19 +2,19 @@
 //! theirs (EPANET 2.2 User Manual, [CURVES]).
 #![tactic(auto)]
 
-mod bends;
+mod interpolation;
 mod judged;
-mod lines;
 mod points;
 mod pumps;
-mod shapes;
+mod straight_line_curves;
 mod tanks;
 mod ticks;
 mod valves;
+mod volume_curves;
 mod volumes;
 
-pub use bends::{Bends, gather_bends};
 pub use judged::{Verdict, Verdicts, curve_verdicts};
 pub use points::{CurvePoint, Points, gather_points};
-pub use shapes::{Shapes, gather_shapes};
+pub use straight_line_curves::{Bends, gather_bends};
 pub use tanks::tank_curve_fault;
+pub use volume_curves::{Shapes, gather_shapes};

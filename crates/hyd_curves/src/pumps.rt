@@ -13,11 +13,11 @@ ghost use Rattle.hyd_spec_input.specs.Curves as curve;
 ghost use Rattle.hyd_spec_input.specs.Curves.{square, is_flow, is_slower, has_flow, at_start, at_end};
 ghost use Rattle.hyd_curves.specs.Asked as asked;
 ghost use Rattle.hyd_curves.specs.Bends.{IsPumpPoint, begins_and_ends};
-ghost use Rattle.hyd_curves.specs.Lines.{knot_of};
+ghost use Rattle.hyd_curves.specs.Interpolation.{knot_of};
 ghost use Rattle.hyd_curves.specs.Points.{points_in, point_in};
-ghost use Rattle.hyd_curves.specs.Turns.{goes_on, all_in_turn};
+ghost use Rattle.hyd_curves.specs.EachWithNext.{goes_on, all_in_turn};
 
-use crate::lines::on_line;
+use crate::interpolation::on_line;
 use crate::points::CurvePoint;
 use crate::ticks::{GREATEST_FLOW, Ticks, falls, head_point, is_within};
 use hyd_net::Cause;

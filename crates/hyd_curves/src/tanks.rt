@@ -10,7 +10,7 @@ ghost use Rattle.hyd_spec_input.specs.Curves.{is_fuller, covers};
 ghost use Rattle.hyd_net.specs.Curves.{volume_at};
 ghost use Rattle.hyd_curves.specs.Asked as asked;
 ghost use Rattle.hyd_curves.specs.Points.{ArePoints, points_in, point_in};
-ghost use Rattle.hyd_curves.specs.Turns.{goes_on, all_in_turn};
+ghost use Rattle.hyd_curves.specs.EachWithNext.{goes_on, all_in_turn};
 ghost use Rattle.hyd_curves.specs.Shapes.{level_passes, begins_and_ends, IsRight};
 
 use crate::points::{CurvePoint, Points};

@@ -8,7 +8,7 @@ ghost use Rattle.hyd_spec_input.specs.Curves.{is_faster};
 ghost use Rattle.hyd_curves.specs.Asked as asked;
 ghost use Rattle.hyd_curves.specs.Bends.{loss_passes};
 ghost use Rattle.hyd_curves.specs.Points.{points_in, point_in};
-ghost use Rattle.hyd_curves.specs.Turns.{goes_on, all_in_turn};
+ghost use Rattle.hyd_curves.specs.EachWithNext.{goes_on, all_in_turn};
 
 use crate::points::CurvePoint;
 use crate::ticks::{GREATEST_FLOW, GREATEST_HEAD, head_point, is_within, rises};

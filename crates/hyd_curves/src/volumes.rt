@@ -7,10 +7,10 @@ ghost use Rattle.hyd_num.specs.Rational.{floor};
 ghost use Rattle.hyd_net.specs.Curves.{between, volume_at};
 ghost use Rattle.hyd_spec_input.specs.Curves.{volume_points};
 ghost use Rattle.hyd_curves.specs.Points.{points_in};
-ghost use Rattle.hyd_curves.specs.Lines.{IsSmall, knot_of};
+ghost use Rattle.hyd_curves.specs.Interpolation.{IsSmall, knot_of};
 ghost use Rattle.hyd_curves.specs.Shapes.{IsRight};
 
-use crate::lines::on_line;
+use crate::interpolation::on_line;
 use crate::points::CurvePoint;
 use crate::ticks::{Ticks, volume_point};
 

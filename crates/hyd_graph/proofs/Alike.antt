@@ -8,7 +8,7 @@ use Rattle.hyd_spec.specs.Outflow.{is_pressure_driven}
 use Rattle.hyd_spec_certificates.specs.Enclosing.{DemandLaw, Fixed, Driven}
 use Rattle.hyd_spec_certificates.specs.Interval.{Interval}
 use Rattle.hyd_spec_certificates.specs.Grid.{Grid, GridJunction, IsGrid, IsDriven, IsDemandLaw, IsJunctionOf}
-use Rattle.hyd_spec_laws.proofs.OneCapacity.{one_capacity}
+use Rattle.hyd_theorems_on_periods.proofs.OneCapacity.{one_capacity}
 
 one_law : (project : Project) (demand : ℤ) (x y : DemandLaw) → IsDemandLaw project demand x
     → IsDemandLaw project demand y → x ≡ y

@@ -13,7 +13,7 @@ use Rattle.hyd_spec_certificates.specs.declared.LevelSpan.{LevelSpan}
 use Rattle.hyd_law.specs.declared.link_law.LinkLaw.{LinkLaw}
 use Rattle.hyd_law.specs.declared.outflows.OutLaw.{OutLaw}
 use Rattle.hyd_law.specs.OutLaws.{IsSoundOut}
-use Rattle.hyd_graph.specs.declared.parts.Ends.{Ends}
+use Rattle.hyd_graph.specs.declared.network_parts.Ends.{Ends}
 use Rattle.hyd_graph.specs.NetView.{NetView}
 use Rattle.hyd_graph.specs.Demands.{demand_of_law}
 use Rattle.hyd_graph.specs.ExactLaw.{exact_law}

@@ -7,7 +7,7 @@ use Rattle.hyd_spec.specs.Types.{Project, Link, LinkKind}
 use Rattle.hyd_spec.specs.Law.{Law}
 use Rattle.hyd_spec.specs.Quantity.{is_us}
 use Rattle.hyd_law.specs.declared.link_law.LinkLaw.{LinkLaw}
-use Rattle.hyd_graph.specs.declared.parts.Setting.{Setting}
+use Rattle.hyd_graph.specs.declared.network_parts.Setting.{Setting}
 use Rattle.hyd_graph.specs.Settings.{Represents, AreLawsOf, AreLaws, IsClosedLaw, AreClosed, closed_setting}
 use Rattle.hyd_graph.proofs.Ranging.{closed_is}
 use Rattle.hyd_graph.proofs.SettingOne.{same_or, any_default}

@@ -3,9 +3,9 @@ use Rattle.std.proofs.Common.{◌≡◌, ℕ, zero, suc, List, [], ◌∷◌, le
 use Rattle.hyd_spec_certificates.specs.Grid.{GridLink, GridJunction}
 use Rattle.hyd_law.specs.declared.link_law.LinkLaw.{LinkLaw}
 use Rattle.hyd_law.specs.declared.outflows.OutLaw.{OutLaw}
-use Rattle.hyd_graph.specs.declared.parts.NetJunction.{NetJunction}
-use Rattle.hyd_graph.specs.declared.parts.Ends.{Ends}
-use Rattle.hyd_graph.specs.declared.parts.Setting.{Setting}
+use Rattle.hyd_graph.specs.declared.network_parts.NetJunction.{NetJunction}
+use Rattle.hyd_graph.specs.declared.network_parts.Ends.{Ends}
+use Rattle.hyd_graph.specs.declared.network_parts.Setting.{Setting}
 use Rattle.hyd_graph.specs.GridOf.{junction_of, junctions_of, link_of, links_of}
 
 pub junctions_count : (junctions : List NetJunction) (demands : List OutLaw) → length demands ≡ length junctions

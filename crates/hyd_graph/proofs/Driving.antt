@@ -6,20 +6,20 @@ use Rattle.std.specs.Prelude.{int_le, Option}
 use Rattle.std.specs.Option.{option_map_or}
 use Rattle.std.proofs.lemmas.Int.{ints}
 use Rattle.std.proofs.lemmas.Option.{slice_get-get_or, get_or_from_slice_get}
-use Rattle.hyd_num.specs.Chain.{IsMade}
+use Rattle.hyd_num.specs.CapacityPairs.{IsMade}
 use Rattle.hyd_num.specs.Quantity.{pressure_numerator, pressure_denominator}
 use Rattle.hyd_num.specs.Roots.{IsFloor, IsCeiling}
 use Rattle.hyd_num.specs.declared.decimals.Decimal.{Decimal}
 use Rattle.hyd_num.specs.declared.decimals.Span.{Span}
-use Rattle.hyd_net.specs.Sizes.{IsPressure}
+use Rattle.hyd_net.specs.NetworkRanges.{IsPressure}
 use Rattle.hyd_spec.specs.Types.{Project, Junction, Capacity, PressureDemand}
 use Rattle.hyd_spec.specs.Quantity.{is_us, demand_of, pressure_value}
 use Rattle.hyd_spec.specs.Outflow.{is_pressure_driven}
 use Rattle.hyd_spec_certificates.specs.Enclosing.{Driven}
 use Rattle.hyd_spec_certificates.specs.Valid.{DemandsAreInRange}
 use Rattle.hyd_spec_reports.specs.Stops.{IsFirstDemand}
-use Rattle.hyd_spec_laws.proofs.EachLaw.{IsSoundCapacity-made}
-use Rattle.hyd_demand.specs.Asked.{junction_demand}
+use Rattle.hyd_theorems_on_periods.proofs.EachLaw.{IsSoundCapacity-made}
+use Rattle.hyd_demand.specs.Numbered.{junction_demand}
 use Rattle.hyd_law.specs.Wrapped.{IsLift}
 use Rattle.hyd_law.specs.declared.outflows.OutLaw.{OutLaw}
 use Rattle.hyd_law.specs.declared.outflows.OutLaw.TheVariants.{Fixed as FixedOut, Pda as PdaOut}

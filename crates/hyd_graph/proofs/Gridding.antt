@@ -9,9 +9,9 @@ use Rattle.hyd_spec.specs.Quantity.{is_us, demand_of, reservoir_head}
 use Rattle.hyd_spec_certificates.specs.Grid.{IsGrid, IsJunctionOf, grid_links, tank_intervals}
 use Rattle.hyd_law.specs.declared.link_law.LinkLaw.{LinkLaw}
 use Rattle.hyd_law.specs.declared.outflows.OutLaw.{OutLaw}
-use Rattle.hyd_graph.specs.declared.parts.NetJunction.{NetJunction}
+use Rattle.hyd_graph.specs.declared.network_parts.NetJunction.{NetJunction}
 use Rattle.hyd_spec_certificates.specs.declared.LevelSpan.{LevelSpan}
-use Rattle.hyd_graph.specs.declared.parts.Setting.{Setting}
+use Rattle.hyd_graph.specs.declared.network_parts.Setting.{Setting}
 use Rattle.hyd_graph.specs.NetView.{NetView}
 use Rattle.hyd_graph.specs.ExactLaw.{exact_law}
 use Rattle.hyd_graph.specs.Settings.{restricted, AreLaws, AreLawsOf, AreSet, setting_of, closed_setting}

@@ -18,8 +18,8 @@ use Rattle.hyd_net.specs.States.{IsSpeed}
 use Rattle.hyd_net.specs.declared.curves.HeadPoint.{HeadPoint}
 use Rattle.hyd_spec.specs.Scale.{cut}
 use Rattle.hyd_spec.specs.Quantity.{pump_knots, valve_knots}
-use Rattle.hyd_spec_laws.specs.Laws.{AreInOrder}
-use Rattle.hyd_spec_laws.proofs.CurveKnots.{pump_knots-in_order, valve_knots-in_order}
+use Rattle.hyd_theorems_on_periods.specs.Laws.{AreInOrder}
+use Rattle.hyd_theorems_on_periods.proofs.CurveKnots.{pump_knots-in_order, valve_knots-in_order}
 use Rattle.hyd_law.specs.declared.kinds.Knot.{Knot}
 use Rattle.hyd_law.specs.Curves.{IsKnot, IsCurve, places, place_of}
 

@@ -4,7 +4,7 @@ use Rattle.std.proofs.Common.{unsigned_abs, not, List, refl, sym, ap, subst, ◌
 use Rattle.std.specs.Int.{int_max, int_min}
 use Rattle.std.proofs.lemmas.Int.{ints, clamps}
 use Rattle.hyd_num.proofs.Integers.{times_rises}
-use Rattle.hyd_num.specs.Chain.{IsMade}
+use Rattle.hyd_num.specs.CapacityPairs.{IsMade}
 use Rattle.hyd_num.specs.declared.decimals.Span.{Span}
 use Rattle.hyd_spec.specs.Types.{Capacity, ShutoffHead}
 use Rattle.hyd_num.specs.Rational.{floor, ceiling}
@@ -16,7 +16,7 @@ use Rattle.hyd_spec.specs.Law.{Relation, flow_at_least, flow_at_most, Law, Shut 
 use Rattle.hyd_spec.specs.Law.{Lifted, ForwardOnly, ReverseOnly, Capped as CappedLaw, Bent as BentLaw, Held as HeldLaw}
 use Rattle.hyd_spec_certificates.specs.Enclosing.{quadratic_low, quadratic_high, low, high}
 use Rattle.hyd_lemmas.proofs.Integers.{max_left, max_right, max_is, min_left, min_right, min_is}
-use Rattle.hyd_spec_laws.proofs.EachLaw.{IsSoundCapacity-made}
+use Rattle.hyd_theorems_on_periods.proofs.EachLaw.{IsSoundCapacity-made}
 use Rattle.hyd_law.specs.Wrapped.{IsLift, directed, directed_at_least, directed_at_most, held, held_at_least}
 use Rattle.hyd_law.specs.Wrapped.{held_at_most}
 use Rattle.hyd_law.specs.Curves.{IsCurve, places}

@@ -5,7 +5,7 @@ use Rattle.hyd_num.specs.Quantity.{is_us_unit, head_ticks}
 use Rattle.hyd_net.specs.ListView.{ListView}
 use Rattle.hyd_net.specs.declared.curves.HeadPoint.{HeadPoint}
 use Rattle.hyd_net.specs.declared.patterns.Pattern.{Pattern}
-use Rattle.hyd_net.specs.Sizes.{HasSizes, IsPumpOrigin}
+use Rattle.hyd_net.specs.NetworkRanges.{HasSizes, IsPumpOrigin}
 use Rattle.hyd_net.specs.Ranges.{IsFlow}
 use Rattle.hyd_net.specs.States.{CanHave, IsSpeed}
 use Rattle.hyd_spec.specs.Types.{FlowUnit, Origin, Pipe, Valve, Pump, Emitter, PressureDemand, LinkKind, PipeLink}

@@ -10,10 +10,10 @@ use Rattle.hyd_spec_certificates.specs.NetOutflow.{margin}
 use Rattle.hyd_law.specs.declared.kinds.Quad.{Quad}
 use Rattle.hyd_law.specs.declared.link_law.LinkLaw.{LinkLaw}
 use Rattle.hyd_law.specs.declared.outflows.OutLaw.{OutLaw}
-use Rattle.hyd_graph.specs.declared.parts.NetJunction.{NetJunction}
-use Rattle.hyd_graph.specs.declared.parts.Ends.{Ends}
-use Rattle.hyd_graph.specs.declared.parts.Setting.{Setting}
-use Rattle.hyd_graph.specs.declared.parts.Tie.{Tie}
+use Rattle.hyd_graph.specs.declared.network_parts.NetJunction.{NetJunction}
+use Rattle.hyd_graph.specs.declared.network_parts.Ends.{Ends}
+use Rattle.hyd_graph.specs.declared.network_parts.Setting.{Setting}
+use Rattle.hyd_graph.specs.declared.network_parts.Tie.{Tie}
 use Rattle.hyd_graph.specs.NetView.{NetView}
 use Rattle.hyd_graph.specs.Demands.{demand_of_law}
 use Rattle.hyd_graph.specs.ExactLaw.{exact_law}

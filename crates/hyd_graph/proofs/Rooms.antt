@@ -2,7 +2,7 @@
 use Rattle.std.proofs.Common.{◌*◌, ℕ, List, [], length, sym, ap, subst, Option}
 use Rattle.std.specs.Option.{option_map_or}
 use Rattle.std.proofs.lemmas.Option.{slice_get-get_or}
-use Rattle.hyd_net.specs.Sizes.{HasBend}
+use Rattle.hyd_net.specs.NetworkRanges.{HasBend}
 use Rattle.hyd_net.specs.ListView.{ListView}
 use Rattle.hyd_net.specs.declared.curves.HeadPoint.{HeadPoint}
 use Rattle.hyd_spec.specs.Types.{LinkKind, PipeLink, CheckPipe, PumpLink, CurvePump, Tcv, Fcv, Gpv}

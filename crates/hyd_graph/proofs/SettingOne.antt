@@ -6,7 +6,7 @@ use Rattle.hyd_spec.specs.Types.{Project, Link, LinkState}
 use Rattle.hyd_spec.specs.declared.TankState.{TankState}
 use Rattle.hyd_spec.specs.Quantity.{is_us}
 use Rattle.hyd_law.specs.declared.link_law.LinkLaw.{LinkLaw}
-use Rattle.hyd_graph.specs.declared.parts.Setting.{Setting}
+use Rattle.hyd_graph.specs.declared.network_parts.Setting.{Setting}
 use Rattle.hyd_graph.specs.Settings.{AreLawsOf, AreLaws, AreSet, setting_of}
 
 pub same_or : (k i : ℕ) → (k ≡ i) ⊎ (k ≢ i)

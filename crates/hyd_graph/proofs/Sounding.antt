@@ -4,24 +4,24 @@ use Rattle.std.proofs.Common.{slice_index_or, refl, sym, ap, subst, arith}
 use Rattle.std.specs.List.{AllZip}
 use Rattle.std.specs.Option.{option_map}
 use Rattle.std.proofs.lemmas.List.{length-map}
-use Rattle.hyd_num.specs.Chain.{IsMade}
-use Rattle.hyd_num.specs.declared.units.FlowUnit.{FlowUnit}
+use Rattle.hyd_num.specs.CapacityPairs.{IsMade}
+use Rattle.hyd_num.specs.declared.flow_units.FlowUnit.{FlowUnit}
 use Rattle.hyd_net.specs.Ranges.{IsHead}
-use Rattle.hyd_net.specs.Sizes.{IsJunction}
+use Rattle.hyd_net.specs.NetworkRanges.{IsJunction}
 use Rattle.hyd_net.specs.Sound.{Sound, HasEnds as HasNodes}
 use Rattle.hyd_net.specs.ListView.{ListView}
-use Rattle.hyd_net.specs.Commands.{node_count as nodes_of}
+use Rattle.hyd_net.specs.ControlsAndRules.{node_count as nodes_of}
 use Rattle.hyd_net.specs.declared.curves.HeadPoint.{HeadPoint}
 use Rattle.hyd_net.specs.declared.patterns.Pattern.{Pattern}
 use Rattle.hyd_spec.specs.Types.{Project, Junction, Link, LinkKind, Capacity}
 use Rattle.hyd_spec.specs.Quantity.{is_us}
 use Rattle.hyd_spec.specs.Law.{Law}
-use Rattle.hyd_spec_laws.specs.Laws.{IsSoundCapacity}
-use Rattle.hyd_spec_laws.proofs.EachLaw.{IsSoundCapacity-made}
+use Rattle.hyd_theorems_on_periods.specs.Laws.{IsSoundCapacity}
+use Rattle.hyd_theorems_on_periods.proofs.EachLaw.{IsSoundCapacity-made}
 use Rattle.hyd_law.specs.declared.kinds.Quad.{Quad}
 use Rattle.hyd_law.specs.declared.link_law.LinkLaw.{LinkLaw}
-use Rattle.hyd_graph.specs.declared.parts.NetJunction.{NetJunction}
-use Rattle.hyd_graph.specs.declared.parts.Setting.{Setting}
+use Rattle.hyd_graph.specs.declared.network_parts.NetJunction.{NetJunction}
+use Rattle.hyd_graph.specs.declared.network_parts.Setting.{Setting}
 use Rattle.hyd_graph.specs.NetView.{NetView}
 use Rattle.hyd_graph.specs.Demands.{IsNetJunction}
 use Rattle.hyd_graph.specs.Settings.{Stands, restricted, AreLaws, AreLawsOf}

@@ -9,7 +9,7 @@ use Rattle.hyd_spec.specs.Types.{ShutoffHead, FourThirds, Given, Decimal}
 use Rattle.hyd_spec.specs.Quantity.{lift_of, pressure_value}
 use Rattle.hyd_spec.specs.Law.{Law, Shut as ShutLaw, Held as HeldLaw, Bent as BentLaw}
 use Rattle.hyd_spec_certificates.specs.Grid.{GridLink, GridJunction}
-use Rattle.hyd_spec_laws.specs.Laws.{IsSoundLaw, IsSoundCapacity, IsSoundDemand as IsSoundDemandLaw, IsSteady}
+use Rattle.hyd_theorems_on_periods.specs.Laws.{IsSoundLaw, IsSoundCapacity, IsSoundDemand as IsSoundDemandLaw, IsSteady}
 use Rattle.hyd_law.specs.Curves.{places}
 use Rattle.hyd_law.specs.LinkLaws.{IsSoundLink}
 use Rattle.hyd_law.specs.declared.kinds.Quad.{Quad as QuadValue}
@@ -19,9 +19,9 @@ use Rattle.hyd_law.specs.declared.link_law.LinkLaw.TheVariants.{Limit, LinearLim
 use Rattle.hyd_law.specs.declared.link_law.LinkLaw.TheVariants.{Bent}
 use Rattle.hyd_law.specs.declared.outflows.OutLaw.{OutLaw}
 use Rattle.hyd_law.specs.declared.outflows.OutLaw.TheVariants.{Fixed, Pda}
-use Rattle.hyd_graph.specs.declared.parts.NetJunction.{NetJunction}
-use Rattle.hyd_graph.specs.declared.parts.Ends.{Ends}
-use Rattle.hyd_graph.specs.declared.parts.Setting.{Setting}
+use Rattle.hyd_graph.specs.declared.network_parts.NetJunction.{NetJunction}
+use Rattle.hyd_graph.specs.declared.network_parts.Ends.{Ends}
+use Rattle.hyd_graph.specs.declared.network_parts.Setting.{Setting}
 use Rattle.hyd_graph.specs.NetView.{NetView}
 use Rattle.hyd_graph.specs.Demands.{demand_of_law}
 use Rattle.hyd_graph.specs.ExactLaw.{exact_law, is_nothing, one_way_law}

@@ -8,9 +8,9 @@ use Rattle.hyd_spec.specs.Law.{Law}
 use Rattle.hyd_spec_certificates.specs.Grid.{GridLink}
 use Rattle.hyd_spec_certificates.specs.NetOutflow.{net, one_if, link_ends}
 use Rattle.hyd_law.specs.declared.link_law.LinkLaw.{LinkLaw}
-use Rattle.hyd_graph.specs.declared.parts.Ends.{Ends}
-use Rattle.hyd_graph.specs.declared.parts.Setting.{Setting}
-use Rattle.hyd_graph.specs.declared.parts.Tie.{Tie}
+use Rattle.hyd_graph.specs.declared.network_parts.Ends.{Ends}
+use Rattle.hyd_graph.specs.declared.network_parts.Setting.{Setting}
+use Rattle.hyd_graph.specs.declared.network_parts.Tie.{Tie}
 use Rattle.hyd_graph.specs.NetView.{NetView}
 use Rattle.hyd_graph.specs.GridOf.{grid_of, link_of, links_of}
 use Rattle.hyd_graph.specs.Ties.{tie_if, ties_of, ties_from, tie_share, ties_share}

@@ -10,7 +10,7 @@ use Rattle.hyd_law.specs.OutLaws.{IsSoundOut, OutAccepts}
 use Rattle.hyd_law.specs.declared.kinds.Quad.{Quad}
 use Rattle.hyd_law.specs.declared.outflows.OutLaw.{OutLaw}
 use Rattle.hyd_law.specs.declared.outflows.OutLaw.TheVariants.{Fixed as FixedOut, Pda as PdaOut}
-use Rattle.hyd_graph.specs.declared.parts.NetJunction.{NetJunction}
+use Rattle.hyd_graph.specs.declared.network_parts.NetJunction.{NetJunction}
 
 -- the law of a demand that a law of the program stands for
 abbrev pub demand_of_law : OutLaw → DemandLaw

@@ -1,9 +1,9 @@
 -- What contracts see of a `Net`.
 use Rattle.std.specs.Prelude.{ℤ, List}
-use Rattle.hyd_graph.specs.declared.parts.NetJunction.{NetJunction}
-use Rattle.hyd_graph.specs.declared.parts.Ends.{Ends}
+use Rattle.hyd_graph.specs.declared.network_parts.NetJunction.{NetJunction}
+use Rattle.hyd_graph.specs.declared.network_parts.Ends.{Ends}
 use Rattle.hyd_spec_certificates.specs.declared.LevelSpan.{LevelSpan}
-use Rattle.hyd_graph.specs.declared.parts.Setting.{Setting}
+use Rattle.hyd_graph.specs.declared.network_parts.Setting.{Setting}
 use Rattle.hyd_law.specs.declared.link_law.LinkLaw.{LinkLaw}
 use Rattle.hyd_law.specs.declared.outflows.OutLaw.{OutLaw}
 

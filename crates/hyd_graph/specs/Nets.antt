@@ -7,13 +7,13 @@ use Rattle.hyd_spec_certificates.specs.declared.Problem.{Problem}
 use Rattle.hyd_spec_certificates.specs.declared.Problem.TheVariants.{Main, Pinned}
 use Rattle.hyd_spec_certificates.specs.declared.Side.{Side}
 use Rattle.hyd_spec_certificates.specs.declared.Side.TheVariants.{Upper, Lower}
-use Rattle.hyd_spec_laws.specs.Laws.{IsSoundCapacity}
+use Rattle.hyd_theorems_on_periods.specs.Laws.{IsSoundCapacity}
 use Rattle.hyd_law.specs.OutLaws.{IsSoundOut, OutAccepts}
 use Rattle.hyd_law.specs.declared.link_law.LinkLaw.{LinkLaw}
 use Rattle.hyd_law.specs.declared.outflows.OutLaw.{OutLaw}
-use Rattle.hyd_graph.specs.declared.parts.NetJunction.{NetJunction}
+use Rattle.hyd_graph.specs.declared.network_parts.NetJunction.{NetJunction}
 use Rattle.hyd_spec_certificates.specs.declared.LevelSpan.{LevelSpan}
-use Rattle.hyd_graph.specs.declared.parts.Setting.{Setting}
+use Rattle.hyd_graph.specs.declared.network_parts.Setting.{Setting}
 use Rattle.hyd_graph.specs.NetView.{NetView}
 use Rattle.hyd_graph.specs.ExactLaw.{exact_law}
 use Rattle.hyd_graph.specs.Settings.{Stands, restricted}

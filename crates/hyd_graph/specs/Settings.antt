@@ -4,8 +4,8 @@ use Rattle.std.specs.Prelude.{if◌then◌else◌, ⊤, Option, None, slice_get}
 use Rattle.std.specs.Prelude.{All, true, false}
 use Rattle.hyd_net.specs.ListView.{ListView}
 use Rattle.hyd_net.specs.Made.{IsKindMade, IsStateMade, IsValveMade}
-use Rattle.hyd_num.specs.Chain.{IsMade}
-use Rattle.hyd_net.specs.Sizes.{HasSizes}
+use Rattle.hyd_num.specs.CapacityPairs.{IsMade}
+use Rattle.hyd_net.specs.NetworkRanges.{HasSizes}
 use Rattle.hyd_net.specs.States.{CanHave}
 use Rattle.hyd_net.specs.declared.curves.HeadPoint.{HeadPoint}
 use Rattle.hyd_spec.specs.Types.{Project, Link, LinkKind, PipeLink, CheckPipe, PumpLink, CurvePump, Tcv, Fcv, Gpv}
@@ -20,7 +20,7 @@ use Rattle.hyd_law.specs.LinkLaws.{link_at_least, link_at_most, link_low, link_h
 use Rattle.hyd_law.specs.declared.link_law.LinkLaw.{LinkLaw}
 use Rattle.hyd_law.specs.declared.link_law.LinkLaw.TheVariants.{Bent}
 use Rattle.hyd_graph.specs.ExactLaw.{exact_law}
-use Rattle.hyd_graph.specs.declared.parts.Setting.{Setting}
+use Rattle.hyd_graph.specs.declared.network_parts.Setting.{Setting}
 
 -- a law of the program stands for an exact law: it says the same of the exact flow, it has its enclosing functions, its
 -- numbers are sound, and it accepts each difference of two heads of at most 10^18 head ticks

@@ -6,8 +6,8 @@ use Rattle.smallvec.specs.SmallVec.{SmallVec}
 use Rattle.hyd_spec.specs.Assignment.{head_at}
 use Rattle.hyd_spec.specs.Law.{Law}
 use Rattle.hyd_spec_certificates.specs.Grid.{GridLink}
-use Rattle.hyd_graph.specs.declared.parts.Ends.{Ends}
-use Rattle.hyd_graph.specs.declared.parts.Tie.{Tie}
+use Rattle.hyd_graph.specs.declared.network_parts.Ends.{Ends}
+use Rattle.hyd_graph.specs.declared.network_parts.Tie.{Tie}
 
 -- a link end where the test holds, else none
 abbrev pub tie_if : Bool → Tie → List Tie

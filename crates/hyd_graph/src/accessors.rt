@@ -9,7 +9,7 @@ ghost use Rattle.hyd_spec.specs.Law.{Law};
 ghost use Rattle.hyd_spec_certificates.specs.Enclosing.{demand_low, demand_high};
 ghost use Rattle.hyd_spec_certificates.specs.Grid.{all_heads, tank_side};
 ghost use Rattle.hyd_spec_certificates.specs.NetOutflow.{net, link_ends, margin};
-ghost use Rattle.hyd_spec_laws.specs.Laws.{IsSteady, IsSoundCapacity};
+ghost use Rattle.hyd_theorems_on_periods.specs.Laws.{IsSteady, IsSoundCapacity};
 ghost use Rattle.hyd_law.specs.LinkLaws.{IsSoundLink, LinkAccepts};
 ghost use Rattle.hyd_law.specs.OutLaws.{IsSoundOut, OutAccepts, out_low, out_high};
 ghost use Rattle.hyd_graph.specs.ExactLaw.{exact_law};
@@ -20,7 +20,7 @@ ghost use Rattle.hyd_graph.specs.Nets.{HasProblem, is_upper};
 ghost use Rattle.hyd_graph.specs.Ties.{ties_from, ties_share, IsTie, HasEnds};
 
 use crate::net::Net;
-use crate::parts::{Ends, Tie};
+use crate::network_parts::{Ends, Tie};
 use hyd_law::{LinkLaw, OutLaw, Quad};
 use hyd_net::LinkState;
 use hyd_spec_certificates::{Problem, Side};

@@ -3,7 +3,7 @@
 
 ghost use Rattle.std.specs.Prelude.{◌≡◌, ◌≤◌, ◌+◌, ◌*◌, ℕ, length, IfOk};
 ghost use Rattle.hyd_net.specs.Curves.{IsPumpCurve, IsLossCurve};
-ghost use Rattle.hyd_net.specs.Sizes.{HasSizes};
+ghost use Rattle.hyd_net.specs.NetworkRanges.{HasSizes};
 ghost use Rattle.hyd_net.specs.Sound.{Sound};
 ghost use Rattle.hyd_spec.specs.Law as exact;
 ghost use Rattle.hyd_graph.specs.Settings.{Represents, HasRoom, IsClosedLaw, AreClosed};

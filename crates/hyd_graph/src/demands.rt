@@ -2,11 +2,11 @@
 #![tactic(auto)]
 
 ghost use Rattle.std.specs.Prelude.{◌≡◌, ◌⊎◌, ◌<◌, ◌≤◌, ◌+◌, ◌^◌, pos, ◌≤ℤ◌, unsigned_abs, length, true, IfOk, IfErr};
-ghost use Rattle.hyd_net.specs.Sizes.{HasOptions};
+ghost use Rattle.hyd_net.specs.NetworkRanges.{HasOptions};
 ghost use Rattle.hyd_net.specs.Sound.{Sound};
 ghost use Rattle.hyd_spec_certificates.specs.Valid.{DemandsAreInRange};
 ghost use Rattle.hyd_spec_reports.specs.Stops.{IsFirstDemand};
-ghost use Rattle.hyd_demand.specs.Asked.{junction_demand, IsInRange, IsOutOfRange};
+ghost use Rattle.hyd_demand.specs.Numbered.{junction_demand, IsInRange, IsOutOfRange};
 ghost use Rattle.hyd_graph.specs.Demands.{demand_held, IsOutLawOf, IsHeld, AreHeld, AreDemandsAt};
 
 use crate::fault::PeriodDemand;

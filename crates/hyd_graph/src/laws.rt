@@ -19,7 +19,7 @@ ghost use Rattle.hyd_graph.specs.Settings.{Stands, Represents, HasRoom, HasRoomF
 ghost use Rattle.hyd_graph.specs.Settings.{CanStand, AreLawsOf, IsShutBetween, restricted};
 
 use crate::curves::{closed_curve, curve_pump_law, curve_valve_law, knots_of, points_of};
-use crate::parts::Setting;
+use crate::network_parts::Setting;
 use crate::pumps::pump_law;
 use hyd_law::{Bent, Capped, Held, Linear, LinkLaw, OneWay, Quad, Shut};
 use hyd_net::{LinkKind, LinkState, OpenValve, Project};

@@ -1,7 +1,7 @@
 //! The network of a period.
 #![tactic(auto)]
 
-use crate::parts::{Ends, NetJunction, Setting, Tie};
+use crate::network_parts::{Ends, NetJunction, Setting, Tie};
 use hyd_law::{LinkLaw, OutLaw};
 use hyd_spec_certificates::LevelSpan;
 use smallvec::SmallVec;

@@ -13,10 +13,10 @@ ghost use Rattle.hyd_graph.specs.Periods.{IsNetOf, IsFresh, AreLevels, AreShut, 
 use crate::closed::closed_laws;
 use crate::demands::{kept_demands, set_demands};
 use crate::fault::PeriodDemand;
-use crate::fixed::{set_reservoirs, set_tanks};
+use crate::fixed_heads::{set_reservoirs, set_tanks};
 use crate::net::Net;
-use crate::opening::{all_ends, copies, net_junctions};
-use crate::parts::Setting;
+use crate::network_parts::Setting;
+use crate::new_net::{all_ends, copies, net_junctions};
 use crate::rows::rows_of;
 use crate::settings::set_links;
 use hyd_law::{Fixed, OutLaw};

@@ -3,7 +3,7 @@
 
 ghost use Rattle.std.specs.Prelude.{◌≡◌, ◌<◌, ◌≤◌, ◌*◌, ◌^◌, unsigned_abs, pos, ◌*ℤ◌, ◌<ℤ◌, Bool};
 ghost use Rattle.hyd_num.specs.Rational.{Rational};
-ghost use Rattle.hyd_num.specs.Chain.{IsMade};
+ghost use Rattle.hyd_num.specs.CapacityPairs.{IsMade};
 ghost use Rattle.hyd_net.specs.States.{IsSpeed};
 ghost use Rattle.hyd_spec.specs.Law as exact;
 ghost use Rattle.hyd_spec.specs.Quantity.{shutoff_head, lift_of};

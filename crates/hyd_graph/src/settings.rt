@@ -9,7 +9,7 @@ ghost use Rattle.hyd_net.specs.Sound.{Sound};
 ghost use Rattle.hyd_graph.specs.Settings.{tank_state, setting_of, AreLaws, AreSet, AreStates};
 
 use crate::laws::set_link;
-use crate::parts::Setting;
+use crate::network_parts::Setting;
 use hyd_law::LinkLaw;
 use hyd_net::{Link, LinkState, Project};
 use hyd_spec::TankState;

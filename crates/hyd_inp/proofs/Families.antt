@@ -11,8 +11,8 @@ use Rattle.hyd_net.specs.declared.cause.Cause.{Cause}
 use Rattle.hyd_spec_input.specs.Capacities.{IsRefusedIn}
 use Rattle.hyd_spec_input.specs.Faults.{IsWrongWithOthers}
 use Rattle.hyd_spec_input.specs.WithOthers.{section_fault, holds_action}
-use Rattle.hyd_inp.specs.Families.{Both, is_judged, IsWrongOf}
-use Rattle.hyd_row_tables.specs.declared.found.Found.{Found}
+use Rattle.hyd_inp.specs.JudgedSections.{Both, is_judged, IsWrongOf}
+use Rattle.hyd_row_tables.specs.declared.first_wrong.Found.{Found}
 use Rattle.hyd_row_tables.specs.Found.{HasFound, IsWrongAmong, Either, least, rows_at}
 use Rattle.hyd_row_tables.proofs.LeastLemmas.{found_least}
 

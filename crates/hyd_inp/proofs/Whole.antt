@@ -17,14 +17,14 @@ use Rattle.hyd_spec_input.specs.Faults.{NoneIs, IsFirst, IsFaultOf, HasNoFault, 
 use Rattle.hyd_spec_input.specs.Faults.{lack, has_some}
 use Rattle.hyd_spec_input.specs.InForce.{names_head_loss}
 use Rattle.hyd_spec_input.specs.Tables.{is_of, rows_of}
-use Rattle.hyd_row_tables.specs.declared.found.Found.{Found}
+use Rattle.hyd_row_tables.specs.declared.first_wrong.Found.{Found}
 use Rattle.hyd_row_tables.specs.Found.{HasFound, rows_at}
 use Rattle.hyd_row_tables.proofs.FoundLemmas.{first_of, none_of}
-use Rattle.hyd_inp.specs.Sources.{is_source}
+use Rattle.hyd_inp.specs.ReservoirsAndTanks.{is_source}
 use Rattle.hyd_net.specs.Sound.{Sound}
 use Rattle.hyd_net.specs.declared.project.Project.{Project}
 use Rattle.hyd_spec_input.specs.Project.{IsProject}
-use Rattle.hyd_spec_networks.proofs.Parts.{all_right}
+use Rattle.hyd_theorems_on_input.proofs.Parts.{all_right}
 use Rattle.hyd_inp.specs.declared.fault.InpFault.{InpFault}
 
 -- ---- none is wrong

@@ -1,6 +1,6 @@
 pub mod Refused
-pub mod Sources
-pub mod Families
+pub mod ReservoirsAndTanks
+pub mod JudgedSections
 pub mod Parts
-pub mod Kinds
-pub mod Source
+pub mod IdTables
+pub mod CheckedRows

@@ -5,16 +5,16 @@ use Rattle.hyd_spec_lines.specs.declared.section.Section.TheVariants.{Junctions,
 use Rattle.hyd_net.specs.declared.options.Options.{Options}
 use Rattle.hyd_net.specs.declared.options.Times.{Times}
 use Rattle.hyd_net.specs.declared.project.Project.{Project}
-use Rattle.hyd_spec_input.specs.Network.{node_ids, tank_ids, link_ids, pattern_ids, shape_names, bend_names}
-use Rattle.hyd_spec_input.specs.Network.{rule_groups}
+use Rattle.hyd_spec_input.specs.RowMeanings.{node_ids, tank_ids, link_ids, pattern_ids, shape_names, bend_names}
+use Rattle.hyd_spec_input.specs.RowMeanings.{rule_groups}
 use Rattle.hyd_spec_input.specs.Project.{Match, IsJunction, IsReservoir, IsTank, IsLink, IsPattern, IsControl, IsRule}
 use Rattle.hyd_spec_input.specs.Project.{IsOptions, IsTimes, IsProject, numbered_links, shape_points, bend_points}
 use Rattle.hyd_spec_input.specs.Tables.{rows_of, words_of}
-use Rattle.hyd_inp.specs.declared.numbers.Numbers.{Numbers}
-use Rattle.hyd_inp.specs.declared.parts.Nodes.{Nodes}
-use Rattle.hyd_inp.specs.declared.parts.Links.{Links}
-use Rattle.hyd_inp.specs.declared.parts.Changes.{Changes}
-use Rattle.hyd_inp.specs.declared.parts.Parts.{Parts}
+use Rattle.hyd_inp.specs.declared.numbering.Numbers.{Numbers}
+use Rattle.hyd_inp.specs.declared.network_parts.Nodes.{Nodes}
+use Rattle.hyd_inp.specs.declared.network_parts.Links.{Links}
+use Rattle.hyd_inp.specs.declared.network_parts.Changes.{Changes}
+use Rattle.hyd_inp.specs.declared.network_parts.Parts.{Parts}
 
 -- IDs in the order of their numbers
 pub record AreNumbers (rows : List Row) (numbers : Numbers) : Type 0 where

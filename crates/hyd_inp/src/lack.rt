@@ -7,9 +7,9 @@ ghost use Rattle.hyd_spec_lines.specs.Lines.{LiesIn};
 ghost use Rattle.hyd_spec_input.specs.Faults as faults;
 ghost use Rattle.hyd_spec_input.specs.InForce as force;
 ghost use Rattle.hyd_row_tables.specs.Found.{rows_at};
-ghost use Rattle.hyd_inp.specs.Sources as sources;
+ghost use Rattle.hyd_inp.specs.ReservoirsAndTanks as sources;
 
-use hyd_judge_nodes::last_option;
+use hyd_judge_nodes_and_options::last_option;
 use hyd_lex::{Line, Lines, Section};
 use hyd_net::Cause;
 

@@ -2,16 +2,16 @@
 #![tactic(auto)]
 
 mod build;
+mod checked_rows;
 mod fault;
-mod faults;
+mod first_fault;
 mod lack;
-mod numbers;
-mod parts;
+mod network_parts;
+mod numbering;
 mod project;
-mod source;
 mod tables;
 mod with_others;
 
 pub use fault::{InpFault, InpRefused};
-pub use faults::find_fault;
+pub use first_fault::find_fault;
 pub use project::read_project;

@@ -10,7 +10,7 @@ ghost use Rattle.hyd_inp.specs.Refused.{IfFault};
 
 use crate::build::build;
 use crate::fault::{InpFault, InpRefused};
-use crate::faults::{LONGEST, fault_of};
+use crate::first_fault::{LONGEST, fault_of};
 use hyd_lex::Lines;
 use hyd_net::{Cause, Project};
 use hyd_row_tables::gather;

@@ -7,7 +7,7 @@ ghost use Rattle.hyd_spec_lines.specs.Lines.{LiesIn, row_of};
 ghost use Rattle.hyd_spec_input.specs.Tables.{place};
 ghost use Rattle.hyd_row_tables.specs.Found.{rows_at};
 ghost use Rattle.hyd_row_tables.specs.Tables.{IsTable};
-ghost use Rattle.hyd_inp.specs.Kinds.{is_kind, AreTables};
+ghost use Rattle.hyd_inp.specs.IdTables.{is_kind, AreTables};
 
 use hyd_lex::{Line, Lines, Section};
 use hyd_net::OutOfMemory;

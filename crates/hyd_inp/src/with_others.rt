@@ -12,16 +12,16 @@ ghost use Rattle.hyd_spec_input.specs.InForce as force;
 ghost use Rattle.hyd_spec_input.specs.Tables.{node_rows, link_rows, rows_of};
 ghost use Rattle.hyd_row_tables.specs.Found.{HasFound, rows_at};
 ghost use Rattle.hyd_row_tables.specs.Tables.{IsTable};
-ghost use Rattle.hyd_judge_nodes.specs.JudgedNodes as nodes_form;
-ghost use Rattle.hyd_judge_nodes.specs.Patterns.{ArePatterns};
+ghost use Rattle.hyd_judge_nodes_and_options.specs.JudgedNodes as nodes_form;
+ghost use Rattle.hyd_judge_nodes_and_options.specs.Patterns.{ArePatterns};
 ghost use Rattle.hyd_judge_links.specs.Links as links_form;
-ghost use Rattle.hyd_inp.specs.Families as family;
-ghost use Rattle.hyd_inp.specs.Families.{IsWrongOf};
+ghost use Rattle.hyd_inp.specs.JudgedSections as family;
+ghost use Rattle.hyd_inp.specs.JudgedSections.{IsWrongOf};
 
 use hyd_curves::gather_points;
-use hyd_judge_commands::{judge_controls, judge_rules, judge_status};
+use hyd_judge_controls::{judge_controls, judge_rules, judge_status};
 use hyd_judge_links::{LinkTables, judge_links};
-use hyd_judge_nodes::{
+use hyd_judge_nodes_and_options::{
     NodeTables, Patterns, judge_curves, judge_demands, judge_emitters, judge_nodes, judge_options,
     judge_patterns, unit_in_force,
 };

@@ -3,5 +3,5 @@ pub mod Counts
 pub mod Output
 pub mod Memory
 pub mod MemoryView
-pub mod Standing
+pub mod RealFiles
 pub mod Replacing

@@ -39,7 +39,7 @@ type Name = ArrayString<4096>;
 
 impl<R: Files + Print + Drop> Model for FileDesk<R> {
     ghost use Rattle.std.specs.Prelude.{is_some, option_and_then};
-    ghost use Rattle.hyd_io.specs.Standing.{Standing};
+    ghost use Rattle.hyd_io.specs.RealFiles.{Standing};
 
     ghost Value = { Standing };
 
@@ -54,7 +54,7 @@ impl<R: Files + Print + Drop> Model for FileDesk<R> {
 }
 
 impl<R: Files + Print + Drop> FileDesk<R> {
-    ghost use Rattle.hyd_io.specs.Standing.{untouched};
+    ghost use Rattle.hyd_io.specs.RealFiles.{untouched};
 
     /// A desk that has opened and created nothing.
     pub fn new(rt: R) -> FileDesk<R>
@@ -129,7 +129,7 @@ fn failed_after(
 }
 
 impl<R: Files + Print + Drop> Desk for FileDesk<R> {
-    ghost use Rattle.hyd_io.specs.Standing.{KeepsInput, OpensFile, ReadsFile, WritesFile, PrintsAside};
+    ghost use Rattle.hyd_io.specs.RealFiles.{KeepsInput, OpensFile, ReadsFile, WritesFile, PrintsAside};
 
     ghost files = { λ _. None };
 

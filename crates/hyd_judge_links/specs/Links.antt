@@ -6,11 +6,11 @@ use Rattle.hyd_spec_lines.specs.declared.section.Section.TheVariants.{Pipes, Pum
 use Rattle.hyd_num.specs.Quantity.{is_us_unit}
 use Rattle.hyd_net.specs.declared.cause.Cause.{Cause}
 use Rattle.hyd_net.specs.declared.cause.Cause.TheVariants.{DuplicateId}
-use Rattle.hyd_num.specs.declared.units.FlowUnit.{FlowUnit}
+use Rattle.hyd_num.specs.declared.flow_units.FlowUnit.{FlowUnit}
 use Rattle.hyd_row_tables.specs.Ranges.{flow_fault}
 use Rattle.hyd_row_tables.specs.Tables.{IsEven, IsTable}
 use Rattle.hyd_curves.specs.Judged.{AreVerdicts}
-use Rattle.hyd_judge_nodes.specs.Patterns.{ArePatterns}
+use Rattle.hyd_judge_nodes_and_options.specs.Patterns.{ArePatterns}
 use Rattle.hyd_judge_links.specs.declared.tables.LinkTables.{LinkTables}
 use Rattle.hyd_spec_input.specs.Capacities.{IsRefusedPipe, IsRefusedValve, IsRefusedCurve}
 use Rattle.hyd_spec_input.specs.Columns.{or_else, first, unless, word, amount}

@@ -2,7 +2,7 @@
 //! [VALVES]): their count, IDs, ends, curves, patterns and settings, and last their capacities.
 #![tactic(auto)]
 
-mod ends;
+mod id_and_ends;
 mod links;
 mod pipes;
 mod pumps;

@@ -14,7 +14,7 @@ ghost use Rattle.hyd_row_tables.specs.Tables.{IsTable, IsEven};
 ghost use Rattle.hyd_judge_links.specs.Links as links;
 ghost use Rattle.hyd_judge_links.specs.Links.{IsRefusedPipeOf};
 
-use crate::ends::ends_fault;
+use crate::id_and_ends::ends_fault;
 use hyd_lex::{Line, Lines};
 use hyd_net::Cause;
 use hyd_network_rows::{PipeRow, read_pipe};

@@ -14,13 +14,13 @@ ghost use Rattle.hyd_spec_input.specs.WithOthers as others;
 ghost use Rattle.hyd_row_tables.specs.Sections.{IsFaultThen};
 ghost use Rattle.hyd_row_tables.specs.Tables.{IsTable};
 ghost use Rattle.hyd_curves.specs.Judged.{AreVerdicts};
-ghost use Rattle.hyd_judge_nodes.specs.Patterns.{ArePatterns};
+ghost use Rattle.hyd_judge_nodes_and_options.specs.Patterns.{ArePatterns};
 ghost use Rattle.hyd_judge_links.specs.Links as links;
 ghost use Rattle.hyd_judge_links.specs.Links.{AreEven};
 
-use crate::ends::ends_fault;
+use crate::id_and_ends::ends_fault;
 use crate::tables::LinkTables;
-use hyd_judge_nodes::Patterns;
+use hyd_judge_nodes_and_options::Patterns;
 use hyd_lex::{Line, Lines};
 use hyd_net::Cause;
 use hyd_network_rows::{PumpRow, read_pump};

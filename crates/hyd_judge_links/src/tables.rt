@@ -2,7 +2,7 @@
 #![tactic(auto)]
 
 use hyd_curves::Verdicts;
-use hyd_judge_nodes::Patterns;
+use hyd_judge_nodes_and_options::Patterns;
 use hyd_num::FlowUnit;
 use hyd_row_tables::Table;
 

@@ -7,9 +7,9 @@ use Rattle.hyd_spec.specs.Quantity.{lift_of}
 use Rattle.hyd_spec.specs.Law.{Relation, Shut as ShutLaw, QuadraticLaw, LinearLaw, Bent as BentLaw, lifted}
 use Rattle.hyd_spec.specs.Law.{flow_at_least, flow_at_most}
 use Rattle.hyd_spec_certificates.specs.Enclosing.{quadratic_low, quadratic_high, linear_flow}
-use Rattle.hyd_spec_laws.specs.Laws.{IsLaw, IsSoundCapacity}
-use Rattle.hyd_spec_laws.proofs.LinkLaws.{IsLaw-shut, IsLaw-capped, IsLaw-held}
-use Rattle.hyd_spec_laws.proofs.EachLaw.{IsLaw-quad, IsLaw-straight, IsLaw-bent}
+use Rattle.hyd_theorems_on_periods.specs.Laws.{IsLaw, IsSoundCapacity}
+use Rattle.hyd_theorems_on_periods.proofs.LinkLaws.{IsLaw-shut, IsLaw-capped, IsLaw-held}
+use Rattle.hyd_theorems_on_periods.proofs.EachLaw.{IsLaw-quad, IsLaw-straight, IsLaw-bent}
 use Rattle.hyd_law.specs.Wrapped.{IsDifference, IsLift, directed, directed_at_least, directed_at_most, capped_at_least}
 use Rattle.hyd_law.specs.Wrapped.{capped_at_most, held, held_at_least, held_at_most}
 use Rattle.hyd_law.specs.WrappedLaws.{IsLaw-directed, IsLaw-lift}

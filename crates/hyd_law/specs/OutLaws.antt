@@ -8,9 +8,9 @@ use Rattle.hyd_spec.specs.Types.{PressureDemand}
 use Rattle.hyd_spec.specs.Quantity.{pressure_value}
 use Rattle.hyd_spec.specs.Law.{Relation, QuadraticLaw, lifted, flow_at_least, flow_at_most}
 use Rattle.hyd_spec_certificates.specs.Enclosing.{quadratic_low, quadratic_high}
-use Rattle.hyd_spec_laws.specs.Laws.{IsLaw, IsSoundCapacity}
-use Rattle.hyd_spec_laws.specs.Steps.{steps_at_least, steps_at_most}
-use Rattle.hyd_spec_laws.proofs.DemandLaws.{IsLaw-fixed, IsLaw-driven}
+use Rattle.hyd_theorems_on_periods.specs.Laws.{IsLaw, IsSoundCapacity}
+use Rattle.hyd_theorems_on_periods.specs.PressureSteps.{steps_at_least, steps_at_most}
+use Rattle.hyd_theorems_on_periods.proofs.DemandLaws.{IsLaw-fixed, IsLaw-driven}
 use Rattle.hyd_law.specs.Wrapped.{IsDifference, IsLift}
 use Rattle.hyd_law.specs.declared.outflows.Pda.{Pda}
 use Rattle.hyd_law.specs.declared.outflows.OutLaw.{OutLaw}

@@ -5,8 +5,8 @@ use Rattle.hyd_num.specs.declared.decimals.Span.{Span}
 use Rattle.hyd_spec.specs.Types.{ShutoffHead, FourThirds, Given}
 use Rattle.hyd_spec.specs.Quantity.{lift_of}
 use Rattle.hyd_spec.specs.Law.{Relation, lifted}
-use Rattle.hyd_spec_laws.specs.Laws.{IsLaw}
-use Rattle.hyd_spec_laws.proofs.LinkLaws.{IsLaw-forward, IsLaw-reverse, IsLaw-lifted}
+use Rattle.hyd_theorems_on_periods.specs.Laws.{IsLaw}
+use Rattle.hyd_theorems_on_periods.proofs.LinkLaws.{IsLaw-forward, IsLaw-reverse, IsLaw-lifted}
 use Rattle.hyd_law.specs.Wrapped.{IsLift, directed, directed_at_least, directed_at_most}
 
 pub IsLaw-directed : (forward : Bool) (A B : Relation) (l h : ℤ → ℤ) → IsLaw A B l h

@@ -5,13 +5,13 @@ ghost use Rattle.std.specs.Prelude.{◌*◌, ◌^◌};
 ghost use Rattle.hyd_num.specs.Rational.{floor, ceiling};
 ghost use Rattle.hyd_net.specs.Curves.{value_at};
 ghost use Rattle.hyd_spec.specs.Law as exact;
-ghost use Rattle.hyd_spec_laws.proofs.EachLaw.{IsLaw-bent};
+ghost use Rattle.hyd_theorems_on_periods.proofs.EachLaw.{IsLaw-bent};
 ghost use Rattle.hyd_law.specs.Wrapped.{IsDifference};
 ghost use Rattle.hyd_law.specs.Curves.{places, IsCurve};
 
 use crate::kinds::Bent;
 use crate::law::Law;
-use crate::straight::value_at;
+use crate::straight_lines::value_at;
 
 impl Law for Bent {
     ghost at_least = { λ s. exact.flow_at_least (exact.Bent (places s.knots.list)) };

@@ -2,16 +2,16 @@
 //! ticks.
 #![tactic(auto)]
 
-mod any_link;
 mod bent;
-mod demands;
 mod kinds;
 mod law;
 mod link_law;
+mod link_law_is_law;
+mod outflow_laws;
 mod outflows;
 mod quadratic;
-mod simple;
-mod straight;
+mod single_laws;
+mod straight_lines;
 mod wrapped;
 
 pub use kinds::{Bent, Capped, Held, Knot, Lifted, Linear, OneWay, Quad, Shut};

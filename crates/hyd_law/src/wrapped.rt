@@ -5,7 +5,7 @@ ghost use Rattle.std.specs.Prelude.{◌≡◌, ◌+◌, ◌*◌, ◌^◌, ◌≤
 ghost use Rattle.std.specs.Int.{int_min};
 ghost use Rattle.hyd_spec.specs.Law as exact;
 ghost use Rattle.hyd_spec.specs.Quantity.{lift_of};
-ghost use Rattle.hyd_spec_laws.proofs.LinkLaws.{IsLaw-capped, IsLaw-held};
+ghost use Rattle.hyd_theorems_on_periods.proofs.LinkLaws.{IsLaw-capped, IsLaw-held};
 ghost use Rattle.hyd_law.specs.Wrapped.{IsDifference, IsLift, directed, directed_at_least, directed_at_most};
 ghost use Rattle.hyd_law.specs.Wrapped.{capped_at_least, capped_at_most, held, held_at_least, held_at_most};
 ghost use Rattle.hyd_law.specs.WrappedLaws.{IsLaw-directed, IsLaw-lift};

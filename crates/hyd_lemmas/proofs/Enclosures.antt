@@ -3,7 +3,7 @@ use Rattle.std.proofs.Common.{ℕ, ◌*◌, ◌≤◌, subst, sym}
 use Rattle.hyd_num.specs.declared.binary.Scaled.{Scaled}
 use Rattle.hyd_num.specs.declared.pairs.Pair.{Pair}
 use Rattle.hyd_num.specs.Scaled.{numerator, denominator}
-use Rattle.hyd_num.specs.Chain.{StandsFor, IsMade}
+use Rattle.hyd_num.specs.CapacityPairs.{StandsFor, IsMade}
 use Rattle.hyd_spec.specs.Types.{Origin, Pipe, Valve, Pump, Emitter, PressureDemand, Capacity}
 use Rattle.hyd_spec.specs.Law.{loss_at_most, loss_at_least}
 use Rattle.hyd_spec.specs.Enclosure.{IsEnclosure}

@@ -7,8 +7,9 @@ use Rattle.hyd_num.specs.Fraction.{Fraction, fraction, times, plus, minus, over,
 use Rattle.hyd_num.specs.Quantity.{billionths, ordinary, feet, feet_across}
 use Rattle.hyd_num.specs.Scaled.{numerator, denominator, as_fraction}
 use Rattle.hyd_num.specs.Pairs.{Encloses}
-use Rattle.hyd_num.specs.Chain.{IsMinorPair, IsFrictionPair, IsUnitOver, IsValvePair, IsPlainPipePair, IsFittedPipePair}
-use Rattle.hyd_num.specs.Chain.{IsPipePair, IsPipePairWith}
+use Rattle.hyd_num.specs.CapacityPairs.{IsMinorPair, IsFrictionPair, IsUnitOver, IsValvePair, IsPlainPipePair}
+use Rattle.hyd_num.specs.CapacityPairs.{IsFittedPipePair}
+use Rattle.hyd_num.specs.CapacityPairs.{IsPipePair, IsPipePairWith}
 use Rattle.hyd_spec.specs.Loss.{head_in_feet, flow_in_cfs, friction, minor_loss, PipeLossAtMost, PipeLossAtLeast}
 use Rattle.hyd_spec.specs.Loss.{ValveLossAtMost, ValveLossAtLeast}
 use Rattle.hyd_lemmas.proofs.Fractions.{AtMost-itself, AtMost-along}

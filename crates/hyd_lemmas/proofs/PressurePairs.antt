@@ -12,7 +12,7 @@ use Rattle.hyd_num.specs.Quantity.{billionths, pressure_fraction}
 use Rattle.hyd_num.specs.Fraction.{AtMost, whole}
 use Rattle.hyd_num.specs.Scaled.{numerator, denominator, IsDown, IsUp}
 use Rattle.hyd_num.specs.Pairs.{IsRatio}
-use Rattle.hyd_num.specs.Chain.{IsPairOf, IsSquareOver, IsPressurePair, IsMade}
+use Rattle.hyd_num.specs.CapacityPairs.{IsPairOf, IsSquareOver, IsPressurePair, IsMade}
 use Rattle.hyd_num.specs.declared.capacities.Capacity.{Capacity}
 use Rattle.hyd_num.specs.declared.capacities.Origin.TheVariants.{PressureDemand}
 use Rattle.hyd_lemmas.proofs.Products.{product_of}

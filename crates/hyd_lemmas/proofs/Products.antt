@@ -8,9 +8,9 @@ use borrow.Author.Differences.{up, down}
 use Rattle.hyd_num.specs.declared.binary.Scaled.{Scaled}
 use Rattle.hyd_num.specs.declared.pairs.Pair.{Pair}
 use Rattle.hyd_num.specs.Scaled.{numerator, denominator, IsDown, IsUp}
-use Rattle.hyd_num.specs.Cut.{IsCut}
+use Rattle.hyd_num.specs.Rounding.{IsCut}
 use Rattle.hyd_num.specs.Pairs.{IsProduct, IsPower, once, even, odd, IsOwnPower}
-use Rattle.hyd_num.proofs.Rounding.{IsCut-product, IsDown-from_cut, IsUp-exact, IsUp-next}
+use Rattle.hyd_num.proofs.RoundingLemmas.{IsCut-product, IsDown-from_cut, IsUp-exact, IsUp-next}
 use Rattle.hyd_num.proofs.Ends.{products_ordered}
 use Rattle.hyd_lemmas.proofs.Enclosing.{denominator_above}
 use Rattle.hyd_lemmas.proofs.Grains.{above_of}

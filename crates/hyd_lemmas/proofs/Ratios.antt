@@ -9,9 +9,9 @@ use borrow.Author.Differences.{up, down}
 use Rattle.hyd_num.specs.declared.binary.Scaled.{Scaled}
 use Rattle.hyd_num.specs.declared.pairs.Pair.{Pair}
 use Rattle.hyd_num.specs.Scaled.{numerator, denominator}
-use Rattle.hyd_num.specs.Cut.{IsCut}
+use Rattle.hyd_num.specs.Rounding.{IsCut}
 use Rattle.hyd_num.specs.Pairs.{IsRatio, IsQuotient}
-use Rattle.hyd_num.proofs.Rounding.{IsCut-ratio, IsDown-from_cut}
+use Rattle.hyd_num.proofs.RoundingLemmas.{IsCut-ratio, IsDown-from_cut}
 use Rattle.hyd_num.proofs.Ends.{ordered, quotients_ordered, numerator_positive, denominator_positive}
 use Rattle.hyd_lemmas.proofs.Products.{raised}
 

@@ -6,8 +6,8 @@ use Rattle.hyd_num.specs.declared.decimals.Decimal.{Decimal}
 use Rattle.hyd_num.specs.Scaled.{numerator, denominator, IsUp}
 use Rattle.hyd_num.specs.Quantity.{billionths}
 use Rattle.hyd_num.specs.Pairs.{IsRatio}
-use Rattle.hyd_num.specs.Chain.{StandsFor, IsMade, IsMinorPair, IsFrictionPair, IsPipePairWith, IsUnitOver}
-use Rattle.hyd_num.specs.Chain.{IsSquareOver}
+use Rattle.hyd_num.specs.CapacityPairs.{StandsFor, IsMade, IsMinorPair, IsFrictionPair, IsPipePairWith, IsUnitOver}
+use Rattle.hyd_num.specs.CapacityPairs.{IsSquareOver}
 use Rattle.hyd_spec.specs.Types.{Origin, Pipe, Valve, Pump, Emitter, PressureDemand, Capacity}
 use Rattle.hyd_spec.specs.Enclosure.{IsSharp}
 use Rattle.hyd_lemmas.proofs.Enclosing.{denominator_above}

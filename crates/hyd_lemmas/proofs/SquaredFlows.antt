@@ -9,12 +9,12 @@ use borrow.Author.Differences.{up, down}
 use Rattle.hyd_num.specs.declared.binary.Scaled.{Scaled}
 use Rattle.hyd_num.specs.declared.pairs.Pair.{Pair}
 use Rattle.hyd_num.specs.declared.decimals.Decimal.{Decimal}
-use Rattle.hyd_num.specs.declared.units.FlowUnit.{FlowUnit}
+use Rattle.hyd_num.specs.declared.flow_units.FlowUnit.{FlowUnit}
 use Rattle.hyd_num.specs.Fraction.{Fraction, fraction, times, over, power}
 use Rattle.hyd_num.specs.Quantity.{billionths, is_us_unit, head_ticks, flow_fraction, pressure_fraction}
 use Rattle.hyd_num.specs.Scaled.{numerator, denominator, IsDown}
 use Rattle.hyd_num.specs.Pairs.{Encloses, IsRatio}
-use Rattle.hyd_num.specs.Chain.{IsSquareOver, IsPumpPair, IsEmitterPair, IsPressurePair}
+use Rattle.hyd_num.specs.CapacityPairs.{IsSquareOver, IsPumpPair, IsEmitterPair, IsPressurePair}
 use Rattle.hyd_spec.specs.Loss.{SquareLossAtMost, SquareLossAtLeast}
 use Rattle.hyd_spec.specs.Law.{pump_resistance, emitter_resistance, pressure_resistance}
 use Rattle.hyd_lemmas.proofs.Enclosing.{numerator_above, denominator_above, ratio-encloses, product-encloses}

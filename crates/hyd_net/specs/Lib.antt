@@ -1,11 +1,11 @@
-pub mod Commands
+pub mod ControlsAndRules
 pub mod Curves
 pub mod Ids
 pub mod Lending
 pub mod ListView
 pub mod Made
 pub mod Ranges
-pub mod Sizes
+pub mod NetworkRanges
 pub mod Sound
 pub mod States
 pub mod Views

@@ -1,14 +1,14 @@
 -- That each rounded form is the one that the numbers of the file beside it make. The digits of pi are this program's.
 use Rattle.std.specs.Prelude.{◌≡◌, ℕ, ◌*◌, ◌^◌, ◌<◌, length, IfSome, ℤ, pos, ◌*ℤ◌, ⊤}
 use Rattle.std.specs.List.{All, HoldsAt}
-use Rattle.hyd_num.specs.Chain.{IsMade}
+use Rattle.hyd_num.specs.CapacityPairs.{IsMade}
 use Rattle.hyd_num.specs.Roots.{IsFloor, IsCeiling}
 use Rattle.hyd_num.specs.Quantity.{is_us_unit, head_ticks, flow_ticks, pressure_numerator, pressure_denominator}
-use Rattle.hyd_num.specs.declared.units.FlowUnit.{FlowUnit}
+use Rattle.hyd_num.specs.declared.flow_units.FlowUnit.{FlowUnit}
 use Rattle.hyd_num.specs.declared.decimals.Span.{Span}
 use Rattle.hyd_num.specs.declared.capacities.Origin.{Origin}
 use Rattle.hyd_num.specs.declared.capacities.Origin.TheVariants.{Valve as ValveOrigin}
-use Rattle.hyd_net.specs.Sizes.{IsValve}
+use Rattle.hyd_net.specs.NetworkRanges.{IsValve}
 use Rattle.hyd_net.specs.declared.nodes.Tank.{Tank}
 use Rattle.hyd_net.specs.declared.links.OpenValve.{OpenValve}
 use Rattle.hyd_net.specs.declared.links.OpenValve.TheVariants.{Quadratic, Linear}

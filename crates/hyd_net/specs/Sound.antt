@@ -6,9 +6,9 @@ use Rattle.std.specs.List.{All}
 use Rattle.hyd_net.specs.Ids.{AreDistinct, IsId}
 use Rattle.hyd_net.specs.Ranges.{LiesWithin}
 use Rattle.hyd_net.specs.States.{CanHave}
-use Rattle.hyd_net.specs.Sizes.{HasQuantities}
+use Rattle.hyd_net.specs.NetworkRanges.{HasQuantities}
 use Rattle.hyd_net.specs.Made.{IsAllMade}
-use Rattle.hyd_net.specs.Commands.{node_count, IsControl, IsRule}
+use Rattle.hyd_net.specs.ControlsAndRules.{node_count, IsControl, IsRule}
 use Rattle.hyd_net.specs.ListView.{ListView}
 use Rattle.hyd_net.specs.declared.curves.VolumePoint.{VolumePoint}
 use Rattle.hyd_net.specs.declared.curves.HeadPoint.{HeadPoint}

@@ -4,7 +4,7 @@ use Rattle.std.specs.Prelude.{map, pos}
 use Rattle.std.specs.Option.{option_map}
 use Rattle.std.proofs.Common.{lit≤}
 use Rattle.hyd_num.specs.declared.decimals.Decimal.{Decimal}
-use Rattle.hyd_num.specs.declared.units.FlowUnit.TheVariants.{Cmd}
+use Rattle.hyd_num.specs.declared.flow_units.FlowUnit.TheVariants.{Cmd}
 use Rattle.hyd_num.specs.declared.capacities.Capacity.{Capacity}
 use Rattle.hyd_num.specs.declared.capacities.Origin.{Origin}
 use Rattle.hyd_num.specs.declared.capacities.Origin.TheVariants.{Emitter}

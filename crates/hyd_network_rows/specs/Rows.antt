@@ -8,7 +8,7 @@ use Rattle.hyd_spec_input.specs.NetworkRows.{pump_curve, pump_pattern, pump_spee
 use Rattle.hyd_network_rows.specs.declared.nodes.JunctionRow.{JunctionRow}
 use Rattle.hyd_network_rows.specs.declared.nodes.ReservoirRow.{ReservoirRow}
 use Rattle.hyd_network_rows.specs.declared.tanks.TankRow.{TankRow}
-use Rattle.hyd_network_rows.specs.declared.ends.LinkEnds.{LinkEnds}
+use Rattle.hyd_network_rows.specs.declared.end_nodes.LinkEnds.{LinkEnds}
 use Rattle.hyd_network_rows.specs.declared.pipes.PipeRow.{PipeRow}
 use Rattle.hyd_network_rows.specs.declared.pipes.PipeStatus.{PipeStatus}
 use Rattle.hyd_network_rows.specs.declared.pipes.PipeStatus.TheVariants.{Open, Closed, CheckValve}
@@ -16,10 +16,10 @@ use Rattle.hyd_network_rows.specs.declared.pumps.PumpRow.{PumpRow}
 use Rattle.hyd_network_rows.specs.declared.valves.ValveRow.{ValveRow}
 use Rattle.hyd_network_rows.specs.declared.valves.ValveSetting.{ValveSetting}
 use Rattle.hyd_network_rows.specs.declared.valves.ValveSetting.TheVariants.{Throttle, Curve, Flow}
-use Rattle.hyd_network_rows.specs.declared.data.DemandRow.{DemandRow}
-use Rattle.hyd_network_rows.specs.declared.data.EmitterRow.{EmitterRow}
-use Rattle.hyd_network_rows.specs.declared.data.CurveRow.{CurveRow}
-use Rattle.hyd_network_rows.specs.declared.data.StatusRow.{StatusRow}
+use Rattle.hyd_network_rows.specs.declared.belongings.DemandRow.{DemandRow}
+use Rattle.hyd_network_rows.specs.declared.belongings.EmitterRow.{EmitterRow}
+use Rattle.hyd_network_rows.specs.declared.belongings.CurveRow.{CurveRow}
+use Rattle.hyd_network_rows.specs.declared.belongings.StatusRow.{StatusRow}
 use Rattle.hyd_network_rows.specs.declared.patterns.PatternRow.{PatternRow}
 
 -- ---- nodes

@@ -2,9 +2,9 @@
 //! says, or the first thing that is wrong with it, word by word from the left.
 #![tactic(auto)]
 
+mod belongings;
 mod columns;
-mod data;
-mod ends;
+mod end_nodes;
 mod nodes;
 mod patterns;
 mod pipes;
@@ -12,10 +12,10 @@ mod pumps;
 mod tanks;
 mod valves;
 
-pub use data::{
+pub use belongings::{
     CurveRow, DemandRow, EmitterRow, StatusRow, read_curve, read_demand, read_emitter, read_status,
 };
-pub use ends::LinkEnds;
+pub use end_nodes::LinkEnds;
 pub use hyd_options_and_rules::Asked;
 pub use nodes::{JunctionRow, ReservoirRow, read_junction, read_reservoir};
 pub use patterns::{PatternRow, read_pattern};

@@ -6,7 +6,7 @@ ghost use Rattle.hyd_spec_lines.specs.Bytes.{words_in};
 ghost use Rattle.hyd_spec_lines.specs.Lines.{LiesIn};
 ghost use Rattle.hyd_options_and_rules.specs.Judged.{Judged, words_at};
 ghost use Rattle.hyd_spec_input.specs.Columns as column;
-ghost use Rattle.hyd_spec_input.specs.DataRows as row;
+ghost use Rattle.hyd_spec_input.specs.BelongingRows as row;
 ghost use Rattle.hyd_network_rows.specs.Rows.{IsPatternRow};
 
 use crate::columns::{behind_first, within};

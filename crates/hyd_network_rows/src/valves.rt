@@ -10,7 +10,7 @@ ghost use Rattle.hyd_spec_input.specs.NetworkRows as row;
 ghost use Rattle.hyd_network_rows.specs.Rows.{IsValveRow, IsValveSetting};
 
 use crate::columns::within_or_0;
-use crate::ends::{LinkEnds, read_ends};
+use crate::end_nodes::{LinkEnds, read_ends};
 use hyd_lex::{Line, Lines, is_keyword};
 use hyd_net::Cause;
 use hyd_num::Decimal;

@@ -3,7 +3,7 @@
 
 ghost use Rattle.std.specs.Prelude.{◌≡◌, ℤ, List, length, Option, None, false};
 ghost use Rattle.hyd_graph.specs.Nets.{HasProblem};
-ghost use Rattle.hyd_newton.specs.Told.{Leaves};
+ghost use Rattle.hyd_newton.specs.ToldVectors.{Leaves};
 
 use hyd_graph::Net;
 use hyd_spec_certificates::{Problem, Side};

@@ -4,14 +4,14 @@
 ghost use Rattle.std.specs.Prelude.{◌≡◌, ℤ, List, length, Option, None};
 ghost use Rattle.hyd_graph.specs.Nets.{HasProblem};
 
-use crate::course::Course;
-use crate::descent::Descent;
-use crate::exact::serve;
+use crate::certificate_test::serve;
+use crate::convergence::Progress;
 use crate::finder::Finder;
-use crate::mending::NoValue;
+use crate::jacobian::Tangent;
+use crate::line_search::Course;
 use crate::numbers::{copy, fill, multiply, number_at};
-use crate::progress::Progress;
-use crate::tangent::Tangent;
+use crate::raises::NoValue;
+use crate::tightening::Descent;
 use crate::weights::{greatest_ratio, put_weights};
 use hyd_graph::Net;
 use hyd_spec_certificates::{Problem, Side};

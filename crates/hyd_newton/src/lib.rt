@@ -2,18 +2,18 @@
 //! Pilati 1988). Nothing is promised of a proposal: whoever takes one checks it.
 #![tactic(auto)]
 
-mod course;
-mod descent;
-mod exact;
+mod certificate_test;
+mod convergence;
 mod finder;
 mod flows;
 mod gradient;
-mod mending;
+mod jacobian;
+mod junction_turns;
+mod line_search;
 mod numbers;
-mod progress;
+mod raises;
 mod slopes;
-mod tangent;
-mod turns;
+mod tightening;
 mod weights;
 
 pub use finder::{Finder, Null};

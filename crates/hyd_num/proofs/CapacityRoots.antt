@@ -9,7 +9,7 @@ use borrow.Author.Differences.{up, down}
 use Rattle.hyd_num.specs.declared.binary.Scaled.{Scaled}
 use Rattle.hyd_num.specs.Scaled.{numerator, denominator}
 use Rattle.hyd_num.specs.Roots.{IsSquareRootDown, IsSquareRootUp}
-use Rattle.hyd_num.proofs.Rounding.{power_below}
+use Rattle.hyd_num.proofs.RoundingLemmas.{power_below}
 
 -- an integer is its positive part or its negative part
 parts : (z : ℤ) → (up z ≡ 0) ⊎ (down z ≡ 0)

@@ -1,6 +1,6 @@
 pub mod Integers
 pub mod Floors
-pub mod Rounding
+pub mod RoundingLemmas
 pub mod LongDivision
 pub mod Ends
 pub mod CapacityRoots

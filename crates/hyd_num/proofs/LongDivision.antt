@@ -1,7 +1,7 @@
 -- How often a divisor is doubled, and how many digits a long division has.
 use Rattle.std.proofs.Common.{◌≡◌, ℕ, ◌+◌, ◌*◌, ◌/◌, ◌^◌, ◌-◌, ◌<◌, ◌≤◌, arith, mul-le-mul_right, le-div_iff_mul-le}
 use Rattle.std.proofs.Common.{pow-suc, add-one, pow_pos}
-use Rattle.hyd_num.proofs.Rounding.{power_below}
+use Rattle.hyd_num.proofs.RoundingLemmas.{power_below}
 
 -- twice a power of two, times a factor
 pub doubled_power : (q k : ℕ) → q * 2 ^ (k + 1) ≡ 2 * (q * 2 ^ k)

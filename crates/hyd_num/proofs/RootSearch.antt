@@ -11,8 +11,8 @@ use Rattle.hyd_num.specs.declared.binary.Scaled.{Scaled}
 use Rattle.hyd_num.specs.declared.pairs.Pair.{Pair}
 use Rattle.hyd_num.specs.Scaled.{numerator, denominator}
 use Rattle.hyd_num.specs.Pairs.{IsPower, RootsBelow, RootsAbove}
-use Rattle.hyd_num.specs.Cut.{RootsOver, RootsUnder}
-use Rattle.hyd_num.proofs.Rounding.{not_between, not_below, crossed}
+use Rattle.hyd_num.specs.Rounding.{RootsOver, RootsUnder}
+use Rattle.hyd_num.proofs.RoundingLemmas.{not_between, not_below, crossed}
 use Rattle.hyd_num.proofs.Ends.{numerator_positive, denominator_positive}
 use Rattle.hyd_num.proofs.Powers.{Below, high_rises, high_encloses, high_of_two, low_rises, low_encloses, low_of_two}
 

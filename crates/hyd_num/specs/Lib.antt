@@ -3,10 +3,10 @@ pub mod Scaled
 pub mod Pairs
 pub mod Numeral
 pub mod Quantity
-pub mod Chain
-pub mod Cut
+pub mod CapacityPairs
+pub mod Rounding
 pub mod Roots
-pub mod Decimals
+pub mod PrintedDecimals
 pub mod Rational
 pub mod Refusal
 pub mod Wide

@@ -6,8 +6,8 @@ use Rattle.std.specs.Prelude.{ℕ, ◌*◌, ◌^◌, Bool, true, false, ℤ, pos
 use borrow.Author.Differences.{up}
 use Rattle.hyd_num.specs.Fraction.{Fraction, fraction}
 use Rattle.hyd_num.specs.declared.decimals.Decimal.{Decimal}
-use Rattle.hyd_num.specs.declared.units.FlowUnit.{FlowUnit}
-use Rattle.hyd_num.specs.declared.units.FlowUnit.TheVariants.{Cfs, Gpm, Mgd, Imgd, Afd, Lps, Lpm, Mld, Cmh, Cmd}
+use Rattle.hyd_num.specs.declared.flow_units.FlowUnit.{FlowUnit}
+use Rattle.hyd_num.specs.declared.flow_units.FlowUnit.TheVariants.{Cfs, Gpm, Mgd, Imgd, Afd, Lps, Lpm, Mld, Cmh, Cmd}
 
 -- whether a unit goes with feet, inches and pounds a square inch
 abbrev pub is_us_unit : FlowUnit → Bool

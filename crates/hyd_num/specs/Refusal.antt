@@ -3,7 +3,7 @@ use Rattle.std.specs.Prelude.{◌*◌, ◌^◌, ◌≤◌, ◌<◌, ◌⊎◌}
 use Rattle.hyd_num.specs.declared.pairs.Pair.{Pair}
 use Rattle.hyd_num.specs.declared.capacities.Origin.{Origin}
 use Rattle.hyd_num.specs.Scaled.{numerator, denominator}
-use Rattle.hyd_num.specs.Chain.{StandsFor}
+use Rattle.hyd_num.specs.CapacityPairs.{StandsFor}
 
 -- The upper end is at least 2^66, or the lower end is below 2^-61.
 abbrev pub IsOutside : Pair → Type 0

@@ -6,7 +6,7 @@ ghost use Rattle.hyd_num.specs.Scaled.{numerator, denominator};
 
 use crate::binary::Scaled;
 use crate::decimals::Decimal;
-use crate::units::FlowUnit;
+use crate::flow_units::FlowUnit;
 
 /// The numbers of a file from which a capacity is made, with their unit. `us` says that lengths
 /// are in feet, diameters in inches and pressures in pounds a square inch, against metres,

@@ -4,8 +4,8 @@
 
 mod binary;
 mod capacities;
-mod cuts;
 mod decimals;
+mod flow_units;
 mod fractions;
 mod hundredth_roots;
 mod numerals;
@@ -13,13 +13,14 @@ mod operations;
 mod pairs;
 mod quotients;
 mod roots;
+mod rounding;
 mod scaled_roots;
-mod units;
 mod wide;
 
 pub use binary::Scaled;
 pub use capacities::{Capacity, Origin};
 pub use decimals::{Decimal, NumFault, Span};
+pub use flow_units::FlowUnit;
 pub use hundredth_roots::root533;
 pub use numerals::read_decimal;
 pub use operations::{add, div, mul, pow, ratio};
@@ -27,5 +28,4 @@ pub use pairs::Pair;
 pub use quotients::{mul_div_ceil, mul_div_floor};
 pub use roots::isqrt;
 pub use scaled_roots::{sqrt_down, sqrt_up};
-pub use units::FlowUnit;
 pub use wide::compare_squares;

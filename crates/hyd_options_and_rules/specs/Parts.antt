@@ -3,7 +3,7 @@ use Rattle.std.specs.Prelude.{◌≡◌, ℕ, ◌<◌, true, false, List, [], �
 use denote.Ref.{Bor}
 use Rattle.hyd_num.specs.Numeral as numeral
 use Rattle.hyd_spec_input.specs.Moments.{is_sixtieth}
-use Rattle.hyd_options_and_rules.specs.declared.parts.Parts.{Parts}
+use Rattle.hyd_options_and_rules.specs.declared.hours.Parts.{Parts}
 
 -- the seconds, where they are there
 abbrev pub last_piece : Option (Bor (List ℕ)) → List (List ℕ)

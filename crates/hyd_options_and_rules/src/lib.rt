@@ -4,10 +4,10 @@
 
 mod columns;
 mod controls;
+mod hours;
 mod keywords;
 mod moments;
 mod options;
-mod parts;
 mod rules;
 mod times;
 

@@ -12,8 +12,8 @@ ghost use Rattle.hyd_options_and_rules.specs.Judged.{Judged, words_at};
 ghost use Rattle.hyd_options_and_rules.specs.Moments.{IsMoment};
 
 use crate::columns::{ends, needed, number_of};
+use crate::hours::{clock_seconds, has_colon};
 use crate::keywords::unit_seconds;
-use crate::parts::{clock_seconds, has_colon};
 use hyd_lex::{Line, Lines, is_keyword};
 use hyd_net::Cause;
 use hyd_num::Decimal;

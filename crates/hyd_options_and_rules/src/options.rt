@@ -3,7 +3,7 @@
 
 ghost use Rattle.std.specs.Prelude.{◌≡◌, [], ◌∷◌, unwrap_or, codes};
 ghost use Rattle.hyd_spec_lines.specs.Lines.{LiesIn};
-ghost use Rattle.hyd_num.specs.declared.units.FlowUnit.TheVariants.{Gpm};
+ghost use Rattle.hyd_num.specs.declared.flow_units.FlowUnit.TheVariants.{Gpm};
 ghost use Rattle.hyd_spec_input.specs.Columns as column;
 ghost use Rattle.hyd_spec_input.specs.Columns.{amount};
 ghost use Rattle.hyd_spec_input.specs.Keywords as keyword_form;

@@ -3,7 +3,7 @@
 
 ghost use Rattle.std.specs.Prelude.{◌≡◌, ◌<◌, ◌≤◌, ◌+◌, ◌++◌, Some, length, map, slice_get, slice_index_or};
 ghost use Rattle.hyd_net.specs.Sound.{Sound};
-ghost use Rattle.hyd_net.specs.Commands.{IsControl};
+ghost use Rattle.hyd_net.specs.ControlsAndRules.{IsControl};
 ghost use Rattle.hyd_spec.specs.Types.{Control as Each};
 ghost use Rattle.hyd_spec.specs.Lists.{map_from, present};
 ghost use Rattle.hyd_spec.specs.Network.{tank_count};

@@ -12,8 +12,8 @@ use Rattle.hyd_spec_certificates.specs.Decided.{IsFirstMatter, NoRuleMatters, En
 use Rattle.hyd_spec_certificates.specs.Decided.{event_is_open}
 use Rattle.hyd_spec_certificates.specs.Valid as valid
 use Rattle.hyd_spec_certificates.specs.Valid.{LeavesLinks}
-use Rattle.hyd_period_length.specs.declared.ending.Ending.{Ending}
-use Rattle.hyd_period_length.specs.declared.ending.Ending.TheVariants.{ByRules, WithoutRules, RuleOpen, EventOpen}
+use Rattle.hyd_period_length.specs.declared.end_kinds.Ending.{Ending}
+use Rattle.hyd_period_length.specs.declared.end_kinds.Ending.TheVariants.{ByRules, WithoutRules, RuleOpen, EventOpen}
 use Rattle.hyd_period_length.specs.Endings.{IfDecided, UnlessByRules, end_of, changes_by, HaveActed, IsFirstBrought}
 
 -- a time before the end of the run isn't the end

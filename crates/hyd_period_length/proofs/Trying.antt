@@ -12,12 +12,12 @@ use Rattle.hyd_spec_certificates.specs.Record.{Record, Standing}
 use Rattle.hyd_spec_certificates.specs.Verdict.{No, is_yes, is_unknown}
 use Rattle.hyd_spec_certificates.specs.Decided.{links_at, rule_truths, decided_changes, IsTried, RulesMatter, OpenRule}
 use Rattle.hyd_spec_certificates.specs.Decided.{IsOpenRule}
-use Rattle.hyd_spec_nesting.specs.Nesting.{IsWalked}
+use Rattle.hyd_theorems_on_nesting.specs.Nesting.{IsWalked}
 use Rattle.hyd_period_facts.specs.declared.facts.Facts.{Facts}
 use Rattle.hyd_watched_levels.specs.Started.{AreStarted}
-use Rattle.hyd_rule_trials.specs.Trial.{AreDecided, open_rule}
-use Rattle.hyd_period_length.specs.declared.ending.Ending.{Ending}
-use Rattle.hyd_period_length.specs.declared.ending.Ending.TheVariants.{ByRules, WithoutRules, RuleOpen, EventOpen}
+use Rattle.hyd_rule_evaluation.specs.Trial.{AreDecided, open_rule}
+use Rattle.hyd_period_length.specs.declared.end_kinds.Ending.{Ending}
+use Rattle.hyd_period_length.specs.declared.end_kinds.Ending.TheVariants.{ByRules, WithoutRules, RuleOpen, EventOpen}
 use Rattle.hyd_period_length.specs.Endings.{IfDecided, UnlessByRules, HaveActed, IsBrought, IsFirstBrought}
 
 -- ---- facts that stay

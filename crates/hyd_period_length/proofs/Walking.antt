@@ -6,10 +6,10 @@ use Rattle.hyd_num.specs.declared.decimals.Span.{Span}
 use Rattle.hyd_spec.specs.Types.{Project, LinkState}
 use Rattle.hyd_spec.specs.declared.Change.{Change}
 use Rattle.hyd_spec_certificates.specs.Decided.{RulesMatter}
-use Rattle.hyd_spec_nesting.specs.Nesting.{IsWalked}
-use Rattle.hyd_spec_nesting.proofs.Walking as walking
+use Rattle.hyd_theorems_on_nesting.specs.Nesting.{IsWalked}
+use Rattle.hyd_theorems_on_nesting.proofs.Walking as walking
 use Rattle.hyd_period_facts.specs.declared.facts.Facts.{Facts}
-use Rattle.hyd_period_length.specs.declared.ending.Ending.{Ending}
+use Rattle.hyd_period_length.specs.declared.end_kinds.Ending.{Ending}
 use Rattle.hyd_period_length.specs.Endings.{ForPeriod, IsBrought, IsFirstBrought}
 use Rattle.hyd_period_length.proofs.Trying.{brought_first}
 

@@ -15,9 +15,9 @@ use Rattle.hyd_spec_certificates.specs.Decided.{links_at, rule_truths, decided_c
 use Rattle.hyd_spec_certificates.specs.Decided.{IsOpenRule}
 use Rattle.hyd_period_facts.specs.declared.facts.Facts.{Facts}
 use Rattle.hyd_watched_levels.specs.Started.{AreStarted}
-use Rattle.hyd_rule_trials.specs.Trial.{AreRead, open_rule}
-use Rattle.hyd_period_length.specs.declared.ending.Ending.{Ending}
-use Rattle.hyd_period_length.specs.declared.ending.Ending.TheVariants.{ByRules, WithoutRules, RuleOpen, EventOpen}
+use Rattle.hyd_rule_evaluation.specs.Trial.{AreRead, open_rule}
+use Rattle.hyd_period_length.specs.declared.end_kinds.Ending.{Ending}
+use Rattle.hyd_period_length.specs.declared.end_kinds.Ending.TheVariants.{ByRules, WithoutRules, RuleOpen, EventOpen}
 
 -- Whatever grid, standing and record the facts and the readings are of, this holds of them.
 abbrev pub ForPeriod : Project → Facts → List ℤ → List ℤ → List Span → (Grid → Standing → Record → Type 0) → Type 0

@@ -11,12 +11,12 @@ ghost use Rattle.hyd_ctrl.specs.Instants.{IsBounded};
 ghost use Rattle.hyd_watched_levels.specs.Started.{HaveTanks};
 ghost use Rattle.hyd_period_length.specs.Endings.{ForPeriod, IfDecided, UnlessByRules, IsBrought, IsFirstBrought};
 
-use crate::ending::Ending;
+use crate::end_kinds::Ending;
 use hyd_ctrl::{Changes, act};
 use hyd_net::{LinkState, List, Project};
 use hyd_num::Span;
 use hyd_period_facts::Facts;
-use hyd_rule_trials::try_rules;
+use hyd_rule_evaluation::try_rules;
 use hyd_spec_certificates::LevelSpan;
 
 // Carries out what rules with these values change, and tells whether that is anything.

@@ -1,9 +1,9 @@
 //! When a period ends, by rules or without them, and the states of links that its end commands.
 #![tactic(auto)]
 
-mod ending;
-mod ends;
+mod end_kinds;
+mod end_of_period;
 mod instants;
 
-pub use ending::Ending;
-pub use ends::find_end;
+pub use end_kinds::Ending;
+pub use end_of_period::find_end;

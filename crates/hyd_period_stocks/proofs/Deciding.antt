@@ -5,7 +5,7 @@ use Rattle.std.specs.Prelude.{Option, Some, None, map, slice_get, slice_index_or
 use Rattle.std.proofs.lemmas.Int.{ints}
 use Rattle.std.proofs.lemmas.List.{length-map}
 use Rattle.hyd_net.specs.Sound.{Sound}
-use Rattle.hyd_net.specs.Sizes.{IsTank}
+use Rattle.hyd_net.specs.NetworkRanges.{IsTank}
 use Rattle.hyd_spec.specs.Types.{Project, Tank}
 use Rattle.hyd_spec.specs.declared.TankState.{TankState}
 use Rattle.hyd_spec.specs.Lists.{map_from}

@@ -19,7 +19,7 @@ use Rattle.hyd_tank.specs.Spans.{initial_stocks, AreHeld}
 use Rattle.hyd_tank.specs.declared.spans.VolumeSpan.{VolumeSpan}
 use Rattle.hyd_period_facts.specs.OfPeriod.{levels_of, volumes_of}
 use Rattle.hyd_tank_inflows.proofs.Numbered.{item_there, item_is}
-use Rattle.hyd_period_stocks.specs.Next.{stocks_among, IsFirstOpen}
+use Rattle.hyd_period_stocks.specs.TankStart.{stocks_among, IsFirstOpen}
 use Rattle.hyd_period_stocks.specs.declared.states.TankOpen.{TankOpen}
 use Rattle.hyd_period_stocks.proofs.Stocking.{same_from, at_first}
 use Rattle.hyd_period_stocks.proofs.Deciding.{none_open}

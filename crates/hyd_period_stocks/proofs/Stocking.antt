@@ -20,7 +20,7 @@ use Rattle.hyd_period_facts.specs.declared.facts.Facts.{Facts}
 use Rattle.hyd_tank_inflows.proofs.Numbered.{placed_first, item_is}
 use Rattle.hyd_watched_levels.specs.Started.{AreStarted, inflow_in}
 use Rattle.hyd_watched_levels.proofs.Reaching.{stocks_are, inflow_is}
-use Rattle.hyd_period_stocks.specs.Next.{next_in, stocks_among}
+use Rattle.hyd_period_stocks.specs.TankStart.{next_in, stocks_among}
 
 -- two numbered maps that agree at each item
 pub same_from : {X Y : Type 0} (f g : ℕ → X → Y) (from : ℕ) (xs : List X)

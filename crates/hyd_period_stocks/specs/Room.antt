@@ -3,16 +3,16 @@ use Rattle.std.specs.Prelude.{◌≡◌, []}
 use Rattle.hyd_spec.specs.Types.{Project}
 use Rattle.hyd_spec.specs.Network.{tank_count}
 use Rattle.hyd_period_facts.specs.Room.{Takes}
-use Rattle.hyd_period_stocks.specs.declared.next.Next.{Next}
+use Rattle.hyd_period_stocks.specs.declared.tank_start.TankStart.{TankStart}
 
 -- Nothing is known of the tanks.
-pub record AreNone (next : Next) : Type 0 where
+pub record AreNone (next : TankStart) : Type 0 where
   pub levels : next.levels.list ≡ []
   pub volumes : next.volumes.list ≡ []
   pub tanks : next.tanks.list ≡ []
 
 -- There is room for the levels, the volumes and the state of each tank.
-pub record HasRoom (network : Project) (next : Next) : Type 0 where
+pub record HasRoom (network : Project) (next : TankStart) : Type 0 where
   pub levels : Takes next.levels (tank_count network)
   pub volumes : Takes next.volumes (tank_count network)
   pub tanks : Takes next.tanks (tank_count network)

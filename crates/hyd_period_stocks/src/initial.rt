@@ -9,7 +9,7 @@ ghost use Rattle.hyd_spec.specs.Tank.{walls_of};
 ghost use Rattle.hyd_spec_certificates.specs.Record.{initial_standing};
 ghost use Rattle.hyd_tank.specs.Spans.{AreHeld};
 ghost use Rattle.hyd_period_facts.specs.OfPeriod.{levels_of, volumes_of};
-ghost use Rattle.hyd_period_stocks.specs.Next.{stocks_among};
+ghost use Rattle.hyd_period_stocks.specs.TankStart.{stocks_among};
 
 use crate::states::put_states;
 use crate::stocks::{add_level, add_volume};

@@ -2,12 +2,12 @@
 #![tactic(auto)]
 
 mod initial;
-mod next;
 mod settled;
 mod states;
 mod stocks;
+mod tank_start;
 
-pub use next::Next;
 pub use settled::Unsettled;
 pub use states::{TankOpen, put_states};
 pub use stocks::put_stocks;
+pub use tank_start::TankStart;

@@ -6,7 +6,7 @@ ghost use Rattle.hyd_net.specs.Sound.{Sound};
 ghost use Rattle.hyd_spec.specs.Network.{tank_count};
 ghost use Rattle.hyd_spec_certificates.specs.Valid.{AreStates, ControlsAreDecided};
 ghost use Rattle.hyd_period_facts.specs.OfPeriod.{levels_of};
-ghost use Rattle.hyd_period_stocks.specs.Next.{IsUnsettled};
+ghost use Rattle.hyd_period_stocks.specs.TankStart.{IsUnsettled};
 
 use crate::states::{TankOpen, put_states};
 use hyd_ctrl::{LevelOpen, find_open};

@@ -12,7 +12,7 @@ ghost use Rattle.hyd_spec_certificates.specs.Valid.{levels_next, volumes_next};
 ghost use Rattle.hyd_tank.specs.Spans.{stocks_of, AreHeld};
 ghost use Rattle.hyd_period_facts.specs.OfPeriod.{levels_of, volumes_of};
 ghost use Rattle.hyd_watched_levels.specs.Started.{HaveTanks, AreStarted};
-ghost use Rattle.hyd_period_stocks.specs.Next.{next_in, stocks_among};
+ghost use Rattle.hyd_period_stocks.specs.TankStart.{next_in, stocks_among};
 
 use hyd_net::{List, Project};
 use hyd_period_facts::Facts;

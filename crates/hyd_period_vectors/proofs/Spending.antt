@@ -8,14 +8,14 @@ use Rattle.hyd_spec_certificates.specs.declared.Side.{Side}
 use Rattle.hyd_spec_certificates.specs.declared.Side.TheVariants.{Upper, Lower}
 use Rattle.hyd_spec_certificates.specs.Grid.{Grid}
 use Rattle.hyd_spec_certificates.specs.Certificate.{box_limit, IsInBox}
-use Rattle.hyd_spec_certificates.specs.Climbing.{LiesBeyond, IsStart}
-use Rattle.hyd_spec_laws.specs.Laws.{IsSteady}
-use Rattle.hyd_spec_laws.specs.Sides.{along}
+use Rattle.hyd_spec_certificates.specs.SearchSteps.{LiesBeyond, IsStart}
+use Rattle.hyd_theorems_on_periods.specs.Laws.{IsSteady}
+use Rattle.hyd_theorems_on_periods.specs.Sides.{along}
 use Rattle.hyd_spec_reports.specs.Stops.{beginning}
-use Rattle.hyd_spec_raises.proofs.Leading.{is-beyond}
-use Rattle.hyd_spec_raises.proofs.Raising.{along-floor}
-use Rattle.hyd_spec_raises.proofs.Sweeping.{spent-nearer}
-use Rattle.hyd_spec_raises.proofs.Beginnings.{start-end}
+use Rattle.hyd_theorems_on_raises.proofs.Leading.{is-beyond}
+use Rattle.hyd_theorems_on_raises.proofs.Raising.{along-floor}
+use Rattle.hyd_theorems_on_raises.proofs.Sweeping.{spent-nearer}
+use Rattle.hyd_theorems_on_raises.proofs.Beginnings.{start-end}
 use Rattle.hyd_sweep.specs.Sweeps.{SweepGives}
 use Rattle.hyd_sweep.specs.declared.answers.Swept.TheVariants.{RoundsSpent}
 use Rattle.hyd_period_vectors.specs.Vectors.{AreSpent}

@@ -1,3 +1,3 @@
 pub mod Room
-pub mod Turns
+pub mod JunctionTurns
 pub mod Vectors

@@ -2,8 +2,8 @@
 //! a tight vector begin where the finder says, if every certificate lies beyond that.
 #![tactic(auto)]
 
-mod finding;
 mod lack;
+mod one_vector;
 mod search;
 mod starting;
 

@@ -10,8 +10,8 @@ ghost use Rattle.hyd_graph.specs.Nets.{HasProblem};
 ghost use Rattle.hyd_period_vectors.specs.Vectors.{IsSought, Comes, LacksFirst, EachBefore};
 ghost use Rattle.hyd_period_vectors.specs.Vectors.{OfEach, InOrder, Stays, Fits};
 
-use crate::finding::find;
 use crate::lack::Lack;
+use crate::one_vector::find;
 use crate::starting::Starter;
 use hyd_cert::Record;
 use hyd_graph::Net;

@@ -25,8 +25,9 @@ use Rattle.hyd_spec_reports.specs.declared.StatusWord.{StatusWord}
 use Rattle.hyd_period_facts.specs.OfPeriod.{levels_of, flows_of}
 use Rattle.hyd_bounds.specs.Bounds.{IsSpan, AreInOrder}
 use Rattle.hyd_report.specs.Printing.{printed, quantity_in, ArePrinted}
-use Rattle.hyd_report.specs.Lines.{texts, junction_between, junction_line, reservoir_line, tank_at, tank_line, no_link}
-use Rattle.hyd_report.specs.Lines.{link_line}
+use Rattle.hyd_report.specs.LinesOfParts.{texts, junction_between, junction_line, reservoir_line, tank_at, tank_line}
+use Rattle.hyd_report.specs.LinesOfParts.{no_link}
+use Rattle.hyd_report.specs.LinesOfParts.{link_line}
 use Rattle.hyd_report.proofs.Joining.{map-append, joined-append}
 use Rattle.hyd_report.specs.declared.printed.Ends.{Ends}
 use Rattle.hyd_report.specs.declared.printed.Quantity.TheVariants.{Head, Pressure, Flow}

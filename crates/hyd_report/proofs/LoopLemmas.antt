@@ -10,7 +10,7 @@ use Rattle.hyd_spec.specs.Types.{Project}
 use Rattle.hyd_spec.specs.Lists.{map_from}
 use Rattle.hyd_spec_reports.specs.ReportLine.{ReportLine, line_text}
 use Rattle.hyd_report.specs.Putting.{Puts}
-use Rattle.hyd_report.specs.Lines.{texts}
+use Rattle.hyd_report.specs.LinesOfParts.{texts}
 use Rattle.hyd_report.proofs.LineLemmas.{there, lines_more, lines_rest, lines_split}
 use Rattle.hyd_report.proofs.PutLemmas.{puts_then, puts_cut, puts_same}
 

@@ -3,9 +3,9 @@ use Rattle.std.proofs.Common.{◌≡◌, ◌<◌, ◌<ℤ◌, ℤ, pos, neg_ℤ,
 use Rattle.std.proofs.lemmas.Int.{ints}
 use Rattle.hyd_num.specs.Rational.{negated, floor, ceiling}
 use Rattle.hyd_num.proofs.Floors.{floor_is, ceiling_is}
-use Rattle.hyd_num.specs.Decimals.{head_quantity, pressure_quantity, flow_quantity, IsRoundedDown, IsRoundedUp}
-use Rattle.hyd_num.specs.declared.units.FlowUnit.{FlowUnit}
-use Rattle.hyd_num.specs.declared.units.FlowUnit.TheVariants.{Cfs, Gpm, Mgd, Imgd, Afd, Lps, Lpm, Mld, Cmh, Cmd}
+use Rattle.hyd_num.specs.PrintedDecimals.{head_quantity, pressure_quantity, flow_quantity, IsRoundedDown, IsRoundedUp}
+use Rattle.hyd_num.specs.declared.flow_units.FlowUnit.{FlowUnit}
+use Rattle.hyd_num.specs.declared.flow_units.FlowUnit.TheVariants.{Cfs, Gpm, Mgd, Imgd, Afd, Lps, Lpm, Mld, Cmh, Cmd}
 use Rattle.hyd_units.proofs.Wholes.{IsFloor-floor, IsCeiling-ceiling}
 use Rattle.hyd_spec.specs.Types.{Project}
 use Rattle.hyd_spec.specs.Quantity.{is_us}

@@ -23,14 +23,14 @@ use Rattle.hyd_spec_reports.specs.Report.{changes_at, status_of}
 use Rattle.hyd_period_facts.specs.declared.facts.Facts.{Facts}
 use Rattle.hyd_period_facts.specs.OfPeriod.{AreFacts, levels_of, flows_of}
 use Rattle.hyd_graph.specs.GridOf.{links_of}
-use Rattle.hyd_graph.specs.declared.parts.Ends.{Ends}
-use Rattle.hyd_graph.specs.declared.parts.Setting.{Setting}
+use Rattle.hyd_graph.specs.declared.network_parts.Ends.{Ends}
+use Rattle.hyd_graph.specs.declared.network_parts.Setting.{Setting}
 use Rattle.hyd_law.specs.declared.link_law.LinkLaw.{LinkLaw}
 use Rattle.hyd_report.specs.Printing.{printed, quantity_in}
 use Rattle.hyd_report.specs.declared.printed.Quantity.TheVariants.{Head, Pressure, Flow}
 use Rattle.hyd_report.specs.Words.{before_rules}
-use Rattle.hyd_report.specs.Lines.{junction_line, reservoir_line, tank_line, no_link, link_line}
-use Rattle.hyd_report.specs.Periods.{AreTankFacts, state_lines, middle_lines, end_lines, lines_of}
+use Rattle.hyd_report.specs.LinesOfParts.{junction_line, reservoir_line, tank_line, no_link, link_line}
+use Rattle.hyd_report.specs.PeriodLines.{AreTankFacts, state_lines, middle_lines, end_lines, lines_of}
 use Rattle.hyd_report.proofs.PrintLemmas.{prints}
 use Rattle.hyd_report.proofs.ChangeLemmas.{changes_apart}
 

@@ -1,5 +1,5 @@
-pub mod Lines
-pub mod Periods
+pub mod LinesOfParts
+pub mod PeriodLines
 pub mod Printing
 pub mod Putting
 pub mod Words

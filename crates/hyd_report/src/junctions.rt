@@ -15,7 +15,7 @@ ghost use Rattle.hyd_graph.specs.GridOf.{grid_of};
 ghost use Rattle.hyd_bounds.specs.Bounds.{IsVector, AreInOrder};
 ghost use Rattle.hyd_report.specs.Putting.{Puts};
 ghost use Rattle.hyd_report.specs.Printing.{ArePrinted};
-ghost use Rattle.hyd_report.specs.Lines.{texts, junction_between, junction_line};
+ghost use Rattle.hyd_report.specs.LinesOfParts.{texts, junction_between, junction_line};
 
 use crate::ids::node_id;
 use crate::pieces::put_pieces;

@@ -15,7 +15,7 @@ ghost use Rattle.hyd_graph.specs.Settings.{AreStates};
 ghost use Rattle.hyd_bounds.specs.Bounds.{IsVector, AreInOrder};
 ghost use Rattle.hyd_report.specs.Putting.{Puts};
 ghost use Rattle.hyd_report.specs.Printing.{ArePrinted};
-ghost use Rattle.hyd_report.specs.Lines.{texts, link_line};
+ghost use Rattle.hyd_report.specs.LinesOfParts.{texts, link_line};
 
 use crate::ids::link_id;
 use crate::pieces::put_pieces;

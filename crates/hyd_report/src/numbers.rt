@@ -2,7 +2,7 @@
 
 ghost use Rattle.std.specs.Prelude.{◌≡◌, ◌+◌, ◌≤◌, ◌/◌, ◌%◌, ◌++◌, ◌<◌, ◌^◌, [], ◌∷◌, length, decimal};
 ghost use Rattle.std.specs.Fmt.{signed_decimal};
-ghost use Rattle.hyd_num.specs.Decimals.{last_digits, setting_text};
+ghost use Rattle.hyd_num.specs.PrintedDecimals.{last_digits, setting_text};
 ghost use Rattle.hyd_spec_reports.specs.ReportLine.{clock_text};
 
 use crate::words::Text;

@@ -3,7 +3,7 @@
 ghost use Rattle.std.specs.Prelude.{◌≡◌, ◌≤◌, ◌^◌, ◌+ℤ◌, ◌-ℤ◌, unsigned_abs};
 ghost use Rattle.hyd_period_facts.specs.OfPeriod.{levels_of, flows_of};
 ghost use Rattle.hyd_spec_certificates.specs.Interval.{shifted};
-ghost use Rattle.hyd_units.specs.Rounding.{IsDecimalOf};
+ghost use Rattle.hyd_units.specs.PrintedText.{IsDecimalOf};
 ghost use Rattle.hyd_report.specs.Printing.{printed, quantity_in, ArePrinted};
 ghost use Rattle.hyd_report.specs.declared.printed.Quantity.TheVariants.{Head, Pressure, Flow};
 

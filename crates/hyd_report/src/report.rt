@@ -13,10 +13,11 @@ ghost use Rattle.hyd_graph.specs.Periods.{IsNetOf};
 ghost use Rattle.hyd_graph.specs.Settings.{AreStates};
 ghost use Rattle.hyd_cert.specs.RecordView.{row_of};
 ghost use Rattle.hyd_report.specs.Putting.{Puts};
-ghost use Rattle.hyd_report.specs.Lines.{texts, tank_line, link_line};
+ghost use Rattle.hyd_report.specs.LinesOfParts.{texts, tank_line, link_line};
 ghost use Rattle.hyd_report.specs.Words.{before_rules};
-ghost use Rattle.hyd_report.specs.Periods.{start_lines, state_lines, middle_lines, end_lines, lines_of, AreTankFacts};
-ghost use Rattle.hyd_report.specs.Periods.{AreBounds};
+ghost use Rattle.hyd_report.specs.PeriodLines.{start_lines, state_lines, middle_lines, end_lines, lines_of};
+ghost use Rattle.hyd_report.specs.PeriodLines.{AreTankFacts};
+ghost use Rattle.hyd_report.specs.PeriodLines.{AreBounds};
 
 use crate::changes::{before_rules, put_changes};
 use crate::events::put_events;

@@ -9,7 +9,7 @@ ghost use Rattle.hyd_spec_reports.specs.ReportLine.{ReservoirLine, line_text};
 ghost use Rattle.hyd_graph.specs.GridOf.{grid_of};
 ghost use Rattle.hyd_report.specs.Putting.{Puts};
 ghost use Rattle.hyd_report.specs.Printing.{ArePrinted};
-ghost use Rattle.hyd_report.specs.Lines.{texts, reservoir_line};
+ghost use Rattle.hyd_report.specs.LinesOfParts.{texts, reservoir_line};
 
 use crate::ids::reservoir_id;
 use crate::pieces::put_pieces;

@@ -1,7 +1,7 @@
 //! The words of states and sides.
 
 ghost use Rattle.std.specs.Prelude.{◌≡◌, ◌≤◌, ◌++◌, length, codes};
-ghost use Rattle.hyd_num.specs.Decimals.{setting_text};
+ghost use Rattle.hyd_num.specs.PrintedDecimals.{setting_text};
 ghost use Rattle.hyd_spec_reports.specs.CertificateText.{words};
 ghost use Rattle.hyd_spec_reports.specs.ReportLine.{state_words, tank_word, status_text, side_word};
 

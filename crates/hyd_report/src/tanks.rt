@@ -10,7 +10,7 @@ ghost use Rattle.hyd_spec_reports.specs.ReportLine.{TankLine, line_text, tank_wo
 ghost use Rattle.hyd_period_facts.specs.OfPeriod.{levels_of, flows_of};
 ghost use Rattle.hyd_report.specs.Putting.{Puts};
 ghost use Rattle.hyd_report.specs.Printing.{ArePrinted, IsSmall};
-ghost use Rattle.hyd_report.specs.Lines.{texts, tank_at, tank_line};
+ghost use Rattle.hyd_report.specs.LinesOfParts.{texts, tank_at, tank_line};
 
 use crate::ids::tank_id;
 use crate::pieces::put_pieces;

@@ -6,7 +6,7 @@ use Rattle.hyd_num.specs.Quantity.{billionths}
 use Rattle.hyd_num.specs.declared.pairs.Pair.{Pair}
 use Rattle.hyd_num.specs.declared.decimals.Decimal.{Decimal}
 use Rattle.hyd_num.specs.Pairs.{IsSum}
-use Rattle.hyd_num.specs.Chain.{IsPipePairWith, IsFrictionPair, IsMinorPair, IsUnitOver}
+use Rattle.hyd_num.specs.CapacityPairs.{IsPipePairWith, IsFrictionPair, IsMinorPair, IsUnitOver}
 
 pub plain_pipe : (v : ℕ) (length diameter roughness minor : Decimal) (us : Bool) (friction r : Pair) → v ≡ 0
     → IsFrictionPair length diameter roughness us friction → IsUnitOver friction r

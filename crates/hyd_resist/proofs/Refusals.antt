@@ -4,7 +4,7 @@ use Rattle.std.proofs.Math.Nat.{mul-le-mul_right, mul-lt-mul_of_pos_right}
 use Rattle.hyd_num.specs.declared.pairs.Pair.{Pair}
 use Rattle.hyd_num.specs.Fraction.{AtMost}
 use Rattle.hyd_num.specs.Scaled.{numerator, denominator, as_fraction}
-use Rattle.hyd_num.specs.Chain.{StandsFor}
+use Rattle.hyd_num.specs.CapacityPairs.{StandsFor}
 use Rattle.hyd_spec.specs.Types.{Origin}
 use Rattle.hyd_num.specs.Refusal.{IsRefused}
 use Rattle.hyd_lemmas.proofs.Enclosing.{denominator_above}

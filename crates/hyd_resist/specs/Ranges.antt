@@ -1,7 +1,7 @@
 -- The ranges that an input file allows for the numbers behind a capacity. A number comes as its billionths.
 use Rattle.std.specs.Prelude.{ℕ, ◌*◌, ◌^◌, pos, ◌+ℤ◌, ◌≤ℤ◌, ◌<ℤ◌, Bool}
 use Rattle.hyd_num.specs.declared.decimals.Decimal.{Decimal}
-use Rattle.hyd_num.specs.declared.units.FlowUnit.{FlowUnit}
+use Rattle.hyd_num.specs.declared.flow_units.FlowUnit.{FlowUnit}
 use Rattle.hyd_num.specs.Quantity.{billionths, flow_ticks, pressure_fraction}
 use Rattle.hyd_num.specs.Fraction.{AtMost, whole}
 

@@ -2,11 +2,11 @@
 //! of the quadratic relations of pumps, emitters and pressure-driven demands.
 #![tactic(auto)]
 
+mod file_numbers;
 mod manning;
-mod parts;
+mod pumps_and_outlets;
 mod range;
-mod squares;
 
 pub use manning::{pipe_capacity, valve_capacity};
+pub use pumps_and_outlets::{emitter_capacity, pda_capacity, pump_capacity};
 pub use range::CapRange;
-pub use squares::{emitter_capacity, pda_capacity, pump_capacity};

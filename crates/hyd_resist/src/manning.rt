@@ -4,12 +4,12 @@
 
 ghost use Rattle.std.specs.Prelude.{◌≡◌, ◌≤◌, ◌<◌, ◌^◌, pos, ◌≤ℤ◌, ◌<ℤ◌, IfOk, OnOk, OnErr};
 ghost use Rattle.hyd_num.specs.Pairs.{pair_reach};
-ghost use Rattle.hyd_num.specs.Chain.{IsMinorPair, IsFrictionPair, IsMade};
+ghost use Rattle.hyd_num.specs.CapacityPairs.{IsMinorPair, IsFrictionPair, IsMade};
 ghost use Rattle.hyd_spec.specs.Enclosure.{IsEnclosure, IsSharp};
 ghost use Rattle.hyd_resist.specs.Ranges.{IsLength, IsDiameter, IsRoughness, IsMinorCoefficient, IsCoefficient};
 ghost use Rattle.hyd_num.specs.Refusal.{IsRefused};
 
-use crate::parts::{diameter_in_feet, length_in_feet, plain, unit_over};
+use crate::file_numbers::{diameter_in_feet, length_in_feet, plain, unit_over};
 use crate::range::{CapRange, capacity};
 use hyd_num::{Capacity, Decimal, Origin, Pair, add, div, mul, pow, ratio, root533};
 

@@ -4,7 +4,7 @@
 ghost use Rattle.std.specs.Prelude.{◌≡◌, ◌*◌, ◌^◌, ◌≤◌, ◌<◌, IfOk, OnOk, OnErr};
 ghost use Rattle.std.specs.Bool.{OnTrue, OnFalse};
 ghost use Rattle.hyd_num.specs.Scaled.{numerator, denominator};
-ghost use Rattle.hyd_num.specs.Chain.{StandsFor, IsMade};
+ghost use Rattle.hyd_num.specs.CapacityPairs.{StandsFor, IsMade};
 ghost use Rattle.hyd_spec.specs.Enclosure.{IsEnclosure, IsSharp};
 ghost use Rattle.hyd_num.specs.Refusal.{IsRefused};
 

@@ -11,7 +11,7 @@ use Rattle.hyd_spec_lines.specs.Lines.{Row, row_of}
 use Rattle.hyd_spec_lines.specs.declared.line.Line.{Line}
 use Rattle.hyd_spec_input.specs.Faults.{IsFirst, NoneIs}
 use Rattle.hyd_net.specs.declared.cause.Cause.{Cause}
-use Rattle.hyd_row_tables.specs.declared.found.Found.{Found}
+use Rattle.hyd_row_tables.specs.declared.first_wrong.Found.{Found}
 use Rattle.hyd_row_tables.specs.Found.{HasFound, IsFirstAt, IsVerdict, kept, rows_at}
 
 -- the row of a line

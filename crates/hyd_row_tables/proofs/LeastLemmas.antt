@@ -5,7 +5,7 @@ use Rattle.std.proofs.lemmas.Bool.{cases_Bool}
 use Rattle.std.proofs.lemmas.Option.{slice_get_within}
 use Rattle.hyd_spec_lines.specs.Lines.{Row}
 use Rattle.hyd_net.specs.declared.cause.Cause.{Cause}
-use Rattle.hyd_row_tables.specs.declared.found.Found.{Found}
+use Rattle.hyd_row_tables.specs.declared.first_wrong.Found.{Found}
 use Rattle.hyd_row_tables.specs.Found.{HasFound, Either, least}
 
 pub found_least : (rows : List Row) (One Other : ℕ → Cause → Type 0) (n : ℕ) (one other : Option Found)

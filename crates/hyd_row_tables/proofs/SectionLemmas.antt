@@ -11,7 +11,7 @@ use Rattle.hyd_spec_input.specs.WithOthers.{row_fault}
 use Rattle.hyd_net.specs.declared.cause.Cause.{Cause}
 use Rattle.hyd_row_tables.specs.Found.{HasFound, IsVerdict, rows_at}
 use Rattle.hyd_row_tables.specs.Tables.{AreFirsts}
-use Rattle.hyd_row_tables.specs.declared.found.Found.{Found}
+use Rattle.hyd_row_tables.specs.declared.first_wrong.Found.{Found}
 use Rattle.hyd_row_tables.specs.Sections.{IsWrongIn, IsFaultThen}
 
 -- no cause is the fault

@@ -1,7 +1,7 @@
 -- Quantities out of range, in a unit of flows.
 use Rattle.std.specs.Prelude.{Option, ℤ}
 use Rattle.hyd_num.specs.Quantity.{is_us_unit, head_ticks}
-use Rattle.hyd_num.specs.declared.units.FlowUnit.{FlowUnit}
+use Rattle.hyd_num.specs.declared.flow_units.FlowUnit.{FlowUnit}
 use Rattle.hyd_spec_input.specs.Columns.{or_else, unless}
 use Rattle.hyd_spec_input.specs.Curves.{is_head, is_flow}
 use Rattle.hyd_net.specs.declared.cause.Cause.{Cause}

@@ -2,14 +2,14 @@
 //! counts, names and quantities against their limits.
 #![tactic(auto)]
 
-mod found;
+mod first_wrong;
 mod limits;
 mod names;
 mod ranges;
 mod table;
 mod text;
 
-pub use found::{Found, kept, least};
+pub use first_wrong::{Found, kept, least};
 pub use limits::{count_words, limit};
 pub use names::{
     has, is_junctions, unknown_curve, unknown_junction, unknown_node, unknown_pattern,

@@ -16,8 +16,8 @@ use Rattle.hyd_spec_certificates.specs.Certificate.{IsCertificate}
 use Rattle.hyd_spec_certificates.specs.Record.{Record, Standing, Vectors, no_vectors}
 use Rattle.hyd_spec_certificates.specs.Valid.{AreCertificates, IsValid, LeadsOn, continues, finishes}
 use Rattle.hyd_spec_reports.specs.CertificateText.{IsRow, IsVector as IsRowVector}
-use Rattle.hyd_spec_laws.specs.Laws.{IsSteady}
-use Rattle.hyd_spec_nesting.proofs.TwoSides.{heads_below_plus}
+use Rattle.hyd_theorems_on_periods.specs.Laws.{IsSteady}
+use Rattle.hyd_theorems_on_nesting.proofs.TwoSides.{heads_below_plus}
 use Rattle.hyd_graph.specs.GridOf.{grid_of}
 use Rattle.hyd_graph.specs.NetView.{NetView}
 use Rattle.hyd_graph.specs.Periods.{IsNetOf}
@@ -25,7 +25,7 @@ use Rattle.hyd_graph.proofs.Counts.{junctions_count}
 use Rattle.hyd_graph.proofs.Sounding.{long_zipped}
 use Rattle.hyd_bounds.specs.Bounds.{TanksInOrder}
 use Rattle.hyd_period_facts.specs.declared.facts.Facts.{Facts}
-use Rattle.hyd_report.specs.Periods.{AreBounds, AreTankFacts}
+use Rattle.hyd_report.specs.PeriodLines.{AreBounds, AreTankFacts}
 use Rattle.hyd_watched_levels.specs.Started.{HaveTanks}
 use Rattle.hyd_sim.specs.View.{SimView, IsSim, standing_of}
 

@@ -16,12 +16,12 @@ use Rattle.hyd_spec_reports.specs.ReportLine.{line_text}
 use Rattle.hyd_spec_reports.specs.Headline.{Found, IsRun, IsRunFrom, Sharpness, IsSharpFound, Outcome}
 use Rattle.hyd_spec_reports.specs.Headline.{EndsSo, rows_of, lines_of, last_line}
 use Rattle.hyd_spec_reports.specs.Headline.{is_finished, certificate_so_far, report_so_far}
-use Rattle.hyd_spec_laws.proofs.Appending.{run_more}
-use Rattle.hyd_spec_histories.proofs.Running.{every_history}
+use Rattle.hyd_theorems_on_periods.proofs.Appending.{run_more}
+use Rattle.hyd_theorems_on_histories.proofs.Running.{every_history}
 use Rattle.hyd_cert.specs.Lines.{Header, header_words}
 use Rattle.hyd_cert.proofs.HeadLemmas.{header_is}
 use Rattle.hyd_cert.proofs.ReadingLemmas.{whole_reading}
-use Rattle.hyd_report.specs.Lines.{texts}
+use Rattle.hyd_report.specs.LinesOfParts.{texts}
 use Rattle.hyd_report.proofs.Joining.{map-append}
 use Rattle.hyd_io.specs.declared.output.OutFault.{OutFault}
 use Rattle.hyd_io.specs.Told.{append_known, Moves, PutOut}

@@ -11,7 +11,7 @@ use Rattle.hyd_spec_reports.specs.declared.StopCause.{StopCause}
 use Rattle.hyd_cert.specs.RecordView.{row_of}
 use Rattle.hyd_graph.specs.GridOf.{grid_of, states_of}
 use Rattle.hyd_graph.specs.Periods.{ends_of, IsNetOf}
-use Rattle.hyd_report.specs.Periods.{AreTankFacts, lines_of}
+use Rattle.hyd_report.specs.PeriodLines.{AreTankFacts, lines_of}
 use Rattle.hyd_report.proofs.ReportLemmas.{length-links_of, lines_are_report}
 use Rattle.hyd_bounds.specs.Bounds.{TanksInOrder}
 use Rattle.hyd_io.specs.declared.output.OutFault.{OutFault}
@@ -25,7 +25,7 @@ use Rattle.hyd_cert.specs.declared.record.Record.{Record as Row}
 use Rattle.hyd_period_facts.specs.declared.facts.Facts.{Facts}
 use Rattle.hyd_graph.specs.NetView.{NetView}
 use Rattle.hyd_graph.specs.Settings.{AreStates}
-use Rattle.hyd_report.specs.Lines.{texts}
+use Rattle.hyd_report.specs.LinesOfParts.{texts}
 use Rattle.hyd_run.specs.Pens.{Moment, PutIn, IsCutOff}
 use Rattle.hyd_run.specs.Runs.{sharpness_of, IsStep, IsSoFar, IsCutShort, DidPeriod, LostPeriod, IsOver, periods_left}
 use Rattle.hyd_spec_reports.specs.Headline.{Outcome}

@@ -10,7 +10,7 @@ use Rattle.hyd_spec_reports.specs.CertificateText.{IsRow, record_text, line}
 use Rattle.hyd_spec_reports.specs.Headline.{Found, IsFound, IsRun, Sharpness, IsSharpFound, Outcome, Finished}
 use Rattle.hyd_spec_reports.specs.Headline.{Stopped, EndsSo, RunWrites, RunBreaksOff, rows_of}
 use Rattle.hyd_spec_reports.specs.Headline.{certificate_so_far, report_so_far}
-use Rattle.hyd_report.specs.Lines.{texts}
+use Rattle.hyd_report.specs.LinesOfParts.{texts}
 use Rattle.hyd_io.specs.declared.output.Channel.{Channel}
 use Rattle.hyd_io.specs.declared.output.OutFault.{OutFault}
 use Rattle.hyd_io.specs.Output.{PenState}

@@ -6,7 +6,7 @@ mod outcome;
 mod pens;
 mod period;
 mod steps;
-mod whole;
+mod whole_run;
 
 pub use outcome::RunEnd;
-pub use whole::run;
+pub use whole_run::run;

@@ -27,10 +27,10 @@ use Rattle.hyd_period_facts.specs.declared.facts.Facts.{Facts}
 use Rattle.hyd_graph.specs.GridOf.{grid_of}
 use Rattle.hyd_graph.specs.NetView.{NetView}
 use Rattle.hyd_watched_levels.specs.Started.{HaveTanks}
-use Rattle.hyd_period_close.specs.Begun.{AreBegun, AreReady}
-use Rattle.hyd_period_close.specs.Closing.{AreKeptIn, IsClosed}
-use Rattle.hyd_period_close.specs.declared.close.Close.{Close}
-use Rattle.hyd_period_close.proofs.Bounding.{have-tanks}
+use Rattle.hyd_period_end.specs.Begun.{AreBegun, AreReady}
+use Rattle.hyd_period_end.specs.EndOfPeriod.{AreKeptIn, IsClosed}
+use Rattle.hyd_period_end.specs.declared.period_end.PeriodEnd.{PeriodEnd}
+use Rattle.hyd_period_end.proofs.Bounding.{have-tanks}
 use Rattle.hyd_period_vectors.specs.Vectors.{OfEach, IsSought, Comes}
 use Rattle.hyd_sim.specs.Attempts.{AreSought, IsMade, IsOver, IsStarted}
 use Rattle.hyd_sim.specs.View.{IsStanding, standing_for}
@@ -43,7 +43,7 @@ no-more (x ∷ xs) = ap (λ (ys : List Change). x ∷ ys) (no-more xs)
 
 -- ---- the end of the run
 
-module _ (network : Project) (here : Here) (grid : Grid) (row : Row) (before now : Facts) (close : Close)
+module _ (network : Project) (here : Here) (grid : Grid) (row : Row) (before now : Facts) (close : PeriodEnd)
     (last : here.time ≡ network.times.duration) (begun : AreBegun network (standing_for here) before)
     (ready : AreReady network before) (no_length : row.length ≡ 0)
     (keeps : now ≡ record before { length = 0; inflows = now.inflows; events = now.events })
@@ -91,7 +91,7 @@ module _ (network : Project) (here : Here) (grid : Grid) (row : Row) (before now
 
 -- ---- any other end
 
-pub closed-over : (network : Project) (here : Here) (grid : Grid) (row : Row) (facts : Facts) (close : Close)
+pub closed-over : (network : Project) (here : Here) (grid : Grid) (row : Row) (facts : Facts) (close : PeriodEnd)
     → here.time ≢ network.times.duration → IsClosed network grid (standing_for here) (row_of row) facts close
     → AreKeptIn network close.next → HaveTanks network facts → 0 < row.length
     → IsOver network here grid row facts close
@@ -156,7 +156,7 @@ module _ (row now : Row) (same : now ≡ record row { length = now.length }) whe
 
 -- a period that was started and is over by certificates
 pub made-of : (network : Project) (here : Here) (net : NetView) (started row : Row) (begun facts : Facts)
-    (close : Close)
+    (close : PeriodEnd)
     → IsStarted network here net started begun → here.finished ≡ false → row.number ≡ started.number
     → row.time ≡ started.time → facts.links ≡ begun.links → AreCertificates network (grid_of net) (row_of row)
     → IsOver network here (grid_of net) row facts close → IsMade network here net row facts close

@@ -14,8 +14,8 @@ use Rattle.hyd_spec_certificates.specs.Record.{Record, Standing}
 use Rattle.hyd_spec_certificates.specs.Valid.{AreCertificates, IsGridAt, IsValid, LeadsOn, continues, finishes}
 use Rattle.hyd_spec_certificates.specs.Valid.{stocks_next}
 use Rattle.hyd_spec_reports.specs.Stops.{Stops}
-use Rattle.hyd_spec_laws.specs.Laws.{IsSteady}
-use Rattle.hyd_spec_laws.proofs.OneRun.{one_grid}
+use Rattle.hyd_theorems_on_periods.specs.Laws.{IsSteady}
+use Rattle.hyd_theorems_on_periods.proofs.OneRun.{one_grid}
 use Rattle.hyd_cert.specs.RecordView.{row_of}
 use Rattle.hyd_cert.specs.declared.record.Record.{Record as Row}
 use Rattle.hyd_period_facts.specs.OfPeriod.{levels_of}
@@ -23,9 +23,9 @@ use Rattle.hyd_period_facts.specs.declared.facts.Facts.{Facts}
 use Rattle.hyd_graph.specs.GridOf.{grid_of}
 use Rattle.hyd_graph.specs.NetView.{NetView}
 use Rattle.hyd_tank_inflows.proofs.Numbered.{as_long}
-use Rattle.hyd_period_close.specs.Begun.{AreBegun, AreReady}
-use Rattle.hyd_period_close.specs.Opens.{SharesVectors, IsOpenAt}
-use Rattle.hyd_period_close.specs.declared.close.Close.{Close}
+use Rattle.hyd_period_end.specs.Begun.{AreBegun, AreReady}
+use Rattle.hyd_period_end.specs.OpenMatters.{SharesVectors, IsOpenAt}
+use Rattle.hyd_period_end.specs.declared.period_end.PeriodEnd.{PeriodEnd}
 use Rattle.hyd_period_vectors.specs.Vectors.{HaveSame, InOrder}
 use Rattle.hyd_sim.specs.Attempts.{AreSought, IsFault, IsMade, IsStarted, fault_stop_of, later_standing, next_standing}
 use Rattle.hyd_sim.specs.Sharp.{AreNarrow}
@@ -63,7 +63,7 @@ module _ (W : ℤ) (standing next : Standing) (row : Record) (upper lower : List
       (subst (λ (xs : List Interval). AreNarrow W row.main.upper row.main.lower standing.levels xs) (sym end) there)))
 
 -- as many levels follow a period that was made as there were before it
-pub next-long : (network : Project) (here : Here) (net : NetView) (row : Row) (facts : Facts) (close : Close)
+pub next-long : (network : Project) (here : Here) (net : NetView) (row : Row) (facts : Facts) (close : PeriodEnd)
     → IsStanding network here → IsMade network here net row facts close → here.time ≢ network.times.duration
     → length close.next.levels.list ≡ length here.stocks.levels.list
 next-long network here net row facts close is made other =
@@ -186,7 +186,7 @@ sharp-of told network settings standing grid row next = by settings.tight
     by false (inr both) = inr both.0
 
 module _ (told : Option (List ℤ)) (network : Project) (settings : Settings) (here : Here) (net : NetView) (row : Row)
-    (facts : Facts) (close : Close) where
+    (facts : Facts) (close : PeriodEnd) where
   -- tight vectors do in any case
   pub done-tight : IsMade network here net row facts close
       → AreSought true told (grid_of net) (tank_count network) settings.rounds (row_of row)

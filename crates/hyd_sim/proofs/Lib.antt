@@ -4,7 +4,7 @@ pub mod Fitting
 pub mod Lacking
 pub mod Leaving
 pub mod Moving
-pub mod Opening
+pub mod OpeningLemmas
 pub mod Placing
 pub mod Proposed
 pub mod Proposing

@@ -6,18 +6,18 @@ use Rattle.hyd_net.specs.Sound.{Sound}
 use Rattle.hyd_spec.specs.Types.{Project}
 use Rattle.hyd_spec_certificates.specs.Record.{Standing}
 use Rattle.hyd_spec_certificates.specs.Valid.{IsValid, LeadsOn, Continues, continues, finishes}
-use Rattle.hyd_spec_histories.specs.Agreement.{IsKept}
-use Rattle.hyd_spec_histories.proofs.Stepping.{kept_next}
-use Rattle.hyd_spec_nesting.specs.Nesting.{IsTidy}
-use Rattle.hyd_spec_nesting.proofs.Holding.{tidy_next}
+use Rattle.hyd_theorems_on_histories.specs.Agreement.{IsKept}
+use Rattle.hyd_theorems_on_histories.proofs.Stepping.{kept_next}
+use Rattle.hyd_theorems_on_nesting.specs.Nesting.{IsTidy}
+use Rattle.hyd_theorems_on_nesting.proofs.Holding.{tidy_next}
 use Rattle.hyd_cert.specs.RecordView.{row_of}
 use Rattle.hyd_cert.specs.declared.record.Record.{Record as Row}
 use Rattle.hyd_period_facts.specs.declared.facts.Facts.{Facts}
 use Rattle.hyd_graph.specs.GridOf.{grid_of}
 use Rattle.hyd_graph.specs.NetView.{NetView}
 use Rattle.hyd_period_stocks.specs.Room.{HasRoom as HasNextRoom}
-use Rattle.hyd_period_close.specs.Closing.{HasRoom, AreKeptIn}
-use Rattle.hyd_period_close.specs.declared.close.Close.{Close}
+use Rattle.hyd_period_end.specs.EndOfPeriod.{HasRoom, AreKeptIn}
+use Rattle.hyd_period_end.specs.declared.period_end.PeriodEnd.{PeriodEnd}
 use Rattle.hyd_sim.specs.Attempts.{IsMade, later_standing}
 use Rattle.hyd_sim.specs.View.{IsStanding, standing_at, standing_for}
 use Rattle.hyd_sim.specs.declared.standing.Standing.{Standing as Here}
@@ -55,7 +55,7 @@ finished-standing network here is unfinished = record {
 -- ---- behind any other
 
 module _ (network : Project) (sound : Sound network) (here : Here) (is : IsStanding network here)
-    (unfinished : here.finished ≡ false) (net : NetView) (row : Row) (facts : Facts) (close : Close)
+    (unfinished : here.finished ≡ false) (net : NetView) (row : Row) (facts : Facts) (close : PeriodEnd)
     (made : IsMade network here net row facts close) (other : here.time ≢ network.times.duration) where
   abbrev later : Standing
   later = later_standing here row.length close
@@ -105,7 +105,7 @@ module _ (network : Project) (sound : Sound network) (here : Here) (is : IsStand
 
 -- ---- what is left of the room
 
-pub room-later : (network : Project) (here : Here) (before now : Close) → IsStanding network here
+pub room-later : (network : Project) (here : Here) (before now : PeriodEnd) → IsStanding network here
     → HasRoom network before → now ≡ record before { next = here.stocks; commanded = here.commanded }
     → HasRoom network now
 room-later network here before now is room same = subst (HasRoom network) (sym same) (record {

@@ -12,9 +12,9 @@ use Rattle.hyd_spec_certificates.specs.Record.{Standing}
 use Rattle.hyd_spec_certificates.specs.Decided.{nowhere, level_of_tank}
 use Rattle.hyd_spec_certificates.specs.Valid.{IsGridAt}
 use Rattle.hyd_spec_certificates.specs.declared.LevelSpan.{LevelSpan}
-use Rattle.hyd_spec_laws.specs.Laws.{IsWithin}
-use Rattle.hyd_spec_histories.specs.Agreement.{IsKept}
-use Rattle.hyd_spec_nesting.specs.Nesting.{IsTidy}
+use Rattle.hyd_theorems_on_periods.specs.Laws.{IsWithin}
+use Rattle.hyd_theorems_on_histories.specs.Agreement.{IsKept}
+use Rattle.hyd_theorems_on_nesting.specs.Nesting.{IsTidy}
 use Rattle.hyd_period_facts.specs.OfPeriod.{levels_of}
 use Rattle.hyd_graph.specs.Periods.{AreLevels, IsSpanOf}
 use Rattle.hyd_bounds.specs.Bounds.{TanksInOrder}

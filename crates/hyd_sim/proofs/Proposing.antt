@@ -18,7 +18,7 @@ use Rattle.hyd_spec_certificates.specs.Decided.{by_clock as decided_by_clock, ev
 use Rattle.hyd_spec_certificates.specs.Valid.{LeavesLinks, by_rules, by_clock, AreStates}
 use Rattle.hyd_spec_certificates.specs.Valid.{ControlsAreDecided}
 use Rattle.hyd_spec_reports.specs.Stops.{open_states, is_open_control}
-use Rattle.hyd_spec_laws.proofs.OneAnswer.{one_end}
+use Rattle.hyd_theorems_on_periods.proofs.OneAnswer.{one_end}
 
 -- ---- positions
 

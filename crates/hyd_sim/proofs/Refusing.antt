@@ -16,24 +16,24 @@ use Rattle.hyd_spec_certificates.specs.Valid.{continues, finishes, IsValid, Dema
 use Rattle.hyd_spec_reports.specs.declared.CertRefused.TheVariants.{Demand, Fails, Open as MatterOpen, Length}
 use Rattle.hyd_spec_reports.specs.Refusals.{IsRefused, IsInPlace, HasItsGrid, LeavesOpen, rule, event, tank, control}
 use Rattle.hyd_spec_reports.specs.Refusals.{HasOtherLength, at_end, before_end}
-use Rattle.hyd_spec_laws.proofs.OneLength.{ends_again}
-use Rattle.hyd_spec_laws.proofs.OneRefusal.{refused_invalid}
+use Rattle.hyd_theorems_on_periods.proofs.OneLength.{ends_again}
+use Rattle.hyd_theorems_on_periods.proofs.OneRefusal.{refused_invalid}
 use Rattle.hyd_cert.specs.RecordView.{row_of, IsProblemOf}
 use Rattle.hyd_cert.specs.Vectors.{two_vectors, behind_two, problems_in}
 use Rattle.hyd_cert.specs.declared.record.Record.{Record as Row}
-use Rattle.hyd_period_close.specs.Opens.{SharesVectors, IsOpenAt}
-use Rattle.hyd_period_close.specs.declared.open.Open.{Open}
-use Rattle.hyd_period_close.specs.declared.open.Open.TheVariants.{Rule as RuleIsFound, Event as EventIsFound}
-use Rattle.hyd_period_close.specs.declared.open.Open.TheVariants.{Tank as TankIsFound, Control as ControlIsFound}
-use Rattle.hyd_rule_trials.specs.Trial.{open_rule}
-use Rattle.hyd_period_close.specs.declared.close.Close.{Close}
+use Rattle.hyd_period_end.specs.OpenMatters.{SharesVectors, IsOpenAt}
+use Rattle.hyd_period_end.specs.declared.undecided.Open.{Open}
+use Rattle.hyd_period_end.specs.declared.undecided.Open.TheVariants.{Rule as RuleIsFound, Event as EventIsFound}
+use Rattle.hyd_period_end.specs.declared.undecided.Open.TheVariants.{Tank as TankIsFound, Control as ControlIsFound}
+use Rattle.hyd_rule_evaluation.specs.Trial.{open_rule}
+use Rattle.hyd_period_end.specs.declared.period_end.PeriodEnd.{PeriodEnd}
 use Rattle.hyd_period_facts.specs.declared.facts.Facts.{Facts}
 use Rattle.hyd_graph.specs.NetView.{NetView}
 use Rattle.hyd_sim.specs.Acceptance.{FailsAt, IsTaken}
 use Rattle.hyd_sim.specs.Attempts.{IsMade, next_standing}
 use Rattle.hyd_sim.specs.View.{standing_for}
 use Rattle.hyd_sim.specs.declared.standing.Standing.{Standing as Here}
-use Rattle.hyd_sim.specs.declared.vectors.Failing.{Failing}
+use Rattle.hyd_sim.specs.declared.given_vectors.Failing.{Failing}
 use Rattle.hyd_sim.proofs.Proposed.{same-record}
 use Rattle.hyd_sim.proofs.Running.{problem-of, problem-in}
 
@@ -231,7 +231,7 @@ demand-refused network standing row (Err fault) e started place = record {
 -- ---- a record that is taken
 
 -- the period of a record that was made, and the standing behind it
-pub taken-of : (network : Project) (here : Here) (net : NetView) (row : Row) (facts : Facts) (close : Close)
+pub taken-of : (network : Project) (here : Here) (net : NetView) (row : Row) (facts : Facts) (close : PeriodEnd)
     (now : Here) → standing_for now ≡ next_standing network here row.length close
     → IsMade network here net row facts close
     → IsTaken network (standing_for here) net row facts (standing_for now)

@@ -26,11 +26,11 @@ use Rattle.hyd_period_vectors.specs.Vectors.{OfEach, Lacks, HasNone, AreSpent}
 use Rattle.hyd_period_vectors.specs.declared.lack.Lack.{Lack}
 use Rattle.hyd_period_vectors.specs.declared.lack.Lack.TheVariants.{NoCertificate as LacksCertificate}
 use Rattle.hyd_period_vectors.specs.declared.lack.Lack.TheVariants.{RoundsSpent as SpentRounds}
-use Rattle.hyd_period_close.specs.Opens.{IsOpenAt}
-use Rattle.hyd_period_close.specs.declared.close.Close.{Close}
-use Rattle.hyd_period_close.specs.declared.open.Open.{Open}
-use Rattle.hyd_period_close.specs.declared.open.Open.TheVariants.{Rule as RuleIsFound, Event as EventIsFound}
-use Rattle.hyd_period_close.specs.declared.open.Open.TheVariants.{Tank as TankIsFound, Control as ControlIsFound}
+use Rattle.hyd_period_end.specs.OpenMatters.{IsOpenAt}
+use Rattle.hyd_period_end.specs.declared.period_end.PeriodEnd.{PeriodEnd}
+use Rattle.hyd_period_end.specs.declared.undecided.Open.{Open}
+use Rattle.hyd_period_end.specs.declared.undecided.Open.TheVariants.{Rule as RuleIsFound, Event as EventIsFound}
+use Rattle.hyd_period_end.specs.declared.undecided.Open.TheVariants.{Tank as TankIsFound, Control as ControlIsFound}
 use Rattle.hyd_sim.specs.Sharp.{LacksOne, stop_of, open_stop_of}
 use Rattle.hyd_sim.specs.Attempts.{next_standing, last_standing, later_standing}
 use Rattle.hyd_sim.specs.Steps.{AreTight}
@@ -163,13 +163,13 @@ open-stops network standing rounds grid row tight (ControlIsFound found) o =
 
 -- ---- the standing behind a period
 
-pub at-last : (network : Project) (here : Here) (seconds : ℕ) (close : Close) → here.time ≡ network.times.duration
+pub at-last : (network : Project) (here : Here) (seconds : ℕ) (close : PeriodEnd) → here.time ≡ network.times.duration
     → next_standing network here seconds close ≡ last_standing here
 at-last network here seconds close e =
     ap (λ (b : Bool). if b then last_standing here else later_standing here seconds close)
     (eq-eqb here.time network.times.duration e)
 
-pub at-later : (network : Project) (here : Here) (seconds : ℕ) (close : Close) → here.time ≢ network.times.duration
+pub at-later : (network : Project) (here : Here) (seconds : ℕ) (close : PeriodEnd) → here.time ≢ network.times.duration
     → next_standing network here seconds close ≡ later_standing here seconds close
 at-later network here seconds close e =
     ap (λ (b : Bool). if b then last_standing here else later_standing here seconds close)

@@ -18,7 +18,7 @@ use Rattle.hyd_bounds.specs.Bounds.{TanksInOrder}
 use Rattle.hyd_watched_levels.specs.Started.{HaveTanks}
 use Rattle.hyd_period_vectors.specs.Vectors.{EachBefore}
 use Rattle.hyd_sim.specs.View.{SimView, standing_of}
-use Rattle.hyd_sim.specs.declared.vectors.Failing.{Failing}
+use Rattle.hyd_sim.specs.declared.given_vectors.Failing.{Failing}
 
 -- the first vector of a record, in the order of problems and sides, that isn't a certificate, and the junction at which
 -- it fails first

@@ -15,10 +15,10 @@ use Rattle.hyd_graph.specs.NetView.{NetView}
 use Rattle.hyd_graph.specs.Settings.{AreStates}
 use Rattle.hyd_bounds.specs.Bounds.{TanksInOrder}
 use Rattle.hyd_spec_reports.specs.declared.StopCause.{StopCause}
-use Rattle.hyd_period_close.specs.Begun.{AreBegun, AreReady}
-use Rattle.hyd_period_close.specs.Closing.{AreKeptIn}
-use Rattle.hyd_period_close.specs.Opens.{IsOpenAt, SharesVectors}
-use Rattle.hyd_period_close.specs.declared.close.Close.{Close}
+use Rattle.hyd_period_end.specs.Begun.{AreBegun, AreReady}
+use Rattle.hyd_period_end.specs.EndOfPeriod.{AreKeptIn}
+use Rattle.hyd_period_end.specs.OpenMatters.{IsOpenAt, SharesVectors}
+use Rattle.hyd_period_end.specs.declared.period_end.PeriodEnd.{PeriodEnd}
 use Rattle.hyd_watched_levels.specs.Started.{HaveTanks}
 use Rattle.hyd_period_vectors.specs.Vectors.{OfEach, IsSought, Comes, LacksFirst}
 use Rattle.hyd_sim.specs.Sharp.{stop_of, open_stop_of}
@@ -32,12 +32,12 @@ abbrev pub last_standing : Here → Standing
 last_standing here = record (standing_for here) { number = suc here.number; finished = true }
 
 -- the standing after another period
-abbrev pub later_standing : Here → ℕ → Close → Standing
+abbrev pub later_standing : Here → ℕ → PeriodEnd → Standing
 later_standing here seconds close =
     standing_at (suc here.number) (here.time + seconds) close.next close.commanded.items false
 
 -- the standing after a period of so many seconds
-abbrev pub next_standing : Project → Here → ℕ → Close → Standing
+abbrev pub next_standing : Project → Here → ℕ → PeriodEnd → Standing
 next_standing network here seconds close =
     if here.time == network.times.duration then last_standing here else later_standing here seconds close
 
@@ -56,7 +56,7 @@ pub record IsStarted (network : Project) (here : Here) (net : NetView) (row : Ro
 
 -- a period is over, and this is what it leaves: its record leads on, the facts are its own, and where the run goes on,
 -- it lasted a second at least and the next stocks lie within the bounds of their tanks
-pub record IsOver (network : Project) (here : Here) (grid : Grid) (row : Row) (facts : Facts) (close : Close)
+pub record IsOver (network : Project) (here : Here) (grid : Grid) (row : Row) (facts : Facts) (close : PeriodEnd)
     : Type 0 where
   pub leads_on : LeadsOn network grid (standing_for here) (row_of row) (next_standing network here row.length close)
   pub facts_are : AreFacts network grid (standing_for here) (row_of row) facts
@@ -65,7 +65,7 @@ pub record IsOver (network : Project) (here : Here) (grid : Grid) (row : Row) (f
   pub later : here.time ≢ network.times.duration → 0 < row.length
 
 -- its record is valid besides, and the net is that of the period, with links in the states of the facts
-pub record IsMade (network : Project) (here : Here) (net : NetView) (row : Row) (facts : Facts) (close : Close)
+pub record IsMade (network : Project) (here : Here) (net : NetView) (row : Row) (facts : Facts) (close : PeriodEnd)
     : Type 0 where
   pub valid : IsValid network (standing_for here) (grid_of net) (row_of row)
       (next_standing network here row.length close)

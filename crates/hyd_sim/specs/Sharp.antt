@@ -15,8 +15,8 @@ use Rattle.hyd_spec_reports.specs.declared.StopCause.{StopCause}
 use Rattle.hyd_spec_reports.specs.declared.StopCause.TheVariants.{NoCertificate, RoundsSpent, RuleOpen, EventOpen}
 use Rattle.hyd_spec_reports.specs.declared.StopCause.TheVariants.{TankOpen, ControlOpen}
 use Rattle.hyd_cert.specs.RecordView.{IsProblemOf}
-use Rattle.hyd_period_close.specs.declared.open.Open.{Open}
-use Rattle.hyd_period_close.specs.declared.open.Open.TheVariants.{Rule, Event, Tank, Control}
+use Rattle.hyd_period_end.specs.declared.undecided.Open.{Open}
+use Rattle.hyd_period_end.specs.declared.undecided.Open.TheVariants.{Rule, Event, Tank, Control}
 use Rattle.hyd_period_vectors.specs.Vectors.{Lacks}
 use Rattle.hyd_period_vectors.specs.declared.lack.Lack.{Lack}
 use Rattle.hyd_period_vectors.specs.declared.lack.Lack.TheVariants.{NoCertificate as LacksCertificate}

@@ -20,7 +20,7 @@ use Rattle.hyd_graph.specs.NetView.{NetView}
 use Rattle.hyd_graph.specs.Settings.{AreStates}
 use Rattle.hyd_bounds.specs.Bounds.{TanksInOrder}
 use Rattle.hyd_watched_levels.specs.Started.{HaveTanks}
-use Rattle.hyd_period_close.specs.declared.close.Close.{Close}
+use Rattle.hyd_period_end.specs.declared.period_end.PeriodEnd.{PeriodEnd}
 use Rattle.hyd_period_vectors.specs.Vectors.{IsTold, Tells, AreSpent, OfEach}
 use Rattle.hyd_sim.specs.Attempts.{next_standing, IsMade, AreSought}
 use Rattle.hyd_sim.specs.View.{SimView, standing_for, standing_of}
@@ -78,7 +78,7 @@ pub record IsProposal (told : Option (List ℤ)) (network : Project) (settings :
 
 -- a period was done, and its record is as sharp as the settings ask by the vectors that were sought
 pub record IsDone (told : Option (List ℤ)) (network : Project) (settings : Settings) (here : Here) (net : NetView)
-    (row : Row) (facts : Facts) (close : Close) : Type 0 where
+    (row : Row) (facts : Facts) (close : PeriodEnd) : Type 0 where
   pub made : IsMade network here net row facts close
   pub sought : IsSharpAsSought told network settings (standing_for here) (grid_of net) (row_of row)
       (next_standing network here row.length close)

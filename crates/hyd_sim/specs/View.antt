@@ -6,8 +6,8 @@ use Rattle.hyd_spec_certificates.specs.Record.{Standing}
 use Rattle.hyd_spec_reports.specs.CertificateText.{version_of}
 use Rattle.hyd_spec_reports.specs.Stops.{Stops}
 use Rattle.hyd_spec_reports.specs.declared.StopCause.{StopCause}
-use Rattle.hyd_spec_histories.specs.Agreement.{IsKept}
-use Rattle.hyd_spec_nesting.specs.Nesting.{IsTidy}
+use Rattle.hyd_theorems_on_histories.specs.Agreement.{IsKept}
+use Rattle.hyd_theorems_on_nesting.specs.Nesting.{IsTidy}
 use Rattle.hyd_cert.specs.Lines.{Header}
 use Rattle.hyd_cert.specs.RecordView.{header_of}
 use Rattle.hyd_cert.specs.declared.record.Record.{Record}
@@ -17,9 +17,9 @@ use Rattle.hyd_period_facts.specs.Room.{HasRoom}
 use Rattle.hyd_graph.specs.NetView.{NetView}
 use Rattle.hyd_graph.specs.Periods.{IsNetOf}
 use Rattle.hyd_period_stocks.specs.Room.{HasRoom as HasNextRoom}
-use Rattle.hyd_period_stocks.specs.declared.next.Next.{Next}
-use Rattle.hyd_period_close.specs.Closing.{HasRoom as HasCloseRoom, AreKeptIn}
-use Rattle.hyd_period_close.specs.declared.close.Close.{Close}
+use Rattle.hyd_period_stocks.specs.declared.tank_start.TankStart.{TankStart}
+use Rattle.hyd_period_end.specs.EndOfPeriod.{HasRoom as HasCloseRoom, AreKeptIn}
+use Rattle.hyd_period_end.specs.declared.period_end.PeriodEnd.{PeriodEnd}
 use Rattle.hyd_period_vectors.specs.Room.{Room}
 use Rattle.hyd_sim.specs.declared.settings.Settings.{Settings}
 use Rattle.hyd_sim.specs.declared.standing.Standing.{Standing as Here}
@@ -34,11 +34,11 @@ pub record SimView : Type 0 where
   pub facts : Facts
   pub here : Here
   pub links : List LinkState
-  pub close : Close
+  pub close : PeriodEnd
   pub stopped : Option StopCause
 
 -- the standing with these stocks and states of tanks
-abbrev pub standing_at : ℕ → ℕ → Next → List LinkState → Bool → Standing
+abbrev pub standing_at : ℕ → ℕ → TankStart → List LinkState → Bool → Standing
 standing_at number time stocks commanded finished = record {
   number = number;
   time = time;

@@ -10,22 +10,22 @@ ghost use Rattle.hyd_cert.specs.RecordView.{header_of, row_of};
 ghost use Rattle.hyd_period_facts.specs.Room.{HasRoom};
 ghost use Rattle.hyd_graph.specs.GridOf.{grid_of};
 ghost use Rattle.hyd_graph.specs.Periods.{IsNetOf};
-ghost use Rattle.hyd_period_close.specs.Closing.{HasRoom as HasCloseRoom};
-ghost use Rattle.hyd_period_close.specs.Opens.{SharesVectors};
+ghost use Rattle.hyd_period_end.specs.EndOfPeriod.{HasRoom as HasCloseRoom};
+ghost use Rattle.hyd_period_end.specs.OpenMatters.{SharesVectors};
 ghost use Rattle.hyd_period_vectors.specs.Vectors.{Stays};
 ghost use Rattle.hyd_sim.specs.Acceptance.{IsAccepted, IsTaken};
 ghost use Rattle.hyd_sim.specs.Attempts.{IsMade, IsStarted};
 ghost use Rattle.hyd_sim.specs.View.{IsStanding, header_for, standing_for, standing_of};
 
 use crate::attempt::end_period;
+use crate::given_vectors::{check_vectors, take_vectors};
 use crate::period::start_period;
 use crate::sim::Sim;
 use crate::standing::Standing;
-use crate::vectors::{check_vectors, take_vectors};
 use hyd_cert::Record;
 use hyd_graph::Net;
 use hyd_net::{LinkState, Project};
-use hyd_period_close::Close;
+use hyd_period_end::PeriodEnd;
 use hyd_period_facts::Facts;
 use hyd_spec_reports::CertRefused;
 
@@ -83,7 +83,7 @@ fn end_by(
     net: &Net,
     row: &mut Record,
     facts: &mut Facts,
-    close: &mut Close,
+    close: &mut PeriodEnd,
     given: &Record,
 ) -> Result<(), CertRefused>
     requires sound { Sound project.now }
@@ -121,7 +121,7 @@ fn check_due(
     row: &mut Record,
     facts: &mut Facts,
     links: &mut [LinkState],
-    close: &mut Close,
+    close: &mut PeriodEnd,
     given: &Record,
 ) -> Result<(), CertRefused>
     requires sound { Sound project.now }
@@ -160,7 +160,7 @@ fn take(
     row: &mut Record,
     facts: &mut Facts,
     links: &mut [LinkState],
-    close: &mut Close,
+    close: &mut PeriodEnd,
     given: &Record,
 ) -> Result<(), CertRefused>
     requires sound { Sound project.now }

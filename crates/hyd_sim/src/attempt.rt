@@ -10,10 +10,10 @@ ghost use Rattle.hyd_period_facts.specs.Room.{HasRoom};
 ghost use Rattle.hyd_graph.specs.GridOf.{grid_of};
 ghost use Rattle.hyd_graph.specs.Periods.{IsNetOf};
 ghost use Rattle.hyd_bounds.specs.Bounds.{TanksInOrder};
-ghost use Rattle.hyd_period_close.specs.Begun.{AreBegun, AreReady};
-ghost use Rattle.hyd_period_close.specs.Closing.{HasRoom as HasCloseRoom};
-ghost use Rattle.hyd_period_close.specs.declared.close.Close as closes;
-ghost use Rattle.hyd_period_close.specs.Opens.{IsOpenAt, SharesVectors};
+ghost use Rattle.hyd_period_end.specs.Begun.{AreBegun, AreReady};
+ghost use Rattle.hyd_period_end.specs.EndOfPeriod.{HasRoom as HasCloseRoom};
+ghost use Rattle.hyd_period_end.specs.declared.period_end.PeriodEnd as closes;
+ghost use Rattle.hyd_period_end.specs.OpenMatters.{IsOpenAt, SharesVectors};
 ghost use Rattle.hyd_spec_certificates.specs.Record.{Record as Row};
 ghost use Rattle.hyd_sim.specs.View.{IsStanding, header_for, standing_for};
 ghost use Rattle.hyd_sim.specs.Attempts.{AreSought, IsFault, IsMade, IsOver, IsStarted};
@@ -23,7 +23,7 @@ use hyd_cert::Record;
 use hyd_graph::Net;
 use hyd_net::Project;
 use hyd_newton::Finder;
-use hyd_period_close::{Close, Open};
+use hyd_period_end::{Open, PeriodEnd};
 use hyd_period_facts::Facts;
 use hyd_period_vectors::{Lack, Search};
 use hyd_tank_inflows::put_inflows;
@@ -48,7 +48,8 @@ fn end_run(project: &Project, standing: &Standing, net: &Net, row: &mut Record, 
     requires tanks { row.old.tanks ≡ tank_count project.now }
     requires begun { AreBegun project.now (standing_for standing.now) facts.old }
     requires ready { AreReady project.now facts.old }
-    ensures over { (close : closes.Close) → IsOver project.now standing.now (grid_of net.now) row.new facts.new close }
+    ensures over { (close : closes.PeriodEnd)
+        → IsOver project.now standing.now (grid_of net.now) row.new facts.new close }
     ensures row { row.new ≡ record row.old { length = row.new.length } }
     ensures facts { HasRoom project.now facts.new }
     ensures links { facts.new.links ≡ facts.old.links }
@@ -68,7 +69,7 @@ pub(crate) fn end_period(
     net: &Net,
     row: &mut Record,
     facts: &mut Facts,
-    close: &mut Close,
+    close: &mut PeriodEnd,
 ) -> Result<(), Open>
     requires sound { Sound project.now }
     requires standing { IsStanding project.now standing.now }
@@ -105,7 +106,7 @@ pub(crate) fn try_period<F: Finder>(
     search: &mut Search,
     row: &mut Record,
     facts: &mut Facts,
-    close: &mut Close,
+    close: &mut PeriodEnd,
 ) -> Result<(), Fault>
     requires sound { Sound project.now }
     requires standing { IsStanding project.now standing.now }

@@ -5,7 +5,7 @@ ghost use Rattle.std.specs.Prelude.{◌≡◌, false, IfErr, IfOk};
 ghost use Rattle.hyd_sim.specs.Sharp.{SaysNone, stop_of, open_stop_of};
 
 use hyd_graph::PeriodDemand;
-use hyd_period_close::Open;
+use hyd_period_end::Open;
 use hyd_period_vectors::Lack;
 use hyd_spec_reports::StopCause;
 

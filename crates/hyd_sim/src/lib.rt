@@ -4,15 +4,15 @@
 mod accept;
 mod attempt;
 mod causes;
+mod given_vectors;
 mod narrow;
-mod open;
+mod opening;
 mod period;
 mod settings;
 mod sim;
 mod standing;
 mod start;
 mod steps;
-mod vectors;
 
 pub use settings::Settings;
 pub use sim::Sim;

@@ -12,7 +12,7 @@ ghost use Rattle.hyd_cert.specs.RecordView.{header_of, row_of};
 ghost use Rattle.hyd_period_facts.specs.Room.{HasRoom};
 ghost use Rattle.hyd_graph.specs.GridOf.{grid_of};
 ghost use Rattle.hyd_graph.specs.Periods.{IsNetOf};
-ghost use Rattle.hyd_period_close.specs.Closing.{HasRoom as HasCloseRoom};
+ghost use Rattle.hyd_period_end.specs.EndOfPeriod.{HasRoom as HasCloseRoom};
 ghost use Rattle.hyd_period_vectors.specs.Vectors.{HaveSame};
 ghost use Rattle.hyd_sim.specs.Attempts.{AreSought, IsMade, IsStarted, fault_stop_of, next_standing};
 ghost use Rattle.hyd_sim.specs.Sharp.{SaysNone};
@@ -29,7 +29,7 @@ use hyd_cert::Record;
 use hyd_graph::Net;
 use hyd_net::{LinkState, Project};
 use hyd_newton::Finder;
-use hyd_period_close::Close;
+use hyd_period_end::PeriodEnd;
 use hyd_period_facts::Facts;
 use hyd_period_vectors::Search;
 use hyd_spec_certificates::{Problem, Side};
@@ -40,7 +40,7 @@ fn is_narrow(
     project: &Project,
     standing: &Standing,
     row: &Record,
-    close: &Close,
+    close: &PeriodEnd,
     width: i64,
 ) -> bool
     requires heads { length (row_of row.now).main.lower ≡ length (row_of row.now).main.upper }
@@ -119,7 +119,7 @@ fn tighten<F: Finder>(
     search: &mut Search,
     row: &mut Record,
     facts: &mut Facts,
-    close: &mut Close,
+    close: &mut PeriodEnd,
 ) -> Result<(), StopCause>
     requires sound { Sound project.now }
     requires standing { IsStanding project.now standing.now }
@@ -161,7 +161,7 @@ fn does<F: Finder>(
     search: &mut Search,
     row: &mut Record,
     facts: &mut Facts,
-    close: &mut Close,
+    close: &mut PeriodEnd,
 ) -> Result<bool, StopCause>
     requires sound { Sound project.now }
     requires standing { IsStanding project.now standing.now }
@@ -211,7 +211,7 @@ fn do_period<F: Finder>(
     row: &mut Record,
     facts: &mut Facts,
     links: &mut [LinkState],
-    close: &mut Close,
+    close: &mut PeriodEnd,
     finder: &mut F,
 ) -> Result<(), StopCause>
     requires sound { Sound project.now }
@@ -281,7 +281,7 @@ pub(crate) fn advance<F: Finder>(
     row: &mut Record,
     facts: &mut Facts,
     links: &mut [LinkState],
-    close: &mut Close,
+    close: &mut PeriodEnd,
     finder: &mut F,
 ) -> Result<(), StopCause>
     requires sound { Sound project.now }

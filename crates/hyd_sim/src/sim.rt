@@ -5,7 +5,7 @@ use crate::standing::Standing;
 use hyd_cert::Record;
 use hyd_graph::Net;
 use hyd_net::{LinkState, Project};
-use hyd_period_close::Close;
+use hyd_period_end::PeriodEnd;
 use hyd_period_facts::Facts;
 use hyd_period_vectors::Search;
 use hyd_spec_reports::StopCause;
@@ -24,7 +24,7 @@ pub struct Sim {
     /// The states of links in the period that is being done.
     pub(crate) links: Vec<LinkState>,
     /// What the end of the last period left, and room for the ends of others.
-    pub(crate) close: Close,
+    pub(crate) close: PeriodEnd,
     /// Why the run stopped.
     pub(crate) stopped: Option<StopCause>,
 }

@@ -7,9 +7,9 @@ ghost use Rattle.hyd_net.specs.Sound.{Sound};
 use hyd_cert::Record;
 use hyd_graph::Net;
 use hyd_net::{LinkState, Project};
-use hyd_period_close::Close;
+use hyd_period_end::PeriodEnd;
 use hyd_period_facts::Facts;
-use hyd_period_stocks::Next;
+use hyd_period_stocks::TankStart;
 use std::mem::swap;
 
 /// What is known where the next period begins.
@@ -20,7 +20,7 @@ pub(crate) struct Standing {
     /// When it begins, in seconds.
     pub(crate) time: u32,
     /// The stocks and the states of tanks.
-    pub(crate) stocks: Next,
+    pub(crate) stocks: TankStart,
     /// The states that links were last commanded to be in.
     pub(crate) commanded: Vec<LinkState>,
     /// Whether the period at the end of the run is over.
@@ -28,7 +28,7 @@ pub(crate) struct Standing {
 }
 
 impl Standing {
-    ghost use Rattle.hyd_period_close.specs.Closing.{HasRoom};
+    ghost use Rattle.hyd_period_end.specs.EndOfPeriod.{HasRoom};
     ghost use Rattle.hyd_sim.specs.Attempts.{IsMade, next_standing};
     ghost use Rattle.hyd_sim.specs.View.{IsStanding, standing_for};
 
@@ -42,7 +42,7 @@ impl Standing {
     }
 
     // Moves on behind another period, of so many seconds.
-    fn follow(&mut self, seconds: u32, close: &mut Close)
+    fn follow(&mut self, seconds: u32, close: &mut PeriodEnd)
         requires number { self.old.number ≤ 10 ^ 9 }
         requires time { self.old.time + seconds ≤ 10 ^ 9 }
         ensures number { self.new.number ≡ self.old.number + 1 }
@@ -65,7 +65,7 @@ impl Standing {
         net: &Net,
         row: &Record,
         facts: &Facts,
-        close: &mut Close,
+        close: &mut PeriodEnd,
     )
         requires sound { Sound project.now }
         requires standing { IsStanding project.now self.old }

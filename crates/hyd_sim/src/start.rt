@@ -11,14 +11,14 @@ ghost use Rattle.hyd_spec_reports.specs.Report.{start_changes};
 ghost use Rattle.hyd_period_facts.specs.OfPeriod.{levels_of};
 ghost use Rattle.hyd_period_facts.specs.Room.{HasRoom};
 ghost use Rattle.hyd_graph.specs.Settings.{AreStates};
-ghost use Rattle.hyd_period_close.specs.Begun.{AreBegun, AreReady};
+ghost use Rattle.hyd_period_end.specs.Begun.{AreBegun, AreReady};
 ghost use Rattle.hyd_sim.specs.View.{IsStanding, standing_for};
 
 use crate::standing::Standing;
 use hyd_ctrl::{Changes, settle};
 use hyd_net::{LinkState, List, Project};
 use hyd_period_facts::Facts;
-use hyd_period_stocks::Next;
+use hyd_period_stocks::TankStart;
 use hyd_spec_certificates::LevelSpan;
 
 // Makes a list these items, for which it has room.
@@ -34,7 +34,7 @@ fn refill<T: Copy + Drop>(list: &mut List<T>, items: &[T])
 }
 
 // Puts the stocks and the states of tanks into facts. All else of them stays.
-fn put_tanks(stocks: &Next, facts: &mut Facts)
+fn put_tanks(stocks: &TankStart, facts: &mut Facts)
     requires levels { length stocks.now.levels.list ≤ length facts.old.levels.list + facts.old.levels.spare }
     requires volumes { length stocks.now.volumes.list ≤ length facts.old.volumes.list + facts.old.volumes.spare }
     requires tanks { length stocks.now.tanks.list ≤ length facts.old.tanks.list + facts.old.tanks.spare }

@@ -8,7 +8,7 @@ pub mod Law
 pub mod LinkLaw
 pub mod Outflow
 pub mod Assignment
-pub mod Draw
+pub mod FireFlow
 pub mod Tank
 pub mod Start
 pub mod Rules

@@ -1,8 +1,8 @@
 -- The types of the program that definitions speak of, under one roof. Variants whose name another type or definition
 -- has too have a name of their own here.
 pub use Rattle.hyd_num.specs.declared.decimals.Decimal.{Decimal}
-pub use Rattle.hyd_num.specs.declared.units.FlowUnit.{FlowUnit}
-pub use Rattle.hyd_num.specs.declared.units.FlowUnit.TheVariants.{Cmd}
+pub use Rattle.hyd_num.specs.declared.flow_units.FlowUnit.{FlowUnit}
+pub use Rattle.hyd_num.specs.declared.flow_units.FlowUnit.TheVariants.{Cmd}
 pub use Rattle.hyd_num.specs.declared.capacities.Capacity.{Capacity}
 pub use Rattle.hyd_num.specs.declared.capacities.Origin.{Origin}
 pub use Rattle.hyd_num.specs.declared.capacities.Origin.TheVariants.{Pipe, Valve, Pump, Emitter, PressureDemand}

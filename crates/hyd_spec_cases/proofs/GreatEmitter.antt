@@ -2,10 +2,10 @@
 use Rattle.std.proofs.Common.{◌≡◌, ℕ, zero, suc, ◌+◌, ◌*◌, ◌^◌, ◌<◌, List, [], ◌∷◌, codes, take, Option, Some, None}
 use Rattle.std.proofs.Common.{refl, arith, pos, neg_ℤ, inl, inr, true, false, true≢false, lit≤, lit<, subst, sym}
 use borrow.Author.Differences.{up}
-use Rattle.hyd_num.proofs.Rounding.{IsDown-from_cut, IsUp-exact, IsUp-next}
+use Rattle.hyd_num.proofs.RoundingLemmas.{IsDown-from_cut, IsUp-exact, IsUp-next}
 use Rattle.hyd_num.specs.declared.binary.Scaled.{Scaled}
 use Rattle.hyd_num.specs.declared.decimals.Decimal.{Decimal}
-use Rattle.hyd_num.specs.declared.units.FlowUnit.TheVariants.{Mgd}
+use Rattle.hyd_num.specs.declared.flow_units.FlowUnit.TheVariants.{Mgd}
 use Rattle.hyd_num.specs.declared.capacities.Origin.TheVariants.{Emitter}
 use Rattle.hyd_num.specs.Numeral.{is_numeral, magnitude_of, nano_of}
 use Rattle.hyd_num.specs.Scaled.{numerator, denominator, IsDown}

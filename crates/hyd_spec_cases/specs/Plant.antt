@@ -4,7 +4,7 @@ use Rattle.hyd_spec_lines.specs.Lines.{Row, items_of, rows_in}
 use Rattle.hyd_spec_lines.specs.declared.section.Section.TheVariants.{Junctions, Pipes, Valves}
 use Rattle.hyd_spec_input.specs.Columns.{amount}
 use Rattle.hyd_spec_input.specs.Curves.{Drop, drop_of}
-use Rattle.hyd_spec_input.specs.Network.{emitter_of}
+use Rattle.hyd_spec_input.specs.RowMeanings.{emitter_of}
 use Rattle.hyd_spec_input.specs.NetworkRows.{pipe_minor, valve_minor}
 use Rattle.hyd_spec_input.specs.Tables.{rows_of, curve_named}
 use Rattle.hyd_spec_cases.specs.Input.{front}

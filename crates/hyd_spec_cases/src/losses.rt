@@ -3,7 +3,7 @@
 #![tactic(auto)]
 
 ghost use Rattle.std.specs.Prelude.{◌≡◌, pos, true, false};
-ghost use Rattle.hyd_num.specs.declared.units.FlowUnit.TheVariants.{Gpm, Lps};
+ghost use Rattle.hyd_num.specs.declared.flow_units.FlowUnit.TheVariants.{Gpm, Lps};
 ghost use Rattle.hyd_spec.specs.Types.{Decimal, Pump, Emitter, PressureDemand};
 ghost use Rattle.hyd_spec.specs.Loss.{PipeLossAtMost, PipeLossAtLeast, ValveLossAtMost, ValveLossAtLeast};
 ghost use Rattle.hyd_spec.specs.Law.{loss_at_most, loss_at_least};

@@ -5,9 +5,11 @@ ghost use Rattle.std.specs.Prelude.{◌≡◌, ℤ, pos, neg_ℤ, ◌*ℤ◌, �
 ghost use Rattle.hyd_num.specs.Numeral.{is_numeral, nano_of};
 ghost use Rattle.hyd_num.specs.Quantity.{is_us_unit, flow_factor, head_ticks, flow_ticks, pressure_numerator};
 ghost use Rattle.hyd_num.specs.Quantity.{pressure_denominator};
-ghost use Rattle.hyd_num.specs.Decimals.{decimal_text, setting_text, head_quantity, pressure_quantity, flow_quantity};
+ghost use Rattle.hyd_num.specs.PrintedDecimals.{decimal_text, setting_text, head_quantity, pressure_quantity};
+ghost use Rattle.hyd_num.specs.PrintedDecimals.{flow_quantity};
 ghost use Rattle.hyd_num.specs.Rational.{floor, ceiling};
-ghost use Rattle.hyd_num.specs.declared.units.FlowUnit.TheVariants.{Cfs, Gpm, Mgd, Imgd, Afd, Lps, Lpm, Mld, Cmh, Cmd};
+ghost use Rattle.hyd_num.specs.declared.flow_units.FlowUnit.TheVariants.{Cfs, Gpm, Mgd, Imgd, Afd, Lps, Lpm, Mld, Cmh};
+ghost use Rattle.hyd_num.specs.declared.flow_units.FlowUnit.TheVariants.{Cmd};
 ghost use Rattle.hyd_spec_reports.specs.ReportLine.{clock_text};
 
 /// What texts of numbers are worth, in billionths: signs, points and exponents, cut toward zero.

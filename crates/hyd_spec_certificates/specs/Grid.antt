@@ -3,7 +3,7 @@
 -- Source: Rheinboldt 1970 (networks with given boundary values).
 use Rattle.std.specs.Prelude.{◌≡◌, ℕ, ℤ, List, [], ◌∷◌, ◌++◌, map, Option, MatchBool, ◌==◌, if◌then◌else◌}
 use Rattle.std.specs.List.{AllZip}
-use Rattle.hyd_num.specs.Chain.{IsMade}
+use Rattle.hyd_num.specs.CapacityPairs.{IsMade}
 use Rattle.hyd_spec.specs.Types.{Project, Junction, Link, LinkState, Tank, Capacity, PressureDemand}
 use Rattle.hyd_spec.specs.declared.TankState.{TankState}
 use Rattle.hyd_spec_certificates.specs.declared.Problem.{Problem}

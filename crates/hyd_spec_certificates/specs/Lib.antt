@@ -3,7 +3,7 @@ pub mod Enclosing
 pub mod Grid
 pub mod NetOutflow
 pub mod Certificate
-pub mod Climbing
+pub mod SearchSteps
 pub mod HeldBoxes
 pub mod Boxes
 pub mod Stocks

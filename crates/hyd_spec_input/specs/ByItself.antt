@@ -7,7 +7,7 @@ use Rattle.hyd_spec_lines.specs.declared.section.Section.TheVariants.{Junctions,
 use Rattle.hyd_spec_lines.specs.declared.section.Section.TheVariants.{Valves, Demands, Emitters, Curves, Patterns}
 use Rattle.hyd_spec_lines.specs.declared.section.Section.TheVariants.{Status, Controls, Rules, Options, Times}
 use Rattle.hyd_spec_input.specs.NetworkRows.{junction, reservoir, tank, pipe, pump, valve}
-use Rattle.hyd_spec_input.specs.DataRows.{demand, emitter, curve, pattern, status}
+use Rattle.hyd_spec_input.specs.BelongingRows.{demand, emitter, curve, pattern, status}
 use Rattle.hyd_spec_input.specs.OptionRows.{option, time_line}
 use Rattle.hyd_spec_input.specs.ControlRows.{control}
 use Rattle.hyd_spec_input.specs.RuleRows.{rule_line}

@@ -3,7 +3,7 @@
 use Rattle.std.specs.Prelude.{◌≡◌, ℕ, Bool, true, false, ◌&&◌, not, List, Option, Some, None, ◌⊎◌, ℤ, pos, ◌<ℤ◌}
 use Rattle.hyd_num.specs.Numeral.{nano_of}
 use Rattle.hyd_num.specs.declared.decimals.Decimal.{Decimal}
-use Rattle.hyd_num.specs.declared.units.FlowUnit.{FlowUnit}
+use Rattle.hyd_num.specs.declared.flow_units.FlowUnit.{FlowUnit}
 use Rattle.hyd_num.specs.declared.capacities.Origin.TheVariants.{Pipe, Valve, Pump, Emitter}
 use Rattle.hyd_num.specs.Refusal.{IsRefused}
 use Rattle.hyd_spec_lines.specs.Lines.{Row}

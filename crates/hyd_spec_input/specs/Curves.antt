@@ -8,7 +8,7 @@ use Rattle.std.specs.List.{list_all}
 use lib.Signed.{le_z, lt_z}
 use Rattle.hyd_num.specs.Quantity.{head_ticks, flow_ticks}
 use Rattle.hyd_num.specs.Rational.{whole, is_at_most}
-use Rattle.hyd_num.specs.declared.units.FlowUnit.{FlowUnit}
+use Rattle.hyd_num.specs.declared.flow_units.FlowUnit.{FlowUnit}
 use Rattle.hyd_net.specs.Curves.{value_at, head_knots, volume_at}
 use Rattle.hyd_net.specs.declared.curves.VolumePoint.{VolumePoint}
 use Rattle.hyd_net.specs.declared.curves.HeadPoint.{HeadPoint}

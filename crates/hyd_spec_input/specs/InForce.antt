@@ -3,8 +3,8 @@
 -- the hydraulic one, cut to whole seconds and at least 1, is this program's.
 use Rattle.std.specs.Prelude.{ℕ, ◌/◌, ◌^◌, Bool, true, false, ◌&&◌, List, [], ◌∷◌, min, max, codes, Option, Some, None}
 use Rattle.std.specs.Prelude.{unwrap_or, if◌then◌else◌, ℤ, pos}
-use Rattle.hyd_num.specs.declared.units.FlowUnit.{FlowUnit}
-use Rattle.hyd_num.specs.declared.units.FlowUnit.TheVariants.{Gpm}
+use Rattle.hyd_num.specs.declared.flow_units.FlowUnit.{FlowUnit}
+use Rattle.hyd_num.specs.declared.flow_units.FlowUnit.TheVariants.{Gpm}
 use Rattle.hyd_spec_lines.specs.Lines.{Row}
 use Rattle.hyd_spec_lines.specs.declared.section.Section.TheVariants.{Options, Times}
 use Rattle.hyd_spec_input.specs.Columns.{word, word_is, amount}

@@ -2,7 +2,7 @@ pub mod Columns
 pub mod Keywords
 pub mod Moments
 pub mod NetworkRows
-pub mod DataRows
+pub mod BelongingRows
 pub mod OptionRows
 pub mod ControlRows
 pub mod RuleRows
@@ -13,5 +13,5 @@ pub mod Curves
 pub mod WithOthers
 pub mod Capacities
 pub mod Faults
-pub mod Network
+pub mod RowMeanings
 pub mod Project

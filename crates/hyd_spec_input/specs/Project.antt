@@ -6,9 +6,9 @@ use Rattle.std.specs.Prelude.{slice_get, if◌then◌else◌, ℤ, pos, ◌<ℤ�
 use Rattle.std.specs.Ordering.{int_eq}
 use Rattle.hyd_num.specs.Numeral.{nano_of}
 use Rattle.hyd_num.specs.Quantity.{head_ticks, flow_ticks}
-use Rattle.hyd_num.specs.Chain.{IsMade}
+use Rattle.hyd_num.specs.CapacityPairs.{IsMade}
 use Rattle.hyd_num.specs.declared.decimals.Decimal.{Decimal}
-use Rattle.hyd_num.specs.declared.units.FlowUnit.{FlowUnit}
+use Rattle.hyd_num.specs.declared.flow_units.FlowUnit.{FlowUnit}
 use Rattle.hyd_num.specs.declared.capacities.Capacity.{Capacity}
 use Rattle.hyd_num.specs.declared.capacities.Origin.TheVariants.{Pipe as PipeOrigin, Valve as ValveOrigin}
 use Rattle.hyd_num.specs.declared.capacities.Origin.TheVariants.{Pump as PumpOrigin, Emitter as EmitterOrigin}
@@ -28,9 +28,9 @@ use Rattle.hyd_spec_input.specs.InForce as force
 use Rattle.hyd_spec_input.specs.InForce.{unit}
 use Rattle.hyd_spec_input.specs.Curves.{Drop, drop_of, is_bent, head_points, volume_points}
 use Rattle.hyd_spec_input.specs.WithOthers.{us}
-use Rattle.hyd_spec_input.specs.Network.{node_ids, tank_ids, link_ids, number_in, pattern_ids, pattern_number}
-use Rattle.hyd_spec_input.specs.Network.{shape_names, bend_names, demands_of, emitter_of, status_of, rule_groups}
-use Rattle.hyd_spec_input.specs.Network.{clause_lines, then_lines, else_lines, rule_id, priority_of}
+use Rattle.hyd_spec_input.specs.RowMeanings.{node_ids, tank_ids, link_ids, number_in, pattern_ids, pattern_number}
+use Rattle.hyd_spec_input.specs.RowMeanings.{shape_names, bend_names, demands_of, emitter_of, status_of, rule_groups}
+use Rattle.hyd_spec_input.specs.RowMeanings.{clause_lines, then_lines, else_lines, rule_id, priority_of}
 use Rattle.hyd_spec_input.specs.declared.ObjectWord.{ObjectWord}
 use Rattle.hyd_spec_input.specs.declared.Attribute.{Attribute}
 use Rattle.hyd_spec_input.specs.declared.Attribute.TheVariants as attribute

@@ -19,7 +19,7 @@ use Rattle.hyd_spec_input.specs.Columns.{status_words, units}
 use Rattle.hyd_spec_input.specs.Keywords.{link_word, node_word, object_word, attribute_word}
 use Rattle.hyd_spec_input.specs.NetworkRows.{has_check_valve, is_throttle, is_general, tank_curve, pump_curve}
 use Rattle.hyd_spec_input.specs.NetworkRows.{pump_pattern, valve_curve}
-use Rattle.hyd_spec_input.specs.DataRows.{multipliers}
+use Rattle.hyd_spec_input.specs.BelongingRows.{multipliers}
 use Rattle.hyd_spec_input.specs.RuleRows.{begins_with, stage_after, is_acting, is_rule}
 use Rattle.hyd_spec_input.specs.Tables.{is_of, rows_of, words_of, own_id, node_rows, link_rows, has_id, node_named}
 use Rattle.hyd_spec_input.specs.Tables.{link_named, distinct, allows_node, allows_link, pattern_named, curve_named}

@@ -3,7 +3,7 @@
 use Rattle.std.specs.Prelude.{◌≡◌, ℕ, ◌+◌, ◌*◌, ◌^◌, ℤ, pos, ◌+ℤ◌, ◌-ℤ◌, ◌<ℤ◌, ◌≤ℤ◌, ◌*ℤ◌, IsTrue, Bool, true, false}
 use Rattle.std.specs.Prelude.{List, Some, slice_get, ⊤, Contains, ◌≢◌, ◌%◌, IsFalse}
 use Rattle.hyd_num.specs.Rational.{Rational, is_at_most, whole}
-use Rattle.hyd_num.specs.Decimals.{head_quantity, pressure_quantity, flow_quantity}
+use Rattle.hyd_num.specs.PrintedDecimals.{head_quantity, pressure_quantity, flow_quantity}
 use Rattle.hyd_net.specs.ListView.{ListView}
 use Rattle.hyd_net.specs.Curves.{value_at}
 use Rattle.hyd_spec.specs.Types.{Project, Junction, Reservoir, Tank, Link, LinkKind, PipeLink, CheckPipe, PumpLink}

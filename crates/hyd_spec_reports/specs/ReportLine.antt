@@ -4,7 +4,7 @@
 -- Source: this program's format.
 use Rattle.std.specs.Prelude.{ℕ, ◌+◌, ◌/◌, ◌%◌, List, [], ◌∷◌, ◌++◌, map, codes, slice_index_or, unsigned_abs}
 use Rattle.std.specs.Fmt.{decimal, signed_decimal}
-use Rattle.hyd_num.specs.Decimals.{decimal_text, setting_text, last_digits}
+use Rattle.hyd_num.specs.PrintedDecimals.{decimal_text, setting_text, last_digits}
 use Rattle.hyd_spec.specs.Types.{Project, LinkState, Open, Closed, Speed, Throttle, Limit}
 use Rattle.hyd_spec.specs.declared.TankState.{TankState}
 use Rattle.hyd_spec.specs.declared.TankState.TheVariants.{Full, Between, Empty}

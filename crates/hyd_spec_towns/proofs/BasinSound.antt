@@ -10,13 +10,13 @@ use Rattle.hyd_net.specs.Ids.{IsId}
 use Rattle.hyd_net.specs.Curves.{AreRising, IsVolumeCurve}
 use Rattle.hyd_net.specs.Ranges.{Lies, IsHead}
 use Rattle.hyd_net.specs.Sound.{HasIds, HasEnds, IsPattern, Sound}
-use Rattle.hyd_net.specs.Sizes.{IsJunction, IsReservoir, IsTank, IsShapeOf, HasSizes, HasQuantities}
+use Rattle.hyd_net.specs.NetworkRanges.{IsJunction, IsReservoir, IsTank, IsShapeOf, HasSizes, HasQuantities}
 use Rattle.hyd_net.specs.States.{CanHave}
-use Rattle.hyd_net.specs.Commands.{node_count, IsControl, IsRule}
+use Rattle.hyd_net.specs.ControlsAndRules.{node_count, IsControl, IsRule}
 use Rattle.hyd_net.specs.Made.{IsAreaMade, IsKindMade, IsStateMade, IsRuleMade, IsKindAcross, IsStateAcross, IsAcross}
 use Rattle.hyd_net.specs.Made.{IsAllMade}
 use Rattle.hyd_spec.specs.Types.{Cmd, VolumePoint}
-use Rattle.hyd_num.specs.Chain.{IsMade}
+use Rattle.hyd_num.specs.CapacityPairs.{IsMade}
 use Rattle.std.specs.Option.{IfSome}
 use Rattle.hyd_lemmas.proofs.Trials.{le-yes}
 use Rattle.hyd_spec_towns.specs.Basin.{Basin, basin_network, feed, open_to, curved, spilling}

@@ -3,7 +3,7 @@ use Rattle.std.proofs.Common.{◌≡◌, ℕ, ℤ, pos, ◌+ℤ◌, ◌-ℤ◌, 
 use Rattle.std.proofs.Common.{refl, sym, ap, arith}
 use Rattle.std.specs.Prelude.{◌^◌, slice_get, Some}
 use Rattle.std.proofs.lemmas.Int.{ints}
-use Rattle.hyd_num.specs.Decimals.{head_quantity, flow_quantity}
+use Rattle.hyd_num.specs.PrintedDecimals.{head_quantity, flow_quantity}
 use Rattle.hyd_spec.specs.Types.{Cmd, Link}
 use Rattle.hyd_spec.specs.declared.TankState.{TankState}
 use Rattle.hyd_spec_reports.specs.declared.StatusWord.{StatusWord}

@@ -7,15 +7,15 @@ use Rattle.std.proofs.lemmas.List.Elements.{All-from_recursion}
 use Rattle.std.proofs.lemmas.List.Kept.{AllPairs-cons}
 use Rattle.hyd_net.specs.Ids.{AreDistinct, IsId}
 use Rattle.hyd_net.specs.Sound.{HasIds, HasEnds, IsPattern, Sound}
-use Rattle.hyd_net.specs.Sizes.{IsJunction, IsDemand, IsReservoir, IsTank, HasSizes, HasQuantities}
+use Rattle.hyd_net.specs.NetworkRanges.{IsJunction, IsDemand, IsReservoir, IsTank, HasSizes, HasQuantities}
 use Rattle.hyd_net.specs.States.{CanHave}
-use Rattle.hyd_net.specs.Commands.{node_count, IsControl, IsClause, CanCommand, IsRule}
+use Rattle.hyd_net.specs.ControlsAndRules.{node_count, IsControl, IsClause, CanCommand, IsRule}
 use Rattle.hyd_net.specs.Made.{IsAreaMade, IsKindMade, IsStateMade, IsValueMade, IsRuleMade, IsKindAcross}
 use Rattle.hyd_net.specs.Made.{IsStateAcross, IsAcross, IsAllMade}
 use Rattle.hyd_net.specs.Ranges.{LiesWithin}
 use Rattle.hyd_spec_towns.specs.Village.{usual, village, mill, farm, refill_rule}
 use Rattle.hyd_spec.specs.Types.{Cmd, Rule}
-use Rattle.hyd_num.specs.Chain.{IsMade}
+use Rattle.hyd_num.specs.CapacityPairs.{IsMade}
 use Rattle.std.specs.Option.{IfSome}
 
 abbrev the_rule : Rule

@@ -2,7 +2,7 @@
 -- rule on pressures. Each definition is what the reader makes of the lines above it.
 use Rattle.std.specs.Prelude.{◌≡◌, ℕ, pos, false, List, [], ◌∷◌, None, codes}
 use Rattle.std.proofs.Common.{lit≤}
-use Rattle.hyd_num.specs.declared.units.FlowUnit.TheVariants.{Gpm}
+use Rattle.hyd_num.specs.declared.flow_units.FlowUnit.TheVariants.{Gpm}
 use Rattle.hyd_spec.specs.Types.{Project, Options, Times, Junction, Reservoir, Tank, Link, Tcv, Fcv, Linear, LinkState}
 use Rattle.hyd_spec.specs.Types.{Limit, Throttle, Rule, And, Or, Less, More, Pressure, Value, Amount}
 use Rattle.hyd_spec.specs.declared.TankState.TheVariants.{Between}

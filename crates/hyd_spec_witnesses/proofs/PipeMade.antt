@@ -10,8 +10,8 @@ use Rattle.hyd_num.specs.declared.pairs.Pair.{Pair}
 use Rattle.hyd_num.specs.Scaled.{numerator, denominator, IsDown, IsUp}
 use Rattle.hyd_num.specs.Pairs.{IsProduct, IsPower, once as power_once, even, odd, IsOwnPower, RootsBelow, RootsAbove}
 use Rattle.hyd_num.specs.Pairs.{IsRoot533}
-use Rattle.hyd_num.specs.Chain.{IsMade}
-use Rattle.hyd_num.proofs.Rounding.{IsDown-from_cut, IsUp-exact, IsUp-next}
+use Rattle.hyd_num.specs.CapacityPairs.{IsMade}
+use Rattle.hyd_num.proofs.RoundingLemmas.{IsDown-from_cut, IsUp-exact, IsUp-next}
 use Rattle.hyd_spec_witnesses.specs.Spurs.{long_pipe}
 use Rattle.hyd_spec_witnesses.proofs.RoundPairs.{IsDown-exact, twice, ratio, product}
 

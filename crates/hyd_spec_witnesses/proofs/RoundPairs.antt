@@ -5,8 +5,8 @@ use Rattle.hyd_num.specs.declared.binary.Scaled.{Scaled}
 use Rattle.hyd_num.specs.declared.pairs.Pair.{Pair}
 use Rattle.hyd_num.specs.Scaled.{numerator, denominator, IsDown}
 use Rattle.hyd_num.specs.Pairs.{IsRatio, IsProduct, IsQuotient}
-use Rattle.hyd_num.specs.Chain.{IsMade}
-use Rattle.hyd_num.proofs.Rounding.{IsUp-exact}
+use Rattle.hyd_num.specs.CapacityPairs.{IsMade}
+use Rattle.hyd_num.proofs.RoundingLemmas.{IsUp-exact}
 use Rattle.hyd_spec_witnesses.specs.Spurs.{round_pump, hole}
 
 -- a number that is met exactly is the greatest below

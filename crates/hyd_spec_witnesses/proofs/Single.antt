@@ -14,7 +14,7 @@ use Rattle.hyd_spec.specs.Start.{started, acts_at}
 use Rattle.hyd_spec.specs.Assignment.{Assignment, LinksFollow, none, more, JunctionObeys, IsAssignment, head_at}
 use Rattle.hyd_spec.specs.Length.{at_end}
 use Rattle.hyd_spec.specs.History.{IsHistory}
-use Rattle.hyd_spec_witnesses.specs.Parts.{Spur, network_of, junction_of, link_of, period_of}
+use Rattle.hyd_spec_witnesses.specs.OneLink.{Spur, network_of, junction_of, link_of, period_of}
 
 -- ---- tests that fail
 

@@ -5,17 +5,17 @@ use Rattle.std.specs.Option.{IfSome}
 use Rattle.std.specs.List.{All}
 use Rattle.std.proofs.lemmas.List.Elements.{All-from_recursion}
 use Rattle.std.proofs.lemmas.List.Kept.{AllPairs-cons}
-use Rattle.hyd_num.specs.Chain.{IsMade}
+use Rattle.hyd_num.specs.CapacityPairs.{IsMade}
 use Rattle.hyd_net.specs.Ids.{AreDistinct, IsId}
 use Rattle.hyd_net.specs.Sound.{HasIds, HasEnds, IsWithinLimits, IsPattern, Sound}
-use Rattle.hyd_net.specs.Sizes.{HasOptions, IsJunction, IsReservoir, IsTank, HasSizes, HasQuantities}
+use Rattle.hyd_net.specs.NetworkRanges.{HasOptions, IsJunction, IsReservoir, IsTank, HasSizes, HasQuantities}
 use Rattle.hyd_net.specs.Ranges.{IsHead}
 use Rattle.hyd_net.specs.States.{CanHave}
-use Rattle.hyd_net.specs.Commands.{IsControl, IsRule}
+use Rattle.hyd_net.specs.ControlsAndRules.{IsControl, IsRule}
 use Rattle.hyd_net.specs.Made.{IsAreaMade, IsKindMade, IsStateMade, IsRuleMade, IsKindAcross, IsStateAcross, IsAcross}
 use Rattle.hyd_net.specs.Made.{IsAllMade}
 use Rattle.hyd_net.specs.declared.rules.Rule.{Rule}
-use Rattle.hyd_spec_witnesses.specs.Parts.{Spur, network_of, junction_of}
+use Rattle.hyd_spec_witnesses.specs.OneLink.{Spur, network_of, junction_of}
 
 -- ---- IDs
 

@@ -6,7 +6,7 @@ use Rattle.hyd_spec.specs.Types.{Control, AtTime, AtClock, LinkState, Open, Clos
 use Rattle.hyd_spec.specs.Length.{EndsByClock, step, duration, pattern, report, control_time, control_clock}
 use Rattle.hyd_spec.specs.Length.{EndsByLevel, full, empty, control as at_control, MayEnd, by_clock, by_level, by_rules}
 use Rattle.hyd_spec.specs.Length.{HasItsLength, before_end}
-use Rattle.hyd_spec_witnesses.specs.Parts.{network_of}
+use Rattle.hyd_spec_witnesses.specs.OneLink.{network_of}
 use Rattle.hyd_spec_witnesses.specs.Timed.{timed_spur, closing, opening, still}
 
 -- a control is one of the two

@@ -1,4 +1,4 @@
-pub mod Parts
+pub mod OneLink
 pub mod Words
 pub mod Spurs
 pub mod Timed

@@ -3,10 +3,10 @@
 use Rattle.std.specs.Prelude.{ℤ, pos, neg_ℤ, true, Some, None}
 use Rattle.std.specs.Int.Signed.{≤ℤ_refl}
 use Rattle.std.proofs.Common.{lit≤, lit<}
-use Rattle.hyd_num.specs.declared.units.FlowUnit.TheVariants.{Cfs}
+use Rattle.hyd_num.specs.declared.flow_units.FlowUnit.TheVariants.{Cfs}
 use Rattle.hyd_spec.specs.Types.{Cmd, Capacity, Pipe, Pump, Emitter, PipeLink, CheckPipe, PumpLink, Fcv, FourThirds}
 use Rattle.hyd_spec.specs.Types.{Linear, Closed, Speed, Limit}
-use Rattle.hyd_spec_witnesses.specs.Parts.{Spur, plain}
+use Rattle.hyd_spec_witnesses.specs.OneLink.{Spur, plain}
 use Rattle.hyd_spec_witnesses.specs.Words.{thirty}
 
 -- ---- pipes

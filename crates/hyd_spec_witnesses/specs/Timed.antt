@@ -3,7 +3,7 @@
 use Rattle.std.specs.Prelude.{ℕ, pos, List, [], ◌∷◌}
 use Rattle.hyd_spec.specs.Types.{LinkState, Open, Closed, Control, AtTime, AtClock}
 use Rattle.hyd_spec.specs.Length.{Period}
-use Rattle.hyd_spec_witnesses.specs.Parts.{Spur, plain, period_at}
+use Rattle.hyd_spec_witnesses.specs.OneLink.{Spur, plain, period_at}
 
 -- The control that closes the valve.
 abbrev pub closing : Control

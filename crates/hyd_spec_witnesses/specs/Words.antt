@@ -6,7 +6,7 @@ use Rattle.hyd_spec.specs.Types.{Decimal, HeadPoint, LinkKind, LinkState}
 use Rattle.hyd_spec_reports.specs.declared.StatusWord.{StatusWord}
 use Rattle.hyd_spec_reports.specs.declared.StatusWord.TheVariants.{Unsure as WordUnsure}
 use Rattle.hyd_spec_reports.specs.Claims.{StatusHolds}
-use Rattle.hyd_spec_witnesses.specs.Parts.{listed}
+use Rattle.hyd_spec_witnesses.specs.OneLink.{listed}
 
 -- The word holds of a link in its state, at scale S and head difference x, and beside UNSURE, which always does, no
 -- other.

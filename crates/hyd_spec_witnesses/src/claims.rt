@@ -6,7 +6,7 @@ ghost use Rattle.hyd_spec_certificates.specs.Interval.{exactly};
 ghost use Rattle.hyd_spec_reports.specs.declared.StatusWord.TheVariants.{Open as WordOpen, Closed as WordClosed};
 ghost use Rattle.hyd_spec_reports.specs.declared.StatusWord.TheVariants.{Active as WordActive};
 ghost use Rattle.hyd_spec_reports.specs.Claims.{LinkLies};
-ghost use Rattle.hyd_spec_witnesses.specs.Parts.{network_of, period_of};
+ghost use Rattle.hyd_spec_witnesses.specs.OneLink.{network_of, period_of};
 ghost use Rattle.hyd_spec_witnesses.specs.Spurs.{idle_spur, pump_spur, idle_pump, setting_spur, half_spur};
 
 /// A pump that lifts 1000 cubic metres a day is OPEN.

@@ -5,7 +5,7 @@ ghost use Rattle.std.specs.Prelude.{ℕ, ◌≤◌};
 ghost use Rattle.hyd_spec.specs.Types.{Open, Closed};
 ghost use Rattle.hyd_spec.specs.Length.{EndsByClock, HasItsLength};
 ghost use Rattle.hyd_spec.specs.History.{IsHistory};
-ghost use Rattle.hyd_spec_witnesses.specs.Parts.{network_of};
+ghost use Rattle.hyd_spec_witnesses.specs.OneLink.{network_of};
 ghost use Rattle.hyd_spec_witnesses.specs.Timed.{timed_spur, still, periods};
 
 /// The control at 1000 s ends a period that begins before then, and none that begins then.

@@ -4,7 +4,7 @@
 
 ghost use Rattle.std.specs.Prelude.{pos, neg_ℤ, [], ◌∷◌};
 ghost use Rattle.hyd_spec.specs.History.{IsHistory};
-ghost use Rattle.hyd_spec_witnesses.specs.Parts.{network_of, period_of};
+ghost use Rattle.hyd_spec_witnesses.specs.OneLink.{network_of, period_of};
 ghost use Rattle.hyd_spec_witnesses.specs.Spurs.{pump_spur, setting_spur, emitter_spur, driven_spur};
 
 /// A pump lifts 1000 cubic metres a day by 30 m.

@@ -10,4 +10,4 @@ pub mod links;
 pub mod networks;
 pub mod outflows;
 pub mod pipes;
-pub mod words;
+pub mod status_words;

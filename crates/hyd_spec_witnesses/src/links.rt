@@ -4,7 +4,7 @@
 
 ghost use Rattle.std.specs.Prelude.{pos, neg_ℤ, [], ◌∷◌};
 ghost use Rattle.hyd_spec.specs.History.{IsHistory};
-ghost use Rattle.hyd_spec_witnesses.specs.Parts.{network_of, period_of};
+ghost use Rattle.hyd_spec_witnesses.specs.OneLink.{network_of, period_of};
 ghost use Rattle.hyd_spec_witnesses.specs.Spurs.{half_spur, idle_pump, shut_spur};
 
 /// A flow-control valve below its setting passes what it would pass open.

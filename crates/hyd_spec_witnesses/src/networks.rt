@@ -2,7 +2,7 @@
 #![tactic(auto)]
 
 ghost use Rattle.hyd_net.specs.Sound.{Sound};
-ghost use Rattle.hyd_spec_witnesses.specs.Parts.{network_of};
+ghost use Rattle.hyd_spec_witnesses.specs.OneLink.{network_of};
 ghost use Rattle.hyd_spec_witnesses.specs.Spurs.{pipe_spur, check_spur, pump_spur, setting_spur, emitter_spur};
 ghost use Rattle.hyd_spec_witnesses.specs.Spurs.{driven_spur};
 ghost use Rattle.hyd_spec_witnesses.specs.Timed.{timed_spur};

@@ -4,7 +4,7 @@
 
 ghost use Rattle.std.specs.Prelude.{pos, neg_ℤ, [], ◌∷◌};
 ghost use Rattle.hyd_spec.specs.History.{IsHistory};
-ghost use Rattle.hyd_spec_witnesses.specs.Parts.{network_of, period_of};
+ghost use Rattle.hyd_spec_witnesses.specs.OneLink.{network_of, period_of};
 ghost use Rattle.hyd_spec_witnesses.specs.Spurs.{demand_spur, minimum_spur, low_spur, required_spur, high_spur};
 ghost use Rattle.hyd_spec_witnesses.specs.Spurs.{dry_spur};
 

@@ -5,7 +5,7 @@
 
 ghost use Rattle.std.specs.Prelude.{pos, neg_ℤ, [], ◌∷◌};
 ghost use Rattle.hyd_spec.specs.History.{IsHistory};
-ghost use Rattle.hyd_spec_witnesses.specs.Parts.{network_of, period_of};
+ghost use Rattle.hyd_spec_witnesses.specs.OneLink.{network_of, period_of};
 ghost use Rattle.hyd_spec_witnesses.specs.Spurs.{pipe_spur, check_spur, idle_spur};
 
 /// The pipe passes one cubic foot a second.

@@ -7,8 +7,8 @@ use Rattle.hyd_spec_certificates.specs.declared.Problem.{Problem}
 use Rattle.hyd_spec_certificates.specs.declared.HeldJunction.{HeldJunction}
 use Rattle.hyd_spec_certificates.specs.Grid.{Grid}
 use Rattle.hyd_spec_certificates.specs.Certificate.{IsCertificateHolding, AreRoundsHolding, none, more}
-use Rattle.hyd_spec_certificates.specs.Climbing.{JoinsNone}
-use Rattle.hyd_spec_raises.proofs.Apart.{one-round}
+use Rattle.hyd_spec_certificates.specs.SearchSteps.{JoinsNone}
+use Rattle.hyd_theorems_on_raises.proofs.Apart.{one-round}
 use Rattle.hyd_sweep.specs.declared.answers.Swept.TheVariants.{RoundsSpent}
 use Rattle.hyd_sweep.specs.Sweeps.{SweepGives, EndsWhereApart}
 

@@ -5,7 +5,7 @@ ghost use Rattle.std.specs.Prelude.{◌≡◌, length, Option};
 ghost use Rattle.hyd_spec_certificates.specs.declared.Problem.{Problem};
 ghost use Rattle.hyd_spec_certificates.specs.declared.HeldJunction.{HeldJunction};
 ghost use Rattle.hyd_spec_certificates.specs.Grid.{Grid};
-ghost use Rattle.hyd_spec_certificates.specs.Climbing.{IsStart};
+ghost use Rattle.hyd_spec_certificates.specs.SearchSteps.{IsStart};
 ghost use Rattle.hyd_spec_reports.specs.Stops.{beginning};
 ghost use Rattle.hyd_sweep.specs.Sweeps.{near_end};
 

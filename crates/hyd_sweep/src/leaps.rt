@@ -4,7 +4,7 @@
 ghost use Rattle.std.specs.Prelude.{◌≡◌, ◌≢◌, ◌<◌, ◌↔◌, length, All, IsTrue, slice_set, if◌then◌else◌};
 ghost use Rattle.hyd_spec.specs.Assignment.{head_at};
 ghost use Rattle.hyd_spec_certificates.specs.Certificate.{IsInBox, IsBeyond};
-ghost use Rattle.hyd_spec_certificates.specs.Climbing.{IsStart, IsLeap, LiesBeyond};
+ghost use Rattle.hyd_spec_certificates.specs.SearchSteps.{IsStart, IsLeap, LiesBeyond};
 ghost use Rattle.hyd_graph.specs.GridOf.{grid_of};
 ghost use Rattle.hyd_graph.specs.Nets.{HasProblem};
 ghost use Rattle.hyd_sweep.specs.Sweeps.{HoldsInBox};

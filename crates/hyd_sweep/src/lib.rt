@@ -1,11 +1,11 @@
 //! Raises, rounds and leaps: the way to the tight vector of a problem and side, with or without a junction held.
 #![tactic(auto)]
 
-mod aim;
 mod answers;
 mod beginning;
-mod following;
 mod leaps;
+mod next_trial;
+mod raises_in_order;
 mod raising;
 mod rounds;
 mod strides;
@@ -14,8 +14,8 @@ mod ticks;
 
 pub use answers::{Raised, Swept};
 pub use beginning::begin;
-pub use following::{follow, follow_sub, follow_super};
 pub use leaps::leap;
+pub use raises_in_order::{follow, follow_sub, follow_super};
 pub use raising::{raise, raise_sub, raise_super};
 pub use rounds::tighten;
 pub use sweeper::{Sweeper, tighten_by_leaps};

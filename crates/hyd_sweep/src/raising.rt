@@ -6,15 +6,15 @@ ghost use Rattle.std.specs.Prelude.{None};
 ghost use Rattle.hyd_spec.specs.Assignment.{head_at};
 ghost use Rattle.hyd_spec_certificates.specs.declared.Side.TheVariants.{Upper, Lower};
 ghost use Rattle.hyd_spec_certificates.specs.Certificate.{box_limit, IsInBox};
-ghost use Rattle.hyd_spec_laws.specs.Laws.{IsSteady};
-ghost use Rattle.hyd_spec_laws.specs.Sides.{along};
+ghost use Rattle.hyd_theorems_on_periods.specs.Laws.{IsSteady};
+ghost use Rattle.hyd_theorems_on_periods.specs.Sides.{along};
 ghost use Rattle.hyd_graph.specs.GridOf.{grid_of};
 ghost use Rattle.hyd_graph.specs.Nets.{HasProblem};
 ghost use Rattle.hyd_check.specs.Sides.{PassesWith};
 ghost use Rattle.hyd_sweep.specs.Sweeps.{IsFree, IsHeldAt, further, RaisesTo, HasNoValue, RaiseGives, HoldsInBox};
 
-use crate::aim::Aim;
 use crate::answers::Raised;
+use crate::next_trial::Aim;
 use crate::ticks::{further, is_beyond, room};
 use hyd_check::{head_of, surplus};
 use hyd_graph::Net;

@@ -4,7 +4,7 @@
 ghost use Rattle.std.specs.Prelude.{◌≡◌, ◌<◌, ◌↔◌, length, All, IsTrue};
 ghost use Rattle.hyd_spec.specs.Lists.{Each};
 ghost use Rattle.hyd_spec_certificates.specs.Certificate.{IsInBox, Suits};
-ghost use Rattle.hyd_spec_certificates.specs.Climbing.{IsStart};
+ghost use Rattle.hyd_spec_certificates.specs.SearchSteps.{IsStart};
 ghost use Rattle.hyd_graph.specs.GridOf.{grid_of};
 ghost use Rattle.hyd_graph.specs.Nets.{HasProblem};
 ghost use Rattle.hyd_sweep.specs.Sweeps.{SuitsAt, RoundGives, SweepGives, RoundsGo, EndsWhereApart, HoldsInBox};

@@ -13,11 +13,11 @@ use Rattle.hyd_spec.specs.Tank.{Curve, Bounds, placed, level_bounds, content_bou
 use Rattle.hyd_spec.specs.Tank.{level_at}
 use Rattle.hyd_spec_certificates.specs.Stocks.{end_of}
 use Rattle.hyd_lemmas.proofs.Integers.{floor_low, floor_greatest, ceiling_high, ceiling_least}
-use Rattle.hyd_spec_laws.proofs.Leading.{one_times, one-within}
-use Rattle.hyd_spec_laws.proofs.Placing.{placed-is}
+use Rattle.hyd_theorems_on_periods.proofs.Leading.{one_times, one-within}
+use Rattle.hyd_theorems_on_periods.proofs.Placing.{placed-is}
 use Rattle.hyd_tank.specs.declared.content.Bounds.{Bounds as Limits}
-use Rattle.hyd_tank.specs.declared.curve.Known.TheVariants.{Level, Volume}
-use Rattle.hyd_tank.specs.declared.curve.Mixed.{Mixed}
+use Rattle.hyd_tank.specs.declared.volume_curve.Known.TheVariants.{Level, Volume}
+use Rattle.hyd_tank.specs.declared.volume_curve.Mixed.{Mixed}
 use Rattle.hyd_tank.specs.Contents.{bounds_of, in_ticks, IsBetween}
 use Rattle.hyd_tank.specs.Curve.{knots_by, value_of, times_value, value_in, IsOnCurve, IsAtLeast, IsAtMost}
 use Rattle.hyd_tank.specs.Spans.{IsBasin}

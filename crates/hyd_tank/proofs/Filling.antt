@@ -8,8 +8,8 @@ use Rattle.hyd_spec.specs.Tank.{tank_state, state_band}
 use Rattle.hyd_spec.specs.declared.TankState.{TankState}
 use Rattle.hyd_spec.specs.declared.TankState.TheVariants.{Full, Between, Empty}
 use Rattle.hyd_spec_certificates.specs.Stocks.{shared_state}
-use Rattle.hyd_spec_laws.proofs.Leading.{one_times}
-use Rattle.hyd_spec_laws.proofs.Placing.{le-from}
+use Rattle.hyd_theorems_on_periods.proofs.Leading.{one_times}
+use Rattle.hyd_theorems_on_periods.proofs.Placing.{le-from}
 
 not-le : (a b : ℤ) → b <ℤ a → int_le a b ≡ false
 not-le a b h = grind (arith, ints)

@@ -9,10 +9,10 @@ use Rattle.hyd_spec.specs.Types.{Tank, VolumePoint}
 use Rattle.hyd_spec.specs.Tank.{Walls, Cylinder, Curve, level_bounds}
 use Rattle.hyd_spec_certificates.specs.Interval.{exactly}
 use Rattle.hyd_lemmas.proofs.Integers.{floor_low, floor_greatest}
-use Rattle.hyd_spec_laws.specs.Laws.{IsVessel, IsWithin, HoldWater}
-use Rattle.hyd_spec_laws.proofs.Leading.{one_times, above-too}
-use Rattle.hyd_spec_laws.proofs.Levelling.{pairs-tail}
-use Rattle.hyd_spec_laws.proofs.RisingLines.{AreClimbing, from-rises, some-den}
+use Rattle.hyd_theorems_on_periods.specs.Laws.{IsVessel, IsWithin, HoldWater}
+use Rattle.hyd_theorems_on_periods.proofs.Leading.{one_times, above-too}
+use Rattle.hyd_theorems_on_periods.proofs.Levelling.{pairs-tail}
+use Rattle.hyd_theorems_on_periods.proofs.RisingLines.{AreClimbing, from-rises, some-den}
 use Rattle.hyd_tank.specs.Spans.{initial_stocks, AreHeld}
 
 climbing : (p : VolumePoint) (points : List VolumePoint) → AreRising (map (λ (q : VolumePoint). q.level) (p ∷ points))

@@ -9,12 +9,13 @@ use Rattle.hyd_spec_certificates.specs.Stocks.{Stocks, least_stock, greatest_sto
 use Rattle.hyd_spec_certificates.specs.Stocks.{contents_after, carried_stocks, may_reach, must_reach}
 use Rattle.hyd_spec_certificates.specs.FirstSeconds.{IsFirstSecond}
 use Rattle.hyd_spec_certificates.specs.declared.LevelSpan.{LevelSpan}
-use Rattle.hyd_spec_laws.specs.Laws.{LiesIn, StockLies, IsVessel, IsInside, AreInside, IsWithin, HasStock}
-use Rattle.hyd_spec_laws.proofs.Placing.{Fits, lower-least, lower-most, upper-least, upper-most, ends-ordered}
-use Rattle.hyd_spec_laws.proofs.Placing.{lower-rises}
-use Rattle.hyd_spec_laws.proofs.Levelling.{exact-some, content-leads, content-up, carried_within, carried_inside}
-use Rattle.hyd_spec_laws.proofs.Levelling.{carried_ordered, contents_inside}
-use Rattle.hyd_spec_laws.proofs.Deciding.{seconds_hold}
+use Rattle.hyd_theorems_on_periods.specs.Laws.{LiesIn, StockLies, IsVessel, IsInside, AreInside, IsWithin, HasStock}
+use Rattle.hyd_theorems_on_periods.proofs.Placing.{Fits, lower-least, lower-most, upper-least, upper-most, ends-ordered}
+use Rattle.hyd_theorems_on_periods.proofs.Placing.{lower-rises}
+use Rattle.hyd_theorems_on_periods.proofs.Levelling.{exact-some, content-leads, content-up, carried_within}
+use Rattle.hyd_theorems_on_periods.proofs.Levelling.{carried_inside}
+use Rattle.hyd_theorems_on_periods.proofs.Levelling.{carried_ordered, contents_inside}
+use Rattle.hyd_theorems_on_periods.proofs.Deciding.{seconds_hold}
 use Rattle.hyd_tank.specs.Spans.{levels_of, stocks_at, with_levels, level_stock, AreHeld}
 
 -- ---- levels of a tank without a volume curve

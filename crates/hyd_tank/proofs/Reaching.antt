@@ -11,8 +11,8 @@ use Rattle.hyd_spec_certificates.specs.FirstSeconds.{IsFirstSecond, IsEarliestSe
 use Rattle.hyd_spec_certificates.specs.Interval.{Interval}
 use Rattle.hyd_spec_certificates.specs.Stocks.{Stocks, least_stock, greatest_stock}
 use Rattle.hyd_net.specs.Ranges.{LiesWithin}
-use Rattle.hyd_spec_laws.proofs.Leading.{one-within}
-use Rattle.hyd_spec_laws.proofs.Placing.{above-yes, above-from, below-yes, below-from}
+use Rattle.hyd_theorems_on_periods.proofs.Leading.{one-within}
+use Rattle.hyd_theorems_on_periods.proofs.Placing.{above-yes, above-from, below-yes, below-from}
 use Rattle.hyd_tank.specs.Contents.{IsFirstMeeting}
 use Rattle.hyd_tank.specs.Spans.{level_stock}
 use Rattle.hyd_tank.proofs.Contents.{IsNearest, itself, above, below, nearest}

@@ -11,7 +11,7 @@ use Rattle.hyd_num.specs.Rational.{Rational, floor, ceiling}
 use Rattle.hyd_net.specs.Curves.{Knot as Place}
 use Rattle.hyd_net.specs.Ranges.{Lies}
 use Rattle.hyd_lemmas.proofs.Integers.{exchanged, floor_low, floor_greatest, ceiling_high, ceiling_least}
-use Rattle.hyd_tank.specs.declared.curve.Mixed.{Mixed}
+use Rattle.hyd_tank.specs.declared.volume_curve.Mixed.{Mixed}
 use Rattle.hyd_tank.specs.Curve.{value_of, times_value, line_in, AreNeighbours, IsMixed, IsAtLeast, IsAtMost}
 
 -- ---- whole numbers at a mixed number

@@ -12,9 +12,9 @@ use Rattle.hyd_num.proofs.Integers.{times_rises}
 use Rattle.hyd_num.specs.Rational.{Rational}
 use Rattle.hyd_net.specs.Curves.{Knot, on_line, between, value_from, value_at, IsVolumeCurve}
 use Rattle.hyd_spec.specs.Types.{VolumePoint}
-use Rattle.hyd_tank.specs.declared.curve.Known.{Known}
-use Rattle.hyd_tank.specs.declared.curve.Mixed.{Mixed}
-use Rattle.hyd_tank.specs.declared.curve.Known.TheVariants.{Level, Volume}
+use Rattle.hyd_tank.specs.declared.volume_curve.Known.{Known}
+use Rattle.hyd_tank.specs.declared.volume_curve.Mixed.{Mixed}
+use Rattle.hyd_tank.specs.declared.volume_curve.Known.TheVariants.{Level, Volume}
 use Rattle.hyd_tank.specs.Curve.{knot_by, knots_by, value_in, line_in, AreNeighbours, IsFrom, IsOnCurve, IsAtLeast}
 use Rattle.hyd_tank.specs.Curve.{IsAtMost}
 

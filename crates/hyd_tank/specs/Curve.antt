@@ -5,10 +5,10 @@ use Rattle.std.specs.List.{HoldsAt}
 use Rattle.hyd_num.specs.Rational.{Rational}
 use Rattle.hyd_net.specs.Curves.{Knot as Place, on_line, value_at}
 use Rattle.hyd_spec.specs.Types.{VolumePoint}
-use Rattle.hyd_tank.specs.declared.curve.Known.{Known}
-use Rattle.hyd_tank.specs.declared.curve.Known.TheVariants.{Level, Volume}
-use Rattle.hyd_tank.specs.declared.curve.Knot.{Knot}
-use Rattle.hyd_tank.specs.declared.curve.Mixed.{Mixed}
+use Rattle.hyd_tank.specs.declared.volume_curve.Known.{Known}
+use Rattle.hyd_tank.specs.declared.volume_curve.Known.TheVariants.{Level, Volume}
+use Rattle.hyd_tank.specs.declared.volume_curve.Knot.{Knot}
+use Rattle.hyd_tank.specs.declared.volume_curve.Mixed.{Mixed}
 
 -- a knot as the definitions have it
 abbrev pub place_of : Knot → Place

@@ -2,15 +2,15 @@
 #![tactic(auto)]
 
 mod content;
-mod curve;
-mod curved;
-mod levels;
+mod cylinders;
 mod seconds;
 mod spans;
 mod states;
 mod stocks;
+mod volume_curve;
+mod volume_curve_tanks;
 
-pub use levels::{first_second, level_at, next_level};
+pub use cylinders::{first_second, level_at, next_level};
 pub use spans::{Stock, VolumeSpan};
 pub use states::state_of;
 pub use stocks::{first_stock, initial_stock, next_stock, stock_at};

@@ -11,12 +11,12 @@ ghost use Rattle.hyd_spec.specs.Tank.{IsNextStock};
 ghost use Rattle.hyd_spec_certificates.specs.Interval.{Interval};
 ghost use Rattle.hyd_spec_certificates.specs.Stocks.{Stocks, next_stocks, carried_stocks, may_reach, must_reach};
 ghost use Rattle.hyd_spec_certificates.specs.FirstSeconds.{IsFirstSecond, IsEarliestSecond, IsLatestSecond};
-ghost use Rattle.hyd_spec_laws.specs.Laws.{LiesIn, LiesAround, StockLies, IsInside, AreInside, HasStock};
+ghost use Rattle.hyd_theorems_on_periods.specs.Laws.{LiesIn, LiesAround, StockLies, IsInside, AreInside, HasStock};
 ghost use Rattle.hyd_tank.specs.Spans.{initial_stocks, inflows_of, levels_of, stocks_of, IsInflow, AreHeld, IsTankOf};
 
-use crate::curved::{carried_from, first_from, kept_at, next_from};
-use crate::levels::{first_second, level_at, next_level};
+use crate::cylinders::{first_second, level_at, next_level};
 use crate::spans::{Stock, VolumeSpan};
+use crate::volume_curve_tanks::{carried_from, first_from, kept_at, next_from};
 use hyd_net::{Project, Tank, VolumePoint};
 use hyd_num::Span;
 use hyd_spec_certificates::LevelSpan;

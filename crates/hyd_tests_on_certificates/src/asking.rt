@@ -13,7 +13,7 @@ use hyd_gen::generate;
 use hyd_graph::Net;
 use hyd_inp::read_project;
 use hyd_net::{OutOfMemory, Project};
-use hyd_test_periods::put_at;
+use hyd_test_helpers::put_at;
 use std::alloc::Global;
 use std::test::Fail;
 

@@ -12,7 +12,7 @@ use hyd_net::OutOfMemory;
 use hyd_newton::{Finder, Gradient};
 use hyd_spec_certificates::{Problem, Side};
 use hyd_sweep::{Sweeper, Swept, begin};
-use hyd_test_periods::is_problem;
+use hyd_test_helpers::is_problem;
 use std::alloc::Global;
 
 // So many rounds at most toward a tight vector, from where sweeps begin: what they found, and the heads.

@@ -7,13 +7,13 @@ use Rattle.std.specs.Option.{IfSome}
 use Rattle.std.proofs.lemmas.Int.{ints}
 use Rattle.std.proofs.lemmas.List.Elements.{All-from_recursion}
 use Rattle.std.proofs.lemmas.List.Kept.{AllPairs-cons}
-use Rattle.hyd_num.specs.Chain.{IsMade}
+use Rattle.hyd_num.specs.CapacityPairs.{IsMade}
 use Rattle.hyd_net.specs.ListView.{ListView}
 use Rattle.hyd_net.specs.Ids.{AreDistinct, IsId}
 use Rattle.hyd_net.specs.Sound.{HasIds, HasEnds, IsPattern, IsWithinLimits, AreTimes, Sound, demand_rows, part_count}
-use Rattle.hyd_net.specs.Sizes.{IsJunction, IsDemand, IsReservoir, IsTank, HasSizes, HasQuantities}
+use Rattle.hyd_net.specs.NetworkRanges.{IsJunction, IsDemand, IsReservoir, IsTank, HasSizes, HasQuantities}
 use Rattle.hyd_net.specs.States.{CanHave}
-use Rattle.hyd_net.specs.Commands.{node_count, IsControl, IsRule}
+use Rattle.hyd_net.specs.ControlsAndRules.{node_count, IsControl, IsRule}
 use Rattle.hyd_net.specs.Made.{IsAreaMade, IsKindMade, IsStateMade, IsRuleMade, IsAllMade}
 use Rattle.hyd_net.specs.Ranges.{LiesWithin}
 use Rattle.hyd_net.specs.declared.curves.HeadPoint.{HeadPoint}
@@ -24,7 +24,7 @@ use Rattle.hyd_net.specs.declared.nodes.Reservoir.{Reservoir}
 use Rattle.hyd_net.specs.declared.patterns.Pattern.{Pattern}
 use Rattle.hyd_net.specs.declared.options.Times.{Times}
 use Rattle.hyd_net.specs.declared.project.Project.{Project}
-use Rattle.hyd_num.specs.declared.units.FlowUnit.TheVariants.{Cmd}
+use Rattle.hyd_num.specs.declared.flow_units.FlowUnit.TheVariants.{Cmd}
 
 abbrev pub the_times : Times
 the_times = record {

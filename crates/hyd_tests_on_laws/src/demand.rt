@@ -2,7 +2,7 @@
 #![tactic(auto)]
 
 ghost use Rattle.std.specs.Prelude.{◌≡◌, [], ◌∷◌, pos, false, Some, length, IfOk, codes};
-ghost use Rattle.hyd_num.specs.declared.units.FlowUnit.TheVariants.{Cmd};
+ghost use Rattle.hyd_num.specs.declared.flow_units.FlowUnit.TheVariants.{Cmd};
 ghost use Rattle.hyd_net.specs.Sound.{Sound};
 
 use hyd_demand::{DemandRange, demand_at, head_at};

@@ -5,7 +5,7 @@ ghost use Rattle.std.specs.Prelude.{◌≡◌, ◌≤◌, ◌*◌, ◌^◌, ℤ,
 ghost use Rattle.hyd_law.specs.Curves.{IsCurve};
 ghost use Rattle.hyd_law.specs.LinkLaws.{IsSoundLink, LinkAccepts};
 ghost use Rattle.hyd_law.specs.OutLaws.{IsSoundOut, OutAccepts};
-ghost use Rattle.hyd_spec_laws.specs.Laws.{IsSoundCapacity};
+ghost use Rattle.hyd_theorems_on_periods.specs.Laws.{IsSoundCapacity};
 
 use hyd_law::{
     Bent, Capped, Fixed, Held, Knot, Law, Lifted, Linear, LinkLaw, OneWay, OutLaw, Pda, Quad, Shut,

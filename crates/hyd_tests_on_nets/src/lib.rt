@@ -3,8 +3,8 @@
 #![tactic(auto)]
 
 #[cfg(test)]
+mod four_periods;
+#[cfg(test)]
 mod given;
 #[cfg(test)]
 mod nets;
-#[cfg(test)]
-mod parts;

@@ -6,7 +6,7 @@ ghost use Rattle.hyd_net.specs.Sound.{Sound};
 use crate::acting::{RANKS, wrong_offer};
 use crate::deciding::{CLAUSES, GROUPS, wrong_group, wrong_instant};
 use crate::given::read;
-use crate::settling::{CONTROLS, wrong_start};
+use crate::starts::{CONTROLS, wrong_start};
 use hyd_net::{OutOfMemory, Project};
 use std::alloc::Global;
 use std::test::Fail;

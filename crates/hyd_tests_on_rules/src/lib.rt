@@ -10,4 +10,4 @@ mod deciding;
 #[cfg(test)]
 mod given;
 #[cfg(test)]
-mod settling;
+mod starts;

@@ -1,9 +1,9 @@
 //! The command `check` on a desk in memory: what it answers and prints, to the byte.
 
-use crate::certificates::{ACCEPTED, COUNTS, Check, IDLE, LINES, RECORDS};
+use crate::expected_checks::{ACCEPTED, COUNTS, Check, IDLE, LINES, RECORDS};
+use crate::expected_runs::{CONTROLS, LEVELS, OPTIONS, RULES, Run, STOPS};
+use crate::expected_texts::{OTHERS, PIPES, REFUSALS, Row, VALVES};
 use crate::given::{owned, status_on};
-use crate::periods::{CONTROLS, LEVELS, OPTIONS, RULES, Run, STOPS};
-use crate::rows::{OTHERS, PIPES, REFUSALS, Row, VALVES};
 use crate::runs::are;
 use hyd_cli::Status;
 use hyd_io::{MemDesk, Openings};

@@ -1,7 +1,7 @@
 //! Calls on the desk that fail or take nothing: how a run ends then, and what it leaves.
 
+use crate::expected_texts::VALVES;
 use crate::given::{WORDS, owned, status_on};
-use crate::rows::VALVES;
 use hyd_cli::Status;
 use hyd_io::{MemDesk, Openings};
 use std::alloc::{AllocError, Global};

@@ -1,7 +1,7 @@
 //! The command `gen` on a desk in memory: the network and the summary to the byte, and a check of the certificate.
 
+use crate::expected_runs::Bytes;
 use crate::given::{owned, status_on};
-use crate::periods::Bytes;
 use crate::runs::are;
 use hyd_cli::Status;
 use hyd_io::{MemDesk, Openings};

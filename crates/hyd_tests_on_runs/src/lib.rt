@@ -2,9 +2,13 @@
 #![tactic(auto)]
 
 #[cfg(test)]
-mod certificates;
-#[cfg(test)]
 mod checks;
+#[cfg(test)]
+mod expected_checks;
+#[cfg(test)]
+mod expected_runs;
+#[cfg(test)]
+mod expected_texts;
 #[cfg(test)]
 mod faults;
 #[cfg(test)]
@@ -15,10 +19,6 @@ mod given;
 mod limits;
 #[cfg(test)]
 mod orders;
-#[cfg(test)]
-mod periods;
-#[cfg(test)]
-mod rows;
 #[cfg(test)]
 mod runs;
 #[cfg(test)]

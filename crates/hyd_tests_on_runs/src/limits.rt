@@ -1,7 +1,7 @@
 //! Texts at a limit and one beyond it, and what their runs print.
 
+use crate::expected_texts::VALVES;
 use crate::given::{WORDS, owned, status_on};
-use crate::rows::VALVES;
 use hyd_cli::Status;
 use hyd_io::MemDesk;
 use std::alloc::Global;

@@ -1,7 +1,7 @@
 //! Words of commands, and words that are none.
 
+use crate::expected_texts::VALVES;
 use crate::given::{WORDS, owned, status_on};
-use crate::rows::VALVES;
 use hyd_cli::{Status, start};
 use hyd_io::MemDesk;
 use std::alloc::{AllocError, Global};

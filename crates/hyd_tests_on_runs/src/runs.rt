@@ -1,7 +1,7 @@
 //! The top call on a desk in memory: what it answers, prints and writes for runs over time, to the byte.
 
+use crate::expected_runs::{Bytes, CONTROLS, LEVELS, OPTIONS, RULES, Run, STOPS};
 use crate::given::{WORDS, owned, status_on};
-use crate::periods::{Bytes, CONTROLS, LEVELS, OPTIONS, RULES, Run, STOPS};
 use hyd_cli::Status;
 use hyd_io::MemDesk;
 use std::alloc::{AllocError, Global};

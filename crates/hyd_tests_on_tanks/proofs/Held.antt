@@ -7,7 +7,7 @@ use Rattle.hyd_spec.specs.Types.{Project, Tank}
 use Rattle.hyd_spec.specs.Tank.{Walls, Cylinder, Curve, shape_points, walls_of, kept_volume}
 use Rattle.hyd_net.specs.Curves.{volume_at}
 use Rattle.hyd_spec_certificates.specs.Stocks.{Stocks}
-use Rattle.hyd_spec_laws.specs.Laws.{IsWithin}
+use Rattle.hyd_theorems_on_periods.specs.Laws.{IsWithin}
 use Rattle.hyd_tank.specs.Spans.{AreHeld}
 use Rattle.hyd_tests_on_tanks.specs.Basins.{knees, HasBasin}
 

@@ -3,7 +3,7 @@ use Rattle.std.proofs.Common.{◌≡◌, ◌<◌, ◌≤◌, ◌^◌, Bool, true
 use Rattle.std.specs.Fmt.{sign_text}
 use Rattle.std.specs.Int.{is_negative}
 use Rattle.hyd_num.specs.Rational.{Rational}
-use Rattle.hyd_num.specs.Decimals.{IsRoundedDown, IsRoundedUp, decimal_text, fixed_point}
+use Rattle.hyd_num.specs.PrintedDecimals.{IsRoundedDown, IsRoundedUp, decimal_text, fixed_point}
 use Rattle.hyd_units.proofs.Digits.{short_four_places}
 use Rattle.hyd_units.proofs.Wholes.{IsFloor-unique, IsCeiling-unique}
 

@@ -4,7 +4,7 @@ use Rattle.std.proofs.Common.{◌++◌, length, refl, ap, ◌∙◌, arith, leng
 use Rattle.std.proofs.lemmas.Fmt.{decimal_step_wide, length-decimal-le_wide}
 use Rattle.std.specs.Fmt.{decimal, sign_text}
 use Rattle.hyd_units.specs.Writing.{Writes}
-use Rattle.hyd_num.specs.Decimals.{last_digits, fixed_point}
+use Rattle.hyd_num.specs.PrintedDecimals.{last_digits, fixed_point}
 
 pub length-last_digits : (places n : ℕ) → length (last_digits places n) ≡ places
 length-last_digits zero n = refl

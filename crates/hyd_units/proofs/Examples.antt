@@ -1,7 +1,7 @@
 -- What the definitions say of a few numbers.
 use Rattle.std.proofs.Common.{◌≡◌, refl, pos, negsuc, codes}
 use Rattle.std.specs.Fmt.{digits}
-use Rattle.hyd_num.specs.Decimals.{decimal_text, setting_text, fixed_point}
+use Rattle.hyd_num.specs.PrintedDecimals.{decimal_text, setting_text, fixed_point}
 
 zero_has_no_sign : decimal_text (pos 0) ≡ codes "0.0000"
 unfolding fixed_point digits

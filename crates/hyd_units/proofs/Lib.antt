@@ -3,4 +3,4 @@ pub mod DecimalLaws
 mod Examples
 mod Rounding
 pub mod Wholes
-mod Writing
+mod WritingLemmas

@@ -3,7 +3,7 @@ use Rattle.std.proofs.Common.{◌≡◌, ℕ, ◌*◌, ◌^◌, ℤ, pos, ◌*�
 use Rattle.std.proofs.lemmas.Int.{ints}
 use Rattle.hyd_units.specs.declared.printing.Way.{Way}
 use Rattle.hyd_units.specs.declared.printing.Way.TheVariants.{Down, Up}
-use Rattle.hyd_units.specs.Rounding.{IsWhole, IsRounded}
+use Rattle.hyd_units.specs.PrintedText.{IsWhole, IsRounded}
 
 crossed : (d : ℕ) (k : ℤ) → k *ℤ pos (10 ^ 7 * d) ≡ pos (10 ^ 4) *ℤ (k *ℤ pos (1000 * d))
 crossed d k = omega (arith, ints)

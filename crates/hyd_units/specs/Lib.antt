@@ -1,2 +1,2 @@
-pub mod Rounding
+pub mod PrintedText
 pub mod Writing

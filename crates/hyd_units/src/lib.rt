@@ -6,9 +6,9 @@
 #![tactic(auto)]
 
 mod conversion;
-mod numeral;
 mod printing;
+mod writing;
 
 pub use conversion::{flow_ticks, head_ticks, pressure_ticks};
-pub use numeral::BUFFER_SIZE;
 pub use printing::{Way, print_flow, print_head, print_pressure};
+pub use writing::BUFFER_SIZE;

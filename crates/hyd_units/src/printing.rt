@@ -1,9 +1,9 @@
 // From ticks to decimals of the file's units.
-ghost use Rattle.hyd_num.specs.Decimals.{flow_quantity, head_quantity, pressure_quantity};
-ghost use Rattle.hyd_units.specs.Rounding.{IsDecimalOf, IsRounded, IsWhole};
+ghost use Rattle.hyd_num.specs.PrintedDecimals.{flow_quantity, head_quantity, pressure_quantity};
+ghost use Rattle.hyd_units.specs.PrintedText.{IsDecimalOf, IsRounded, IsWhole};
 ghost use Rattle.std.specs.Prelude.{◌≡◌, ◌≤◌, ◌<◌, ◌^◌, drop, take, unsigned_abs, pos, ◌*ℤ◌, ◌*◌};
 
-use crate::numeral::{BUFFER_SIZE, write_decimal};
+use crate::writing::{BUFFER_SIZE, write_decimal};
 use hyd_num::{FlowUnit, mul_div_ceil, mul_div_floor};
 
 const TICKS_PER_METRE: u64 = 10_000_000_000_000;

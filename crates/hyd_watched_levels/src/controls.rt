@@ -4,7 +4,7 @@
 ghost use Rattle.std.specs.Prelude.{◌≡◌, ◌<◌, ◌++◌, ◌∷◌, [], List, length, map, IfSome};
 ghost use Rattle.std.specs.Option.{option_map};
 ghost use Rattle.hyd_net.specs.Sound.{Sound};
-ghost use Rattle.hyd_net.specs.Commands.{IsControl};
+ghost use Rattle.hyd_net.specs.ControlsAndRules.{IsControl};
 ghost use Rattle.hyd_spec.specs.Lists.{present};
 ghost use Rattle.hyd_spec_certificates.specs.Verdict.{is_yes};
 ghost use Rattle.hyd_spec_certificates.specs.Decided as decided;

@@ -15,9 +15,11 @@ invariant_of-result c =
     let given = c.requires.in_range in
     let low_kept : to_z w64 (of_z w64 c.args.low) ≡ c.args.low = omega (arith, ints) in
     let high_kept : to_z w64 (of_z w64 c.args.high) ≡ c.args.high = omega (arith, ints) in
-    let ordered = outflows-in-order grid c.junctions-junctions.ensures.steady c.args.junction c.args.low c.args.high c.outflow.result c.outflow-2.result
+    let ordered = outflows-in-order grid c.junctions-junctions.ensures.steady c.args.junction c.args.low c.args.high
+    c.outflow.result c.outflow-2.result
     (omega (arith, each, given)) c.requires.ordered
-    (λ j at. c.outflow.ensures.value j at ∙ ap (outflow_low j) low_kept) (λ j at. c.outflow-2.ensures.value j at ∙ ap (outflow_high j) high_kept) in
+    (λ j at. c.outflow.ensures.value j at ∙ ap (outflow_low j) low_kept) (λ j at. c.outflow-2.ensures.value j at ∙ ap
+    (outflow_high j) high_kept) in
     let low_small = c.outflow.ensures.small in
     let high_small = c.outflow-2.ensures.small in
     let least = c.missed-missed.ensures.least in
@@ -35,9 +37,12 @@ returns-clause-outflow c =
     let high_small = c.outflow-2.ensures.small in
     let few = c.missed-missed.ensures.small in
     let m = c.missed-missed.result in
-    let lo : to_z w128 (of_z w128 (to_z w128 (of_z w128 c.outflow.result) -ℤ to_z w128 (of_z w128 m))) ≡ (c.outflow.result -ℤ m) = omega (arith, ints, low_small, few) in
-    let hi : to_z w128 (of_z w128 (to_z w128 (of_z w128 c.outflow-2.result) +ℤ to_z w128 (of_z w128 m))) ≡ (c.outflow-2.result +ℤ m) = omega (arith, ints, high_small, few) in
-    out-box-at grid.junctions c.args.junction (option_map capacity_of (option_copied c.emitter_law.result)) c.args.low c.args.high m _
+    let lo : to_z w128 (of_z w128 (to_z w128 (of_z w128 c.outflow.result) -ℤ to_z w128 (of_z w128 m))) ≡
+    (c.outflow.result -ℤ m) = omega (arith, ints, low_small, few) in
+    let hi : to_z w128 (of_z w128 (to_z w128 (of_z w128 c.outflow-2.result) +ℤ to_z w128 (of_z w128 m))) ≡
+    (c.outflow-2.result +ℤ m) = omega (arith, ints, high_small, few) in
+    out-box-at grid.junctions c.args.junction (option_map capacity_of (option_copied c.emitter_law.result)) c.args.low
+    c.args.high m _
     (omega (arith, each, given)) c.emitter_law.ensures.grid c.missed-missed.ensures.value
     (λ j at. lo ∙ ap (λ (q : ℤ). q -ℤ m) (c.outflow.ensures.value j at ∙ ap (outflow_low j) low_kept))
     (λ j at. hi ∙ ap (λ (q : ℤ). q +ℤ m) (c.outflow-2.ensures.value j at ∙ ap (outflow_high j) high_kept))

@@ -1,4 +1,4 @@
-use Rattle.hyd_build_links.specs.Sources.{rows_from}
+use Rattle.hyd_build_links.specs.CheckedRows.{rows_from}
 use Rattle.hyd_build_links.proofs.BuiltLemmas.{built_none, built_all}
 use Rattle.hyd_build_links.proofs.links.add_section.Goals as goal
 

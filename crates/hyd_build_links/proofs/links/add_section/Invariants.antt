@@ -2,7 +2,7 @@ use Rattle.std.proofs.Common.{List}
 use Rattle.hyd_spec_lines.specs.Lines.{Row}
 use Rattle.hyd_spec_input.specs.Project.{IsLink, Match}
 use Rattle.hyd_build_links.specs.Built.{AreBuilt}
-use Rattle.hyd_build_links.specs.Sources.{rows_from}
+use Rattle.hyd_build_links.specs.CheckedRows.{rows_from}
 use Rattle.hyd_build_links.proofs.links.add_section.Given as goal
 
 abbrev pub invariant-loop-place : goal.invariant-loop-place

@@ -1,7 +1,7 @@
 use Rattle.std.proofs.Common.{[], ◌++◌}
 use Rattle.hyd_spec_lines.specs.declared.section.Section.TheVariants.{Pipes, Pumps}
 use Rattle.hyd_spec_input.specs.Tables.{rows_of}
-use Rattle.hyd_build_links.specs.Sources.{rows_from}
+use Rattle.hyd_build_links.specs.CheckedRows.{rows_from}
 use Rattle.hyd_build_links.proofs.links.build_links.Goals as goal
 
 pub returns : goal.returns

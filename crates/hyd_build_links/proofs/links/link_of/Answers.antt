@@ -1,9 +1,9 @@
 use Rattle.hyd_spec_lines.specs.Lines.{row_of}
 use Rattle.hyd_spec_input.specs.Columns.{word}
 use Rattle.hyd_spec_input.specs.WithOthers as others
-use Rattle.hyd_spec_networks.proofs.Faultless.{all_none}
-use Rattle.hyd_spec_networks.proofs.Names.{ends_right}
-use Rattle.hyd_build_links.specs.Sources.{rows_from}
+use Rattle.hyd_theorems_on_input.proofs.Faultless.{all_none}
+use Rattle.hyd_theorems_on_input.proofs.Names.{ends_right}
+use Rattle.hyd_build_links.specs.CheckedRows.{rows_from}
 use Rattle.hyd_build_links.proofs.NumberLemmas.{node_numbered}
 use Rattle.hyd_build_links.proofs.SourceLemmas.{right_source}
 use Rattle.hyd_build_links.proofs.links.link_of.Goals as goal

@@ -1,7 +1,7 @@
 use Rattle.std.proofs.Common.{refl, ◌∙◌}
 use Rattle.hyd_spec_lines.specs.Lines.{row_of}
 use Rattle.hyd_spec_input.specs.Tables.{curve_named}
-use Rattle.hyd_build_links.specs.Sources.{rows_from}
+use Rattle.hyd_build_links.specs.CheckedRows.{rows_from}
 use Rattle.hyd_build_links.proofs.NumberLemmas.{pump_bend}
 use Rattle.hyd_build_links.proofs.PumpLemmas.{pump_made}
 use Rattle.hyd_build_links.proofs.RowLemmas.{no_fault, many_points, pump_facts}

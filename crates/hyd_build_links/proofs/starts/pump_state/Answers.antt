@@ -1,7 +1,7 @@
 use Rattle.std.proofs.Common.{refl}
 use Rattle.hyd_spec_lines.specs.Lines.{row_of}
-use Rattle.hyd_spec_networks.proofs.LinkStates.{pump_speed_right}
-use Rattle.hyd_build_links.specs.Sources.{rows_from}
+use Rattle.hyd_theorems_on_input.proofs.LinkStates.{pump_speed_right}
+use Rattle.hyd_build_links.specs.CheckedRows.{rows_from}
 use Rattle.hyd_build_links.proofs.RowLemmas.{no_fault, pump_facts}
 use Rattle.hyd_build_links.proofs.SourceLemmas.{right_source}
 use Rattle.hyd_build_links.proofs.starts.pump_state.Goals as goal

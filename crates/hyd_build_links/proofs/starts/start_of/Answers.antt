@@ -1,7 +1,7 @@
 use Rattle.std.proofs.Common.{length, Option, sym, subst}
 use Rattle.hyd_spec_lines.specs.Lines.{Row, row_of}
 use Rattle.hyd_spec_input.specs.Project.{IsStart}
-use Rattle.hyd_build_links.specs.Sources.{rows_from}
+use Rattle.hyd_build_links.specs.CheckedRows.{rows_from}
 use Rattle.hyd_build_links.proofs.NumberLemmas.{link_numbered}
 use Rattle.hyd_build_links.proofs.SourceLemmas.{right_source}
 use Rattle.hyd_build_links.proofs.StartLemmas.{last_is}

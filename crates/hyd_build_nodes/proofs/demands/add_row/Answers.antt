@@ -6,7 +6,7 @@ use Rattle.hyd_spec_lines.specs.declared.line.Line.{Line}
 use Rattle.hyd_spec_lines.specs.declared.section.Section.TheVariants.{Junctions, Demands}
 use Rattle.hyd_net.specs.ListView.{ListView}
 use Rattle.hyd_net.specs.declared.nodes.Demand.{Demand}
-use Rattle.hyd_spec_networks.proofs.Occurs.{number_inside}
+use Rattle.hyd_theorems_on_input.proofs.Occurs.{number_inside}
 use Rattle.hyd_row_tables.specs.Found.{rows_at}
 use Rattle.hyd_row_tables.proofs.FoundLemmas.{row_at}
 use Rattle.hyd_build_nodes.specs.Gathered.{each}

@@ -5,7 +5,7 @@ use Rattle.hyd_spec_lines.specs.Lines.{row_of}
 use Rattle.hyd_spec_lines.specs.declared.line.Line.{Line}
 use Rattle.hyd_spec_lines.specs.declared.section.Section.TheVariants.{Junctions}
 use Rattle.hyd_spec_input.specs.Project.{IsJunction}
-use Rattle.hyd_spec_networks.proofs.Occurs.{number_inside}
+use Rattle.hyd_theorems_on_input.proofs.Occurs.{number_inside}
 use Rattle.hyd_row_tables.specs.Found.{rows_at}
 use Rattle.hyd_row_tables.proofs.FoundLemmas.{row_at}
 use Rattle.hyd_build_nodes.specs.Joined.{AreParts}

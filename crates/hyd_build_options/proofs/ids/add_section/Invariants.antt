@@ -1,5 +1,5 @@
 use Rattle.std.proofs.Common.{◌≡◌, ◌+◌, ◌≤◌, ◌++◌, map, length, take}
-use Rattle.hyd_spec_input.specs.Network.{new_names}
+use Rattle.hyd_spec_input.specs.RowMeanings.{new_names}
 use Rattle.hyd_spec_input.specs.Tables.{rows_of, own_id}
 use Rattle.hyd_row_tables.specs.Found.{rows_at}
 use Rattle.hyd_build_options.proofs.ids.add_section.Given as goal

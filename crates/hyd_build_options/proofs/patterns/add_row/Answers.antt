@@ -4,7 +4,7 @@ use Rattle.hyd_spec_lines.specs.declared.line.Line.{Line}
 use Rattle.hyd_spec_lines.specs.declared.section.Section.TheVariants.{Junctions}
 use Rattle.hyd_row_tables.specs.Found.{rows_at}
 use Rattle.hyd_row_tables.proofs.FoundLemmas.{row_at}
-use Rattle.hyd_build_options.specs.Filled.{each}
+use Rattle.hyd_build_options.specs.PatternsSoFar.{each}
 use Rattle.hyd_build_options.proofs.PatternLemmas.{skip_row, add_pattern, inside_patterns, no_number, numbered}
 use Rattle.hyd_build_options.proofs.PatternLemmas.{right_row}
 use Rattle.hyd_build_options.proofs.patterns.add_row.Goals as goal

@@ -2,7 +2,7 @@ use Rattle.std.proofs.Common.{◌≡◌, ◌++◌, ◌^◌, None, map, length}
 use Rattle.hyd_num.specs.Numeral.{nano_of}
 use Rattle.hyd_spec_lines.specs.Bytes.{words_in}
 use Rattle.hyd_spec_input.specs.Columns.{within}
-use Rattle.hyd_spec_input.specs.DataRows.{each}
+use Rattle.hyd_spec_input.specs.BelongingRows.{each}
 use Rattle.hyd_build_options.proofs.patterns.append.Given as goal
 
 abbrev pub invariant-loop-word : goal.invariant-loop-word

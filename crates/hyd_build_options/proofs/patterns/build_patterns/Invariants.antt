@@ -1,5 +1,5 @@
 use Rattle.hyd_row_tables.specs.Found.{rows_at}
-use Rattle.hyd_build_options.specs.Filled.{AreFilled}
+use Rattle.hyd_build_options.specs.PatternsSoFar.{AreFilled}
 use Rattle.hyd_build_options.proofs.patterns.build_patterns.Given as goal
 
 abbrev pub invariant-loop-place : goal.invariant-loop-place

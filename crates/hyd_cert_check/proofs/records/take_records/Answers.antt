@@ -33,6 +33,7 @@ loop-verdict-preserved g c =
     let did = rw c.in-Ok-None.field-0-is at c.in-Ok-None.ensures.gives in
     record {
       project = p;
+      settings = c.take_record.ensures.settings ∙ i.settings;
       running = c.take_record.ensures.running;
       header = c.take_record.ensures.header ∙ i.header;
       going = goes-on _ _ _ _ did;

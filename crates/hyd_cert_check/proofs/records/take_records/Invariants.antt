@@ -4,7 +4,7 @@ use Rattle.hyd_run.specs.Pens.{told}
 use Rattle.hyd_run.specs.Runs.{periods_left}
 use Rattle.hyd_sim.specs.View.{header_for, standing_of}
 use Rattle.hyd_cert_check.specs.Printing.{Moment, moment}
-use Rattle.hyd_cert_check.specs.Turns.{CanGoOn, IsSoFar}
+use Rattle.hyd_cert_check.specs.RecordByRecord.{CanGoOn, IsSoFar}
 use Rattle.hyd_cert_check.proofs.records.take_records.Given as goal
 
 -- whatever was put in before as a check so far is one still
@@ -13,6 +13,7 @@ invariant-loop-verdict g l =
     let D = g.D.Desk in
     record {
       project : l.sim.project ≡ l.fn.sim.project;
+      settings : l.sim.settings ≡ l.fn.sim.settings;
       running : l.sim.stopped ≡ None;
       header : header_of l.row ≡ header_for l.fn.sim.project;
       going : CanGoOn (moment l.reader l.pen

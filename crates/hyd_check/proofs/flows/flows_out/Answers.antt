@@ -5,7 +5,7 @@ use Rattle.std.proofs.lemmas.Int.{ints}
 use Rattle.std.proofs.lemmas.List.{at_drop_more, drop_all}
 use Rattle.hyd_spec.specs.Assignment.{head_at}
 use Rattle.hyd_spec_certificates.specs.Grid.{all_heads}
-use Rattle.hyd_graph.specs.declared.parts.Tie.{Tie}
+use Rattle.hyd_graph.specs.declared.network_parts.Tie.{Tie}
 use Rattle.hyd_graph.specs.GridOf.{grid_of}
 use Rattle.hyd_graph.specs.Ties.{ties_share}
 use Rattle.hyd_check.specs.Sides.{flow_by, is_lower, is_upper, flows_out}

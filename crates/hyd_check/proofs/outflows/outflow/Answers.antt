@@ -14,7 +14,8 @@ returns-clause-value c junction at =
     let law = c.demand_law.result.now in
     let emitter = option_map capacity_of (option_copied c.emitter_law.result) in
     let elevation : c.elevation.result ≡ junction.elevation =
-    subst (λ (o : Option GridJunction). IfSome o (λ j. c.elevation.result ≡ j.elevation)) at c.elevation.ensures.value in
+    subst (λ (o : Option GridJunction). IfSome o (λ j. c.elevation.result ≡ j.elevation)) at c.elevation.ensures.value
+    in
     let demand : junction.demand ≡ demand_of_law law =
     subst (λ (o : Option GridJunction). IfSome o (λ j. j.demand ≡ demand_of_law law)) at c.demand_law.ensures.grid in
     let emits : junction.emitter ≡ emitter =
@@ -28,9 +29,11 @@ returns-clause-value c junction at =
     let p-is : p ≡ c.args.head -ℤ junction.elevation = omega (arith, ints, elevation, p-value, range-low, range-top) in
     let d-small = c.demand_flow.ensures.small in
     let e-small = c.emitter_flow.ensures.small in
-    let sum : to_z w128 (of_z w128 (to_z w128 (of_z w128 c.demand_flow.result) +ℤ to_z w128 (of_z w128 c.emitter_flow.result))) ≡ c.demand_flow.result +ℤ c.emitter_flow.result =
+    let sum : to_z w128 (of_z w128 (to_z w128 (of_z w128 c.demand_flow.result) +ℤ to_z w128 (of_z w128
+    c.emitter_flow.result))) ≡ c.demand_flow.result +ℤ c.emitter_flow.result =
     omega (arith, ints, d-small, e-small) in
-    sum ∙ outflow-is c.args.side junction c.args.head p c.demand_flow.result c.emitter_flow.result (demand_of_law law) emitter p-is demand emits
+    sum ∙ outflow-is c.args.side junction c.args.head p c.demand_flow.result c.emitter_flow.result (demand_of_law law)
+    emitter p-is demand emits
     (λ e. c.demand_flow.ensures.low (c.is_lower.ensures ∙ e) ∙ c.demand_law.ensures.low p)
     (λ e. c.demand_flow.ensures.high (c.is_lower.ensures ∙ e) ∙ c.demand_law.ensures.high p)
     (λ e. c.emitter_flow.ensures.low (c.is_lower-2.ensures ∙ e))

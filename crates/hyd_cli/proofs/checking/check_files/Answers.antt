@@ -1,7 +1,7 @@
 -- What the calls of a check leave, said of its start.
 use Rattle.std.proofs.Common.{◌≡◌, ◌⊎◌, rules}
 use Rattle.hyd_spec_input.specs.Faults.{IsFault}
-use Rattle.hyd_spec_networks.proofs.OneFault.{one_fault, no_fault_beside}
+use Rattle.hyd_theorems_on_input.proofs.OneFault.{one_fault, no_fault_beside}
 use Rattle.hyd_cli.specs.Answers.{seen, AnswersRefused}
 use Rattle.hyd_cli.specs.declared.status.Status.TheVariants.{ReadFault, OutOfMemory}
 use Rattle.hyd_cli.proofs.AnswerLemmas.{refused_since, same_refusal, refusal_never_usage}

@@ -75,7 +75,8 @@ returns-in-Some-Gen-clause-generates g c order asked =
     let before = seen g.D.Desk.files g.D.Desk.written g.D.Desk.printed c.args.desk.now in
     let now = seen g.D.Desk.files g.D.Desk.written g.D.Desk.printed c.generate_network.new.desk in
     subst (λ (o : GenOrder). DoesGen o c.generate_network.result before now (g.D.Desk.openings c.args.desk.now)
-    (g.D.Desk.openings c.generate_network.new.desk)) (sym (same_gen_order words c.args.found order found asked))
+    (g.D.Desk.openings c.generate_network.new.desk) (g.D.Desk.ready c.generate_network.new.desk))
+    (sym (same_gen_order words c.args.found order found asked))
     (record {
       refused = c.generate_network.ensures.refused;
       generates = c.generate_network.ensures.answers;

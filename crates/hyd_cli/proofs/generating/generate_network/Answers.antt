@@ -16,7 +16,8 @@ returns-in-Ok-clause-answers g c none =
     let before = seen g.D.Desk.files g.D.Desk.written g.D.Desk.printed c.args.desk.now in
     let now = seen g.D.Desk.files g.D.Desk.written g.D.Desk.printed c.run_text.new.desk in
     let same : c.deref.result.now ≡ text_of (gen_seen c.args.words.now) = c.deref.ensures.value ∙ c.in-Ok.ensures in
-    subst (λ (t : List ℕ). HasNoFault t → AnswersGen t (files_seen c.args.words.now.files) c.run_text.result before now)
+    subst (λ (t : List ℕ). HasNoFault t → AnswersGen t (files_seen c.args.words.now.files) c.run_text.result before now
+    (g.D.Desk.openings c.args.desk.now) (g.D.Desk.openings c.run_text.new.desk) (g.D.Desk.ready c.run_text.new.desk))
     same c.run_text.ensures.answers none
 
 pub returns-in-Ok-clause-keeps_cert : goal.returns-in-Ok-clause-keeps_cert

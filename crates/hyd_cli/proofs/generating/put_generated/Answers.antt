@@ -7,7 +7,7 @@ use Rattle.hyd_run.specs.Pens.{told}
 use Rattle.hyd_run.specs.Runs.{outcome_of}
 use Rattle.hyd_command_words.specs.Seen.{files_seen}
 use Rattle.hyd_cli.specs.Answers.{seen}
-use Rattle.hyd_cli.proofs.GenLemmas.{Created, text_breaks_off, no_certificate, text_stays, generated}
+use Rattle.hyd_cli.proofs.GenLemmas.{Created, text_breaks_off, text_alone, text_stays, generated}
 use Rattle.hyd_cli.proofs.GenLemmas.{generated_short}
 use Rattle.hyd_cli.proofs.generating.put_generated.Goals as goal
 
@@ -15,7 +15,9 @@ use Rattle.hyd_cli.proofs.generating.put_generated.Goals as goal
 
 pub returns-in-Err-clause-broken_off : goal.returns-in-Err-clause-broken_off
 returns-in-Err-clause-broken_off g c =
-    text_breaks_off c.args.sim.now.project c.args.text.now (files_seen c.args.files) _ _ c.in-Err.ensures.cut_short
+    text_breaks_off c.args.sim.now.project c.args.text.now (files_seen c.args.files) _ _ _ _ _
+    (c.write_text.ensures.others c.args.files.cert.now (λ same. c.requires.apart (sym same)))
+    c.write_text.ensures.creates c.in-Err.ensures.cut_short
 
 pub returns-in-Err-clause-keeps_cert : goal.returns-in-Err-clause-keeps_cert
 returns-in-Err-clause-keeps_cert g c =
@@ -25,9 +27,10 @@ returns-in-Err-clause-keeps_cert g c =
 
 pub returns-then-is_err-clause-broken_off : goal.returns-then-is_err-clause-broken_off
 returns-then-is_err-clause-broken_off g c =
-    no_certificate c.args.sim.now.project c.args.text.now (files_seen c.args.files) _ _ _ c.in-Ok.ensures.whole
+    text_alone c.args.sim.now.project c.args.text.now (files_seen c.args.files) _ _ _ _ _ _ c.in-Ok.ensures.whole
     (record { written = search rules; printed = c.create.ensures.printed_stays })
-    (c.create.ensures.others c.args.files.net.now c.requires.apart)
+    (c.create.ensures.others c.args.files.net.now c.requires.apart) c.create.ensures.still_told
+    (c.create.ensures.creates_once ∙ ap (λ (o : Openings). with_created o) c.write_text.ensures.creates) (search rules)
 
 pub returns-then-is_err-clause-keeps_cert : goal.returns-then-is_err-clause-keeps_cert
 returns-then-is_err-clause-keeps_cert g c =
@@ -74,7 +77,9 @@ returns-clause-broken_off g c =
       others = c.create.ensures.others;
     } in
     IfErr-weaker c.run_summed.result _ _ (λ fault out. generated_short c.args.sim.now.project
-    c.args.sim.now.settings c.args.text.now (files_seen c.args.files) before between created after c.requires.usual
+    c.args.sim.now.settings c.args.text.now (files_seen c.args.files) before between created after
+    (g.D.Desk.openings c.args.desk.now) (c.run_summed.ensures.leaves.openings_stay ∙ (c.create.ensures.creates_once
+    ∙ ap (λ (o : Openings). with_created o) c.write_text.ensures.creates)) c.requires.usual
     c.requires.apart c.in-Ok.ensures.whole made c.run_summed.ensures.leaves (search rules) out)
     c.run_summed.ensures.broken_off
 

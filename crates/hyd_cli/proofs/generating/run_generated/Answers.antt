@@ -20,10 +20,11 @@ pub returns-in-Ok-clause-answers : goal.returns-in-Ok-clause-answers
 returns-in-Ok-clause-answers g c =
     let before = seen g.D.Desk.files g.D.Desk.written g.D.Desk.printed c.args.desk.now in
     let now = seen g.D.Desk.files g.D.Desk.written g.D.Desk.printed c.put_generated.new.desk in
+    let writable = g.D.Desk.ready c.put_generated.new.desk in
     subst (λ (s : Status). AnswersGenerated c.args.sim.now.project c.args.text.now (files_seen c.args.files) s before
-    now)
+    now (g.D.Desk.openings c.args.desk.now) (g.D.Desk.openings c.put_generated.new.desk) writable)
     (sym c.status_of_end.ensures) (generated_end c.args.sim.now.project c.args.text.now (files_seen c.args.files)
-    (outcome_of c.in-Ok.end) before now c.in-Ok.ensures.whole)
+    (outcome_of c.in-Ok.end) before now _ _ writable c.in-Ok.ensures.whole)
 
 pub returns-in-Ok-clause-once : goal.returns-in-Ok-clause-once
 returns-in-Ok-clause-once g c =
@@ -42,10 +43,11 @@ pub returns-in-Err-clause-answers : goal.returns-in-Err-clause-answers
 returns-in-Err-clause-answers g c =
     let before = seen g.D.Desk.files g.D.Desk.written g.D.Desk.printed c.args.desk.now in
     let now = seen g.D.Desk.files g.D.Desk.written g.D.Desk.printed c.put_generated.new.desk in
+    let writable = g.D.Desk.ready c.put_generated.new.desk in
     subst (λ (s : Status). AnswersGenerated c.args.sim.now.project c.args.text.now (files_seen c.args.files) s before
-    now)
+    now (g.D.Desk.openings c.args.desk.now) (g.D.Desk.openings c.put_generated.new.desk) writable)
     (sym c.fault_status.ensures) (generated_fault c.args.sim.now.project c.args.text.now (files_seen c.args.files)
-    c.in-Err.fault before now c.in-Err.ensures.broken_off)
+    c.in-Err.fault before now _ _ writable c.in-Err.ensures.broken_off)
 
 pub returns-in-Err-clause-once : goal.returns-in-Err-clause-once
 returns-in-Err-clause-once g c =

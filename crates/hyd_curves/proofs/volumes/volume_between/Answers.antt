@@ -1,7 +1,7 @@
 use Rattle.std.proofs.Common.{◌≤◌, ℤ, unsigned_abs, ◌-ℤ◌, to_z, of_z, FitsSigned, arith, ◌∙◌}
 use Rattle.std.specs.Int.{w128}
 use Rattle.std.proofs.lemmas.Int.{ints, to_z-of_z}
-use Rattle.hyd_curves.specs.Lines.{knot_of}
+use Rattle.hyd_curves.specs.Interpolation.{knot_of}
 use Rattle.hyd_curves.proofs.LineLemmas.{floor_is, quotient_small}
 use Rattle.hyd_curves.proofs.volumes.volume_between.Goals as goal
 

@@ -1,6 +1,6 @@
 use Rattle.std.proofs.Common.{ℕ, ◌<◌, List, length, slice_index_or, subst, sym, ap, ◌∙◌, rules, arith}
 use Rattle.hyd_spec.specs.Types.{Link, LinkState}
-use Rattle.hyd_graph.specs.declared.parts.Setting.{Setting}
+use Rattle.hyd_graph.specs.declared.network_parts.Setting.{Setting}
 use Rattle.hyd_graph.specs.Settings.{AreLaws, CanStand}
 use Rattle.hyd_graph.proofs.SettingOne.{laws_set, sets_more}
 use Rattle.hyd_graph.proofs.Standing.{standing_of}

@@ -1,6 +1,6 @@
 use Rattle.hyd_spec_lines.specs.declared.section.Section.TheVariants.{Demands, Emitters}
 use Rattle.hyd_spec_input.specs.Tables.{is_of}
-use Rattle.hyd_inp.specs.Families.{Both, from_links}
+use Rattle.hyd_inp.specs.JudgedSections.{Both, from_links}
 use Rattle.hyd_inp.proofs.Families.{found_next}
 use Rattle.hyd_inp.proofs.with_others.first_behind_nodes.Goals as goal
 

@@ -1,6 +1,6 @@
 use Rattle.hyd_spec_lines.specs.declared.section.Section.TheVariants.{Curves}
 use Rattle.hyd_spec_input.specs.Tables.{is_of}
-use Rattle.hyd_inp.specs.Families.{from_nodes}
+use Rattle.hyd_inp.specs.JudgedSections.{from_nodes}
 use Rattle.hyd_inp.proofs.Families.{found_next}
 use Rattle.hyd_inp.proofs.with_others.first_from_curves.Goals as goal
 

@@ -1,5 +1,5 @@
 use Rattle.hyd_spec_input.specs.Tables.{is_link}
-use Rattle.hyd_inp.specs.Families.{commands}
+use Rattle.hyd_inp.specs.JudgedSections.{commands}
 use Rattle.hyd_inp.proofs.Families.{found_next}
 use Rattle.hyd_inp.proofs.with_others.first_from_links.Goals as goal
 

@@ -1,5 +1,5 @@
 use Rattle.hyd_spec_input.specs.Tables.{is_node}
-use Rattle.hyd_inp.specs.Families.{behind_nodes}
+use Rattle.hyd_inp.specs.JudgedSections.{behind_nodes}
 use Rattle.hyd_inp.proofs.Families.{found_next}
 use Rattle.hyd_inp.proofs.with_others.first_from_nodes.Goals as goal
 

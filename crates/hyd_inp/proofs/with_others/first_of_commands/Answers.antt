@@ -1,6 +1,6 @@
 use Rattle.hyd_spec_lines.specs.declared.section.Section.TheVariants.{Status, Controls, Rules}
 use Rattle.hyd_spec_input.specs.Tables.{is_of}
-use Rattle.hyd_inp.specs.Families.{Both}
+use Rattle.hyd_inp.specs.JudgedSections.{Both}
 use Rattle.hyd_inp.proofs.Families.{found_next}
 use Rattle.hyd_inp.proofs.with_others.first_of_commands.Goals as goal
 

@@ -2,7 +2,7 @@ use Rattle.std.proofs.Common.{length}
 use Rattle.hyd_spec_lines.specs.declared.section.Section.TheVariants.{Options, Patterns}
 use Rattle.hyd_spec_input.specs.Tables.{is_of}
 use Rattle.hyd_row_tables.specs.Found.{rows_at}
-use Rattle.hyd_inp.specs.Families.{Both, from_curves}
+use Rattle.hyd_inp.specs.JudgedSections.{Both, from_curves}
 use Rattle.hyd_inp.proofs.Families.{found_next, found_all}
 use Rattle.hyd_inp.proofs.with_others.first_with_others.Goals as goal
 

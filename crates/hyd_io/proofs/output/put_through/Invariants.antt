@@ -8,12 +8,15 @@ use Rattle.hyd_io.proofs.output.put_through.Given as goal
 abbrev pub invariant-loop-rest : goal.invariant-loop-rest
 invariant-loop-rest g l = record {
   room : l.used < 8192;
-  moves : Moves (by_channel l.to (g.D.Desk.written l.fn.desk) (g.D.Desk.printed l.fn.desk)) (by_channel l.to (g.D.Desk.written l.desk) (g.D.Desk.printed l.desk)) (take l.fn.used l.fn.buffer ++ l.piece) (take l.used l.buffer ++ l.rest);
+  moves : Moves (by_channel l.to (g.D.Desk.written l.fn.desk) (g.D.Desk.printed l.fn.desk)) (by_channel l.to
+      (g.D.Desk.written l.desk) (g.D.Desk.printed l.desk)) (take l.fn.used l.fn.buffer ++ l.piece) (take l.used
+      l.buffer ++ l.rest);
   steady : g.D.Desk.counts l.desk ≡ g.D.Desk.counts l.fn.desk;
   report_files : OnReport l.to (g.D.Desk.files l.desk ≡ g.D.Desk.files l.fn.desk);
   report_written : OnReport l.to (g.D.Desk.written l.desk ≡ g.D.Desk.written l.fn.desk);
   cert_printed : OnCert l.to (g.D.Desk.printed l.desk ≡ g.D.Desk.printed l.fn.desk);
-  others : (other : List ℕ) → g.D.Desk.target l.fn.desk ≢ Some other → file_at (g.D.Desk.files l.desk) other ≡ file_at (g.D.Desk.files l.fn.desk) other;
+  others : (other : List ℕ) → g.D.Desk.target l.fn.desk ≢ Some other → file_at (g.D.Desk.files l.desk) other ≡ file_at
+      (g.D.Desk.files l.fn.desk) other;
   still_told : is_some (g.D.Desk.files l.desk) ≡ is_some (g.D.Desk.files l.fn.desk);
   rest_stays : g.D.Desk.rest l.desk ≡ g.D.Desk.rest l.fn.desk;
   target_stays : g.D.Desk.target l.desk ≡ g.D.Desk.target l.fn.desk;

@@ -1,6 +1,6 @@
 use Rattle.std.proofs.Common.{◌≡◌, ◌*◌, ◌<◌, ◌^◌, arith}
 use Rattle.std.proofs.lemmas.Int.{ints}
-use Rattle.hyd_num.proofs.Rounding.{IsCut-ratio}
+use Rattle.hyd_num.proofs.RoundingLemmas.{IsCut-ratio}
 use Rattle.hyd_num.proofs.fractions.fraction.Goals as goal
 
 pub returns-clause-cut : goal.returns-clause-cut

@@ -1,7 +1,7 @@
 use Rattle.std.proofs.Common.{◌≡◌, arith, le_of_lt}
 use Rattle.std.proofs.lemmas.Int.{ints}
 use Rattle.std.proofs.lemmas.Bool.{leb-true, leb-false}
-use Rattle.hyd_num.proofs.Rounding.{lesser_exponent, same_exponent, same_exponent_strictly}
+use Rattle.hyd_num.proofs.RoundingLemmas.{lesser_exponent, same_exponent, same_exponent_strictly}
 use Rattle.hyd_num.proofs.hundredth_roots.is_at_most.Goals as goal
 
 pub returns-then-a-b-clause-at_most : goal.returns-then-a-b-clause-at_most

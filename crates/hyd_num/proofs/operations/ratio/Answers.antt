@@ -1,5 +1,5 @@
 use Rattle.std.proofs.Common.{le_refl}
-use Rattle.hyd_num.proofs.Rounding.{IsDown-from_cut}
+use Rattle.hyd_num.proofs.RoundingLemmas.{IsDown-from_cut}
 use Rattle.hyd_num.proofs.Ends.{ordered}
 use Rattle.hyd_num.proofs.operations.ratio.Goals as goal
 

@@ -1,6 +1,6 @@
 use Rattle.std.proofs.Common.{◌*◌, ◌+◌}
 use Rattle.hyd_num.specs.Scaled.{numerator, denominator}
-use Rattle.hyd_num.proofs.Rounding.{IsDown-from_cut}
+use Rattle.hyd_num.proofs.RoundingLemmas.{IsDown-from_cut}
 use Rattle.hyd_num.proofs.operations.sum_down.Goals as goal
 
 pub returns-clause-down : goal.returns-clause-down

@@ -8,7 +8,7 @@ use Rattle.hyd_tank.specs.Spans.{stocks_of}
 use Rattle.hyd_tank.specs.declared.spans.VolumeSpan.{VolumeSpan}
 use Rattle.hyd_period_facts.specs.OfPeriod.{levels_of, volumes_of}
 use Rattle.hyd_tank_inflows.proofs.Numbered.{one_more, all_there}
-use Rattle.hyd_period_stocks.specs.Next.{next_in}
+use Rattle.hyd_period_stocks.specs.TankStart.{next_in}
 use Rattle.hyd_period_stocks.proofs.Stocking.{levels_are, volumes_are, all_held, held_more}
 use Rattle.hyd_period_stocks.proofs.stocks.put_stocks.Goals as goal
 

@@ -7,7 +7,7 @@ use Rattle.hyd_spec_certificates.specs.Certificate.{Passes}
 use Rattle.hyd_spec_certificates.specs.Grid.{GridJunction}
 use Rattle.hyd_graph.specs.GridOf.{grid_of}
 use Rattle.hyd_check.proofs.Lookups.{junction-there}
-use Rattle.hyd_period_vectors.specs.Turns.{AreInTurn}
+use Rattle.hyd_period_vectors.specs.JunctionTurns.{AreInTurn}
 use Rattle.hyd_period_vectors.proofs.Reaching.{turns-more}
 use Rattle.hyd_period_vectors.proofs.starting.take_turn.Goals as goal
 

@@ -6,7 +6,7 @@ use Rattle.hyd_spec_certificates.specs.Grid.{all_heads}
 use Rattle.hyd_spec_certificates.specs.declared.Problem.TheVariants.{Main}
 use Rattle.hyd_spec_certificates.specs.declared.Side.TheVariants.{Upper, Lower}
 use Rattle.hyd_report.specs.Putting.{Puts}
-use Rattle.hyd_report.specs.Lines.{texts, link_line}
+use Rattle.hyd_report.specs.LinesOfParts.{texts, link_line}
 use Rattle.hyd_report.proofs.links.put_links.Given as goal
 
 -- the lines of the links so far were put

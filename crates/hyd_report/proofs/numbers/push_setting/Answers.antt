@@ -1,7 +1,7 @@
 -- The whole part, a point and nine places are the setting.
 use Rattle.std.proofs.Common.{ap, ◌∙◌, ◌++◌, ◌/◌, ◌^◌, append_assoc, decimal}
 use Rattle.std.specs.Prelude.{codes}
-use Rattle.hyd_num.specs.Decimals.{fixed_point, last_digits}
+use Rattle.hyd_num.specs.PrintedDecimals.{fixed_point, last_digits}
 use Rattle.hyd_report.proofs.numbers.push_setting.Goals as goal
 
 pub returns : goal.returns

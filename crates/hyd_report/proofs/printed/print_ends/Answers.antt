@@ -1,7 +1,7 @@
 -- Each end is its own decimal.
 use Rattle.std.proofs.Common.{ap, ◌∙◌, to_z-of_z, FitsSigned}
 use Rattle.std.specs.Int.{w128}
-use Rattle.hyd_num.specs.Decimals.{IsRoundedDown, IsRoundedUp, decimal_text}
+use Rattle.hyd_num.specs.PrintedDecimals.{IsRoundedDown, IsRoundedUp, decimal_text}
 use Rattle.hyd_report.specs.Printing.{quantity_in}
 use Rattle.hyd_report.proofs.PrintLemmas.{low_end, high_end}
 use Rattle.hyd_report.proofs.printed.print_ends.Goals as goal

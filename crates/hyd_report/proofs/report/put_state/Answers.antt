@@ -9,7 +9,7 @@ use Rattle.hyd_spec_reports.specs.ReportLine.{TimeLine}
 use Rattle.hyd_cert.specs.RecordView.{row_of}
 use Rattle.hyd_graph.specs.GridOf.{grid_of, states_of}
 use Rattle.hyd_bounds.specs.Bounds.{AreInOrder}
-use Rattle.hyd_report.specs.Lines.{texts, reservoir_line, tank_line, link_line}
+use Rattle.hyd_report.specs.LinesOfParts.{texts, reservoir_line, tank_line, link_line}
 use Rattle.hyd_report.proofs.LineLemmas.{in_order, state_text}
 use Rattle.hyd_report.proofs.PutLemmas.{puts_then, puts_cut, puts_same, puts_ready}
 use Rattle.hyd_report.proofs.report.put_state.Goals as goal

@@ -3,7 +3,7 @@ use Rattle.std.specs.Prelude.{Ok}
 use Rattle.hyd_spec.specs.Lists.{map_from}
 use Rattle.hyd_graph.specs.GridOf.{grid_of}
 use Rattle.hyd_report.specs.Putting.{Puts}
-use Rattle.hyd_report.specs.Lines.{texts, reservoir_line}
+use Rattle.hyd_report.specs.LinesOfParts.{texts, reservoir_line}
 use Rattle.hyd_report.proofs.reservoirs.put_reservoirs.Given as goal
 
 -- the lines of the reservoirs so far were put

@@ -3,9 +3,9 @@ use Rattle.hyd_spec_certificates.specs.Record.{Record, Standing}
 use Rattle.hyd_cert.specs.Lines.{Header}
 use Rattle.hyd_cert.specs.RecordView.{row_of}
 use Rattle.hyd_graph.specs.GridOf.{grid_of}
-use Rattle.hyd_period_close.specs.Begun.{AreBegun}
-use Rattle.hyd_period_close.specs.Opens.{IsOpenAt, SharesVectors}
-use Rattle.hyd_period_close.specs.declared.open.Open.{Open}
+use Rattle.hyd_period_end.specs.Begun.{AreBegun}
+use Rattle.hyd_period_end.specs.OpenMatters.{IsOpenAt, SharesVectors}
+use Rattle.hyd_period_end.specs.declared.undecided.Open.{Open}
 use Rattle.hyd_sim.specs.View.{standing_for}
 use Rattle.hyd_sim.proofs.Attempting.{closed-over, begins-before}
 use Rattle.hyd_sim.proofs.Lacking.{if-err, on-ok-four}

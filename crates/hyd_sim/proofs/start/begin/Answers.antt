@@ -7,8 +7,8 @@ use Rattle.hyd_spec_certificates.specs.Decided.{acts_on}
 use Rattle.hyd_spec_certificates.specs.Valid.{ControlsAreDecided}
 use Rattle.hyd_spec_certificates.specs.declared.LevelSpan.{LevelSpan}
 use Rattle.hyd_spec_reports.specs.Report.{start_changes}
-use Rattle.hyd_spec_histories.specs.Agreement.{IsOwnState}
-use Rattle.hyd_spec_histories.proofs.Commanding.{started_own}
+use Rattle.hyd_theorems_on_histories.specs.Agreement.{IsOwnState}
+use Rattle.hyd_theorems_on_histories.proofs.Commanding.{started_own}
 use Rattle.hyd_period_facts.specs.OfPeriod.{levels_of, volumes_of}
 use Rattle.hyd_period_facts.specs.declared.facts.Facts.{Facts}
 use Rattle.hyd_graph.specs.Settings.{AreStates}

@@ -1,7 +1,7 @@
 use Rattle.std.proofs.Common.{refl}
 use Rattle.hyd_spec_cases.proofs.capacities.emitter.Goals as goal
 use Rattle.hyd_spec_certificates.specs.Enclosing.{root_up}
-use Rattle.hyd_spec_laws.proofs.Roots.{root_down-quick, quick_root}
+use Rattle.hyd_theorems_on_periods.proofs.Roots.{root_down-quick, quick_root}
 
 pub returns-clause-low : goal.returns-clause-low
 unfolding root_up quick_root

@@ -1,7 +1,7 @@
 use Rattle.std.proofs.Common.{refl, ◌≡◌, pos, neg_ℤ, [], ◌∷◌, arith}
 use Rattle.hyd_spec_cases.proofs.certificates.one_valve.Goals as goal
 use Rattle.hyd_spec_certificates.specs.Enclosing.{root_up}
-use Rattle.hyd_spec_laws.proofs.Roots.{root_down-quick, quick_root}
+use Rattle.hyd_theorems_on_periods.proofs.Roots.{root_down-quick, quick_root}
 use Rattle.std.proofs.lemmas.Int.{ints}
 use Rattle.std.proofs.lemmas.List.Elements.{All-nil, All-cons}
 use Rattle.hyd_spec_certificates.specs.declared.Problem.TheVariants.{Main}

@@ -10,9 +10,9 @@ use Rattle.hyd_spec_certificates.specs.declared.Side.TheVariants.{Upper, Lower}
 use Rattle.hyd_spec_certificates.specs.Enclosing.{root_up, quadratic_low}
 use Rattle.hyd_spec_certificates.specs.Certificate.{IsInBox, IsCertificate, Passes}
 use Rattle.hyd_spec_certificates.specs.NetOutflow.{net_low}
-use Rattle.hyd_spec_laws.proofs.Roots.{root_down-quick, quick_root}
-use Rattle.hyd_spec_laws.proofs.LinkLaws.{low-rises}
-use Rattle.hyd_spec_laws.proofs.EachLaw.{low_is}
+use Rattle.hyd_theorems_on_periods.proofs.Roots.{root_down-quick, quick_root}
+use Rattle.hyd_theorems_on_periods.proofs.LinkLaws.{low-rises}
+use Rattle.hyd_theorems_on_periods.proofs.EachLaw.{low_is}
 use Rattle.hyd_spec_cases.specs.Capacities.{IsValve}
 use Rattle.hyd_spec_cases.specs.Single.{thirsty_end, thirsty_valve}
 use Rattle.hyd_spec_cases.proofs.certificates.thirsty_valve.Goals as goal

@@ -1,7 +1,7 @@
 use Rattle.std.proofs.Common.{refl}
 use Rattle.hyd_spec_cases.proofs.links.pipes.Goals as goal
 use Rattle.hyd_spec_certificates.specs.Enclosing.{root_up}
-use Rattle.hyd_spec_laws.proofs.Roots.{root_down-quick, quick_root}
+use Rattle.hyd_theorems_on_periods.proofs.Roots.{root_down-quick, quick_root}
 
 pub returns-clause-open_low : goal.returns-clause-open_low
 unfolding root_up quick_root

@@ -1,7 +1,7 @@
 use Rattle.std.proofs.Common.{refl}
 use Rattle.hyd_spec_cases.proofs.numbers.printed_heads.Goals as goal
 use Rattle.std.specs.Fmt.{digits}
-use Rattle.hyd_num.specs.Decimals.{fixed_point}
+use Rattle.hyd_num.specs.PrintedDecimals.{fixed_point}
 
 pub returns-clause-head_feet_down : goal.returns-clause-head_feet_down
 unfolding digits fixed_point

@@ -1,4 +1,4 @@
-use Rattle.hyd_spec_histories.proofs.Running.{every_history}
+use Rattle.hyd_theorems_on_histories.proofs.Running.{every_history}
 use Rattle.hyd_spec_towns.proofs.BasinRun.{curved_run, spilling_run}
 use Rattle.hyd_spec_towns.proofs.BasinSound.{curved_sound, spilling_sound}
 use Rattle.hyd_spec_towns.proofs.BasinHistory.{curved_agrees, spilling_agrees}

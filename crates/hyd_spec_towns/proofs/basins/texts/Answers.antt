@@ -1,6 +1,6 @@
 use Rattle.std.proofs.Common.{refl, arith, inr}
 use Rattle.std.specs.Fmt.{digits}
-use Rattle.hyd_num.specs.Decimals.{fixed_point}
+use Rattle.hyd_num.specs.PrintedDecimals.{fixed_point}
 use Rattle.hyd_spec_towns.proofs.BasinRun.{row_fits, three_fit}
 use Rattle.hyd_spec_towns.proofs.basins.texts.Goals as goal
 

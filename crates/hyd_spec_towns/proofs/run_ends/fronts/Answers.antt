@@ -1,6 +1,6 @@
 use Rattle.std.proofs.Common.{refl}
 use Rattle.std.specs.Fmt.{digits}
-use Rattle.hyd_num.specs.Decimals.{fixed_point}
+use Rattle.hyd_num.specs.PrintedDecimals.{fixed_point}
 use Rattle.hyd_spec_towns.proofs.run_ends.fronts.Goals as goal
 
 pub returns-clause-first_record : goal.returns-clause-first_record

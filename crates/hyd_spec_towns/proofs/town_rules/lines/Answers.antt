@@ -2,7 +2,7 @@ use Rattle.std.proofs.Common.{ap}
 use Rattle.hyd_spec_towns.proofs.town_rules.lines.Goals as goal
 use Rattle.hyd_spec_towns.proofs.TownIs.{town_is}
 use Rattle.std.specs.Fmt.{digits}
-use Rattle.hyd_num.specs.Decimals.{fixed_point}
+use Rattle.hyd_num.specs.PrintedDecimals.{fixed_point}
 use Rattle.std.specs.Prelude.{map}
 use Rattle.hyd_spec_certificates.specs.Decided.{decided_changes}
 use Rattle.hyd_spec_reports.specs.Report.{change_line}

@@ -1,4 +1,4 @@
-use Rattle.hyd_spec_histories.proofs.Running.{every_history}
+use Rattle.hyd_theorems_on_histories.proofs.Running.{every_history}
 use Rattle.hyd_spec_towns.specs.Village.{village}
 use Rattle.hyd_spec_towns.specs.VillageRun.{founds, left}
 use Rattle.hyd_spec_towns.proofs.VillageSound.{sound}

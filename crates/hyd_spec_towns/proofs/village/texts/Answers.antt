@@ -1,6 +1,6 @@
 use Rattle.std.proofs.Common.{refl, arith, inl}
 use Rattle.std.specs.Fmt.{digits}
-use Rattle.hyd_num.specs.Decimals.{fixed_point}
+use Rattle.hyd_num.specs.PrintedDecimals.{fixed_point}
 use Rattle.hyd_spec_towns.proofs.VillageTexts.{rows_fit}
 use Rattle.hyd_spec_towns.proofs.village.texts.Goals as goal
 

@@ -1,6 +1,6 @@
 use Rattle.std.proofs.Common.{refl}
 use Rattle.hyd_lemmas.proofs.Trials.{le-yes}
-use Rattle.hyd_spec_witnesses.specs.Parts.{link_of}
+use Rattle.hyd_spec_witnesses.specs.OneLink.{link_of}
 use Rattle.hyd_spec_witnesses.specs.Spurs.{setting_spur, half_spur}
 use Rattle.hyd_spec_witnesses.proofs.Single.{greater}
 use Rattle.hyd_spec_witnesses.proofs.claims.control_valve.Goals as goal

@@ -1,5 +1,5 @@
 use Rattle.std.proofs.Common.{refl}
-use Rattle.hyd_spec_witnesses.specs.Parts.{link_of}
+use Rattle.hyd_spec_witnesses.specs.OneLink.{link_of}
 use Rattle.hyd_spec_witnesses.specs.Spurs.{pump_spur}
 use Rattle.hyd_spec_witnesses.proofs.Single.{less}
 use Rattle.hyd_spec_witnesses.proofs.claims.running_pump.Goals as goal

@@ -3,7 +3,7 @@ use Rattle.hyd_lemmas.proofs.Trials.{le-yes}
 use Rattle.hyd_spec.specs.Types.{LinkState, Open, Closed}
 use Rattle.hyd_spec.specs.Length.{HasItsLength, at_end}
 use Rattle.hyd_spec.specs.History.{IsPeriod, Begins, ComesAfter, commanded_after}
-use Rattle.hyd_spec_witnesses.specs.Parts.{network_of}
+use Rattle.hyd_spec_witnesses.specs.OneLink.{network_of}
 use Rattle.hyd_spec_witnesses.specs.Timed.{timed_spur, still}
 use Rattle.hyd_spec_witnesses.proofs.Single.{obeys}
 use Rattle.hyd_spec_witnesses.proofs.TimedPeriods.{first_lasts, second_lasts, third_lasts}

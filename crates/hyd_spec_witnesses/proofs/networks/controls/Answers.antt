@@ -1,10 +1,10 @@
 use Rattle.std.proofs.Common.{◌≡◌, pos, [], arith}
 use Rattle.std.proofs.lemmas.Int.{ints}
 use Rattle.std.proofs.lemmas.List.Elements.{All-from_recursion}
-use Rattle.hyd_net.specs.Sizes.{IsDemand}
-use Rattle.hyd_net.specs.Commands.{IsControl}
+use Rattle.hyd_net.specs.NetworkRanges.{IsDemand}
+use Rattle.hyd_net.specs.ControlsAndRules.{IsControl}
 use Rattle.hyd_net.specs.Made.{IsStateMade, IsStateAcross}
-use Rattle.hyd_spec_witnesses.specs.Parts.{network_of, junction_of}
+use Rattle.hyd_spec_witnesses.specs.OneLink.{network_of, junction_of}
 use Rattle.hyd_spec_witnesses.proofs.SpurSound.{IsOwnSound, sound}
 use Rattle.hyd_spec_witnesses.specs.Timed.{timed_spur}
 use Rattle.hyd_spec_witnesses.proofs.networks.controls.Goals as goal

@@ -5,9 +5,9 @@ use Rattle.std.proofs.lemmas.Int.{ints}
 use Rattle.std.proofs.lemmas.List.{get_or_default}
 use Rattle.std.proofs.lemmas.List.Edits.{map_over_more}
 use Rattle.hyd_spec.specs.Assignment.{head_at}
-use Rattle.hyd_spec_certificates.specs.Climbing.{IsStart}
+use Rattle.hyd_spec_certificates.specs.SearchSteps.{IsStart}
 use Rattle.hyd_spec_reports.specs.Stops.{beginning}
-use Rattle.hyd_spec_raises.proofs.Beginnings.{start-end}
+use Rattle.hyd_theorems_on_raises.proofs.Beginnings.{start-end}
 use Rattle.hyd_sweep.proofs.Ends.{filled, beginning-of}
 use Rattle.hyd_sweep.proofs.beginning.begin.Goals as goal
 

@@ -6,7 +6,7 @@ use Rattle.std.proofs.lemmas.Int.{ints}
 use Rattle.std.proofs.lemmas.Bool.{false≢true}
 use Rattle.hyd_spec.specs.Assignment.{head_at}
 use Rattle.hyd_spec_certificates.specs.Certificate.{Passes}
-use Rattle.hyd_spec_certificates.specs.Climbing.{Fails}
+use Rattle.hyd_spec_certificates.specs.SearchSteps.{Fails}
 use Rattle.hyd_spec_certificates.specs.Grid.{GridJunction}
 use Rattle.hyd_graph.specs.GridOf.{grid_of}
 use Rattle.hyd_check.proofs.Lookups.{junction-there}

@@ -1,7 +1,7 @@
 use Rattle.std.proofs.Common.{◌≡◌, ◌∙◌, ◌++◌, ◌∷◌, [], ℤ, true, ap, sym, subst, to_z, of_z, get_or, arith}
 use Rattle.std.specs.Int.{w64}
 use Rattle.std.proofs.lemmas.Int.{ints}
-use Rattle.hyd_net.specs.Sizes.{IsTank}
+use Rattle.hyd_net.specs.NetworkRanges.{IsTank}
 use Rattle.hyd_spec.specs.Types.{Tank}
 use Rattle.hyd_watched_levels.specs.Watched.{AreEnds}
 use Rattle.hyd_watched_levels.proofs.Reaching.{each_is, item_is}

@@ -1,5 +1,5 @@
 use Rattle.std.proofs.Common.{◌≡◌, length, subst}
-use Rattle.hyd_spec_laws.specs.Laws.{IsSteady}
+use Rattle.hyd_theorems_on_periods.specs.Laws.{IsSteady}
 use Rattle.hyd_graph.specs.NetView.{NetView}
 use Rattle.hyd_graph.specs.GridOf.{grid_of}
 use Rattle.hyd_graph.proofs.Counts.{junctions_count}

@@ -7,7 +7,7 @@ use Rattle.std.specs.Prelude.{List}
 use Rattle.hyd_law.specs.declared.outflows.OutLaw.{OutLaw}
 use Rattle.hyd_law.specs.declared.outflows.OutLaw.TheVariants.{Fixed}
 use Rattle.hyd_spec_certificates.specs.declared.LevelSpan.{LevelSpan}
-use Rattle.hyd_graph.specs.declared.parts.Ends.{Ends}
+use Rattle.hyd_graph.specs.declared.network_parts.Ends.{Ends}
 use Rattle.hyd_graph.specs.NetView.{NetView}
 use Rattle.hyd_graph.specs.Demands.{IsNetJunction, IsHeld}
 use Rattle.hyd_graph.specs.Settings.{closed_setting}

@@ -1,6 +1,0 @@
-use Rattle.hyd_row_tables.specs.Found.{rows_at}
-use Rattle.hyd_build_commands.specs.Controls.{AreControls}
-use Rattle.hyd_build_commands.proofs.controls.build_controls.Given as goal
-
-abbrev pub invariant-loop-place : goal.invariant-loop-place
-invariant-loop-place l = AreControls (rows_at l.text.text l.lines) l.place l.list.list

@@ -1,5 +1,0 @@
-use Rattle.hyd_cert.proofs.SentenceLemmas.{first_fault}
-use Rattle.hyd_cert.proofs.laws.fault_is_first.Goals as goal
-
-pub returns : goal.returns
-returns c = first_fault

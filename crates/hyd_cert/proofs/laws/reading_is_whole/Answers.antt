@@ -1,5 +1,0 @@
-use Rattle.hyd_cert.proofs.ReadingLemmas.{whole_reading}
-use Rattle.hyd_cert.proofs.laws.reading_is_whole.Goals as goal
-
-pub returns : goal.returns
-returns c = whole_reading

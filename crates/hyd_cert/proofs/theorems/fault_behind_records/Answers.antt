@@ -1,0 +1,5 @@
+use Rattle.hyd_cert.proofs.ReadingLemmas.{fault_behind}
+use Rattle.hyd_cert.proofs.theorems.fault_behind_records.Goals as goal
+
+pub returns : goal.returns
+returns c = fault_behind

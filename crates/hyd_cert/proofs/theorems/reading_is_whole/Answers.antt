@@ -1,0 +1,5 @@
+use Rattle.hyd_cert.proofs.ReadingLemmas.{whole_reading}
+use Rattle.hyd_cert.proofs.theorems.reading_is_whole.Goals as goal
+
+pub returns : goal.returns
+returns c = whole_reading

@@ -1,0 +1,235 @@
+-- A check as it goes: one record after another, and what is found where they end.
+-- Source: this program's.
+use Rattle.std.specs.Prelude.{◌≡◌, ◌⊎◌, ℕ, ◌+◌, ◌*◌, ◌<◌, ◌^◌, suc, Bool, List, [], ◌++◌, length, All, Option}
+use Rattle.std.specs.Prelude.{Some, None, Result, Ok, Err}
+use Rattle.hyd_io.specs.declared.output.OutFault.{OutFault}
+use Rattle.hyd_io.specs.Told.{append_known, prepend_known, where_told}
+use Rattle.hyd_spec.specs.Types.{Project}
+use Rattle.hyd_spec.specs.Network.{junction_count, tank_count}
+use Rattle.hyd_spec_certificates.specs.Record.{Record, Standing}
+use Rattle.hyd_spec_certificates.specs.Valid.{AreCertificates}
+use Rattle.hyd_spec_reports.specs.CertificateText.{IsRow, record_text, end_line}
+use Rattle.hyd_spec_reports.specs.ReportLine.{refused_line, refused_end_line}
+use Rattle.hyd_spec_reports.specs.declared.CertRefused.{CertRefused}
+use Rattle.hyd_spec_reports.specs.Refusals.{IsRefused}
+use Rattle.hyd_spec_reports.specs.Headline.{Found, IsFound, IsRun, rows_of, report_so_far, accepted_line}
+use Rattle.hyd_cert.specs.Lines.{Header}
+use Rattle.hyd_cert.specs.Places.{First, IsFault, heads_in}
+use Rattle.hyd_cert.specs.Faults.{lines_on, HasOtherHeader, LacksRecord}
+use Rattle.hyd_cert.specs.FaultyLine.{BeginsWith, lines_of as record_lines}
+use Rattle.hyd_cert.specs.ReaderView.{IsGoing, to_come, lead, lead_lines, place_of}
+use Rattle.hyd_cert.specs.declared.answers.Stand.TheVariants as stand
+use Rattle.hyd_cert.specs.RecordView.{row_of}
+use Rattle.hyd_graph.specs.GridOf.{grid_of, states_of}
+use Rattle.hyd_graph.specs.Settings.{AreStates}
+use Rattle.hyd_bounds.specs.Bounds.{TanksInOrder}
+use Rattle.hyd_watched_levels.specs.Started.{HaveTanks}
+use Rattle.hyd_report.specs.LinesOfParts.{texts}
+use Rattle.hyd_sim.specs.View.{SimView, standing_of, header_for}
+use Rattle.hyd_run.specs.Runs.{periods_left}
+use Rattle.hyd_cert_check.specs.Checks.{refused_grammar_line, refused_counts_line, CheckEnds, CheckFinds}
+use Rattle.hyd_cert_check.specs.Printing.{Moment, IsOpen, PutIn, IsCutOff}
+use Rattle.hyd_cert_check.specs.declared.outcome.CheckEnd.{CheckEnd}
+use Rattle.hyd_cert_check.specs.declared.outcome.CheckEnd.TheVariants as ends
+use Rattle.hyd_cert_check.specs.declared.outcome.CheckFault.{CheckFault}
+use Rattle.hyd_cert_check.specs.declared.outcome.CheckFault.TheVariants.{Output}
+use Rattle.hyd_cert_check.specs.declared.outcome.Verdict.{Verdict}
+use Rattle.hyd_cert_check.specs.declared.outcome.Verdict.TheVariants.{Accepted, Refused, OtherEnd, Grammar, Counts}
+
+-- ---- one record
+
+-- What is still to come of the text at a moment.
+abbrev pub coming : Moment → Option (List ℕ)
+coming at = to_come at.reader at.told.rest
+
+-- A record was read that a certificate can hold: it stands before what is to come now, behind the header line if that
+-- was to come too, and the reader stands behind it.
+pub record IsRead (header : Header) (row : Record) (before now : Moment) : Type 0 where
+  pub text : coming before ≡ prepend_known (lead before.reader.stand header ++ record_text row) (coming now)
+  pub fits : IsRow header.junctions header.tanks row
+  pub stands : now.reader.stand ≡ stand.Between
+  pub lines : now.reader.line
+      ≡ lines_on before.reader.line (lead_lines before.reader.stand + heads_in header.junctions header.tanks)
+
+-- The record that was due was read, and what was found of it.
+pub record IsStep (network : Project) (left next : Standing) (found : Found) : Type 0 where
+  pub begins : found.standing ≡ left
+  pub leaves : found.next ≡ next
+  pub is_found : IsFound network found
+  pub number : next.number ≡ suc left.number
+
+-- The reader goes on at its place, and the pen is open.
+pub record CanGoOn (at : Moment) : Type 0 where
+  pub going : IsGoing at.reader.stand
+  pub pen : IsOpen at.pen
+
+-- A record was read, and accepted as that of the period that was due, and its report was put in.
+pub record DidRecord (sim now : SimView) (before after : Moment) : Type 0 where
+  pub found : Found
+  pub step : IsStep now.project (standing_of sim) (standing_of now) found
+  pub read : IsRead (header_for now.project) found.row before after
+  pub fewer : periods_left now.project (standing_of now) < periods_left now.project (standing_of sim)
+  pub put : PutIn (texts now.project found.lines) before after
+
+-- So it was, and a fault cut its report off.
+pub record LostRecord (fault : CheckFault) (sim now : SimView) (before after : Moment) : Type 0 where
+  pub found : Found
+  pub step : IsStep now.project (standing_of sim) (standing_of now) found
+  pub read : IsRead (header_for now.project) found.row before after
+  pub cut : IsCutOff fault (texts now.project found.lines) before after
+
+-- A fault cut the reading or the printing off.
+pub data IsLost (fault : CheckFault) (sim now : SimView) (before after : Moment) : Type 0 where
+  in_reading : IsCutOff fault [] before after → IsLost fault sim now before after
+  in_report : LostRecord fault sim now before after → IsLost fault sim now before after
+
+-- What a run left of its last period is of one period: the vectors are its certificates, the net is that of the period,
+-- and the facts are its own.
+pub record IsOfPeriod (sim : SimView) : Type 0 where
+  pub certificates : AreCertificates sim.project (grid_of sim.net) (row_of sim.row)
+  pub have : HaveTanks sim.project sim.facts
+  pub order : TanksInOrder (grid_of sim.net)
+  pub states : AreStates sim.project (states_of sim.net)
+  pub links : states_of sim.net ≡ sim.facts.links.list
+
+-- ---- where the records end
+
+-- The next record was read, and is refused at the standing.
+pub record IsRefusedNext (network : Project) (left : Standing) (cause : CertRefused) (before now : Moment) : Type 0
+  where
+    pub row : Record
+    pub read : IsRead (header_for network) row before now
+    pub refused : IsRefused network left row cause
+
+-- The END line was read, and is what is left of the text.
+pub record IsEnd (network : Project) (periods : ℕ) (finished : Bool) (before : Moment) : Type 0 where
+  pub text : coming before ≡ where_told before.told.rest
+      (lead before.reader.stand (header_for network) ++ end_line periods finished)
+  pub fits : periods < 2 ^ 32
+
+-- It says something else than that so many records stand before it, and whether the run is finished.
+pub record IsOtherEnd (network : Project) (left : Standing) (before : Moment) : Type 0 where
+  pub periods : ℕ
+  pub finished : Bool
+  pub is_end : IsEnd network periods finished before
+  pub other : ((periods ≡ left.number) × (finished ≡ left.finished)) → ⊥
+
+-- The line of this number is the first that can't stand where it does, and no whole record stands before it.
+pub record IsGrammarFault (network : Project) (line : ℕ) (before : Moment) : Type 0 where
+  pub offset : ℕ
+  pub number : line ≡ lines_on before.reader.line offset
+  pub fault : IsFault (header_for network) (place_of before.reader.stand) (coming before) offset
+  pub no_record : LacksRecord before.reader.stand (header_for network) (coming before)
+
+-- The text goes on with a header line of another version or of other counts.
+pub record IsCountsFault (network : Project) (line : ℕ) (before : Moment) : Type 0 where
+  pub first : place_of before.reader.stand ≡ First
+  pub number : line ≡ lines_on before.reader.line 1
+  pub other_header : HasOtherHeader (header_for network) (coming before)
+
+-- The number of the END line behind the records of a standing, counted from 1.
+abbrev pub end_number : Project → Standing → ℕ
+end_number network left = 2 + left.number * (1 + heads_in (junction_count network) (tank_count network))
+
+-- What is found at a standing where the records end.
+abbrev pub IsSo : Verdict → Project → Standing → Moment → Moment → Type 0
+IsSo (Accepted finished) network left before now =
+    IsEnd network left.number finished before × (finished ≡ left.finished)
+IsSo (Refused cause) network left before now = IsRefusedNext network left cause before now
+IsSo (OtherEnd line) network left before now = IsOtherEnd network left before × (line ≡ end_number network left)
+IsSo (Grammar line) network left before now = IsGrammarFault network line before
+IsSo (Counts line) network left before now = IsCountsFault network line before
+
+-- The records end: the standing stays, and nothing was put in.
+pub record IsOver (verdict : Verdict) (sim now : SimView) (before after : Moment) : Type 0 where
+  pub stays : standing_of now ≡ standing_of sim
+  pub is_so : IsSo verdict now.project (standing_of now) before after
+  pub put : PutIn [] before after
+
+-- What one turn gives: a record was accepted, or the records end, or a fault broke it off.
+abbrev pub TurnGives : Result (Option Verdict) CheckFault → SimView → SimView → Moment → Moment → Type 0
+TurnGives (Ok None) sim now before after = DidRecord sim now before after
+TurnGives (Ok (Some verdict)) sim now before after = IsOver verdict sim now before after
+TurnGives (Err fault) sim now before after = IsLost fault sim now before after
+
+-- What a record that was read gives: it was accepted, or it is refused, or a fault cut its report off.
+abbrev pub TryGives : Result (Option CertRefused) OutFault → SimView → SimView → Moment → Moment → Type 0
+TryGives (Ok None) sim now before after = DidRecord sim now before after
+TryGives (Ok (Some cause)) sim now before after = IsOver (Refused cause) sim now before after
+TryGives (Err why) sim now before after = LostRecord (Output why) sim now before after
+
+-- ---- a check as far as it has gone
+
+-- Of the text to come at first, nothing was read, or the header line and these records.
+pub data IsReadTo (network : Project) (before now : Moment) : List Record → Type 0 where
+  nothing : now.reader.stand ≡ stand.First → coming now ≡ coming before → now.reader.line ≡ 0
+      → IsReadTo network before now []
+  records : {rows : List Record} → now.reader.stand ≡ stand.Between
+      → BeginsWith (header_for network) rows (coming before) (coming now)
+      → now.reader.line ≡ lines_on 0 (record_lines (header_for network) rows) → IsReadTo network before now rows
+
+-- What was found so far is a run that leaves a standing, with one record for each period that was done; its records
+-- were read, and its report as far as it goes was put in at the pen.
+pub record IsSoFar (network : Project) (left : Standing) (before now : Moment) : Type 0 where
+  pub founds : List Found
+  pub is_run : IsRun network founds left
+  pub fit : All (IsRow (junction_count network) (tank_count network)) (rows_of founds)
+  pub each : length founds ≡ left.number
+  pub read : IsReadTo network before now (rows_of founds)
+  pub put : PutIn (report_so_far network left founds None) before now
+
+-- The last line of a report on so many records.
+abbrev pub verdict_line : Project → ℕ → Verdict → List ℕ
+verdict_line network count (Accepted finished) = accepted_line count finished
+verdict_line network count (Refused cause) = refused_line network cause
+verdict_line network count (OtherEnd line) = refused_end_line line
+verdict_line network count (Grammar line) = refused_grammar_line line
+verdict_line network count (Counts line) = refused_counts_line line
+
+-- How a check ends with what is found.
+abbrev pub end_of : Verdict → CheckEnd
+end_of (Accepted finished) = ends.Accepted
+end_of (Refused cause) = ends.Refused
+end_of (OtherEnd line) = ends.Refused
+end_of (Grammar line) = ends.Refused
+end_of (Counts line) = ends.Refused
+
+-- The report of the whole text was put in.
+pub record IsWhole (network : Project) (end : CheckEnd) (before now : Moment) : Type 0 where
+  pub report : List ℕ
+  pub holds : (text : List ℕ) → coming before ≡ Some text → CheckEnds network text report end
+  pub put : PutIn report before now
+
+-- A fault cut off the report of the whole text, or that of what was found so far.
+pub record IsCutShort (network : Project) (fault : CheckFault) (before now : Moment) : Type 0 where
+  pub report : List ℕ
+  pub holds : (text : List ℕ) → coming before ≡ Some text
+      → ((end : CheckEnd) × CheckEnds network text report end) ⊎ CheckFinds network text report
+  pub cut : IsCutOff fault report before now
+
+-- Where the records end: what was put in before as a check so far is one still, and this is found.
+pub record AllRead (verdict : Verdict) (network : Project) (left : Standing) (start now : Moment) : Type 0 where
+  pub at_last : Moment
+  pub so_far : IsSoFar network left start at_last
+  pub is_so : IsSo verdict network left at_last now
+  pub put : PutIn [] at_last now
+
+-- What the turns of a check do: whatever was put in before them as a check so far is one still where the records end,
+-- or is cut short.
+abbrev pub TurnsGive : Result Verdict CheckFault → SimView → SimView → Moment → Moment → Type 0
+TurnsGive (Ok verdict) sim now before after =
+    (start : Moment) → IsSoFar sim.project (standing_of sim) start before
+    → AllRead verdict sim.project (standing_of now) start after
+TurnsGive (Err fault) sim now before after =
+    (start : Moment) → IsSoFar sim.project (standing_of sim) start before → IsCutShort sim.project fault start after
+
+-- What a check does before the pen is emptied.
+abbrev pub CheckPuts : Result CheckEnd CheckFault → Project → Moment → Moment → Type 0
+CheckPuts (Ok end) network before after = IsWhole network end before after
+CheckPuts (Err fault) network before after = IsCutShort network fault before after
+
+-- A text was printed of which this holds.
+pub record IsPrinted (P : List ℕ → Type 0) (before now : Option (List ℕ)) : Type 0 where
+  pub report : List ℕ
+  pub holds : P report
+  pub printed : now ≡ append_known before report

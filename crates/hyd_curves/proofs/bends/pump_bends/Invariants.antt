@@ -1,6 +1,0 @@
-use Rattle.hyd_row_tables.specs.Found.{rows_at}
-use Rattle.hyd_curves.specs.NamedBends.{AreOfPumps}
-use Rattle.hyd_curves.proofs.bends.pump_bends.Given as goal
-
-abbrev pub invariant-loop-place : goal.invariant-loop-place
-invariant-loop-place l = AreOfPumps (rows_at l.text.text l.lines) l.place l.bends

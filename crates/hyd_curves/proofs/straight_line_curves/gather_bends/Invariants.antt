@@ -1,0 +1,6 @@
+use Rattle.hyd_row_tables.specs.Found.{rows_at}
+use Rattle.hyd_curves.specs.NamedBends.{AreOfValves}
+use Rattle.hyd_curves.proofs.straight_line_curves.gather_bends.Given as goal
+
+abbrev pub invariant-loop-place : goal.invariant-loop-place
+invariant-loop-place l = AreOfValves (rows_at l.text.text l.lines) l.place l.bends

@@ -1,0 +1,79 @@
+//! The fault of a text.
+#![tactic(auto)]
+
+ghost use Rattle.std.specs.Prelude.{◌≡◌, ◌≤◌, ◌^◌, length, IfOk, IfSome, IfNone};
+ghost use Rattle.std.specs.List.{All};
+ghost use Rattle.hyd_spec_lines.specs.Lines.{LiesIn, items_of, rows_in, fault_in};
+ghost use Rattle.hyd_spec_input.specs.Faults.{IsFault, IsFaultOf, HasNoFault};
+ghost use Rattle.hyd_row_tables.specs.Found.{rows_at};
+
+use crate::fault::{InpFault, line_cause};
+use crate::lack::lack;
+use crate::with_others::first_with_others;
+use hyd_judge_single_rows::first_by_itself;
+use hyd_lex::{LexFault, Line, Lines};
+use hyd_net::{Cause, OutOfMemory};
+use hyd_row_tables::gather;
+use std::alloc::Global;
+
+/// The most bytes of a text.
+pub(crate) const LONGEST: usize = 67_108_864;
+
+/// The fault of a text of at most 64 MiB: its first row that is wrong by itself, the fault that ends its rows, its
+/// first row that is wrong with the others, what it lacks.
+pub(crate) fn fault_of(
+    alloc: Global,
+    text: &Lines<'_>,
+    lines: &[Line],
+    end: Option<LexFault>,
+) -> Result<Option<InpFault>, OutOfMemory>
+    requires few { length lines.now ≤ 2 ^ 26 }
+    requires lie { All (LiesIn text.now.text) lines.now }
+    requires rows { rows_at text.now.text lines.now ≡ rows_in (items_of text.now.text) }
+    requires end { end ≡ fault_in (items_of text.now.text) }
+    requires short { length text.now.text ≤ 2 ^ 26 }
+    ensures fault { IfOk result (λ fault. IfSome fault (λ f. IsFaultOf (items_of text.now.text) f.line f.cause)) }
+    ensures none { IfOk result (λ fault. IfNone fault (HasNoFault text.now.text)) }
+{
+    if let Some(found) = first_by_itself(text, lines) {
+        return Ok(Some(InpFault {
+            line: found.line,
+            cause: found.cause,
+        }));
+    }
+    if let Some(fault) = end {
+        return Ok(Some(InpFault {
+            line: fault.line,
+            cause: line_cause(fault.cause),
+        }));
+    }
+    if let Some(found) = first_with_others(alloc, text, lines)? {
+        return Ok(Some(InpFault {
+            line: found.line,
+            cause: found.cause,
+        }));
+    }
+    match lack(text, lines) {
+        Some(cause) => Ok(Some(InpFault { line: 0, cause })),
+        None => Ok(None),
+    }
+}
+
+/// The fault of a text, where it has one: the first in this order: more than 64 MiB (line 0), the first row that is
+/// wrong by itself, the line that breaks a rule of lines, the first row that is wrong with the others, what the whole
+/// file lacks (line 0).
+pub fn find_fault(alloc: Global, text: &[u8]) -> Result<Option<InpFault>, OutOfMemory>
+    ensures fault { IfOk result (λ fault. IfSome fault (λ f. IsFault text.now f.line f.cause)) }
+    ensures none { IfOk result (λ fault. IfNone fault (HasNoFault text.now)) }
+{
+    if text.len() > LONGEST {
+        return Ok(Some(InpFault {
+            line: 0,
+            cause: Cause::Limit(1),
+        }));
+    }
+    let gathered = gather(alloc, text)?;
+    let reader = Lines::new(text);
+    let fault = fault_of(alloc, &reader, gathered.lines.as_slice(), gathered.fault)?;
+    Ok(fault)
+}

@@ -1,0 +1,73 @@
+//! The parts of a network, and the network of its parts.
+#![tactic(auto)]
+
+ghost use Rattle.hyd_inp.specs.Parts.{AreAll};
+
+use crate::numbering::Numbers;
+use hyd_net::{
+    Control, HeadPoint, Junction, Link, List, Options, Pattern, Project, Reservoir, Rule, Tank,
+    Times, VolumePoint,
+};
+
+/// Junctions, reservoirs and tanks, and the volume curves of tanks.
+#[derive(Drop)]
+pub(crate) struct Nodes {
+    pub(crate) junctions: List<Junction>,
+    pub(crate) reservoirs: List<Reservoir>,
+    pub(crate) tanks: List<Tank>,
+    pub(crate) shapes: List<List<VolumePoint>>,
+}
+
+/// Links, and the curves by straight lines of pumps and general purpose valves.
+#[derive(Drop)]
+pub(crate) struct Links {
+    pub(crate) links: List<Link>,
+    pub(crate) bends: List<List<HeadPoint>>,
+}
+
+/// Patterns, controls and rules.
+#[derive(Drop)]
+pub(crate) struct Changes {
+    pub(crate) patterns: List<Pattern>,
+    pub(crate) controls: List<Control>,
+    pub(crate) rules: List<Rule>,
+}
+
+/// All parts of a network but its options, its times and its names.
+#[derive(Drop)]
+pub(crate) struct Parts {
+    pub(crate) nodes: Nodes,
+    pub(crate) links: Links,
+    pub(crate) changes: Changes,
+}
+
+/// The network of its parts.
+pub(crate) fn assemble(numbers: Numbers, parts: Parts, options: Options, times: Times) -> Project
+    ensures { AreAll numbers parts options times result }
+{
+    let Numbers {
+        nodes: node_ids,
+        links: link_ids,
+        ..
+    } = numbers;
+    let Parts {
+        nodes,
+        links,
+        changes,
+    } = parts;
+    Project {
+        options,
+        times,
+        node_ids,
+        link_ids,
+        junctions: nodes.junctions,
+        reservoirs: nodes.reservoirs,
+        tanks: nodes.tanks,
+        links: links.links,
+        patterns: changes.patterns,
+        shapes: nodes.shapes,
+        bends: links.bends,
+        controls: changes.controls,
+        rules: changes.rules,
+    }
+}

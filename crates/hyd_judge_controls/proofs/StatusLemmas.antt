@@ -1,0 +1,46 @@
+-- Rows of [STATUS] among all rows.
+use Rattle.std.proofs.Common.{◌≡◌, ◌+◌, ℕ, true, List, take, drop, slice_get, Option, Some, None, refl, sym, ap, subst}
+use Rattle.hyd_spec_lines.specs.Lines.{Row}
+use Rattle.hyd_spec_lines.specs.declared.section.Section.{Section}
+use Rattle.hyd_spec_lines.specs.declared.section.Section.TheVariants.{Rules, Status}
+use Rattle.hyd_net.specs.declared.cause.Cause.{Cause}
+use Rattle.hyd_spec_input.specs.ByItself as itself
+use Rattle.hyd_spec_input.specs.ByItself.{IsWrongByItself}
+use Rattle.hyd_spec_input.specs.Capacities.{IsRefusedIn, IsRefusedSetting}
+use Rattle.hyd_spec_input.specs.Columns.{word, or_empty, or_else}
+use Rattle.hyd_spec_input.specs.BelongingRows as row_form
+use Rattle.hyd_spec_input.specs.Faults.{NoneIs}
+use Rattle.hyd_spec_input.specs.Tables.{is_of, link_named, words_of}
+use Rattle.hyd_spec_input.specs.WithOthers as others
+use Rattle.hyd_spec_input.specs.declared.LinkWord.TheVariants.{Link}
+use Rattle.hyd_theorems_on_input.proofs.Faultless.{section_is}
+use Rattle.hyd_row_tables.specs.Found.{IsVerdict}
+use Rattle.hyd_row_tables.specs.Sections.{IsWrongIn, IsFaultThen}
+use Rattle.hyd_row_tables.proofs.SectionLemmas.{none_of, verdict_with_capacity}
+use Rattle.hyd_judge_controls.proofs.CommandLemmas.{last_fault}
+
+pub status_is_right : (rows : List Row) (k : ℕ) (row : Row) → NoneIs (IsWrongByItself rows)
+    → slice_get rows k ≡ Some row → is_of Status row ≡ true → row_form.status row.words ≡ None
+status_is_right rows k row right is member =
+    let P : Section → Type 0 = λ s. itself.section_fault s (words_of Rules (take k rows)) row.words
+    (words_of Rules (drop (k + 1) rows)) ≡ None in
+    subst P (section_is Status row member)
+    (none_of (itself.row_fault rows k row) (λ cause f. right k cause (record { row = row; row_is = is; fault = f })))
+
+-- the link by its name, then its state and its capacity
+pub status_verdict : (rows : List Row) (k : ℕ) (row : Row) (name : List ℕ) (cause : Option Cause)
+    → slice_get rows k ≡ Some row → is_of Status row ≡ true → slice_get row.words 0 ≡ Some name
+    → IsFaultThen (or_else (others.link_by_word rows (Some Link) name)
+    (others.set_link rows (link_named rows name) (word 1 row.words) None))
+    (IsRefusedSetting rows (link_named rows name) (word 1 row.words)) cause
+    → IsVerdict (IsWrongIn Status rows k) cause
+status_verdict rows k row name cause is member named then =
+    let acting = others.holds_action (take k rows) row in
+    let first : word 0 row.words ≡ name = ap or_empty named in
+    let P : Section → Type 0 = λ s. IsFaultThen (others.section_fault s rows k row) (IsRefusedIn s rows acting row)
+    cause in
+    let all : IsFaultThen (others.status rows k row)
+    (IsRefusedSetting rows (link_named rows (word 0 row.words)) (word 1 row.words)) cause =
+    rw (first, last_fault (others.set_link rows (link_named rows name) (word 1 row.words) None)) then in
+    verdict_with_capacity Status rows k row (others.row_fault rows k row) cause is member refl
+    (subst P (sym (section_is Status row member)) all)

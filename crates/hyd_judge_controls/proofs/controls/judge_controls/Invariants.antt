@@ -1,0 +1,6 @@
+use Rattle.hyd_row_tables.specs.Found.{rows_at}
+use Rattle.hyd_judge_controls.specs.Controls.{AreControls}
+use Rattle.hyd_judge_controls.proofs.controls.judge_controls.Given as goal
+
+abbrev pub invariant-loop-place : goal.invariant-loop-place
+invariant-loop-place l = AreControls (rows_at l.text.text l.lines) l.place l.controls

@@ -1,6 +1,0 @@
-use Rattle.hyd_law.specs.Curves.{places}
-use Rattle.hyd_law.proofs.Walking.{WalkedTo}
-use Rattle.hyd_law.proofs.straight.value_at.Given as goal
-
-abbrev pub invariant-loop-i : goal.invariant-loop-i
-invariant-loop-i l = WalkedTo (places l.knots) l.fn.d l.i

@@ -1,0 +1,145 @@
+-- What certificates tell of a period.
+use Rattle.std.proofs.Common.{◌≡◌, ℕ, zero, suc, ◌+◌, ℤ, pos, ◌-ℤ◌, ◌≤ℤ◌, List, [], ◌∷◌, ◌++◌, length, map, refl}
+use Rattle.std.proofs.Common.{sym, ap, ◌∙◌, arith}
+use Rattle.std.specs.Prelude.{Some, slice_get, All}
+use Rattle.std.proofs.lemmas.Int.{ints}
+use Rattle.std.proofs.lemmas.List.{length-map, length-append}
+use Rattle.hyd_num.specs.declared.decimals.Span.{Span}
+use Rattle.hyd_net.specs.ListView.{ListView}
+use Rattle.hyd_spec.specs.Types.{Project, Tank}
+use Rattle.hyd_spec.specs.Lists.{map_from}
+use Rattle.hyd_spec.specs.Assignment.{head_at}
+use Rattle.hyd_spec.specs.Network.{tank_count, nodes_before_tanks}
+use Rattle.hyd_spec_certificates.specs.declared.Problem.TheVariants.{Main, Pinned}
+use Rattle.hyd_spec_certificates.specs.declared.Side.TheVariants.{Upper, Lower}
+use Rattle.hyd_spec_certificates.specs.Interval.{Interval}
+use Rattle.hyd_spec_certificates.specs.Grid.{Grid}
+use Rattle.hyd_spec_certificates.specs.Certificate.{IsCertificate}
+use Rattle.hyd_spec_certificates.specs.Record.{Record, Standing}
+use Rattle.hyd_spec_certificates.specs.Decided.{heads_below, heads_above, inflow_of_tank}
+use Rattle.hyd_spec_certificates.specs.Valid.{AreCertificates}
+use Rattle.hyd_theorems_on_periods.specs.Laws.{IsSteady}
+use Rattle.hyd_theorems_on_nesting.proofs.TwoSides.{heads_below_plus}
+use Rattle.hyd_cert.specs.RecordView.{row_of}
+use Rattle.hyd_cert.specs.declared.record.Record.{Record as Row}
+use Rattle.hyd_ctrl.specs.Instants.{flow_interval}
+use Rattle.hyd_graph.specs.GridOf.{grid_of, interval_of}
+use Rattle.hyd_graph.specs.NetView.{NetView}
+use Rattle.hyd_graph.specs.Periods.{IsNetOf, ends_of}
+use Rattle.hyd_graph.proofs.Counts.{junctions_count, links_count}
+use Rattle.hyd_graph.proofs.Sounding.{long_zipped}
+use Rattle.hyd_bounds.specs.Bounds.{TanksInOrder, IsVector, AreInOrder}
+use Rattle.hyd_tank.specs.Spans.{IsInflow}
+use Rattle.hyd_period_facts.specs.OfPeriod.{flows_of}
+use Rattle.hyd_period_facts.specs.declared.facts.Facts.{Facts}
+use Rattle.hyd_tank_inflows.specs.Inflows.{ArePinned}
+use Rattle.hyd_tank_inflows.proofs.Numbered.{as_long}
+use Rattle.hyd_rule_evaluation.specs.Trial.{AreRead}
+use Rattle.hyd_watched_levels.specs.Started.{AreStarted, HaveTanks}
+use Rattle.hyd_period_end.specs.Begun.{AreBegun, AreReady}
+
+-- ---- vectors
+
+ends-in-order : (k : ℕ) (tanks : List Interval) → ((n : ℕ) (x : Interval) → slice_get tanks n ≡ Some x → x.lo ≤ℤ x.hi)
+    → (m : ℕ) → (head_at (map_from (λ (i : ℕ) (x : Interval). x.lo) k tanks) m -ℤ head_at (map_from (λ (i : ℕ) (x :
+    Interval). x.hi) k tanks) m) ≤ℤ pos 0
+ends-in-order k [] order m = omega (arith, ints)
+ends-in-order k (x ∷ tanks) order zero = let le = order 0 x refl in omega (arith, ints, le)
+ends-in-order k (x ∷ tanks) order (suc m) = ends-in-order (suc k) tanks (λ n y at. order (suc n) y at) m
+
+fixed-in-order : (reservoirs xs ys : List ℤ) → ((m : ℕ) → (head_at xs m -ℤ head_at ys m) ≤ℤ pos 0)
+    → (m : ℕ) → (head_at (reservoirs ++ xs) m -ℤ head_at (reservoirs ++ ys) m) ≤ℤ pos 0
+fixed-in-order [] xs ys within m = within m
+fixed-in-order (r ∷ reservoirs) xs ys within zero = omega (arith, ints)
+fixed-in-order (r ∷ reservoirs) xs ys within (suc m) = fixed-in-order reservoirs xs ys within m
+
+module _ (network : Project) (net : NetView) (row : Record) (of : IsNetOf network net)
+    (certificates : AreCertificates network (grid_of net) row) where
+  abbrev under : IsCertificate (grid_of net) Main Lower row.main.lower
+  under = certificates.each Main Lower tt
+
+  abbrev over : IsCertificate (grid_of net) Main Upper row.main.upper
+  over = certificates.each Main Upper tt
+
+  pub count-there : length (grid_of net).junctions ≡ length net.junctions
+  count-there = junctions_count net.junctions net.demands (of.each_demand ∙ long_zipped _ _ _ of.junctions)
+
+  pub lower-is : IsVector net row.main.lower
+  lower-is = record { one_each = under.one_each ∙ count-there; in_box = under.in_box }
+
+  pub upper-is : IsVector net row.main.upper
+  upper-is = record { one_each = over.one_each ∙ count-there; in_box = over.in_box }
+
+  -- the heads below lie at or below those above where the tanks' intervals are in order
+  pub in-order : IsSteady (grid_of net) → TanksInOrder (grid_of net)
+      → AreInOrder (pos 0) (heads_below (grid_of net) row) (heads_above (grid_of net) row)
+  in-order steady order = λ m. heads_below_plus (grid_of net) steady Main Main row.main.upper row.main.lower (pos 0)
+      over under (omega (arith, ints))
+      (λ k. (let f = fixed-in-order (grid_of net).reservoirs
+      (map_from (λ (i : ℕ) (x : Interval). x.lo) 0 (grid_of net).tanks)
+      (map_from (λ (i : ℕ) (x : Interval). x.hi) 0 (grid_of net).tanks)
+      (ends-in-order 0 (grid_of net).tanks order) k in omega (arith, ints, f))) m
+
+  long-heads : (u : List ℤ) → IsVector net u
+      → length (u ++ (grid_of net).reservoirs) ≡ nodes_before_tanks network
+  long-heads u is =
+      let joined = length-append u net.reservoirs in
+      let own = is.one_each in
+      let others = of.each_reservoir in
+      let zipped = long_zipped _ _ _ of.junctions in
+      omega (arith, joined, own, others, zipped)
+
+  module _ (low high : List ℤ) (flows : List Span) (read : AreRead (grid_of net) row low high flows) where
+    pub each-low : length low ≡ nodes_before_tanks network
+    each-low = ap length read.low_is ∙ long-heads row.main.lower lower-is
+
+    pub each-high : length high ≡ nodes_before_tanks network
+    each-high = ap length read.high_is ∙ long-heads row.main.upper upper-is
+
+    pub each-flow : length flows ≡ length network.links.list
+    each-flow =
+        let ends : length net.ends ≡ length network.links.list =
+        ap length of.ends ∙ length-map network.links.list ends_of in
+        let links = links_count net.ends net.settings net.own (of.each_setting ∙ sym ends) (of.each_own ∙ sym ends) in
+        sym (length-map flows flow_interval) ∙ ap length read.flows_are ∙ length-map (grid_of net).links _ ∙ links
+        ∙ ends
+
+-- both vectors that pin a tank are certificates
+pub pinned-of : (network : Project) (net : NetView) (row : Row) → IsNetOf network net
+    → AreCertificates network (grid_of net) (row_of row) → row.tanks ≡ tank_count network → ArePinned (grid_of net) row
+pinned-of network net row of certificates tanks =
+    let long : length (grid_of net).tanks ≡ tank_count network =
+    length-map net.tanks interval_of ∙ of.each_tank in
+    record {
+      tanks = tanks ∙ sym long;
+      each = λ tank side less. certificates.each (Pinned tank) side (omega (arith, less, long));
+    }
+
+-- ---- facts
+
+pub have-tanks : (network : Project) (grid : Grid) (row : Record) (facts : Facts) (inflows : ListView Span)
+    → AreReady network facts
+    → map flows_of inflows.list ≡ map_from (λ k tank. inflow_of_tank network grid row k) 0 network.tanks.list
+    → All IsInflow inflows.list → HaveTanks network (record facts { inflows = inflows })
+have-tanks network grid row facts inflows ready are small = record {
+  levels = ready.levels;
+  volumes = ready.volumes;
+  inflows = sym (length-map inflows.list flows_of) ∙ ap length are
+      ∙ as_long (λ k (tank : Tank). inflow_of_tank network grid row k) 0 network.tanks.list;
+  tanks = ready.tanks;
+  held = ready.held;
+  small = small;
+}
+
+pub are-started : (network : Project) (grid : Grid) (standing : Standing) (row : Record) (facts : Facts)
+    (inflows : ListView Span)
+    → map flows_of inflows.list ≡ map_from (λ k tank. inflow_of_tank network grid row k) 0 network.tanks.list
+    → AreBegun network standing facts → AreStarted network grid standing row (record facts { inflows = inflows })
+are-started network grid standing row facts inflows are begun = record {
+  time = begun.time;
+  levels = begun.levels;
+  volumes = begun.volumes;
+  inflows = are;
+  tanks = begun.tanks;
+  links = begun.links;
+}

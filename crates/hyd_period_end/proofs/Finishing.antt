@@ -1,0 +1,205 @@
+-- The end of a period.
+use Rattle.std.proofs.Common.{◌≡◌, ℕ, ℤ, List, ◌++◌, map, sym, ap, subst, ◌∙◌}
+use Rattle.std.specs.Prelude.{None, position, Result, Ok, Err, IfOk}
+use Rattle.hyd_num.specs.declared.decimals.Span.{Span}
+use Rattle.hyd_spec.specs.Types.{Project, Tank, LinkState}
+use Rattle.hyd_spec.specs.Lists.{map_from}
+use Rattle.hyd_spec.specs.declared.Change.{Change}
+use Rattle.hyd_spec_certificates.specs.Interval.{Interval}
+use Rattle.hyd_spec_certificates.specs.Grid.{Grid}
+use Rattle.hyd_spec_certificates.specs.Record.{Record, Standing, Vectors}
+use Rattle.hyd_spec_certificates.specs.Decided.{EndsBy, ByRules, WithoutRules, decided_changes, flow_boxes}
+use Rattle.hyd_spec_certificates.specs.Decided.{inflow_of_tank}
+use Rattle.hyd_spec_certificates.specs.Valid.{LeavesLinks, levels_next, volumes_next, AreStates, ControlsAreDecided}
+use Rattle.hyd_spec_certificates.specs.declared.LevelSpan.{LevelSpan}
+use Rattle.hyd_spec_reports.specs.declared.Event.{Event}
+use Rattle.hyd_spec_reports.specs.Report.{EndBrings, by_rules as brings_by_rules, by_clock as brings_by_clock}
+use Rattle.hyd_spec_reports.specs.Report.{events_of}
+use Rattle.hyd_spec_reports.specs.Stops.{open_states}
+use Rattle.hyd_period_facts.specs.OfPeriod.{levels_of, volumes_of, flows_of}
+use Rattle.hyd_period_facts.specs.declared.facts.Facts.{Facts}
+use Rattle.hyd_ctrl.specs.Instants.{flow_interval}
+use Rattle.hyd_ctrl.specs.Starts.{IsFirstOpen as IsFirstUnsure}
+use Rattle.hyd_ctrl.specs.declared.controls.LevelOpen.{LevelOpen}
+use Rattle.hyd_period_stocks.specs.TankStart.{IsFirstOpen}
+use Rattle.hyd_period_stocks.specs.declared.states.TankOpen.{TankOpen}
+use Rattle.hyd_rule_evaluation.specs.Trial.{AreRead}
+use Rattle.hyd_watched_levels.specs.Started.{AreStarted, HaveTanks}
+use Rattle.hyd_period_end.specs.Begun.{AreBegun}
+use Rattle.hyd_period_end.specs.EndOfPeriod.{Decides, EndsAfter, by_rules, by_clock, IsClosed}
+use Rattle.hyd_period_end.specs.declared.period_end.PeriodEnd.{PeriodEnd}
+use Rattle.hyd_period_end.specs.OpenMatters.{EndsWith, IsFirstControl, SharesVectors}
+
+module _ (network : Project) (grid : Grid) (standing : Standing) (row : Record) (seconds : ℕ)
+    (links : List LinkState) (levels : List LevelSpan)
+    (next : map levels_of levels ≡ levels_next network grid standing row seconds)
+    (leaves : LeavesLinks network grid standing row seconds links) where
+  -- a tank that is open at the levels
+  pub open-tank : (found : TankOpen) → IsFirstOpen network (map levels_of levels) found
+      → EndsWith network grid standing row (λ at. IsFirstOpen network at found)
+  open-tank found first = record {
+    seconds = seconds;
+    links = links;
+    leaves = leaves;
+    at_levels = subst (λ (at : List Interval). IsFirstOpen network at found) next first;
+  }
+
+  -- a control that is open there
+  pub open-control : (found : LevelOpen)
+      → position (λ is_open. is_open) (open_states network (map levels_of levels)) ≡ None
+      → IsFirstUnsure network levels found
+      → EndsWith network grid standing row (λ at. IsFirstControl network at found)
+  open-control found decided first =
+      let there : IsFirstControl network (map levels_of levels) found = record {
+        tanks_decided = decided;
+        first = first.first;
+        control = first.control;
+        is_control = first.is_control;
+        tank = first.level.tank;
+        above = first.level.above;
+        ticks = first.level.ticks;
+        is_level = first.level.is_level;
+        level_is = first.level.level_is;
+      } in
+      record {
+        seconds = seconds;
+        links = links;
+        leaves = leaves;
+        at_levels = subst (λ (at : List Interval). IsFirstControl network at found) next there;
+      }
+
+-- what a decided end brings
+pub brings-so : (network : Project) (grid : Grid) (standing : Standing) (row : Record) (seconds : ℕ)
+    (changes : List Change) (events : List Event) → row.length ≡ seconds
+    → events ≡ events_of network grid standing row → EndsAfter network grid standing row seconds changes
+    → EndBrings network grid standing row events changes
+brings-so network grid standing row seconds changes events long are ends =
+    subst (λ (es : List Event). EndBrings network grid standing row es changes) (sym are)
+    (by seconds changes long ends)
+  where
+    by : (s : ℕ) (cs : List Change) → row.length ≡ s → EndsAfter network grid standing row s cs
+        → EndBrings network grid standing row (events_of network grid standing row) cs
+    by s _ e (by_rules is) = subst (λ (n : ℕ). EndBrings network grid standing row
+        (events_of network grid standing row) (decided_changes network grid standing row n)) e
+        (brings_by_rules (subst (λ (n : ℕ). EndsBy network grid standing row (ByRules n)) (sym e) is))
+    by s _ e (by_clock is) = brings_by_clock
+        (subst (λ (n : ℕ). EndsBy network grid standing row (WithoutRules n)) (sym e) is)
+
+-- ---- facts as they are completed
+
+pub have-changed : (network : Project) (before now : Facts) → now ≡ record before { changes = now.changes }
+    → HaveTanks network before → HaveTanks network now
+have-changed network before now keeps have = subst (HaveTanks network) (sym keeps) (record {
+  levels = have.levels;
+  volumes = have.volumes;
+  inflows = have.inflows;
+  tanks = have.tanks;
+  held = have.held;
+  small = have.small;
+})
+
+pub have-ended : (network : Project) (before now : Facts) (seconds : ℕ)
+    → now ≡ record before { length = seconds; events = now.events } → HaveTanks network before → HaveTanks network now
+have-ended network before now seconds keeps have = subst (HaveTanks network) (sym keeps) (record {
+  levels = have.levels;
+  volumes = have.volumes;
+  inflows = have.inflows;
+  tanks = have.tanks;
+  held = have.held;
+  small = have.small;
+})
+
+module _ (network : Project) (grid : Grid) (standing : Standing) where
+  pub started-changed : (row : Record) (before now : Facts) → now ≡ record before { changes = now.changes }
+      → AreStarted network grid standing row before → AreStarted network grid standing row now
+  started-changed row before now keeps started = subst (AreStarted network grid standing row) (sym keeps) (record {
+    time = started.time;
+    levels = started.levels;
+    volumes = started.volumes;
+    inflows = started.inflows;
+    tanks = started.tanks;
+    links = started.links;
+  })
+
+  -- records that share their vectors
+  pub started-shared : (row other : Record) (facts : Facts) → SharesVectors other row
+      → AreStarted network grid standing row facts → AreStarted network grid standing other facts
+  started-shared row other facts share started = record {
+    time = started.time;
+    levels = started.levels;
+    volumes = started.volumes;
+    inflows = started.inflows ∙ ap (λ (vs : List Vectors).
+        map_from (λ k (tank : Tank). inflow_of_tank network grid (record other { pinned = vs }) k) 0 network.tanks.list)
+        (sym share.pinned);
+    tanks = started.tanks;
+    links = started.links;
+  }
+
+  pub read-shared : (row other : Record) (low high : List ℤ) (flows : List Span) → SharesVectors other row
+      → AreRead grid row low high flows → AreRead grid other low high flows
+  read-shared row other low high flows share read = record {
+    low_is = read.low_is ∙ ap (λ (vs : Vectors). vs.lower ++ grid.reservoirs) (sym share.main);
+    high_is = read.high_is ∙ ap (λ (vs : Vectors). vs.upper ++ grid.reservoirs) (sym share.main);
+    flows_are = read.flows_are ∙ ap (λ (vs : Vectors). flow_boxes grid (record other { main = vs })) (sym share.main);
+  }
+
+  -- a period that is over
+  pub closed-of : (row : Record) (seconds : ℕ) (begun looked decided told : Facts) (close : PeriodEnd)
+      → row.length ≡ seconds → AreBegun network standing begun → looked ≡ record begun { inflows = looked.inflows }
+      → AreStarted network grid standing row looked → decided ≡ record looked { changes = decided.changes }
+      → told ≡ record decided { length = seconds; events = told.events }
+      → Decides network grid standing row seconds close.commanded.items looked.changes.list decided.changes.list
+      → told.events.list ≡ events_of network grid standing row
+      → map levels_of close.next.levels.list ≡ levels_next network grid standing row seconds
+      → map volumes_of close.next.volumes.list ≡ volumes_next network grid standing row seconds
+      → AreStates network (map levels_of close.next.levels.list) close.next.tanks.list
+      → ControlsAreDecided network (map levels_of close.next.levels.list)
+      → IsClosed network grid standing row told close
+  closed-of row seconds begun looked decided told close long is keep_looked started keep_decided keep_told decides
+      events levels volumes states controls = record {
+        leaves = subst (λ (n : ℕ). LeavesLinks network grid standing row n close.commanded.items) (sym long)
+            decides.leaves;
+        levels = at_end;
+        volumes = volumes ∙ ap (λ (n : ℕ). volumes_next network grid standing row n) (sym long);
+        tanks = subst (λ (ls : List Interval). AreStates network ls close.next.tanks.list) at_end states;
+        controls = subst (ControlsAreDecided network) at_end controls;
+        facts_are = record {
+          time = ap (λ (f : Facts). f.time) keep_told ∙ ap (λ (f : Facts). f.time) keep_decided ∙ started.time;
+          length = ap (λ (f : Facts). f.length) keep_told ∙ sym long;
+          levels = ap (λ (f : Facts). map levels_of f.levels.list) keep_told
+              ∙ ap (λ (f : Facts). map levels_of f.levels.list) keep_decided ∙ started.levels;
+          volumes = ap (λ (f : Facts). map volumes_of f.volumes.list) keep_told
+              ∙ ap (λ (f : Facts). map volumes_of f.volumes.list) keep_decided ∙ started.volumes;
+          inflows = ap (λ (f : Facts). map flows_of f.inflows.list) keep_told
+              ∙ ap (λ (f : Facts). map flows_of f.inflows.list) keep_decided ∙ started.inflows;
+          tanks = ap (λ (f : Facts). f.tanks.list) keep_told ∙ ap (λ (f : Facts). f.tanks.list) keep_decided
+              ∙ started.tanks;
+          links = ap (λ (f : Facts). f.links.list) keep_told ∙ ap (λ (f : Facts). f.links.list) keep_decided
+              ∙ started.links;
+          by_rules = decides.by_rules;
+          changes = ap (λ (f : Facts). f.changes.list) keep_told ∙ decides.changes_are
+              ∙ ap (λ (cs : List Change). cs ++ decides.by_rules)
+              (ap (λ (f : Facts). f.changes.list) keep_looked ∙ is.changes);
+          brings = brings-so network grid standing row seconds decides.by_rules told.events.list long events
+              decides.ends;
+        };
+      }
+    where
+      at_end : map levels_of close.next.levels.list ≡ levels_next network grid standing row row.length
+      at_end = levels ∙ ap (λ (n : ℕ). levels_next network grid standing row n) (sym long)
+
+-- readings that are handed on as slices
+pub read-at : (grid : Grid) (row : Record) (low high : List ℤ) (flows : List Span) (below above : List ℤ)
+    (passing : List Span) → below ≡ low → above ≡ high → passing ≡ flows → AreRead grid row low high flows
+    → AreRead grid row below above passing
+read-at grid row low high flows below above passing l h f read = record {
+  low_is = l ∙ read.low_is;
+  high_is = h ∙ read.high_is;
+  flows_are = ap (map flow_interval) f ∙ read.flows_are;
+}
+
+-- what holds of an answer
+pub if-ok : {A E : Type 0} (P Q : A → Type 0) (result : Result A E) → ((value : A) → P value → Q value)
+    → IfOk result P → IfOk result Q
+if-ok P Q (Ok value) f p = f value p
+if-ok P Q (Err fault) f p = p

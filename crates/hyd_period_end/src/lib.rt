@@ -1,0 +1,11 @@
+//! The end of a period: by its vectors, when it is over and what follows, or the first matter that they leave open.
+#![tactic(auto)]
+
+mod deciding;
+mod inflows_and_operands;
+mod length_and_events;
+mod period_end;
+mod undecided;
+
+pub use period_end::PeriodEnd;
+pub use undecided::Open;

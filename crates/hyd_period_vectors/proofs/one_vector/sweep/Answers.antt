@@ -1,0 +1,14 @@
+use Rattle.std.proofs.Common.{refl}
+use Rattle.hyd_graph.specs.GridOf.{grid_of}
+use Rattle.hyd_period_vectors.proofs.Spending.{spent-anywhere}
+use Rattle.hyd_period_vectors.proofs.one_vector.sweep.Goals as goal
+
+pub returns-in-RoundsSpent-clause-lack : goal.returns-in-RoundsSpent-clause-lack
+returns-in-RoundsSpent-clause-lack c = (
+  refl,
+  (
+    refl,
+    spent-anywhere (grid_of c.args.net.now) c.junctions-junctions.ensures.steady c.args.problem
+        c.args.side c.args.rounds c.args.heads.now c.tighten.new.u c.requires.start c.in-RoundsSpent.ensures.sweep,
+  ),
+)

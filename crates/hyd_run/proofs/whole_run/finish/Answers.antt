@@ -1,0 +1,23 @@
+-- Both pens are emptied.
+use Rattle.hyd_run.specs.Runs.{outcome_of}
+use Rattle.hyd_run.proofs.RunLemmas.{whole-emptied, whole-cut}
+use Rattle.hyd_run.proofs.EndLemmas.{pen-fresh}
+use Rattle.hyd_run.proofs.whole_run.finish.Goals as goal
+
+pub returns-in-Ok-clause-puts : goal.returns-in-Ok-clause-puts
+returns-in-Ok-clause-puts g c = λ network settings start whole.
+    whole-emptied network settings (outcome_of c.args.end) start _ _ whole c.in-Ok.ensures.puts
+
+pub returns-in-Ok-clause-certificate : goal.returns-in-Ok-clause-certificate
+returns-in-Ok-clause-certificate g c =
+    let unbroken = c.in-Ok.ensures.puts.unbroken in
+    pen-fresh _ _ unbroken.certificate_to unbroken.certificate_fault c.in-Ok.ensures.certificate
+
+pub returns-in-Ok-clause-report : goal.returns-in-Ok-clause-report
+returns-in-Ok-clause-report g c =
+    let unbroken = c.in-Ok.ensures.puts.unbroken in
+    pen-fresh _ _ unbroken.report_to unbroken.report_fault c.in-Ok.ensures.report
+
+pub returns-in-Err-clause-puts : goal.returns-in-Err-clause-puts
+returns-in-Err-clause-puts g c = λ network settings start whole.
+    whole-cut network settings c.in-Err.fault (outcome_of c.args.end) start _ _ whole c.in-Err.ensures.puts

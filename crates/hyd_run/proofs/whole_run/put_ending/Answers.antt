@@ -1,0 +1,28 @@
+-- The run is whole with its last lines.
+use Rattle.std.proofs.Common.{sym, subst}
+use Rattle.hyd_net.specs.Sound.{Sound}
+use Rattle.hyd_sim.specs.View.{standing_of}
+use Rattle.hyd_run.specs.Runs.{outcome_of}
+use Rattle.hyd_run.proofs.EndLemmas.{ended, ended-cut}
+use Rattle.hyd_run.proofs.PeriodLemmas.{small-number}
+use Rattle.hyd_run.proofs.whole_run.put_ending.Goals as goal
+
+pub put_last-requires : goal.put_last-requires
+put_last-requires g c = record {
+  sound = subst Sound (sym c.project.ensures.project) c.project.ensures.is_sim.sound;
+  unbroken = c.requires;
+}
+
+pub returns-in-Ok : goal.returns-in-Ok
+returns-in-Ok g c = λ ends start so_far.
+    ended _ c.project.result.now c.args.sim.now.settings (outcome_of c.args.end) (standing_of c.args.sim.now) start
+    _ _ c.number.result
+    c.project.ensures.project c.number.ensures (small-number _ c.project.ensures.is_sim) ends
+    (c.in-Ok.ensures (standing_of c.args.sim.now) (sym c.time.ensures)) so_far
+
+pub returns-in-Err : goal.returns-in-Err
+returns-in-Err g c = λ ends start so_far.
+    ended-cut _ c.project.result.now c.args.sim.now.settings c.in-Err.fault (outcome_of c.args.end) (standing_of
+    c.args.sim.now) start _ _ c.number.result
+    c.project.ensures.project c.number.ensures ends
+    (c.in-Err.ensures (standing_of c.args.sim.now) (sym c.time.ensures)) so_far

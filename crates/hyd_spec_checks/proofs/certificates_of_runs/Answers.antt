@@ -1,8 +1,0 @@
-use Rattle.hyd_spec_checks.proofs.OfRuns.{accepted_is, written_is}
-use Rattle.hyd_spec_checks.proofs.certificates_of_runs.Goals as goal
-
-pub returns-clause-written : goal.returns-clause-written
-returns-clause-written c = written_is
-
-pub returns-clause-accepted : goal.returns-clause-accepted
-returns-clause-accepted c = accepted_is

@@ -1,5 +1,0 @@
-use Rattle.hyd_spec_checks.proofs.NeverRefused.{never_refused}
-use Rattle.hyd_spec_checks.proofs.refusals.Goals as goal
-
-pub returns : goal.returns
-returns c = never_refused

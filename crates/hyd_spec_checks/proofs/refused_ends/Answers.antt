@@ -1,5 +1,0 @@
-use Rattle.hyd_spec_checks.proofs.ByEnd.{no_other_end}
-use Rattle.hyd_spec_checks.proofs.refused_ends.Goals as goal
-
-pub returns : goal.returns
-returns c = no_other_end

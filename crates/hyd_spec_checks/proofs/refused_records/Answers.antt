@@ -1,5 +1,0 @@
-use Rattle.hyd_spec_checks.proofs.ByRecord.{no_record_refused}
-use Rattle.hyd_spec_checks.proofs.refused_records.Goals as goal
-
-pub returns : goal.returns
-returns c = no_record_refused

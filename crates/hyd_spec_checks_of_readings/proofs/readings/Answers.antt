@@ -1,8 +1,0 @@
-use Rattle.hyd_spec_checks_of_readings.proofs.OtherReadings.{readings_accepted, readings_report}
-use Rattle.hyd_spec_checks_of_readings.proofs.readings.Goals as goal
-
-pub returns-clause-accepted : goal.returns-clause-accepted
-returns-clause-accepted c = readings_accepted
-
-pub returns-clause-report : goal.returns-clause-report
-returns-clause-report c = readings_report

@@ -1,5 +1,0 @@
-use Rattle.hyd_spec_histories.proofs.Lines.{end_lines_hold}
-use Rattle.hyd_spec_histories.proofs.end_lines.Goals as goal
-
-pub returns : goal.returns
-returns c = end_lines_hold

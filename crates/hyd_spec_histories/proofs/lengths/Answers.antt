@@ -1,5 +1,0 @@
-use Rattle.hyd_spec_histories.proofs.Lasting.{length_and_links}
-use Rattle.hyd_spec_histories.proofs.lengths.Goals as goal
-
-pub returns : goal.returns
-returns c = length_and_links

@@ -1,9 +1,0 @@
-use Rattle.hyd_spec_histories.proofs.Clauses.{clause_tells}
-use Rattle.hyd_spec_histories.proofs.Looks.{readings_between}
-use Rattle.hyd_spec_histories.proofs.readings.Goals as goal
-
-pub returns-clause-lie : goal.returns-clause-lie
-returns-clause-lie c = readings_between
-
-pub returns-clause-clauses : goal.returns-clause-clauses
-returns-clause-clauses c = clause_tells

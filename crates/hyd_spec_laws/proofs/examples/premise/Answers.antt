@@ -1,5 +1,0 @@
-use Rattle.std.proofs.Common.{refl}
-use Rattle.hyd_spec_laws.proofs.examples.premise.Goals as goal
-
-pub returns : goal.returns
-returns c = λ x y z. refl

@@ -1,8 +1,0 @@
-use Rattle.hyd_spec_nesting.proofs.Existing.{earliest_is}
-use Rattle.hyd_spec_nesting.proofs.Refining.{leaves_so}
-use Rattle.hyd_spec_nesting.proofs.decisions.Goals as goal
-
-pub returns : goal.returns
-returns c = λ network sound standing grid outer inner nested seconds links leaves.
-    let e = earliest_is network grid standing inner sound.times.hydraulic in
-    leaves_so network sound standing grid outer inner nested seconds e.0 links e.1 leaves

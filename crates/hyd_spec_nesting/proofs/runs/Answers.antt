@@ -1,8 +1,0 @@
-use Rattle.hyd_spec_nesting.proofs.Extending.{run_keeps, run_goes_on}
-use Rattle.hyd_spec_nesting.proofs.runs.Goals as goal
-
-pub returns-clause-keep : goal.returns-clause-keep
-returns-clause-keep c = run_keeps
-
-pub returns-clause-go_on : goal.returns-clause-go_on
-returns-clause-go_on c = run_goes_on

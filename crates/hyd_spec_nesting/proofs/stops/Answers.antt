@@ -1,5 +1,0 @@
-use Rattle.hyd_spec_nesting.proofs.Excluding.{no_stop}
-use Rattle.hyd_spec_nesting.proofs.stops.Goals as goal
-
-pub returns : goal.returns
-returns c = no_stop

@@ -1,5 +1,0 @@
-use Rattle.hyd_spec_raises.proofs.Sweeping.{start-leapt}
-use Rattle.hyd_spec_raises.proofs.leaps.Goals as goal
-
-pub returns : goal.returns
-returns c = start-leapt

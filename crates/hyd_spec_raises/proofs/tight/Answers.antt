@@ -1,9 +1,0 @@
-use Rattle.hyd_spec_raises.proofs.Raising.{tight-or-none}
-use Rattle.hyd_spec_raises.proofs.Sweeping.{nearer-of-two}
-use Rattle.hyd_spec_raises.proofs.tight.Goals as goal
-
-pub returns-clause-found : goal.returns-clause-found
-returns-clause-found c = tight-or-none
-
-pub returns-clause-nearer : goal.returns-clause-nearer
-returns-clause-nearer c = nearer-of-two

@@ -1,6 +1,0 @@
-use Rattle.hyd_spec_readings.proofs.OneNetwork.{one_network}
-use Rattle.hyd_spec_readings.proofs.Reading.{valid_records}
-use Rattle.hyd_spec_readings.proofs.readings.Goals as goal
-
-pub returns : goal.returns
-returns c = λ rows p q f g. valid_records p q (one_network rows p q f g)

@@ -1,8 +1,0 @@
-use Rattle.hyd_spec_readings.proofs.Running.{runs, reports}
-use Rattle.hyd_spec_readings.proofs.runs.Goals as goal
-
-pub returns-clause-run : goal.returns-clause-run
-returns-clause-run c = runs
-
-pub returns-clause-report : goal.returns-clause-report
-returns-clause-report c = reports

@@ -1,8 +1,0 @@
-use Rattle.hyd_spec_tight_runs.proofs.TwoRuns.{fronts, record_fronts}
-use Rattle.hyd_spec_tight_runs.proofs.fronts.Goals as goal
-
-pub returns-clause-periods : goal.returns-clause-periods
-returns-clause-periods c = fronts
-
-pub returns-clause-records : goal.returns-clause-records
-returns-clause-records c = record_fronts

@@ -1,0 +1,52 @@
+-- One step after another.
+use Rattle.std.proofs.Common.{◌∙◌, refl, arith}
+use Rattle.hyd_summarised_run.proofs.SumLemmas.{more-done, more-lost, over-ends, over-stays}
+use Rattle.hyd_summarised_run.proofs.steps.put_steps.Goals as goal
+
+pub returns-in-Ok-Over-clause-puts : goal.returns-in-Ok-Over-clause-puts
+returns-in-Ok-Over-clause-puts g c =
+    let i = c.loop-more.invariant in
+    let p = c.put_step.ensures.project ∙ i.project in
+    let s = c.put_step.ensures.settings ∙ i.settings in
+    let over = rw c.in-Ok-Over.field-0-is at c.in-Ok-Over.ensures.puts in (
+      over-ends _ _ _ _ _ _ _ p s over,
+      λ start so_far. over-stays _ c.args.sim.now.settings _ _ _ _ start _ _ over (i.so_far start so_far),
+    )
+
+pub returns-in-Err-clause-puts : goal.returns-in-Err-clause-puts
+returns-in-Err-clause-puts g c =
+    let i = c.loop-more.invariant in
+    let p = c.put_step.ensures.project ∙ i.project in
+    let s = c.put_step.ensures.settings ∙ i.settings in
+    λ start so_far. more-lost _ _ c.in-Err.fault _ _ start _ _ _ p s c.in-Err.ensures.puts (i.so_far start so_far)
+
+pub overflow_add-events : goal.overflow_add-events
+overflow_add-events g c =
+    let i = c.loop-more.invariant in
+    let did = rw c.in-Ok-Period.field-0-is at c.in-Ok-Period.ensures.puts in
+    let few = i.few in
+    let next = did.next in
+    let small = did.few in
+    let more = c.is_count.ensures in
+    omega (arith, few, next, small, more)
+
+pub loop-more-preserved : goal.loop-more-preserved
+loop-more-preserved g c =
+    let i = c.loop-more.invariant in
+    let p = c.put_step.ensures.project ∙ i.project in
+    let s = c.put_step.ensures.settings ∙ i.settings in
+    let did = rw c.in-Ok-Period.field-0-is at c.in-Ok-Period.ensures.puts in
+    record {
+      project = p;
+      settings = s;
+      unbroken = did.put.unbroken;
+      few = let few = i.few in let next = did.next in let more = c.is_count.ensures in omega (arith, few, next, more);
+      so_far = λ start so_far. more-done _ _ _ _ start _ _ _ _ _ p s refl did (i.so_far start so_far);
+    }
+
+pub loop-more-smaller : goal.loop-more-smaller
+loop-more-smaller g c =
+    let i = c.loop-more.invariant in
+    let p = c.put_step.ensures.project ∙ i.project in
+    let did = rw c.in-Ok-Period.field-0-is at c.in-Ok-Period.ensures.puts in
+    rw p at did.fewer

@@ -1,8 +1,0 @@
-use Rattle.std.proofs.Common.{take}
-use Rattle.hyd_graph.specs.GridOf.{grid_of}
-use Rattle.hyd_sweep.specs.Sweeps.{IsFollowing}
-use Rattle.hyd_sweep.proofs.following.raise_each.Given as goal
-
-abbrev pub invariant-loop-i : goal.invariant-loop-i
-invariant-loop-i l = IsFollowing l.held (grid_of l.net) l.problem l.side (take l.i-index l.order) l.initial.u l.u
-    l.moved

@@ -1,5 +1,0 @@
-use Rattle.hyd_tank.proofs.Walking.{HasCome}
-use Rattle.hyd_tank.proofs.curve.value_at.Given as goal
-
-abbrev pub invariant-loop-i : goal.invariant-loop-i
-invariant-loop-i l = HasCome l.fn.known l.fn.scale l.points l.fn.x l.i

@@ -1,0 +1,68 @@
+use Rattle.std.proofs.Common.{◌≡◌, ◌-ℤ◌, ◌*ℤ◌, pos, ℤ, ap, ◌∙◌, arith, to_z, of_z, w64}
+use Rattle.std.specs.Int.{w128, int_min}
+use Rattle.std.proofs.lemmas.Int.{ints, clamps, to_z-of_z}
+use Rattle.hyd_theorems_on_periods.proofs.Outflows.{le-yes, le-no}
+use Rattle.hyd_theorems_on_periods.proofs.RisingLines.{lt-yes, lt-no}
+use Rattle.hyd_net.specs.Curves.{value_at, volume_at, volume_knots}
+use Rattle.hyd_tank.proofs.Values.{start_is}
+use Rattle.hyd_tank.proofs.Aims.{fallen_always, fallen_never, fallen_bound, fallen_parts, fallen_code, most_parts}
+use Rattle.hyd_tank.proofs.Aims.{least_parts}
+use Rattle.hyd_tank.proofs.volume_curve_tanks.fallen_target.Goals as goal
+
+pub returns-then-level-tank-clause-meets : goal.returns-then-level-tank-clause-meets
+returns-then-level-tank-clause-meets c =
+    let tank = c.args.tank.now in
+    let high = le-yes (to_z w64 (of_z w64 tank.maximum)) (to_z w64 (of_z w64 c.args.level)) c.if-level-tank.true in
+    fallen_always tank c.args.points.now c.args.level c.requires.tank (omega (arith, ints, high))
+
+pub returns-then-level-tank-2-clause-meets : goal.returns-then-level-tank-2-clause-meets
+returns-then-level-tank-2-clause-meets c =
+    let tank = c.args.tank.now in
+    let low = lt-yes (to_z w64 (of_z w64 c.args.level)) (to_z w64 (of_z w64 tank.minimum)) c.if-level-tank-2.true in
+    fallen_never tank c.args.points.now c.args.level c.requires.tank (omega (arith, ints, low))
+
+pub returns-then-level-tank-3-clause-meets : goal.returns-then-level-tank-3-clause-meets
+returns-then-level-tank-3-clause-meets c =
+    let tank = c.args.tank.now in
+    let least = least_parts tank c.args.points.now c.args.volumes c.from.result c.in_parts.result c.requires.volumes
+    c.in_parts.ensures.value c.from.ensures in
+    fallen_bound tank c.args.points.now c.args.level (to_z w128 (of_z w128 c.in_parts.result)) c.requires.tank
+    (omega (arith, ints))
+    (to_z-of_z w128 c.in_parts.result (record { sfits = c.in_parts.type_inv }) ∙ least)
+
+pub floor_of-parts-requires-clause-small : goal.floor_of-parts-requires-clause-small
+floor_of-parts-requires-clause-small c = c.volume_at.ensures.small 864 (omega arith)
+
+pub returns-clause-small : goal.returns-clause-small
+returns-clause-small c =
+    let k = start_is 864 c.from-2.result c.in_parts-2.result c.args.volumes.most c.in_parts-2.ensures.value
+    c.from-2.ensures (omega arith) (omega (arith, ints)) in
+    omega (arith, ints, clamps, c.min.ensures.value, c.floor_of-parts.ensures.small, k)
+
+pub returns-then-level-tank-3-clause-small : goal.returns-then-level-tank-3-clause-small
+returns-then-level-tank-3-clause-small c =
+    let k = start_is 864 c.from.result c.in_parts.result c.args.volumes.least c.in_parts.ensures.value c.from.ensures
+    (omega arith) (omega (arith, ints)) in
+    omega (arith, ints, k)
+
+pub returns-clause-meets : goal.returns-clause-meets
+returns-clause-meets c =
+    let tank = c.args.tank.now in
+    let points = c.args.points.now in
+    let within = le-no (to_z w64 (of_z w64 tank.maximum)) (to_z w64 (of_z w64 c.args.level)) c.if-level-tank.false in
+    let over = lt-no (to_z w64 (of_z w64 c.args.level)) (to_z w64 (of_z w64 tank.minimum)) c.if-level-tank-2.false in
+    let v = value_at 1 (volume_knots points) c.args.level in
+    let top = most_parts tank points c.args.volumes c.from-2.result c.in_parts-2.result c.requires.volumes
+    c.in_parts-2.ensures.value c.from-2.ensures in
+    let floor = to_z-of_z w128 c.floor_of-parts.result (record { sfits = c.floor_of-parts.type_inv }) in
+    let less = to_z w128 (of_z w128 (to_z w128 (of_z w128 c.in_parts-2.result) -ℤ pos 1)) in
+    let less-is : less ≡ c.in_parts-2.result -ℤ pos 1 = omega (arith, ints, c.in_parts-2.ensures.small) in
+    fallen_parts tank points c.args.level (to_z w128 (of_z w128 c.min.result)) c.requires.tank
+    (omega (arith, ints, over)) (omega (arith, ints, within))
+    (fallen_code c.volume_at.result v c.floor_of-parts.result less (to_z w128 (of_z w128 c.min.result))
+    ((pos 864 *ℤ volume_at points tank.maximum) -ℤ pos 1)
+    (c.volume_at.ensures.value ∙ ap (λ (z : ℤ). value_at 1 (volume_knots points) z)
+    (to_z-of_z w64 c.args.level c.ranges.level)) c.floor_of-parts.ensures.value
+    (less-is ∙ ap (λ (z : ℤ). z -ℤ pos 1) top)
+    (to_z-of_z w128 c.min.result (record { sfits = c.min.type_inv }) ∙ c.min.ensures.value
+    ∙ ap (λ (z : ℤ). int_min z less) floor))

@@ -1,6 +1,0 @@
-use Rattle.std.proofs.Common.{◌≡◌, ◌++◌, map, drop}
-use Rattle.hyd_test_periods.proofs.Commands.{start_of}
-use Rattle.hyd_test_periods.proofs.states.starts.Given as goal
-
-abbrev pub invariant-loop-link : goal.invariant-loop-link
-invariant-loop-link l = l.states.items ++ map start_of (drop l.link-index l.links) ≡ map start_of l.links

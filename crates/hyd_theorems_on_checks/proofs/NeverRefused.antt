@@ -1,0 +1,50 @@
+-- A check never refuses the certificate of a run: where it ends, it accepts it, and prints its report.
+use Rattle.std.proofs.Common.{◌≡◌, ℕ, List, length, refl}
+use Rattle.hyd_spec.specs.Types.{Project}
+use Rattle.hyd_spec_reports.specs.ReportLine.{report_text}
+use Rattle.hyd_spec_reports.specs.Headline.{rows_of, lines_of, accepted_line}
+use Rattle.hyd_cert.specs.FaultyLine.{IsCertificate}
+use Rattle.hyd_cert.proofs.SentenceLemmas.{fault_no_certificate, no_certificate_of_others}
+use Rattle.hyd_sim.specs.View.{header_for}
+use Rattle.hyd_cert_check.specs.Checks.{CheckRefusesGrammar, CheckRefusesCounts, CheckRefusal, CheckEnds}
+use Rattle.hyd_cert_check.specs.Checks.{grammar, counts, record_refused, other_end}
+use Rattle.hyd_cert_check.specs.declared.outcome.CheckEnd.{CheckEnd}
+use Rattle.hyd_cert_check.specs.declared.outcome.CheckEnd.TheVariants.{Accepted, Refused}
+use Rattle.hyd_theorems_on_checks.specs.CertificateOfRun.{IsCertificateOfRun}
+use Rattle.hyd_theorems_on_checks.proofs.ByRecord.{no_record_refused}
+use Rattle.hyd_theorems_on_checks.proofs.ByEnd.{no_other_end, one_report}
+
+module _ (network : Project) (text printed : List ℕ) where
+  -- it is one with the header of the network
+  own_header : IsCertificateOfRun network text → IsCertificate (header_for network) text
+  own_header is = record {
+    rows = rows_of is.founds;
+    periods = length is.founds;
+    finished = is.left.finished;
+    is_text = is.certificate;
+  }
+
+  no_fault : IsCertificateOfRun network text → CheckRefusesGrammar network text printed → ⊥
+  no_fault is refuses =
+      let header = header_for network in
+      fault_no_certificate header header text refuses.number refuses.is_fault (own_header is)
+
+  no_other_counts : IsCertificateOfRun network text → CheckRefusesCounts network text printed → ⊥
+  no_other_counts is refuses =
+      no_certificate_of_others (header_for network) text refuses.other_header (own_header is)
+
+  pub never_refused : IsCertificateOfRun network text → CheckRefusal network text printed → ⊥
+  never_refused is (grammar refuses) = no_fault is refuses
+  never_refused is (counts refuses) = no_other_counts is refuses
+  never_refused is (record_refused cause refuses) = no_record_refused network text printed cause is refuses
+  never_refused is (other_end refuses) = no_other_end network text printed is refuses
+
+  pub ends_accepted : (end : CheckEnd) → IsCertificateOfRun network text → CheckEnds network text printed end
+      → end ≡ Accepted
+  ends_accepted Accepted is ends = refl
+  ends_accepted Refused is ends = absurd (never_refused is ends)
+
+  pub ends_with_report : (end : CheckEnd) (is : IsCertificateOfRun network text) → CheckEnds network text printed end
+      → printed ≡ report_text network (lines_of is.founds) (accepted_line (length is.founds) is.left.finished)
+  ends_with_report Accepted is ends = one_report network text printed is ends
+  ends_with_report Refused is ends = absurd (never_refused is ends)

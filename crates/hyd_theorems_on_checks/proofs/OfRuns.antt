@@ -1,0 +1,20 @@
+-- What a run writes, and what a check accepts, is the certificate of a run.
+use Rattle.std.proofs.Common.{ℕ, List}
+use Rattle.hyd_spec.specs.Types.{Project}
+use Rattle.hyd_spec_reports.specs.Headline.{Sharpness, Outcome, RunWrites, CheckAccepts}
+use Rattle.hyd_theorems_on_periods.proofs.RunRecords.{accepts}
+use Rattle.hyd_theorems_on_checks.specs.CertificateOfRun.{IsCertificateOfRun}
+
+pub accepted_is : (network : Project) (text printed : List ℕ) → CheckAccepts network text printed
+    → IsCertificateOfRun network text
+accepted_is network text printed is = record {
+  founds = is.founds;
+  left = is.left;
+  is_run = is.is_run;
+  certificate = is.certificate;
+}
+
+pub written_is : (network : Project) (rounds : ℕ) (sharpness : Sharpness) (outcome : Outcome) (text printed : List ℕ)
+    → RunWrites network rounds sharpness outcome text printed → IsCertificateOfRun network text
+written_is network rounds sharpness outcome text printed run =
+    accepted_is network text _ (accepts network rounds sharpness outcome text printed run)

@@ -1,0 +1,128 @@
+-- A run is the only one with its records, and a record that stands behind them in another run is valid where it ends.
+use Rattle.std.proofs.Common.{◌≡◌, List, [], ◌∷◌, ◌++◌, refl, sym, ap, subst, ◌∙◌}
+use Rattle.hyd_spec.specs.Types.{Project}
+use Rattle.hyd_spec_certificates.specs.Grid.{Grid}
+use Rattle.hyd_spec_certificates.specs.Record.{Record, Standing}
+use Rattle.hyd_spec_certificates.specs.Valid.{IsValid}
+use Rattle.hyd_spec_reports.specs.Report.{IsReport}
+use Rattle.hyd_spec_reports.specs.Headline.{Found, IsFound, IsRunFrom, none, more, rows_of}
+use Rattle.hyd_theorems_on_periods.proofs.OneReport.{one_report}
+use Rattle.hyd_theorems_on_periods.proofs.OneRun.{one_grid}
+use Rattle.hyd_theorems_on_periods.proofs.OneStanding.{one_standing}
+use Rattle.hyd_theorems_on_checks.proofs.Lists.{Begins, begins_more}
+
+module _ (network : Project) where
+  -- ---- one period
+
+  -- what is found of a record at a standing is one
+  one_found : (a b : Found) → a.standing ≡ b.standing → a.row ≡ b.row → IsFound network a → IsFound network b → a ≡ b
+  one_found a b standing row x y =
+      let at : IsValid network a.standing b.grid b.row b.next =
+      subst (λ (s : Standing). IsValid network s b.grid b.row b.next) (sym standing) y.valid in
+      let grid = one_grid network a.standing a.grid b.grid x.valid.is_grid at.is_grid in
+      let too : IsValid network a.standing a.grid a.row b.next =
+      subst (λ (r : Record). IsValid network a.standing a.grid r b.next) (sym row)
+      (subst (λ (g : Grid). IsValid network a.standing g b.row b.next) (sym grid) at) in
+      let next = one_standing network a.grid a.standing a.row a.next b.next x.valid.leads_on too.leads_on in
+      let said : IsReport network a.grid a.standing a.row b.lines =
+      subst (λ (r : Record). IsReport network a.grid a.standing r b.lines) (sym row)
+      (subst (λ (g : Grid). IsReport network g a.standing b.row b.lines) (sym grid)
+      (subst (λ (s : Standing). IsReport network b.grid s b.row b.lines) (sym standing) y.report)) in
+      let lines = one_report network a.grid a.standing a.row a.lines b.lines x.report said in
+      λ i. record { standing = standing i; grid = grid i; row = row i; lines = lines i; next = next i }
+
+  -- ---- from period to period
+
+  -- the first period of a run, and the rest
+  record Steps (start : Standing) (found : Found) (rest : List Found) (last : Standing) : Type 0 where
+    begins : found.standing ≡ start
+    is_found : IsFound network found
+    goes_on : IsRunFrom network found.next rest last
+
+  steps : (start : Standing) (found : Found) (rest : List Found) (last : Standing)
+      → IsRunFrom network start (found ∷ rest) last → Steps start found rest last
+  steps _ found rest last (more is on) = record { begins = refl; is_found = is; goes_on = on }
+
+  -- a run of no periods ends where it begins
+  stays : (start : Standing) (founds : List Found) (last : Standing) → IsRunFrom network start founds last
+      → founds ≡ [] → start ≡ last
+  stays _ _ last none e = refl
+  stays _ _ last (more is on) e = absurd (cc)
+
+  -- two first periods with one record are the same, and the second run goes on from the first one's standing
+  record OneFirst (a b : Found) (ys : List Found) (other : Standing) : Type 0 where
+    same : a ≡ b
+    goes_on : IsRunFrom network a.next ys other
+
+  one_first : (start : Standing) (a b : Found) (xs ys : List Found) (last other : Standing)
+      → IsRunFrom network start (a ∷ xs) last → IsRunFrom network start (b ∷ ys) other → a.row ≡ b.row
+      → OneFirst a b ys other
+  one_first start a b xs ys last other x y row =
+      let s = steps start a xs last x in
+      let t = steps start b ys other y in
+      let first = one_found a b (s.begins ∙ sym t.begins) row s.is_found t.is_found in
+      record {
+        same = first;
+        goes_on = subst (λ (n : Standing). IsRunFrom network n ys other) (ap (λ (f : Found). f.next) (sym first))
+            t.goes_on;
+      }
+
+  pub one_by_records : (start : Standing) (xs ys : List Found) (last other : Standing)
+      → IsRunFrom network start xs last → IsRunFrom network start ys other → rows_of xs ≡ rows_of ys → xs ≡ ys
+  one_by_records start [] [] last other x y e = refl
+  one_by_records start [] (b ∷ ys) last other x y e = absurd (cc)
+  one_by_records start (a ∷ xs) [] last other x y e = absurd (cc)
+  one_by_records start (a ∷ xs) (b ∷ ys) last other x y e =
+      let row : a.row ≡ b.row = cc in
+      let others : rows_of xs ≡ rows_of ys = cc in
+      let first = one_first start a b xs ys last other x y row in
+      let same = first.same in
+      let rest = one_by_records a.next xs ys last other (steps start a xs last x).goes_on first.goes_on others in
+      cc
+
+  -- ---- a record behind a run
+
+  -- the record is valid at the standing
+  pub record IsValidAt (standing : Standing) (row : Record) : Type 0 where
+    pub grid : Grid
+    pub next : Standing
+    pub valid : IsValid network standing grid row next
+
+  first_valid : (start : Standing) (found : Found) (rest : List Found) (last here : Standing) (row : Record)
+      → IsRunFrom network start (found ∷ rest) last → start ≡ here → found.row ≡ row → IsValidAt here row
+  first_valid start found rest last here row run at same =
+      let s = steps start found rest last run in
+      record {
+        grid = found.grid;
+        next = found.next;
+        valid = subst (λ (r : Record). IsValid network here found.grid r found.next) same
+            (subst (λ (t : Standing). IsValid network t found.grid found.row found.next) (s.begins ∙ at)
+            s.is_found.valid);
+      }
+
+  pub next_valid : (start : Standing) (xs ys : List Found) (row : Record) (rows : List Record) (last other : Standing)
+      → IsRunFrom network start xs last → IsRunFrom network start ys other → rows_of ys ≡ rows_of xs ++ (row ∷ rows)
+      → IsValidAt last row
+  next_valid start [] [] row rows last other x y e = absurd (cc)
+  next_valid start [] (b ∷ ys) row rows last other x y e =
+      let same : b.row ≡ row = cc in
+      first_valid start b ys other last row y (stays start [] last x refl) same
+  next_valid start (a ∷ xs) [] row rows last other x y e = absurd (cc)
+  next_valid start (a ∷ xs) (b ∷ ys) row rows last other x y e =
+      let same : a.row ≡ b.row = cc in
+      let others : rows_of ys ≡ rows_of xs ++ (row ∷ rows) = cc in
+      let first = one_first start a b xs ys last other x y same in
+      next_valid a.next xs ys row rows last other (steps start a xs last x).goes_on first.goes_on others
+
+  -- a run begins with the periods of another one whose records are the first of its own
+  pub begins_with : (start : Standing) (xs ys : List Found) (rows : List Record) (last other : Standing)
+      → IsRunFrom network start xs last → IsRunFrom network start ys other → rows_of ys ≡ rows_of xs ++ rows
+      → Begins xs ys
+  begins_with start [] ys rows last other x y e = record { more = ys; is = refl }
+  begins_with start (a ∷ xs) [] rows last other x y e = absurd (cc)
+  begins_with start (a ∷ xs) (b ∷ ys) rows last other x y e =
+      let same : a.row ≡ b.row = cc in
+      let others : rows_of ys ≡ rows_of xs ++ rows = cc in
+      let first = one_first start a b xs ys last other x y same in
+      begins_more a b xs ys first.same
+      (begins_with a.next xs ys rows last other (steps start a xs last x).goes_on first.goes_on others)

@@ -1,0 +1,14 @@
+use Rattle.hyd_spec_certificates.specs.Record.{initial_standing}
+use Rattle.hyd_theorems_on_periods.proofs.OneRun.{one_left}
+use Rattle.hyd_theorems_on_checks.proofs.RunsByRecords.{one_by_records, next_valid}
+use Rattle.hyd_theorems_on_checks.proofs.runs.Goals as goal
+
+pub returns-clause-one : goal.returns-clause-one
+returns-clause-one c = λ network a b last other x y rows.
+    let same = one_by_records network (initial_standing network) a b last other x y rows in
+    (same, one_left network (initial_standing network) a b last other x y same)
+
+pub returns-clause-next : goal.returns-clause-next
+returns-clause-next c = λ network a b row rows last other x y e.
+    let is = next_valid network (initial_standing network) a b row rows last other x y e in
+    (is.grid, is.next, is.valid)

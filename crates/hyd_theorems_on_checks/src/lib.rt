@@ -1,0 +1,122 @@
+//! A check never refuses the certificate of a run, and records that are valid one after another are those of a run. A
+//! text has one answer and one report, and what is printed when a check is broken off begins that report. The
+//! statements on the way stand before these, each the contract of a small function.
+#![tactic(auto)]
+
+ghost use Rattle.std.specs.Prelude.{◌≡◌, ℕ, Bool, List, ◌∷◌, ◌++◌, length, map, All};
+ghost use Rattle.hyd_net.specs.Sound.{Sound};
+ghost use Rattle.hyd_spec.specs.Types.{Project};
+ghost use Rattle.hyd_spec.specs.Lists.{joined};
+ghost use Rattle.hyd_spec.specs.Network.{junction_count, tank_count};
+ghost use Rattle.hyd_spec_certificates.specs.Grid.{Grid};
+ghost use Rattle.hyd_spec_certificates.specs.Record.{Record, Standing};
+ghost use Rattle.hyd_spec_certificates.specs.Valid.{IsValid, AreValid};
+ghost use Rattle.hyd_spec_reports.specs.CertificateText.{IsCertificateText, IsRow, version_of, header_line};
+ghost use Rattle.hyd_spec_reports.specs.CertificateText.{record_text};
+ghost use Rattle.hyd_spec_reports.specs.ReportLine.{report_text};
+ghost use Rattle.hyd_spec_reports.specs.declared.CertRefused.{CertRefused};
+ghost use Rattle.hyd_spec_reports.specs.Headline.{Found, IsRun, rows_of, lines_of, Sharpness, Outcome, RunWrites};
+ghost use Rattle.hyd_spec_reports.specs.Headline.{accepted_line, CheckAccepts, CheckRefuses, CheckRefusesEnd};
+ghost use Rattle.hyd_cert_check.specs.Checks.{CheckRefusal, CheckEnds, CheckBreaksOff};
+ghost use Rattle.hyd_cert_check.specs.declared.outcome.CheckEnd.{CheckEnd};
+ghost use Rattle.hyd_cert_check.specs.declared.outcome.CheckEnd.TheVariants.{Accepted};
+ghost use Rattle.hyd_theorems_on_checks.specs.CertificateOfRun.{IsCertificateOfRun, IsRunOf};
+ghost use Rattle.hyd_theorems_on_checks.specs.Reasons.{HaveOneReason};
+
+/// The records with which the text of a certificate begins, behind its header line, are the first of its records,
+/// whatever is behind them.
+pub fn fronts()
+    ensures { (text unread : List ℕ) (version junctions tanks periods : ℕ) (rows front : List Record) (finished : Bool)
+        → IsCertificateText text version junctions tanks rows periods finished → All (IsRow junctions tanks) front
+        → text ≡ header_line version junctions tanks ++ (joined (map record_text front) ++ unread)
+        → (more : List Record) × (rows ≡ front ++ more) }
+{}
+
+/// Two runs with the same records are the same, and leave the same standing. Where a run goes on behind the records of
+/// another one, its next record is valid at the standing that the other leaves.
+pub fn runs()
+    ensures one { (network : Project) (a b : List Found) (last other : Standing) → IsRun network a last
+        → IsRun network b other → rows_of a ≡ rows_of b → (a ≡ b) × (last ≡ other) }
+    ensures next { (network : Project) (a b : List Found) (row : Record) (rows : List Record) (last other : Standing)
+        → IsRun network a last → IsRun network b other → rows_of b ≡ rows_of a ++ (row ∷ rows)
+        → (grid : Grid) × (next : Standing) × IsValid network last grid row next }
+{}
+
+/// What a run writes is the certificate of a run, and so is what a check accepts.
+pub fn certificates_of_runs()
+    ensures written { (network : Project) (rounds : ℕ) (sharpness : Sharpness) (outcome : Outcome)
+        (text printed : List ℕ) → RunWrites network rounds sharpness outcome text printed
+        → IsCertificateOfRun network text }
+    ensures accepted { (network : Project) (text printed : List ℕ) → CheckAccepts network text printed
+        → IsCertificateOfRun network text }
+{}
+
+/// No record of the certificate of a run is refused.
+pub fn refused_records()
+    ensures { (network : Project) (text printed : List ℕ) (cause : CertRefused) → IsCertificateOfRun network text
+        → CheckRefuses network text printed cause → ⊥ }
+{}
+
+/// Nor is its END line.
+pub fn refused_ends()
+    ensures { (network : Project) (text printed : List ℕ) → IsCertificateOfRun network text
+        → CheckRefusesEnd network text printed → ⊥ }
+{}
+
+// ---- checks
+
+/// A check never refuses the certificate of a run: not by its lines, not by a record, and not by its END line.
+pub fn refusals()
+    ensures { (network : Project) (text printed : List ℕ) → IsCertificateOfRun network text
+        → CheckRefusal network text printed → ⊥ }
+{}
+
+/// A check of the certificate of a run that comes to its end accepts it, and what it prints is the report of that run.
+pub fn checks()
+    ensures accepted { (network : Project) (text printed : List ℕ) (end : CheckEnd) → IsCertificateOfRun network text
+        → CheckEnds network text printed end → end ≡ Accepted }
+    ensures report { (network : Project) (text printed : List ℕ) (end : CheckEnd) (is : IsCertificateOfRun network text)
+        → CheckEnds network text printed end
+        → printed ≡ report_text network (lines_of is.founds) (accepted_line (length is.founds) is.left.finished) }
+{}
+
+// ---- valid records
+
+/// Records of a sound network that are valid one after another are those of a run, each with a report. So the text of
+/// such records, with an END line that says what is so, is the certificate of a run, which no check refuses.
+pub fn valid_records()
+    ensures run { (network : Project) → Sound network → (rows : List Record) (last : Standing)
+        → AreValid network rows last → IsRunOf network rows last }
+    ensures certificate { (network : Project) → Sound network → (text : List ℕ) (rows : List Record) (last : Standing)
+        → AreValid network rows last
+        → IsCertificateText text (version_of network) (junction_count network) (tank_count network) rows (length rows)
+        last.finished
+        → IsCertificateOfRun network text }
+    ensures never_refused { (network : Project) → Sound network → (text printed : List ℕ) (rows : List Record)
+        (last : Standing) → AreValid network rows last
+        → IsCertificateText text (version_of network) (junction_count network) (tank_count network) rows (length rows)
+        last.finished
+        → CheckRefusal network text printed → ⊥ }
+{}
+
+// ---- one answer
+
+/// Checks of one text by a sound network that come to their end end in one way: all of them accept it, or all refuse it
+/// for one reason, and they print one report.
+pub fn one_report()
+    ensures end { (network : Project) → Sound network → (text printed other : List ℕ) (a b : CheckEnd)
+        → CheckEnds network text printed a → CheckEnds network text other b → a ≡ b }
+    ensures reason { (network : Project) → Sound network → (text printed other : List ℕ)
+        (a : CheckRefusal network text printed) (b : CheckRefusal network text other)
+        → HaveOneReason network text printed other a b }
+    ensures report { (network : Project) → Sound network → (text printed other : List ℕ) (a b : CheckEnd)
+        → CheckEnds network text printed a → CheckEnds network text other b → printed ≡ other }
+{}
+
+/// What a check that was broken off has printed, in its last line or before, is a front of the report that each check
+/// of the text prints that comes to its end.
+pub fn broken_off()
+    ensures { (network : Project) → Sound network → (text printed report : List ℕ) (end : CheckEnd)
+        → CheckBreaksOff network text printed → CheckEnds network text report end
+        → (unprinted : List ℕ) × (printed ++ unprinted ≡ report) }
+{}

@@ -1,0 +1,8 @@
+use Rattle.hyd_theorems_on_checks_after_rereading.proofs.OtherReadings.{accepted, report}
+use Rattle.hyd_theorems_on_checks_after_rereading.proofs.checks.Goals as goal
+
+pub returns-clause-accepted : goal.returns-clause-accepted
+returns-clause-accepted c = accepted
+
+pub returns-clause-report : goal.returns-clause-report
+returns-clause-report c = report

@@ -1,0 +1,8 @@
+use Rattle.hyd_theorems_on_checks_after_rereading.proofs.OtherReadings.{readings_accepted, readings_report}
+use Rattle.hyd_theorems_on_checks_after_rereading.proofs.readings.Goals as goal
+
+pub returns-clause-accepted : goal.returns-clause-accepted
+returns-clause-accepted c = readings_accepted
+
+pub returns-clause-report : goal.returns-clause-report
+returns-clause-report c = readings_report

@@ -1,0 +1,8 @@
+use Rattle.hyd_theorems_on_checks_after_rereading.proofs.OtherReadings.{of_runs, of_records}
+use Rattle.hyd_theorems_on_checks_after_rereading.proofs.refusals.Goals as goal
+
+pub returns-clause-of_runs : goal.returns-clause-of_runs
+returns-clause-of_runs c = of_runs
+
+pub returns-clause-of_records : goal.returns-clause-of_records
+returns-clause-of_records c = of_records

@@ -1,0 +1,37 @@
+-- Lists by place.
+use Rattle.std.proofs.Common.{◌≡◌, ℕ, zero, suc, ◌+◌, ℤ, pos, ap, ◌∙◌, arith, List, [], ◌∷◌}
+use Rattle.std.specs.Prelude.{Option, Some, slice_get, slice_index_or}
+use Rattle.std.proofs.lemmas.Int.{ints}
+use Rattle.hyd_spec.specs.Lists.{map_from}
+use Rattle.hyd_spec_certificates.specs.Interval.{Interval}
+use Rattle.hyd_spec_certificates.specs.Decided.{nowhere}
+use Rattle.hyd_theorems_on_periods.specs.Laws.{LiesIn, LevelsLie}
+
+pub same_item : (X : Type 0) (x y : X) → ◌≡◌ {A = Option X} (Some x) (Some y) → x ≡ y
+same_item X x y e = cc
+
+-- an item of a list that f made of the items and their numbers
+pub numbered_at : (X Y : Type 0) (f : ℕ → X → Y) (from : ℕ) (xs : List X) (k : ℕ) (x : X) (d : Y)
+    → slice_get xs k ≡ Some x
+    → slice_index_or (map_from f from xs) k d ≡ f (from + k) x
+numbered_at X Y f from [] k x d e = absurd (cc)
+numbered_at X Y f from (y ∷ xs) zero x d e =
+    let same = same_item X y x e in let n : from ≡ from + 0 = omega arith in
+    ap (λ (z : X). f from z) same ∙ ap (λ (m : ℕ). f m x) n
+numbered_at X Y f from (y ∷ xs) (suc k) x d e =
+    let n : suc from + k ≡ from + suc k = omega arith in
+    numbered_at X Y f (suc from) xs k x d e ∙ ap (λ (m : ℕ). f m x) n
+
+pub numbered_from_start : (X Y : Type 0) (f : ℕ → X → Y) (xs : List X) (k : ℕ) (x : X) (d : Y) → slice_get xs k ≡ Some x
+    → slice_index_or (map_from f 0 xs) k d ≡ f k x
+numbered_from_start X Y f xs k x d e =
+    let n : 0 + k ≡ k = omega arith in numbered_at X Y f 0 xs k x d e ∙ ap (λ (m : ℕ). f m x) n
+
+-- levels lie in their intervals at every place
+pub lies_at : (S : ℕ) (intervals : List Interval) (levels : List ℤ) (k : ℕ) → LevelsLie S intervals levels
+    → LiesIn S (slice_index_or intervals k nowhere) (slice_index_or levels k (pos 0))
+lies_at S [] [] k lie = record { low = omega (arith, ints); high = omega (arith, ints) }
+lies_at S [] (z ∷ levels) k lie = absurd lie
+lies_at S (x ∷ intervals) [] k lie = absurd lie
+lies_at S (x ∷ intervals) (z ∷ levels) zero lie = lie.0
+lies_at S (x ∷ intervals) (z ∷ levels) (suc k) lie = lies_at S intervals levels k lie.1

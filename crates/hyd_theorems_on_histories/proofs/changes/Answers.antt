@@ -1,0 +1,5 @@
+use Rattle.hyd_theorems_on_histories.proofs.Judging.{changes_are}
+use Rattle.hyd_theorems_on_histories.proofs.changes.Goals as goal
+
+pub returns : goal.returns
+returns c = changes_are

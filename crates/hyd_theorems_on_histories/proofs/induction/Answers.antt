@@ -1,0 +1,5 @@
+use Rattle.hyd_theorems_on_histories.proofs.Running.{every_history}
+use Rattle.hyd_theorems_on_histories.proofs.induction.Goals as goal
+
+pub returns : goal.returns
+returns c = every_history

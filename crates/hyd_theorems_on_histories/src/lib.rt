@@ -1,0 +1,155 @@
+//! Every history of a sound network agrees with every run of valid records: heads, lengths, states of tanks and
+//! links, and every line of every report, at every scale. The statements on the way to it stand before it, each the
+//! contract of a small function.
+#![tactic(auto)]
+
+ghost use Rattle.std.specs.Prelude.{◌≡◌, ◌≢◌, ◌<◌, ◌+◌, ℕ, ℤ, false, List, Bool};
+ghost use Rattle.std.specs.List.{list_any, AllZip, AllByRecursion};
+ghost use Rattle.hyd_num.specs.PrintedDecimals.{head_quantity, pressure_quantity, flow_quantity};
+ghost use Rattle.hyd_num.specs.declared.flow_units.FlowUnit.{FlowUnit};
+ghost use Rattle.hyd_net.specs.Sound.{Sound};
+ghost use Rattle.hyd_net.specs.ControlsAndRules.{Compares};
+ghost use Rattle.hyd_spec.specs.Types.{Project, Clause, LinkState};
+ghost use Rattle.hyd_spec.specs.Start.{started};
+ghost use Rattle.hyd_spec.specs.Rules.{Readings, clause_holds, rule_changes, acted};
+ghost use Rattle.hyd_spec.specs.Length.{Period, readings_after, values_at, EndsByLevel, HasItsLength};
+ghost use Rattle.hyd_spec.specs.History.{commanded_after, initial_levels, initial_volumes, initial_links, Begins};
+ghost use Rattle.hyd_spec.specs.History.{IsPeriod, AreNextStocks};
+ghost use Rattle.hyd_spec_certificates.specs.Interval.{Interval};
+ghost use Rattle.hyd_spec_certificates.specs.Grid.{Grid};
+ghost use Rattle.hyd_spec_certificates.specs.Record.{Record, Standing, initial_standing};
+ghost use Rattle.hyd_spec_certificates.specs.Verdict.{at_both_ends, is_unknown};
+ghost use Rattle.hyd_spec_certificates.specs.Decided.{readings_below, readings_above, rule_truths, decided_changes};
+ghost use Rattle.hyd_spec_certificates.specs.Decided.{SomeMayReach, SomeMustReach, links_at};
+ghost use Rattle.hyd_spec_certificates.specs.Valid.{LeavesLinks, IsValid, Continues};
+ghost use Rattle.hyd_spec_reports.specs.ReportLine.{ReportLine};
+ghost use Rattle.hyd_spec_reports.specs.Report.{Prints, AreEndLines};
+ghost use Rattle.hyd_spec_reports.specs.Claims.{LiesBetween, at_part, LineHolds};
+ghost use Rattle.hyd_spec_reports.specs.Headline.{Found, IsRun, EveryHistoryAgrees};
+ghost use Rattle.hyd_theorems_on_periods.specs.Laws.{LiesIn, Tells};
+ghost use Rattle.hyd_theorems_on_histories.specs.Agreement.{AreBetween, IsUnder, AgreesWith, IsOwnState, IsKept};
+
+// ---- printed values
+
+/// The printed ends of an interval enclose each of its values, at every scale.
+pub fn printed_values()
+    ensures heads { (us : Bool) (S : ℕ) (interval ends : Interval) (z : ℤ) → Prints (head_quantity us) interval ends
+        → LiesIn S interval z → LiesBetween ends (at_part S (head_quantity us) z) }
+    ensures pressures { (us : Bool) (S : ℕ) (interval ends : Interval) (z : ℤ)
+        → Prints (pressure_quantity us) interval ends
+        → LiesIn S interval z → LiesBetween ends (at_part S (pressure_quantity us) z) }
+    ensures flows { (unit : FlowUnit) (S : ℕ) (interval ends : Interval) (z : ℤ)
+        → Prints (flow_quantity unit) interval ends
+        → LiesIn S interval z → LiesBetween ends (at_part S (flow_quantity unit) z) }
+{}
+
+// ---- a period under a record
+
+/// What the rules look at in a period lies between what the record's ends give, and a clause that both ends decide is
+/// decided so between them.
+pub fn readings()
+    ensures lie { (network : Project) (S : ℕ) (period : Period) (grid : Grid) (standing : Standing) (row : Record)
+        → IsUnder network S period grid standing row → (seconds : ℕ)
+        → AreBetween network S (readings_below network grid standing row seconds)
+        (readings_after network S period seconds) (readings_above network grid standing row seconds) }
+    ensures clauses { (network : Project) (S time : ℕ) (below x above : Readings) (clause : Clause) → 0 < S
+        → Compares clause.what clause.relation → AreBetween network S below x above
+        → Tells (at_both_ends (clause_holds network 1 time below clause) (clause_holds network 1 time above clause))
+        (clause_holds network S time x clause) }
+{}
+
+/// Where no rule is open, the rules change what the record decides.
+pub fn changes()
+    ensures { (network : Project) → Sound network → (S : ℕ) (period : Period) (grid : Grid) (standing : Standing)
+        (row : Record)
+        → IsUnder network S period grid standing row → (seconds instant : ℕ) → instant ≡ standing.time + seconds
+        → list_any is_unknown (rule_truths network grid standing row seconds) ≡ false
+        → decided_changes network grid standing row seconds ≡ rule_changes network (values_at network S period instant)
+        period.links }
+{}
+
+/// Where a level ends a period, some watched level may have reached its target, and where one must have, a level
+/// ends it.
+pub fn levels()
+    ensures may { (network : Project) (S : ℕ) (period : Period) (grid : Grid) (standing : Standing) (row : Record)
+        → IsUnder network S period grid standing row → (seconds : ℕ) → EndsByLevel network S period seconds
+        → SomeMayReach network grid standing row seconds }
+    ensures must { (network : Project) (S : ℕ) (period : Period) (grid : Grid) (standing : Standing) (row : Record)
+        → IsUnder network S period grid standing row → (seconds : ℕ) → SomeMustReach network grid standing row seconds
+        → EndsByLevel network S period seconds }
+{}
+
+/// A period that isn't the last lasts as long as the record decides, and leaves the links commanded as it decides.
+pub fn lengths()
+    ensures { (network : Project) → Sound network → (S : ℕ) (period : Period) (grid : Grid) (standing : Standing)
+        (row : Record)
+        → IsUnder network S period grid standing row → standing.time ≢ network.times.duration
+        → HasItsLength network S period
+        → (seconds : ℕ) (links : List LinkState) → LeavesLinks network grid standing row seconds links
+        → (period.length ≡ seconds) × (commanded_after network S period ≡ links) }
+{}
+
+/// Each line that a record's end brings holds of the period.
+pub fn end_lines()
+    ensures { (network : Project) → Sound network → (S : ℕ) (commanded : List LinkState) (period : Period) (grid : Grid)
+        (standing : Standing) (row : Record) → IsUnder network S period grid standing row → IsKept network standing
+        → AllZip (IsOwnState network) network.links.list (links_at network standing) → commanded ≡ standing.commanded
+        → period.length ≡ row.length → (lines : List ReportLine) → AreEndLines network grid standing row lines
+        → AllByRecursion (LineHolds network S commanded period) lines }
+{}
+
+// ---- from period to period
+
+/// Pump patterns, controls and rules leave each link in a state of its own.
+pub fn commands()
+    ensures starts { (network : Project) → Sound network
+        → (time : ℕ) (acts : ℕ → Bool → ℤ → Bool) (states : List LinkState)
+        → AllZip (IsOwnState network) network.links.list states
+        → AllZip (IsOwnState network) network.links.list (started network time acts states) }
+    ensures acts { (network : Project) → Sound network → (values : List Bool) (states : List LinkState)
+        → AllZip (IsOwnState network) network.links.list states
+        → AllZip (IsOwnState network) network.links.list (acted network values states) }
+{}
+
+/// The first standing of a run keeps what standings keep, and where a record leads on from one that does, so does the
+/// next.
+pub fn kept()
+    ensures start { (network : Project) → Sound network → IsKept network (initial_standing network) }
+    ensures next { (network : Project) → Sound network → (grid : Grid) (standing : Standing) (row : Record)
+        (next : Standing)
+        → IsKept network standing → Continues network grid standing row next → IsKept network next }
+{}
+
+/// Histories agree with the first standing where they begin. Where one agrees with a standing and a record is valid
+/// there, the period is under the record, and where the record leads on, the history agrees with the next standing at
+/// the period's end.
+pub fn steps()
+    ensures start { (network : Project) (S : ℕ) → 0 < S
+        → AgreesWith network S (initial_standing network) 0 (initial_levels network S) (initial_volumes network S)
+        (initial_links network) }
+    ensures under { (network : Project) → Sound network → (S : ℕ) → 0 < S
+        → (grid : Grid) (standing : Standing) (row : Record)
+        (next : Standing) → IsKept network standing → IsValid network standing grid row next
+        → (time : ℕ) (levels volumes : List ℤ) (commanded : List LinkState)
+        → AgreesWith network S standing time levels volumes commanded
+        → (period : Period) → Begins network S time levels volumes commanded period → IsPeriod network S period
+        → IsUnder network S period grid standing row }
+    ensures agrees { (network : Project) → Sound network → (S : ℕ) → 0 < S
+        → (grid : Grid) (standing : Standing) (row : Record)
+        (next : Standing) → IsKept network standing → IsValid network standing grid row next
+        → (time : ℕ) (levels volumes : List ℤ) (commanded : List LinkState)
+        → AgreesWith network S standing time levels volumes commanded
+        → (period : Period) → Begins network S time levels volumes commanded period → IsPeriod network S period
+        → Continues network grid standing row next
+        → (after_levels after_volumes : List ℤ) → AreNextStocks network S period after_levels after_volumes
+        → AgreesWith network S next (period.time + period.length) after_levels after_volumes
+        (commanded_after network S period) }
+{}
+
+// ---- every history
+
+/// Every history of a sound network agrees with every run of valid records.
+pub fn induction()
+    ensures { (network : Project) → Sound network → (founds : List Found) (last : Standing) → IsRun network founds last
+        → EveryHistoryAgrees network founds }
+{}

@@ -1,0 +1,5 @@
+use Rattle.hyd_theorems_on_input.proofs.Parts.{controls_right}
+use Rattle.hyd_theorems_on_input.proofs.controls.Goals as goal
+
+pub returns : goal.returns
+returns c = controls_right

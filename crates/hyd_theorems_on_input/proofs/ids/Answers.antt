@@ -1,0 +1,5 @@
+use Rattle.hyd_theorems_on_input.proofs.Parts.{ids_right}
+use Rattle.hyd_theorems_on_input.proofs.ids.Goals as goal
+
+pub returns : goal.returns
+returns c = ids_right

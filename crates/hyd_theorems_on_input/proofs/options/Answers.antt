@@ -1,0 +1,5 @@
+use Rattle.hyd_theorems_on_input.proofs.Parts.{options_right}
+use Rattle.hyd_theorems_on_input.proofs.options.Goals as goal
+
+pub returns : goal.returns
+returns c = options_right

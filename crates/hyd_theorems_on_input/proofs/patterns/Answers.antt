@@ -1,0 +1,5 @@
+use Rattle.hyd_theorems_on_input.proofs.Parts.{patterns_right}
+use Rattle.hyd_theorems_on_input.proofs.patterns.Goals as goal
+
+pub returns : goal.returns
+returns c = patterns_right

@@ -1,0 +1,5 @@
+use Rattle.hyd_theorems_on_input.proofs.Parts.{rules_right}
+use Rattle.hyd_theorems_on_input.proofs.rules.Goals as goal
+
+pub returns : goal.returns
+returns c = rules_right

@@ -1,0 +1,88 @@
+-- Every standing that a run leaves keeps what standings keep, and a run that isn't finished goes on or stops.
+use Rattle.std.proofs.Common.{◌≡◌, ℕ, refl, sym, subst, false, List, ◌⊎◌, inl, inr}
+use Rattle.hyd_net.specs.Sound.{Sound}
+use Rattle.hyd_spec.specs.Types.{Project}
+use Rattle.hyd_spec_certificates.specs.Record.{Standing, initial_standing}
+use Rattle.hyd_spec_certificates.specs.Valid.{LeadsOn, continues, finishes, Finishes}
+use Rattle.hyd_spec_reports.specs.Headline.{Found, IsFound, IsRunFrom, none, more, IsRun}
+use Rattle.hyd_theorems_on_periods.proofs.Appending.{run_more}
+use Rattle.hyd_theorems_on_histories.specs.Agreement.{IsKept}
+use Rattle.hyd_theorems_on_histories.proofs.Stepping.{kept_at_start, kept_next}
+use Rattle.hyd_theorems_on_nesting.specs.Nesting.{IsTidy, LeadsSomewhere, IsStopped, IsLonger}
+use Rattle.hyd_theorems_on_nesting.proofs.Holding.{tidy_at_start, tidy_next}
+use Rattle.hyd_theorems_on_nesting.proofs.Reporting.{report_is}
+use Rattle.hyd_theorems_on_nesting.proofs.GoingOn.{goes_on}
+
+-- what a standing of a run keeps
+record Keeps (network : Project) (standing : Standing) : Type 0 where
+  kept : IsKept network standing
+  tidy : IsTidy network standing
+
+module _ (network : Project) (sound : Sound network) where
+  -- the period at the end of the run leaves what it found
+  finished-keeps : (standing next : Standing) (found : Found) → Keeps network standing
+      → Finishes network standing found.row next → Keeps network next
+  finished-keeps standing next found keeps f = subst (Keeps network) (sym f.next_is) (record {
+    kept = record { controls = keeps.kept.controls; levels = keeps.kept.levels; states = keeps.kept.states };
+    tidy = record {
+      levels_each = keeps.tidy.levels_each;
+      volumes_each = keeps.tidy.volumes_each;
+      tanks_each = keeps.tidy.tanks_each;
+      ordered = keeps.tidy.ordered;
+      in_time = keeps.tidy.in_time;
+    };
+  })
+
+  next-keeps : (found : Found) → IsFound network found → Keeps network found.standing → Keeps network found.next
+  next-keeps found is keeps = by-leading is.valid.leads_on
+    where
+      by-leading : LeadsOn network found.grid found.standing found.row found.next → Keeps network found.next
+      by-leading (continues c) = record {
+        kept = kept_next network sound found.grid found.standing found.row found.next keeps.kept c;
+        tidy = tidy_next network sound found.standing found.grid found.row found.next keeps.kept keeps.tidy is.valid c;
+      }
+      by-leading (finishes f) = finished-keeps found.standing found.next found keeps f
+
+  along : (standing : Standing) (founds : List Found) (last : Standing) → IsRunFrom network standing founds last
+      → Keeps network standing → Keeps network last
+  along _ _ last none keeps = keeps
+  along _ _ last (more {found = found} {rest = rest} is go) keeps =
+      along found.next rest last go (next-keeps found is keeps)
+
+  run-keeps : (founds : List Found) (last : Standing) → IsRun network founds last → Keeps network last
+  run-keeps founds last run = along (initial_standing network) founds last run
+      (record { kept = kept_at_start network sound; tidy = tidy_at_start network sound })
+
+  pub run_keeps : (founds : List Found) (last : Standing) → IsRun network founds last
+      → IsKept network last × IsTidy network last
+  run_keeps founds last run = let k = run-keeps founds last run in (k.kept, k.tidy)
+
+  -- one more period, with its report
+  longer : (founds : List Found) (last : Standing) → IsRun network founds last → Keeps network last
+      → LeadsSomewhere network last → IsLonger network founds
+  longer founds last run keeps leads =
+      let report = report_is network sound leads.grid last leads.row keeps.kept keeps.tidy leads.valid.is_grid
+      leads.next leads.valid.leads_on in
+      let found : Found = record {
+        standing = last;
+        grid = leads.grid;
+        row = leads.row;
+        lines = report.0;
+        next =
+            leads.next;
+      } in
+      record {
+        found = found;
+        is_run = run_more network founds last found run refl
+            (record { valid = leads.valid; report = report.1 });
+      }
+
+  pub run_goes_on : (founds : List Found) (last : Standing) → IsRun network founds last → last.finished ≡ false
+      → (rounds : ℕ)
+      → IsLonger network founds ⊎ IsStopped network last rounds
+  run_goes_on founds last run unfinished rounds =
+      let keeps = run-keeps founds last run in
+      elim (goes_on network sound last keeps.kept unfinished rounds) [
+        | inl leads ↦ inl (longer founds last run keeps leads)
+        | inr stopped ↦ inr stopped
+      ]

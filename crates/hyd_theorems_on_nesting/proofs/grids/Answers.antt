@@ -1,0 +1,5 @@
+use Rattle.hyd_theorems_on_nesting.proofs.Gridding.{grid_is}
+use Rattle.hyd_theorems_on_nesting.proofs.grids.Goals as goal
+
+pub returns : goal.returns
+returns c = grid_is

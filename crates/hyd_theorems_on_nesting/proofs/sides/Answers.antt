@@ -1,0 +1,5 @@
+use Rattle.hyd_theorems_on_nesting.proofs.TwoSides.{lower-below}
+use Rattle.hyd_theorems_on_nesting.proofs.sides.Goals as goal
+
+pub returns : goal.returns
+returns c = lower-below

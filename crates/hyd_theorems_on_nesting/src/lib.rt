@@ -1,0 +1,197 @@
+//! What an outer record decides, each record inside it decides in the same way; so a valid record leaves no reason to
+//! stop, and the tight vectors of its standing decide as it does. At each unfinished standing either a valid record
+//! leads on or a stop holds. Each statement is the contract of a small function.
+#![tactic(auto)]
+
+ghost use Rattle.std.specs.Prelude.{◌⊎◌, false, ◌≡◌, ◌≢◌, ◌<◌, ◌≤◌, ◌%◌, ◌+◌, ◌-◌, ◌≤ℤ◌, ◌<ℤ◌, ◌+ℤ◌, ◌-ℤ◌, ℕ, ℤ, pos};
+ghost use Rattle.std.specs.Prelude.{List, [], length, slice_get, Some, ◌∷◌, min};
+ghost use Rattle.hyd_net.specs.Sound.{Sound};
+ghost use Rattle.hyd_spec.specs.Types.{Project, Tank, LinkState};
+ghost use Rattle.hyd_spec.specs.Assignment.{head_at};
+ghost use Rattle.hyd_spec.specs.Tank.{walls_of};
+ghost use Rattle.hyd_spec.specs.Length.{IsLeast};
+ghost use Rattle.hyd_spec_certificates.specs.declared.Problem.{Problem};
+ghost use Rattle.hyd_spec_certificates.specs.declared.Side.TheVariants.{Upper, Lower};
+ghost use Rattle.hyd_spec_certificates.specs.FirstSeconds.{IsFirstSecond};
+ghost use Rattle.hyd_spec_certificates.specs.Stocks.{may_reach, must_reach};
+ghost use Rattle.hyd_spec_certificates.specs.Grid.{Grid, GridLink, fixed_heads};
+ghost use Rattle.hyd_spec_certificates.specs.Boxes.{flow_box};
+ghost use Rattle.hyd_spec_certificates.specs.Certificate.{IsCertificate};
+ghost use Rattle.hyd_spec_certificates.specs.Record.{Record, Standing, initial_standing};
+ghost use Rattle.hyd_spec_certificates.specs.Decided.{Watch, watches, stocks_of_tank, inflow_of_tank, heads_below};
+ghost use Rattle.hyd_spec_certificates.specs.Decided.{heads_above, IsClockLength, IsEarliestEnd, IsLatestEnd};
+ghost use Rattle.hyd_spec_certificates.specs.Decided.{RulesMatter, End, EndsBy};
+ghost use Rattle.hyd_spec_certificates.specs.Valid.{DemandsAreInRange, IsGridAt, LeavesLinks, LeadsOn, IsValid};
+ghost use Rattle.hyd_spec_certificates.specs.Valid.{Continues, stocks_next, levels_next, volumes_next};
+ghost use Rattle.hyd_spec_reports.specs.declared.StopCause.{StopCause};
+ghost use Rattle.hyd_spec_reports.specs.Stops.{Stops};
+ghost use Rattle.hyd_spec_reports.specs.ReportLine.{ReportLine};
+ghost use Rattle.hyd_spec_reports.specs.Report.{IsReport};
+ghost use Rattle.hyd_spec_reports.specs.Headline.{Found, IsRun};
+ghost use Rattle.hyd_theorems_on_periods.specs.Laws.{IsInside, AreInside, HasStock, IsSteady};
+ghost use Rattle.hyd_theorems_on_histories.specs.Agreement.{IsKept};
+ghost use Rattle.hyd_theorems_on_nesting.specs.Nesting.{IsOrdered, AreNested, IsTightened, IsTidy, ReachTest};
+ghost use Rattle.hyd_theorems_on_nesting.specs.Nesting.{watch_passes};
+ghost use Rattle.hyd_theorems_on_nesting.specs.Nesting.{IsFirstAmong, IsWalked, IsReason, LeadsSomewhere, IsStopped};
+ghost use Rattle.hyd_theorems_on_nesting.specs.Nesting.{IsLonger};
+
+// ---- certificates of two sides
+
+/// A LOWER certificate lies strictly below an UPPER one, of whatever problems, where no fixed head of it lies above the
+/// other's; and where some do, by at most as much.
+pub fn sides()
+    ensures { (grid : Grid) → IsSteady grid → (p q : Problem) (u v : List ℤ) (t : ℤ) → IsCertificate grid p Upper u
+        → IsCertificate grid q Lower v → pos 0 ≤ℤ t
+        → ((m : ℕ) → (head_at (fixed_heads grid q Lower) m -ℤ head_at (fixed_heads grid p Upper) m) ≤ℤ t)
+        → (j : ℕ) → j < length v → head_at v j <ℤ (head_at u j +ℤ t) }
+{}
+
+// ---- records inside others
+
+/// The flow boxes, the inflow boxes and the next stocks of an inner record lie inside those of the outer one, and
+/// each has a number.
+pub fn boxes()
+    ensures flows { (network : Project) (standing : Standing) (grid : Grid) (outer inner : Record)
+        → AreNested network standing grid outer inner → (l : ℕ) (link : GridLink) → slice_get grid.links l ≡ Some link
+        → IsInside (flow_box link (heads_below grid inner) (heads_above grid inner))
+        (flow_box link (heads_below grid outer) (heads_above grid outer))
+        × IsOrdered (flow_box link (heads_below grid inner) (heads_above grid inner)) }
+    ensures inflows { (network : Project) (standing : Standing) (grid : Grid) (outer inner : Record)
+        → AreNested network standing grid outer inner → (k : ℕ) (tank : Tank)
+        → slice_get network.tanks.list k ≡ Some tank
+        → IsInside (inflow_of_tank network grid inner k) (inflow_of_tank network grid outer k)
+        × IsOrdered (inflow_of_tank network grid inner k) }
+    ensures stocks { (network : Project) → Sound network → (standing : Standing) (grid : Grid) (outer inner : Record)
+        → AreNested network standing grid outer inner → (seconds k : ℕ) (tank : Tank)
+        → slice_get network.tanks.list k ≡ Some tank
+        → AreInside (stocks_next network grid standing inner seconds k tank)
+        (stocks_next network grid standing outer seconds k tank)
+        × HasStock (stocks_next network grid standing inner seconds k tank) }
+{}
+
+/// An inner record leaves the links after the same seconds and commanded in the same way as the outer one, where that
+/// one decides it.
+pub fn decisions()
+    ensures { (network : Project) → Sound network → (standing : Standing) (grid : Grid) (outer inner : Record)
+        → AreNested network standing grid outer inner → (seconds : ℕ) (links : List LinkState)
+        → LeavesLinks network grid standing outer seconds links
+        → LeavesLinks network grid standing inner seconds links }
+{}
+
+/// The first standing of a run is tidy, and where a valid record leads on from a tidy one, so is the next.
+pub fn tidied()
+    ensures start { (network : Project) → Sound network → IsTidy network (initial_standing network) }
+    ensures next { (network : Project) → Sound network → (standing : Standing) (grid : Grid) (row : Record)
+        (next : Standing)
+        → IsKept network standing → IsTidy network standing → IsValid network standing grid row next
+        → Continues network grid standing row next → IsTidy network next }
+{}
+
+/// Where a valid record leads on, the same record with tight vectors is valid and leads on to the same standing but
+/// for its stocks, which lie inside.
+pub fn tightened()
+    ensures { (network : Project) → Sound network → (standing : Standing) (grid : Grid) (row : Record) (next : Standing)
+        → IsKept network standing → IsTidy network standing → IsValid network standing grid row next
+        → (tight : Record) → IsTightened network grid row tight → Continues network grid standing row next
+        → IsValid network standing grid tight (record next {
+          levels = levels_next network grid standing tight tight.length;
+          volumes =
+              volumes_next network grid standing tight tight.length;
+        }) }
+{}
+
+/// At a standing with a valid record no cause of a stop holds but spent rounds.
+pub fn stops()
+    ensures { (network : Project) → Sound network → (standing : Standing) (grid : Grid) (row : Record) (next : Standing)
+        → IsKept network standing → IsTidy network standing → IsValid network standing grid row next
+        → (rounds : ℕ) (cause : StopCause) → IsReason cause → Stops network standing rounds cause → ⊥ }
+{}
+
+// ---- ends, second by second
+
+/// The first seconds of single watched levels make the earliest and the latest end: of no watched level the first
+/// second is the clock's, of one more the lesser of two.
+pub fn firsts()
+    ensures none { (test : ReachTest) (network : Project) (grid : Grid) (standing : Standing) (row : Record) (cap : ℕ)
+        → IsFirstAmong test network grid standing row cap [] cap }
+    ensures one { (test : ReachTest) (network : Project) (grid : Grid) (standing : Standing) (row : Record) (cap : ℕ)
+        (watch : Watch)
+        (tank : Tank) (second : ℕ) → slice_get network.tanks.list watch.tank ≡ Some tank
+        → IsFirstSecond (test (walls_of network tank) tank (stocks_of_tank standing watch.tank)
+        (inflow_of_tank network grid row watch.tank) watch.target watch.rising) cap second
+        → IsFirstSecond (watch_passes test network grid standing row watch) cap second }
+    ensures more { (test : ReachTest) (network : Project) (grid : Grid) (standing : Standing) (row : Record) (cap : ℕ)
+        (watch : Watch)
+        (watched : List Watch) (e f : ℕ) → IsFirstSecond (watch_passes test network grid standing row watch) cap f
+        → IsFirstAmong test network grid standing row cap watched e
+        → IsFirstAmong test network grid standing row cap (watch ∷ watched) (min f e) }
+    ensures earliest { (network : Project) (grid : Grid) (standing : Standing) (row : Record) (cap : ℕ)
+        → IsClockLength network standing.time cap → (e : ℕ)
+        → IsFirstAmong may_reach network grid standing row cap (watches network standing) e
+        → IsEarliestEnd network grid standing row e }
+    ensures latest { (network : Project) (grid : Grid) (standing : Standing) (row : Record) (cap : ℕ)
+        → IsClockLength network standing.time cap → (e : ℕ)
+        → IsFirstAmong must_reach network grid standing row cap (watches network standing) e
+        → IsLatestEnd network grid standing row e }
+{}
+
+/// From one multiple of the rule step to the next, from the first after the start on: rules matter first where they
+/// matter and mattered at no multiple before.
+pub fn multiples()
+    ensures start { (network : Project) (grid : Grid) (standing : Standing) (row : Record) → 1 ≤ network.times.rule
+        → IsWalked network grid standing row (network.times.rule - standing.time % network.times.rule) }
+    ensures on { (network : Project) (grid : Grid) (standing : Standing) (row : Record) (current : ℕ)
+        → (standing.time + current) % network.times.rule ≡ 0 → (RulesMatter network grid standing row current → ⊥)
+        → IsWalked network grid standing row current
+        → IsWalked network grid standing row (current + network.times.rule) }
+    ensures found { (network : Project) (grid : Grid) (standing : Standing) (row : Record) (current : ℕ)
+        → RulesMatter network grid standing row current → IsWalked network grid standing row current
+        → IsLeast (RulesMatter network grid standing row) current }
+{}
+
+// ---- nothing is missing
+
+/// A standing at which the demands are in range has a grid.
+pub fn grids()
+    ensures { (network : Project) → Sound network → (standing : Standing) → DemandsAreInRange network standing.time
+        → (grid : Grid) × IsGridAt network standing grid }
+{}
+
+/// Under each record a period that doesn't begin at the end of the run ends in some way: the clock allows it a
+/// length, it has an earliest and a latest end, and it is decided or open.
+pub fn ends()
+    ensures lengths { (network : Project) → Sound network → (time : ℕ) → (cap : ℕ) × IsClockLength network time cap }
+    ensures earliest { (network : Project) → Sound network → (grid : Grid) (standing : Standing) (row : Record)
+        → (e : ℕ) × IsEarliestEnd network grid standing row e }
+    ensures latest { (network : Project) → Sound network → (grid : Grid) (standing : Standing) (row : Record)
+        → (e : ℕ) × IsLatestEnd network grid standing row e }
+    ensures some { (network : Project) → Sound network → (grid : Grid) (standing : Standing) (row : Record)
+        → standing.time ≢ network.times.duration → (e : End) × EndsBy network grid standing row e }
+{}
+
+/// Each record that leads on has a report.
+pub fn reports()
+    ensures { (network : Project) → Sound network → (grid : Grid) (standing : Standing) (row : Record) (next : Standing)
+        → IsKept network standing → IsTidy network standing → IsGridAt network standing grid
+        → LeadsOn network grid standing row next
+        → (lines : List ReportLine) × IsReport network grid standing row lines }
+{}
+
+/// At each unfinished standing of a run a valid record leads on, or a cause of a stop holds, whatever the number of
+/// rounds.
+pub fn onward()
+    ensures { (network : Project) → Sound network → (standing : Standing) → IsKept network standing
+        → standing.finished ≡ false
+        → (rounds : ℕ) → LeadsSomewhere network standing ⊎ IsStopped network standing rounds }
+{}
+
+/// Every standing that a run leaves keeps what standings keep. A run that isn't finished goes on by one more period,
+/// or a cause of a stop holds at the standing that it leaves, whatever the number of rounds.
+pub fn runs()
+    ensures keep { (network : Project) → Sound network → (founds : List Found) (last : Standing)
+        → IsRun network founds last
+        → IsKept network last × IsTidy network last }
+    ensures go_on { (network : Project) → Sound network → (founds : List Found) (last : Standing)
+        → IsRun network founds last
+        → last.finished ≡ false → (rounds : ℕ) → IsLonger network founds ⊎ IsStopped network last rounds }
+{}
