@@ -29,7 +29,7 @@ sys.path.insert(0, str(ROOT / 'scripts'))
 from unproved import crates_below, links_to_kit
 
 MAIN = ROOT / 'benchmark' / 'main.txt'
-USES = ['hyd_cert', 'hyd_check', 'hyd_graph', 'hyd_inp', 'hyd_io', 'hyd_newton', 'hyd_report', 'hyd_sim',
+USES = ['hyd_cert', 'hyd_vector_check', 'hyd_period_network', 'hyd_inp', 'hyd_io', 'hyd_finders', 'hyd_report', 'hyd_sim',
         'hyd_spec_certificates', 'hyd_spec_reports']
 TIMES = ['reading', 'ordering', 'opening', 'step', 'proposing', 'checking', 'writing']
 FIELDS = ['outcome', 'passes', 'width', 'junctions', 'links'] + TIMES + ['bytes']

@@ -22,7 +22,7 @@ import networks
 from unproved import ROOT
 
 MAIN = ROOT / 'benchmark' / 'laws_main.txt'
-USES = ['hyd_check', 'hyd_graph', 'hyd_inp', 'hyd_law', 'hyd_net', 'hyd_newton', 'hyd_spec', 'hyd_spec_certificates', 'hyd_sweep']
+USES = ['hyd_vector_check', 'hyd_period_network', 'hyd_inp', 'hyd_law', 'hyd_net', 'hyd_finders', 'hyd_spec', 'hyd_spec_certificates', 'hyd_sweep']
 # The trials are made by the same module as in a run.
 MODULES = [ROOT / 'crates' / 'hyd_sweep' / 'src' / 'aim.rt']
 RUNS = 5

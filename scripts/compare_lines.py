@@ -25,8 +25,8 @@ CRATES = {
     'hyd_lex': 'hyd_spec_lines',
     'hyd_spec': 'hyd_net hyd_num',
     'hyd_spec_input': 'hyd_net hyd_num hyd_spec hyd_spec_lines',
-    'hyd_options_and_rules': 'hyd_lex hyd_net hyd_num hyd_spec_input hyd_spec_lines',
-    'compare_lines': 'hyd_lex hyd_net hyd_options_and_rules',
+    'hyd_option_and_rule_lines': 'hyd_lex hyd_net hyd_num hyd_spec_input hyd_spec_lines',
+    'compare_lines': 'hyd_lex hyd_net hyd_option_and_rule_lines',
 }
 TEXT = (ROOT / 'scripts' / 'compare_lines_text.inp').read_text()
 WORDS = (ROOT / 'scripts' / 'compare_lines_words.txt').read_text().split()

@@ -21,9 +21,9 @@ ghost use Rattle.hyd_as_library.specs.AtDesk.{IsCheckAt, CheckFails, CheckHasCau
 
 use hyd_cert::{CertReader, Record, version_of};
 use hyd_cert_check::{CheckEnd, CheckFault, check};
+use hyd_finders::Gradient;
 use hyd_io::{Channel, Desk, MemDesk, OutFault, Pen};
 use hyd_net::{OutOfMemory, Project};
-use hyd_newton::Gradient;
 use hyd_run::{RunEnd, run};
 use hyd_sim::{Sim, Step};
 use hyd_spec_certificates::{Problem, Side};

@@ -7,8 +7,9 @@ use Rattle.hyd_net.specs.ListView.{ListView}
 use Rattle.hyd_net.specs.States.{CanHave}
 use Rattle.hyd_net.specs.Curves.{Knot, value_at}
 use Rattle.hyd_net.specs.declared.curves.HeadPoint.{HeadPoint}
-use Rattle.hyd_spec.specs.Types.{LinkKind, PipeLink, CheckPipe, PumpLink, CurvePump, Tcv, Fcv, Gpv, Quadratic, Linear}
-use Rattle.hyd_spec.specs.Types.{LinkState, Open, Closed, Speed, Throttle, Limit}
+use Rattle.hyd_spec.specs.ProgramTypes.{LinkKind, PipeLink, CheckPipe, PumpLink, CurvePump, Tcv, Fcv, Gpv, Quadratic}
+use Rattle.hyd_spec.specs.ProgramTypes.{Linear}
+use Rattle.hyd_spec.specs.ProgramTypes.{LinkState, Open, Closed, Speed, Throttle, Limit}
 use Rattle.hyd_spec.specs.Law.{Law}
 use Rattle.hyd_spec.specs.LinkLaw.{own_law}
 use Rattle.hyd_spec_certificates.specs.Interval.{Interval}
@@ -17,10 +18,10 @@ use Rattle.hyd_spec_reports.specs.declared.StatusWord.TheVariants.{Unsure as Wor
 use Rattle.hyd_spec_reports.specs.Report.{by_drive, by_knots, status_of}
 use Rattle.hyd_num.proofs.Integers.{times_rises}
 use Rattle.hyd_lemmas.proofs.Integers.{ceiling_high, ceiling_least}
-use Rattle.hyd_theorems_on_periods.proofs.RisingLines.{lt-yes, value-den}
-use Rattle.hyd_theorems_on_periods.proofs.Outflows.{le-yes}
-use Rattle.hyd_graph.specs.ExactLaw.{is_nothing}
-use Rattle.hyd_bounds.specs.Words.{word_of}
+use Rattle.hyd_theorems_on_definitions.proofs.RisingLines.{lt-yes, value-den}
+use Rattle.hyd_theorems_on_definitions.proofs.Outflows.{le-yes}
+use Rattle.hyd_period_network.specs.ExactLaw.{is_nothing}
+use Rattle.hyd_bounds.specs.StatusWords.{word_of}
 
 -- ---- tests
 

@@ -5,7 +5,7 @@ use Rattle.hyd_spec.specs.Assignment.{head_at}
 use Rattle.hyd_spec_certificates.specs.Interval.{Interval, exactly, width}
 use Rattle.hyd_spec_certificates.specs.Grid.{Grid}
 use Rattle.hyd_spec_certificates.specs.Certificate.{IsInBox}
-use Rattle.hyd_graph.specs.NetView.{NetView}
+use Rattle.hyd_period_network.specs.NetView.{NetView}
 
 -- the ends of a span are those of an interval
 pub record IsSpan (span : Span) (interval : Interval) : Type 0 where

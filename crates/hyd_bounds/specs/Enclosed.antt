@@ -6,8 +6,8 @@ use Rattle.hyd_num.specs.declared.decimals.Span.{Span}
 use Rattle.hyd_num.specs.declared.flow_units.FlowUnit.{FlowUnit}
 use Rattle.hyd_net.specs.ListView.{ListView}
 use Rattle.hyd_net.specs.NetworkRanges.{HasSizes}
-use Rattle.hyd_net.specs.Made.{IsKindMade}
-use Rattle.hyd_spec.specs.Types.{Project, HeadPoint, Pattern, LinkKind, LinkState}
+use Rattle.hyd_net.specs.RoundedFileNumbers.{IsKindMade}
+use Rattle.hyd_spec.specs.ProgramTypes.{Project, HeadPoint, Pattern, LinkKind, LinkState}
 use Rattle.hyd_spec.specs.declared.TankState.{TankState}
 use Rattle.hyd_spec.specs.Assignment.{Assignment, head_at, flow_at, node_heads}
 use Rattle.hyd_spec.specs.Tank.{tank_inflow}
@@ -18,7 +18,7 @@ use Rattle.hyd_spec_certificates.specs.Grid.{Grid, GridLink}
 use Rattle.hyd_spec_certificates.specs.Certificate.{IsCertificate}
 use Rattle.hyd_spec_reports.specs.declared.StatusWord.{StatusWord}
 use Rattle.hyd_spec_reports.specs.Claims.{StatusHolds}
-use Rattle.hyd_theorems_on_periods.specs.Laws.{IsCompared, LiesIn}
+use Rattle.hyd_theorems_on_definitions.specs.Laws.{IsCompared, LiesIn}
 
 -- the interval of a span
 abbrev pub interval_of : Span → Interval

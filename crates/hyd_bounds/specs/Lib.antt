@@ -1,3 +1,3 @@
 pub mod Bounds
-pub mod Words
+pub mod StatusWords
 pub mod Enclosed

@@ -7,15 +7,15 @@ ghost use Rattle.hyd_spec_certificates.specs.declared.Problem.TheVariants.{Main}
 ghost use Rattle.hyd_spec_certificates.specs.declared.Side.TheVariants.{Upper, Lower};
 ghost use Rattle.hyd_spec_certificates.specs.Grid.{all_heads};
 ghost use Rattle.hyd_spec_certificates.specs.Boxes.{flow_box};
-ghost use Rattle.hyd_graph.specs.GridOf.{grid_of};
+ghost use Rattle.hyd_period_network.specs.GridOf.{grid_of};
 ghost use Rattle.hyd_law.specs.LinkLaws.{link_low, link_high, IsSoundLink, LinkAccepts};
 ghost use Rattle.hyd_bounds.specs.Bounds.{IsSpan, IsVector, AreInOrder};
 ghost use Rattle.hyd_bounds.specs.Enclosed.{HoldsFlow};
 
 use crate::heads::{difference, node_head};
-use hyd_graph::Net;
 use hyd_law::{Law, LinkLaw};
 use hyd_num::Span;
+use hyd_period_network::Net;
 use hyd_spec_certificates::{Problem, Side};
 
 /// By how much every flow may miss its law, in flow ticks.

@@ -4,11 +4,11 @@
 ghost use Rattle.std.specs.Prelude.{◌≡◌, ◌<◌, ◌≤◌, ◌*◌, ◌^◌, ◌-ℤ◌, unsigned_abs};
 ghost use Rattle.hyd_spec.specs.Assignment.{head_at};
 ghost use Rattle.hyd_spec_certificates.specs.Grid.{all_heads};
-ghost use Rattle.hyd_graph.specs.GridOf.{grid_of, node_count};
-ghost use Rattle.hyd_graph.specs.Nets.{HasProblem};
+ghost use Rattle.hyd_period_network.specs.GridOf.{grid_of, node_count};
+ghost use Rattle.hyd_period_network.specs.Nets.{HasProblem};
 ghost use Rattle.hyd_bounds.specs.Bounds.{IsVector};
 
-use hyd_graph::Net;
+use hyd_period_network::Net;
 use hyd_spec_certificates::{Problem, Side};
 
 /// The head of a node in a problem and on a side, a vector's for the junctions, in head ticks.

@@ -6,19 +6,19 @@ ghost use Rattle.hyd_spec_certificates.specs.declared.Problem.TheVariants.{Pinne
 ghost use Rattle.hyd_spec_certificates.specs.declared.Side.TheVariants.{Upper, Lower};
 ghost use Rattle.hyd_spec_certificates.specs.Grid.{Grid, all_heads};
 ghost use Rattle.hyd_spec_certificates.specs.Boxes.{inflow_box};
-ghost use Rattle.hyd_graph.specs.GridOf.{grid_of};
+ghost use Rattle.hyd_period_network.specs.GridOf.{grid_of};
 ghost use Rattle.hyd_bounds.specs.Bounds.{IsSpan, IsVector, AreInOrder, TanksInOrder, tank_width, tank_node_of};
 ghost use Rattle.hyd_bounds.specs.Enclosed.{HoldsInflow};
 ghost use Rattle.hyd_spec_certificates.specs.Certificate.{IsCertificate};
-ghost use Rattle.hyd_theorems_on_periods.specs.Laws.{IsSteady};
-ghost use Rattle.hyd_check.specs.Sides.{flows_out};
-ghost use Rattle.hyd_check.specs.Comparing.{FixedWithin};
+ghost use Rattle.hyd_theorems_on_definitions.specs.Laws.{IsSteady};
+ghost use Rattle.hyd_vector_check.specs.Sides.{flows_out};
+ghost use Rattle.hyd_vector_check.specs.Comparing.{FixedWithin};
 
 use crate::flows::TOLERANCE;
-use hyd_check::flows_out;
-use hyd_graph::Net;
 use hyd_num::Span;
+use hyd_period_network::Net;
 use hyd_spec_certificates::{Problem, Side};
+use hyd_vector_check::flows_out;
 
 // The flows of links out of a tank, less those into it, with that tank pinned.
 fn tank_flows(net: &Net, tank: u32, side: Side, u: &[i64], node: u32) -> i128

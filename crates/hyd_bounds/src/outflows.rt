@@ -6,16 +6,16 @@ ghost use Rattle.std.specs.Prelude.{if◌then◌else◌};
 ghost use Rattle.std.specs.Option.{IfSome, option_map, option_copied};
 ghost use Rattle.hyd_spec_certificates.specs.Certificate.{IsInBox};
 ghost use Rattle.hyd_spec_certificates.specs.Boxes.{out_box};
-ghost use Rattle.hyd_graph.specs.GridOf.{grid_of, capacity_of};
+ghost use Rattle.hyd_period_network.specs.GridOf.{grid_of, capacity_of};
 ghost use Rattle.hyd_bounds.specs.Bounds.{IsSpan};
 ghost use Rattle.hyd_bounds.specs.Enclosed.{HoldsOutflow};
 
 use crate::flows::TOLERANCE;
-use hyd_check::outflow;
-use hyd_graph::Net;
 use hyd_law::Quad;
 use hyd_num::Span;
+use hyd_period_network::Net;
 use hyd_spec_certificates::Side;
+use hyd_vector_check::outflow;
 
 // By how much the outflows of a junction may miss, in flow ticks: the tolerance, once more where there is an emitter.
 fn missed(emitter: Option<&Quad>) -> i128

@@ -6,7 +6,7 @@ ghost use Rattle.std.specs.Prelude.{unsigned_abs};
 ghost use Rattle.hyd_net.specs.ListView.{ListView};
 ghost use Rattle.hyd_net.specs.States.{CanHave};
 ghost use Rattle.hyd_net.specs.declared.curves.HeadPoint.{HeadPoint};
-ghost use Rattle.hyd_spec.specs.Types.{LinkKind, LinkState};
+ghost use Rattle.hyd_spec.specs.ProgramTypes.{LinkKind, LinkState};
 ghost use Rattle.hyd_spec.specs.LinkLaw.{own_law};
 ghost use Rattle.hyd_spec.specs.Quantity.{lift_of};
 ghost use Rattle.hyd_spec.specs.Law.{Law as ExactLaw};
@@ -15,20 +15,20 @@ ghost use Rattle.hyd_spec_certificates.specs.declared.Side.TheVariants.{Upper, L
 ghost use Rattle.hyd_spec_certificates.specs.Grid.{GridLink, all_heads};
 ghost use Rattle.hyd_spec_certificates.specs.Boxes.{difference};
 ghost use Rattle.hyd_spec_reports.specs.Report.{by_drive, by_setting, status_of};
-ghost use Rattle.hyd_graph.specs.ExactLaw.{exact_law, one_way_law};
-ghost use Rattle.hyd_graph.specs.GridOf.{grid_of, states_of, own_laws};
+ghost use Rattle.hyd_period_network.specs.ExactLaw.{exact_law, one_way_law};
+ghost use Rattle.hyd_period_network.specs.GridOf.{grid_of, states_of, own_laws};
 ghost use Rattle.hyd_law.specs.Curves.{IsCurve};
-ghost use Rattle.hyd_law.specs.Wrapped.{IsDifference, IsLift};
+ghost use Rattle.hyd_law.specs.LawsOfLaws.{IsDifference, IsLift};
 ghost use Rattle.hyd_law.specs.LinkLaws.{IsSoundLink, LinkAccepts};
 ghost use Rattle.hyd_law.specs.declared.link_law.LinkLaw.TheVariants.{Pump, Bent as BentLaw};
 ghost use Rattle.hyd_bounds.specs.Bounds.{IsVector};
 ghost use Rattle.hyd_bounds.specs.Enclosed.{HoldsStatus};
-ghost use Rattle.hyd_bounds.specs.Words.{open_word, running_word, limited_word, word_of};
+ghost use Rattle.hyd_bounds.specs.StatusWords.{open_word, running_word, limited_word, word_of};
 
 use crate::heads::{difference, node_head};
-use hyd_graph::Net;
 use hyd_law::{Bent, Held, Law, Lifted, LinkLaw, OneWay, Quad};
 use hyd_net::LinkState;
+use hyd_period_network::Net;
 use hyd_spec_certificates::{Problem, Side};
 use hyd_spec_reports::StatusWord;
 

@@ -4,20 +4,20 @@ use Rattle.std.proofs.Common.{true≢false, inl, inr}
 use Rattle.hyd_spec_lines.specs.Lines.{Row}
 use Rattle.hyd_spec_lines.specs.declared.section.Section.{Section}
 use Rattle.hyd_spec_lines.specs.declared.section.Section.TheVariants.{Rules}
-use Rattle.hyd_net.specs.declared.cause.Cause.TheVariants.{Limit}
-use Rattle.hyd_spec_input.specs.ByItself.{IsWrongByItself}
+use Rattle.hyd_net.specs.declared.refusal_cause.Cause.TheVariants.{Limit}
+use Rattle.hyd_spec_input.specs.SingleRows.{IsWrongByItself}
 use Rattle.hyd_spec_input.specs.Capacities.{IsRefusedIn, IsRefusedSetting}
 use Rattle.hyd_spec_input.specs.Columns.{first, word}
 use Rattle.hyd_spec_input.specs.Faults.{NoneIs, IsWrongWithOthers}
 use Rattle.hyd_spec_input.specs.Keywords.{link_word}
 use Rattle.hyd_spec_input.specs.RuleRows.{begins_with, is_rule}
 use Rattle.hyd_spec_input.specs.Tables.{is_of, link_named, allows_link}
-use Rattle.hyd_spec_input.specs.WithOthers as others
-use Rattle.hyd_spec_input.specs.WithOthers.{is_part_word, is_action_word, holds_action}
+use Rattle.hyd_spec_input.specs.RowsTogether as others
+use Rattle.hyd_spec_input.specs.RowsTogether.{is_part_word, is_action_word, holds_action}
 use Rattle.hyd_spec_input.specs.declared.RuleWord.{RuleWord}
 use Rattle.hyd_spec_input.specs.declared.RuleWord.TheVariants.{Rule, If, And, Or, Then, Else, Priority}
 use Rattle.hyd_theorems_on_input.proofs.Faultless.{or_none, all_none, section_is}
-use Rattle.hyd_row_tables.proofs.SectionLemmas.{none_of}
+use Rattle.hyd_text_rows.proofs.SectionLemmas.{none_of}
 use Rattle.hyd_judge_controls.proofs.RuleLemmas.{action_is_right}
 use Rattle.hyd_build_controls.specs.Rows.{IsRightAction}
 use Rattle.hyd_build_controls.proofs.ControlLemmas.{known}

@@ -6,8 +6,8 @@ use Rattle.hyd_net.specs.declared.rules.What.{What}
 use Rattle.hyd_net.specs.declared.rules.What.TheVariants as what
 use Rattle.hyd_net.specs.declared.rules.Value.{Value}
 use Rattle.hyd_net.specs.declared.rules.Value.TheVariants.{Amount}
-use Rattle.hyd_options_and_rules.specs.Meanings as meaning
-use Rattle.hyd_options_and_rules.specs.declared.rules.Value.{Value as Said}
+use Rattle.hyd_option_and_rule_lines.specs.Meanings as meaning
+use Rattle.hyd_option_and_rule_lines.specs.declared.rules.Value.{Value as Said}
 use Rattle.hyd_spec_input.specs.Columns.{amount}
 use Rattle.hyd_spec_input.specs.Project.{IsValue}
 use Rattle.hyd_spec_input.specs.declared.Attribute.{Attribute}

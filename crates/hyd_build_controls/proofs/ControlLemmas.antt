@@ -8,14 +8,14 @@ use Rattle.hyd_spec_lines.specs.Headings.{is_one_of}
 use Rattle.hyd_spec_lines.specs.Lines.{Row}
 use Rattle.hyd_spec_lines.specs.declared.section.Section.{Section}
 use Rattle.hyd_spec_lines.specs.declared.section.Section.TheVariants.{Rules, Tanks, Controls as InControls}
-use Rattle.hyd_net.specs.Ranges.{IsHead}
-use Rattle.hyd_net.specs.declared.cause.Cause.{Cause}
-use Rattle.hyd_net.specs.declared.cause.Cause.TheVariants.{Syntax, Range, UnknownName, Unsupported, Limit}
+use Rattle.hyd_net.specs.NumberRanges.{IsHead}
+use Rattle.hyd_net.specs.declared.refusal_cause.Cause.{Cause}
+use Rattle.hyd_net.specs.declared.refusal_cause.Cause.TheVariants.{Syntax, Range, UnknownName, Unsupported, Limit}
 use Rattle.hyd_net.specs.declared.controls.Control.{Control}
-use Rattle.hyd_num.specs.Quantity.{is_us_unit, head_ticks}
+use Rattle.hyd_num.specs.FileQuantity.{is_us_unit, head_ticks}
 use Rattle.hyd_num.specs.declared.flow_units.FlowUnit.{FlowUnit}
-use Rattle.hyd_spec_input.specs.ByItself as itself
-use Rattle.hyd_spec_input.specs.ByItself.{IsWrongByItself}
+use Rattle.hyd_spec_input.specs.SingleRows as itself
+use Rattle.hyd_spec_input.specs.SingleRows.{IsWrongByItself}
 use Rattle.hyd_spec_input.specs.Capacities.{IsRefusedIn, IsRefusedSetting}
 use Rattle.hyd_spec_input.specs.Columns.{unless, id, meant, asked, one_of, needed, word, word_is, is_option_keyword}
 use Rattle.hyd_spec_input.specs.Columns.{amount}
@@ -24,15 +24,15 @@ use Rattle.hyd_spec_input.specs.Curves.{is_head}
 use Rattle.hyd_spec_input.specs.Faults.{NoneIs, IsWrongWithOthers}
 use Rattle.hyd_spec_input.specs.InForce as force
 use Rattle.hyd_spec_input.specs.Keywords.{link_word, node_word}
-use Rattle.hyd_spec_input.specs.RowMeanings.{tank_ids, number_in}
+use Rattle.hyd_spec_input.specs.MeaningsAcrossRows.{tank_ids, number_in}
 use Rattle.hyd_spec_input.specs.Project.{Match, IsControl}
 use Rattle.hyd_spec_input.specs.Tables.{is_of, rows_of, words_of, words_of_row, node_named, link_named, allows_node}
 use Rattle.hyd_spec_input.specs.Tables.{allows_link}
-use Rattle.hyd_spec_input.specs.WithOthers as others
+use Rattle.hyd_spec_input.specs.RowsTogether as others
 use Rattle.hyd_theorems_on_input.proofs.Faultless.{or_none, all_none, unless_none, needed_none, section_is}
 use Rattle.hyd_theorems_on_input.proofs.Points.{is_head_lies}
-use Rattle.hyd_row_tables.proofs.FoundLemmas.{filter_more, filter_same}
-use Rattle.hyd_row_tables.proofs.SectionLemmas.{none_of}
+use Rattle.hyd_text_rows.proofs.FoundLemmas.{filter_more, filter_same}
+use Rattle.hyd_text_rows.proofs.SectionLemmas.{none_of}
 use Rattle.hyd_build_controls.specs.Controls.{IsRightWhen, AreControls}
 use Rattle.hyd_build_controls.specs.Rows.{IsRightControl}
 use Rattle.hyd_build_controls.proofs.NumberLemmas.{tank_numbered}

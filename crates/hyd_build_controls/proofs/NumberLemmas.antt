@@ -7,7 +7,7 @@ use Rattle.std.proofs.lemmas.Option.{slice_get-map}
 use Rattle.hyd_spec_lines.specs.Lines.{Row}
 use Rattle.hyd_spec_lines.specs.declared.section.Section.TheVariants.{Junctions, Reservoirs, Tanks, Pipes, Pumps}
 use Rattle.hyd_spec_lines.specs.declared.section.Section.TheVariants.{Valves}
-use Rattle.hyd_spec_input.specs.RowMeanings.{node_ids, tank_ids, link_ids, number_in}
+use Rattle.hyd_spec_input.specs.MeaningsAcrossRows.{node_ids, tank_ids, link_ids, number_in}
 use Rattle.hyd_spec_input.specs.Tables.{is_of, is_node, is_link, own_id, rows_of, node_rows, link_rows, node_named}
 use Rattle.hyd_spec_input.specs.Tables.{link_named}
 use Rattle.hyd_theorems_on_input.proofs.Names.{First, Second, Third, one_of_three, named_stands, node_ids_are}

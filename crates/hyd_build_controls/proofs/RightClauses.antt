@@ -5,11 +5,11 @@ use Rattle.std.proofs.lemmas.Bool.{and_parts}
 use Rattle.hyd_spec_lines.specs.Lines.{Row}
 use Rattle.hyd_spec_input.specs.Columns.{word}
 use Rattle.hyd_spec_input.specs.Keywords.{attribute_word}
-use Rattle.hyd_spec_input.specs.RowMeanings.{node_ids, tank_ids, link_ids}
+use Rattle.hyd_spec_input.specs.MeaningsAcrossRows.{node_ids, tank_ids, link_ids}
 use Rattle.hyd_spec_input.specs.RuleRows.{can_have, attribute_place}
 use Rattle.hyd_spec_input.specs.Tables.{node_named, link_named, allows_node, allows_link}
-use Rattle.hyd_spec_input.specs.WithOthers as others
-use Rattle.hyd_spec_input.specs.WithOthers.{can_show}
+use Rattle.hyd_spec_input.specs.RowsTogether as others
+use Rattle.hyd_spec_input.specs.RowsTogether.{can_show}
 use Rattle.hyd_spec_input.specs.declared.Attribute.{Attribute}
 use Rattle.hyd_spec_input.specs.declared.Attribute.TheVariants.{Head, Pressure, Level, Flow, Setting, Status, Time}
 use Rattle.hyd_spec_input.specs.declared.Attribute.TheVariants.{Clock}

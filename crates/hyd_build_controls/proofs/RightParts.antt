@@ -4,22 +4,22 @@ use Rattle.std.proofs.Common.{refl, sym, subst, true≢false, inl}
 use Rattle.hyd_spec_lines.specs.Lines.{Row}
 use Rattle.hyd_spec_lines.specs.declared.section.Section.{Section}
 use Rattle.hyd_spec_lines.specs.declared.section.Section.TheVariants.{Rules}
-use Rattle.hyd_net.specs.declared.cause.Cause.TheVariants.{Syntax}
-use Rattle.hyd_options_and_rules.specs.Meanings.{IsClauseLine, ClauseSays}
-use Rattle.hyd_options_and_rules.specs.declared.rules.ClauseLine.{ClauseLine}
-use Rattle.hyd_spec_input.specs.ByItself as itself
-use Rattle.hyd_spec_input.specs.ByItself.{IsWrongByItself}
+use Rattle.hyd_net.specs.declared.refusal_cause.Cause.TheVariants.{Syntax}
+use Rattle.hyd_option_and_rule_lines.specs.Meanings.{IsClauseLine, ClauseSays}
+use Rattle.hyd_option_and_rule_lines.specs.declared.rules.ClauseLine.{ClauseLine}
+use Rattle.hyd_spec_input.specs.SingleRows as itself
+use Rattle.hyd_spec_input.specs.SingleRows.{IsWrongByItself}
 use Rattle.hyd_spec_input.specs.Columns.{first, unless, needed, ends, number, id, word}
 use Rattle.hyd_spec_input.specs.Faults.{NoneIs, IsWrongWithOthers}
 use Rattle.hyd_spec_input.specs.Keywords.{object_word, attribute_word}
-use Rattle.hyd_spec_input.specs.RowMeanings.{node_ids, tank_ids, link_ids, is_asking, is_priority}
+use Rattle.hyd_spec_input.specs.MeaningsAcrossRows.{node_ids, tank_ids, link_ids, is_asking, is_priority}
 use Rattle.hyd_spec_input.specs.RuleRows as form
 use Rattle.hyd_spec_input.specs.RuleRows.{begins_with, stage_by, is_acting, in_order, line_words, words_about}
 use Rattle.hyd_spec_input.specs.RuleRows.{gets_then, can_have, attribute_of, attribute, relation, value}
 use Rattle.hyd_spec_input.specs.RuleRows.{attribute_place, comparison, clause_about}
 use Rattle.hyd_spec_input.specs.Tables.{is_of, words_of}
-use Rattle.hyd_spec_input.specs.WithOthers as others
-use Rattle.hyd_spec_input.specs.WithOthers.{is_part_word, is_action_word}
+use Rattle.hyd_spec_input.specs.RowsTogether as others
+use Rattle.hyd_spec_input.specs.RowsTogether.{is_part_word, is_action_word}
 use Rattle.hyd_spec_input.specs.declared.Attribute.{Attribute}
 use Rattle.hyd_spec_input.specs.declared.ObjectWord.{ObjectWord}
 use Rattle.hyd_spec_input.specs.declared.ObjectWord.TheVariants.{System, Node, Link}
@@ -29,7 +29,7 @@ use Rattle.hyd_spec_input.specs.declared.Stage.{Stage}
 use Rattle.hyd_spec_input.specs.declared.Stage.TheVariants.{Outside, Named, Asking, Acting, Otherwise, Closed}
 use Rattle.hyd_theorems_on_input.proofs.Faultless.{or_none, all_none, unless_none, needed_none, section_is}
 use Rattle.hyd_theorems_on_input.proofs.RuleLines.{not_rule}
-use Rattle.hyd_row_tables.proofs.SectionLemmas.{none_of}
+use Rattle.hyd_text_rows.proofs.SectionLemmas.{none_of}
 use Rattle.hyd_build_controls.specs.Clauses.{HasNumber}
 use Rattle.hyd_build_controls.specs.Rows.{IsRightAction}
 use Rattle.hyd_build_controls.specs.Rules.{is_clause_word, IsRightClause, is_of_branch, stage_at}

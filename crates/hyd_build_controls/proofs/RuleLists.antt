@@ -7,7 +7,7 @@ use Rattle.hyd_spec_lines.specs.Lines.{Row}
 use Rattle.hyd_spec_lines.specs.declared.section.Section.TheVariants.{Rules}
 use Rattle.hyd_net.specs.declared.rules.Rule.{Rule}
 use Rattle.hyd_spec_input.specs.Columns.{amount}
-use Rattle.hyd_spec_input.specs.RowMeanings.{rule_groups, lines_at, is_priority, priority_of}
+use Rattle.hyd_spec_input.specs.MeaningsAcrossRows.{rule_groups, lines_at, is_priority, priority_of}
 use Rattle.hyd_spec_input.specs.Project.{Match, IsRule}
 use Rattle.hyd_spec_input.specs.RuleRows.{begins_with, stage_by, is_rule, until_rule}
 use Rattle.hyd_spec_input.specs.Tables.{is_of, words_of}

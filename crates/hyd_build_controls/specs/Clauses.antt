@@ -2,7 +2,7 @@
 use Rattle.std.specs.Prelude.{◌≡◌, ℕ, List, None, ⊤}
 use Rattle.hyd_net.specs.declared.rules.What.{What}
 use Rattle.hyd_net.specs.declared.rules.What.TheVariants as what
-use Rattle.hyd_spec_input.specs.RowMeanings.{number_in}
+use Rattle.hyd_spec_input.specs.MeaningsAcrossRows.{number_in}
 use Rattle.hyd_spec_input.specs.declared.Attribute.{Attribute}
 use Rattle.hyd_spec_input.specs.declared.Attribute.TheVariants.{Head, Pressure, Level, Flow, Setting, Status, Time}
 use Rattle.hyd_spec_input.specs.declared.Attribute.TheVariants.{Clock}

@@ -2,12 +2,12 @@
 use Rattle.std.specs.Prelude.{◌≡◌, ℕ, true, false, List, codes, take, None}
 use Rattle.hyd_spec_lines.specs.Lines.{Row}
 use Rattle.hyd_spec_lines.specs.declared.section.Section.TheVariants.{Controls}
-use Rattle.hyd_net.specs.Ranges.{IsHead}
+use Rattle.hyd_net.specs.NumberRanges.{IsHead}
 use Rattle.hyd_net.specs.declared.controls.Control.{Control}
-use Rattle.hyd_num.specs.Quantity.{is_us_unit, head_ticks}
+use Rattle.hyd_num.specs.FileQuantity.{is_us_unit, head_ticks}
 use Rattle.hyd_num.specs.declared.flow_units.FlowUnit.{FlowUnit}
 use Rattle.hyd_spec_input.specs.Columns.{word, word_is, amount}
-use Rattle.hyd_spec_input.specs.RowMeanings.{number_in}
+use Rattle.hyd_spec_input.specs.MeaningsAcrossRows.{number_in}
 use Rattle.hyd_spec_input.specs.Project.{Match, IsControl}
 use Rattle.hyd_spec_input.specs.Tables.{words_of}
 

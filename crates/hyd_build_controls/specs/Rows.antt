@@ -6,7 +6,7 @@ use Rattle.hyd_spec_input.specs.Columns.{word}
 use Rattle.hyd_spec_input.specs.ControlRows as row_form
 use Rattle.hyd_spec_input.specs.RuleRows as form
 use Rattle.hyd_spec_input.specs.Tables.{link_named}
-use Rattle.hyd_spec_input.specs.WithOthers.{set_link, control_node, control_tank, control_level}
+use Rattle.hyd_spec_input.specs.RowsTogether.{set_link, control_node, control_tank, control_level}
 
 -- a row of [CONTROLS] is right in both phases
 pub record IsRightControl (rows : List Row) (row : Row) : Type 0 where

@@ -3,12 +3,12 @@ use Rattle.std.specs.Prelude.{◌≡◌, ℕ, Bool, true, false, List, ◌++◌,
 use Rattle.hyd_spec_lines.specs.Lines.{Row}
 use Rattle.hyd_spec_lines.specs.declared.section.Section.TheVariants.{Rules}
 use Rattle.hyd_net.specs.declared.rules.Rule.{Rule}
-use Rattle.hyd_spec_input.specs.RowMeanings.{rule_groups, lines_at, is_doing, is_otherwise}
+use Rattle.hyd_spec_input.specs.MeaningsAcrossRows.{rule_groups, lines_at, is_doing, is_otherwise}
 use Rattle.hyd_spec_input.specs.Project.{Match, IsRule}
 use Rattle.hyd_spec_input.specs.RuleRows as form
 use Rattle.hyd_spec_input.specs.RuleRows.{begins_with, stage_after, is_rule, until_rule}
 use Rattle.hyd_spec_input.specs.Tables.{is_of, words_of}
-use Rattle.hyd_spec_input.specs.WithOthers as others
+use Rattle.hyd_spec_input.specs.RowsTogether as others
 use Rattle.hyd_spec_input.specs.declared.RuleWord.{RuleWord}
 use Rattle.hyd_spec_input.specs.declared.RuleWord.TheVariants.{If, And, Or}
 use Rattle.hyd_spec_input.specs.declared.Stage.{Stage}

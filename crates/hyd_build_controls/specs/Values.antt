@@ -1,6 +1,6 @@
 -- What clauses of rules compare with.
 use Rattle.std.specs.Prelude.{◌≡◌, Bool, true, false, ℤ}
-use Rattle.hyd_net.specs.Made.{IsAmount}
+use Rattle.hyd_net.specs.RoundedFileNumbers.{IsAmount}
 use Rattle.hyd_net.specs.declared.rules.What.{What}
 use Rattle.hyd_net.specs.declared.rules.What.TheVariants.{Status, Time, Clock}
 use Rattle.hyd_net.specs.declared.rules.Value.{Value}

@@ -4,23 +4,23 @@
 ghost use Rattle.std.specs.Prelude.{◌≡◌, ◌<◌, Some, length, slice_get};
 ghost use Rattle.std.specs.List.{All};
 ghost use Rattle.hyd_spec_lines.specs.Lines.{LiesIn, Row};
-ghost use Rattle.hyd_spec_input.specs.ByItself.{IsWrongByItself};
+ghost use Rattle.hyd_spec_input.specs.SingleRows.{IsWrongByItself};
 ghost use Rattle.hyd_spec_input.specs.Faults.{NoneIs};
 ghost use Rattle.hyd_spec_input.specs.InForce as force;
-ghost use Rattle.hyd_spec_input.specs.RowMeanings.{link_ids};
+ghost use Rattle.hyd_spec_input.specs.MeaningsAcrossRows.{link_ids};
 ghost use Rattle.hyd_spec_input.specs.Project.{IsAction};
 ghost use Rattle.hyd_spec_input.specs.Tables.{link_rows};
-ghost use Rattle.hyd_row_tables.specs.Found.{rows_at};
-ghost use Rattle.hyd_row_tables.specs.Tables.{IsTable};
+ghost use Rattle.hyd_text_rows.specs.Found.{rows_at};
+ghost use Rattle.hyd_text_rows.specs.Tables.{IsTable};
 ghost use Rattle.hyd_build_controls.specs.Rows.{IsRightAction};
 
 use crate::numbering::number_of;
+use hyd_asked_link_states::link_state;
 use hyd_lex::{Line, Lines};
-use hyd_link_states::link_state;
 use hyd_net::{Action, LinkState, Names};
 use hyd_num::FlowUnit;
-use hyd_options_and_rules::{asked_at, or_empty};
-use hyd_row_tables::Table;
+use hyd_option_and_rule_lines::{asked_at, or_empty};
+use hyd_text_rows::Table;
 
 // What stands for an action of a file with a fault.
 const NO_ACTION: Action = Action {

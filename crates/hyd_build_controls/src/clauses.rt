@@ -3,14 +3,14 @@
 
 ghost use Rattle.std.specs.Prelude.{◌≡◌, ℕ, List, Some, true, ℤ, pos, ◌*ℤ◌};
 ghost use Rattle.hyd_spec_lines.specs.Lines.{LiesIn, Row};
-ghost use Rattle.hyd_options_and_rules.specs.Judged.{words_at};
-ghost use Rattle.hyd_options_and_rules.specs.Meanings as meaning;
-ghost use Rattle.hyd_options_and_rules.specs.Meanings.{IsClauseLine};
-ghost use Rattle.hyd_options_and_rules.specs.declared.rules.Value.TheVariants as said;
+ghost use Rattle.hyd_option_and_rule_lines.specs.FaultOrValue.{words_at};
+ghost use Rattle.hyd_option_and_rule_lines.specs.Meanings as meaning;
+ghost use Rattle.hyd_option_and_rule_lines.specs.Meanings.{IsClauseLine};
+ghost use Rattle.hyd_option_and_rule_lines.specs.declared.rules.Value.TheVariants as said;
 ghost use Rattle.hyd_net.specs.declared.rules.What.TheVariants as what_form;
 ghost use Rattle.hyd_spec_input.specs.Columns.{word, units};
 ghost use Rattle.hyd_spec_input.specs.InForce as force;
-ghost use Rattle.hyd_spec_input.specs.RowMeanings.{node_ids, tank_ids, link_ids};
+ghost use Rattle.hyd_spec_input.specs.MeaningsAcrossRows.{node_ids, tank_ids, link_ids};
 ghost use Rattle.hyd_spec_input.specs.Project as project;
 ghost use Rattle.hyd_spec_input.specs.Project.{IsWhat, IsClause};
 ghost use Rattle.hyd_spec_input.specs.RuleRows.{begins_with};
@@ -22,7 +22,7 @@ use crate::values::{quantity_value, time_value};
 use hyd_lex::{Line, Lines};
 use hyd_net::{Clause, Joined, Names, RuleClause, Value, What};
 use hyd_num::FlowUnit;
-use hyd_options_and_rules::{Attribute, ClauseLine, or_empty};
+use hyd_option_and_rule_lines::{Attribute, ClauseLine, or_empty};
 
 // What a clause speaks of.
 fn what_of(attribute: Attribute, name: &[u8], nodes: &Names, tanks: &Names, links: &Names) -> What
@@ -43,34 +43,34 @@ fn what_of(attribute: Attribute, name: &[u8], nodes: &Names, tanks: &Names, link
     }
 }
 
-fn status_of(value: hyd_options_and_rules::Value) -> Value
+fn status_of(value: hyd_option_and_rule_lines::Value) -> Value
     ensures { (asked : List ℕ) → value ≡ meaning.status_value asked → result ≡ project.status_value asked }
 {
     match value {
-        hyd_options_and_rules::Value::Open => Value::Open,
-        hyd_options_and_rules::Value::Closed => Value::Closed,
+        hyd_option_and_rule_lines::Value::Open => Value::Open,
+        hyd_option_and_rule_lines::Value::Closed => Value::Closed,
         _ => Value::Active,
     }
 }
 
-fn time_of(value: hyd_options_and_rules::Value, unit: FlowUnit) -> Value
+fn time_of(value: hyd_option_and_rule_lines::Value, unit: FlowUnit) -> Value
     ensures time { (seconds : ℕ) → value ≡ said.Seconds seconds
         → IsAmountOf unit what_form.Time (pos seconds *ℤ units 1) result }
     ensures clock { (seconds : ℕ) → value ≡ said.Seconds seconds
         → IsAmountOf unit what_form.Clock (pos seconds *ℤ units 1) result }
 {
     match value {
-        hyd_options_and_rules::Value::Seconds(seconds) => time_value(seconds, unit),
+        hyd_option_and_rule_lines::Value::Seconds(seconds) => time_value(seconds, unit),
         _ => Value::Active,
     }
 }
 
-fn quantity_of(value: hyd_options_and_rules::Value, what: What, unit: FlowUnit) -> Value
+fn quantity_of(value: hyd_option_and_rule_lines::Value, what: What, unit: FlowUnit) -> Value
     requires { is_quantity what ≡ true }
     ensures { (nano : ℤ) → meaning.IsNumberValue nano value → IsAmountOf unit what nano result }
 {
     match value {
-        hyd_options_and_rules::Value::Number(number) => quantity_value(what, number, unit),
+        hyd_option_and_rule_lines::Value::Number(number) => quantity_value(what, number, unit),
         _ => Value::Active,
     }
 }
@@ -78,7 +78,7 @@ fn quantity_of(value: hyd_options_and_rules::Value, what: What, unit: FlowUnit) 
 // What a clause compares with.
 fn value_of(
     attribute: Attribute,
-    value: hyd_options_and_rules::Value,
+    value: hyd_option_and_rule_lines::Value,
     what: What,
     unit: FlowUnit,
 ) -> Value

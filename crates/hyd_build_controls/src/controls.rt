@@ -5,25 +5,25 @@ ghost use Rattle.std.specs.Prelude.{◌≡◌, ◌<◌, ◌+◌, ◌==◌, List 
 ghost use Rattle.std.specs.List.{All};
 ghost use Rattle.hyd_spec_lines.specs.Lines.{LiesIn, Row};
 ghost use Rattle.hyd_spec_lines.specs.declared.section.Section.TheVariants.{Controls};
-ghost use Rattle.hyd_options_and_rules.specs.Judged.{words_at};
-ghost use Rattle.hyd_options_and_rules.specs.Meanings as meaning;
-ghost use Rattle.hyd_spec_input.specs.ByItself.{IsWrongByItself};
+ghost use Rattle.hyd_option_and_rule_lines.specs.FaultOrValue.{words_at};
+ghost use Rattle.hyd_option_and_rule_lines.specs.Meanings as meaning;
+ghost use Rattle.hyd_spec_input.specs.SingleRows.{IsWrongByItself};
 ghost use Rattle.hyd_spec_input.specs.Faults.{NoneIs, IsWrongWithOthers};
 ghost use Rattle.hyd_spec_input.specs.InForce as force;
-ghost use Rattle.hyd_spec_input.specs.RowMeanings.{tank_ids, link_ids};
+ghost use Rattle.hyd_spec_input.specs.MeaningsAcrossRows.{tank_ids, link_ids};
 ghost use Rattle.hyd_spec_input.specs.Project.{Match, IsControl, IsWhen};
 ghost use Rattle.hyd_spec_input.specs.Tables.{place as section_place, is_of, words_of, link_rows};
-ghost use Rattle.hyd_row_tables.specs.Found.{rows_at};
-ghost use Rattle.hyd_row_tables.specs.Tables.{IsTable};
+ghost use Rattle.hyd_text_rows.specs.Found.{rows_at};
+ghost use Rattle.hyd_text_rows.specs.Tables.{IsTable};
 ghost use Rattle.hyd_build_controls.specs.Controls.{IsRightWhen, AreControls};
 
 use crate::numbering::{level_ticks, number_of};
+use hyd_asked_link_states::link_state;
 use hyd_lex::{Line, Lines, Section};
-use hyd_link_states::link_state;
 use hyd_net::{Control, LinkState, List, Names, OutOfMemory, When};
 use hyd_num::FlowUnit;
-use hyd_options_and_rules::{WhenLine, or_empty, read_control};
-use hyd_row_tables::Table;
+use hyd_option_and_rule_lines::{WhenLine, or_empty, read_control};
+use hyd_text_rows::Table;
 use std::alloc::Global;
 
 // What stands for a control of a file with a fault.

@@ -2,10 +2,10 @@
 #![tactic(auto)]
 
 ghost use Rattle.std.specs.Prelude.{◌≡◌, Some, None};
-ghost use Rattle.hyd_net.specs.Ranges.{IsHead};
-ghost use Rattle.hyd_num.specs.Quantity as quantity;
-ghost use Rattle.hyd_num.specs.Quantity.{is_us_unit};
-ghost use Rattle.hyd_spec_input.specs.RowMeanings.{number_in};
+ghost use Rattle.hyd_net.specs.NumberRanges.{IsHead};
+ghost use Rattle.hyd_num.specs.FileQuantity as quantity;
+ghost use Rattle.hyd_num.specs.FileQuantity.{is_us_unit};
+ghost use Rattle.hyd_spec_input.specs.MeaningsAcrossRows.{number_in};
 
 use hyd_net::Names;
 use hyd_num::{Decimal, FlowUnit};

@@ -5,22 +5,22 @@ ghost use Rattle.std.specs.Prelude.{◌≡◌, ◌<◌, ℕ, List as ListOf, Som
 ghost use Rattle.std.specs.Prelude.{IfSome, IfNone};
 ghost use Rattle.std.specs.List.{All};
 ghost use Rattle.hyd_spec_lines.specs.Lines.{LiesIn, Row};
-ghost use Rattle.hyd_options_and_rules.specs.Judged.{words_at};
-ghost use Rattle.hyd_options_and_rules.specs.Meanings.{IsRuleLine, IsClauseLine};
-ghost use Rattle.hyd_spec_input.specs.ByItself.{IsWrongByItself};
+ghost use Rattle.hyd_option_and_rule_lines.specs.FaultOrValue.{words_at};
+ghost use Rattle.hyd_option_and_rule_lines.specs.Meanings.{IsRuleLine, IsClauseLine};
+ghost use Rattle.hyd_spec_input.specs.SingleRows.{IsWrongByItself};
 ghost use Rattle.hyd_spec_input.specs.Columns as column;
 ghost use Rattle.hyd_spec_input.specs.Columns.{amount};
 ghost use Rattle.hyd_spec_input.specs.Faults.{NoneIs, IsWrongWithOthers};
 ghost use Rattle.hyd_spec_input.specs.InForce as force;
-ghost use Rattle.hyd_spec_input.specs.RowMeanings as network;
-ghost use Rattle.hyd_spec_input.specs.RowMeanings.{node_ids, tank_ids, link_ids, lines_at};
+ghost use Rattle.hyd_spec_input.specs.MeaningsAcrossRows as network;
+ghost use Rattle.hyd_spec_input.specs.MeaningsAcrossRows.{node_ids, tank_ids, link_ids, lines_at};
 ghost use Rattle.hyd_spec_input.specs.Project as project;
 ghost use Rattle.hyd_spec_input.specs.RuleRows.{begins_with};
 ghost use Rattle.hyd_spec_input.specs.Project.{Match, IsClause, IsAction};
 ghost use Rattle.hyd_spec_input.specs.Tables.{link_rows};
 ghost use Rattle.hyd_spec_input.specs.declared.Stage.TheVariants.{Named};
-ghost use Rattle.hyd_row_tables.specs.Found.{rows_at};
-ghost use Rattle.hyd_row_tables.specs.Tables.{IsTable};
+ghost use Rattle.hyd_text_rows.specs.Found.{rows_at};
+ghost use Rattle.hyd_text_rows.specs.Tables.{IsTable};
 ghost use Rattle.hyd_build_controls.specs.Rules as rules;
 ghost use Rattle.hyd_build_controls.specs.Rules.{is_clause_word, IsRightClause, rest_of_rule, stage_at};
 
@@ -32,9 +32,9 @@ use hyd_net::{
     Action, Clause, Joined, List, Names, OutOfMemory, Relation, RuleClause, Value, What,
 };
 use hyd_num::FlowUnit;
-use hyd_options_and_rules::{ClauseLine, RuleLine, number, read_rule_line};
-use hyd_row_tables::Table;
+use hyd_option_and_rule_lines::{ClauseLine, RuleLine, number, read_rule_line};
 use hyd_spec_input::{RuleWord, Stage};
+use hyd_text_rows::Table;
 use std::alloc::Global;
 
 /// The actions of a rule where its clauses hold, or where they don't.

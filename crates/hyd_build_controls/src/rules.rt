@@ -5,14 +5,14 @@ ghost use Rattle.std.specs.Prelude.{◌≡◌, ◌<◌, ◌+◌, ◌∷◌, Some
 ghost use Rattle.std.specs.List.{All};
 ghost use Rattle.hyd_spec_lines.specs.Lines.{LiesIn, Row};
 ghost use Rattle.hyd_spec_lines.specs.declared.section.Section.TheVariants.{Rules};
-ghost use Rattle.hyd_spec_input.specs.ByItself.{IsWrongByItself};
+ghost use Rattle.hyd_spec_input.specs.SingleRows.{IsWrongByItself};
 ghost use Rattle.hyd_spec_input.specs.Faults.{NoneIs, IsWrongWithOthers};
 ghost use Rattle.hyd_spec_input.specs.InForce as force;
-ghost use Rattle.hyd_spec_input.specs.RowMeanings.{node_ids, tank_ids, link_ids, rule_groups};
+ghost use Rattle.hyd_spec_input.specs.MeaningsAcrossRows.{node_ids, tank_ids, link_ids, rule_groups};
 ghost use Rattle.hyd_spec_input.specs.Project.{Match, IsRule};
 ghost use Rattle.hyd_spec_input.specs.Tables.{words_of, link_rows};
-ghost use Rattle.hyd_row_tables.specs.Found.{rows_at};
-ghost use Rattle.hyd_row_tables.specs.Tables.{IsTable};
+ghost use Rattle.hyd_text_rows.specs.Found.{rows_at};
+ghost use Rattle.hyd_text_rows.specs.Tables.{IsTable};
 ghost use Rattle.hyd_build_controls.specs.Rules.{NamesRule, AreRules, rest_of_rule};
 
 use crate::rule_parts::{Branch, actions_of, clauses_of, priority_of};
@@ -20,8 +20,8 @@ use hyd_judge_single_rows::{first_word, is_rule, is_rules};
 use hyd_lex::{Line, Lines};
 use hyd_net::{List, Names, OutOfMemory, Rule};
 use hyd_num::FlowUnit;
-use hyd_options_and_rules::or_empty;
-use hyd_row_tables::Table;
+use hyd_option_and_rule_lines::or_empty;
+use hyd_text_rows::Table;
 use std::alloc::Global;
 
 fn bytes_of(alloc: Global, word: &[u8]) -> Result<List<u8>, OutOfMemory>

@@ -2,7 +2,7 @@
 #![tactic(auto)]
 
 ghost use Rattle.std.specs.Prelude.{◌≡◌, ◌*◌, ◌^◌, true, pos, ◌*ℤ◌};
-ghost use Rattle.hyd_net.specs.Made.{IsAmount, IsExactly};
+ghost use Rattle.hyd_net.specs.RoundedFileNumbers.{IsAmount, IsExactly};
 ghost use Rattle.hyd_net.specs.declared.rules.What.TheVariants as what_form;
 ghost use Rattle.hyd_spec_input.specs.Columns.{units};
 ghost use Rattle.hyd_build_controls.specs.Values.{is_quantity, IsAmountOf};

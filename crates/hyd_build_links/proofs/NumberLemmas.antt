@@ -12,18 +12,18 @@ use Rattle.hyd_spec_lines.specs.Lines.{Row}
 use Rattle.hyd_spec_lines.specs.declared.line.Line.{Line}
 use Rattle.hyd_spec_lines.specs.declared.section.Section.TheVariants.{Junctions, Reservoirs, Tanks, Pumps, Valves}
 use Rattle.hyd_spec_input.specs.NetworkRows.{pump_curve, valve_curve}
-use Rattle.hyd_spec_input.specs.RowMeanings.{node_ids, number_in, is_among, as_list, bent_name, bend_names}
+use Rattle.hyd_spec_input.specs.MeaningsAcrossRows.{node_ids, number_in, is_among, as_list, bent_name, bend_names}
 use Rattle.hyd_spec_input.specs.Curves.{is_bent}
 use Rattle.hyd_spec_input.specs.Tables.{is_of, is_node, is_link, rows_of, node_rows, link_rows, node_named, row_with}
 use Rattle.hyd_spec_input.specs.Tables.{own_id, curve_named}
-use Rattle.hyd_spec_input.specs.WithOthers.{known_as, known_node}
+use Rattle.hyd_spec_input.specs.RowsTogether.{known_as, known_node}
 use Rattle.hyd_theorems_on_input.proofs.Faultless.{AreRight}
 use Rattle.hyd_theorems_on_input.proofs.Names.{First, Second, Third, one_of_three, node_ids_are, own_ids, row_named}
 use Rattle.hyd_theorems_on_input.proofs.Names.{link_new, named_stands}
 use Rattle.hyd_theorems_on_input.proofs.Occurs.{itself, occurs, occurs_append, occurs_at, has_number, kept_once}
 use Rattle.hyd_theorems_on_input.proofs.Places.{kept_stands, kept_passes}
-use Rattle.hyd_row_tables.specs.Found.{rows_at}
-use Rattle.hyd_row_tables.specs.Tables.{AreFirsts}
+use Rattle.hyd_text_rows.specs.Found.{rows_at}
+use Rattle.hyd_text_rows.specs.Tables.{AreFirsts}
 use Rattle.hyd_build_links.specs.CheckedRows.{HasNumber}
 
 -- a name that occurs has a number

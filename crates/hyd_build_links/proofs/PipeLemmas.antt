@@ -2,8 +2,8 @@
 use Rattle.std.proofs.Common.{◌≡◌, ℕ, Bool, true, false, List, sym, ◌∙◌, inl, inr, if◌then◌else◌}
 use Rattle.std.proofs.lemmas.Bool.{cases_Bool}
 use Rattle.hyd_num.specs.CapacityPairs.{IsMade}
-use Rattle.hyd_num.specs.declared.capacities.Capacity.{Capacity}
-use Rattle.hyd_num.specs.declared.capacities.Origin.TheVariants.{Pipe}
+use Rattle.hyd_num.specs.declared.link_capacities.Capacity.{Capacity}
+use Rattle.hyd_num.specs.declared.link_capacities.Origin.TheVariants.{Pipe}
 use Rattle.hyd_spec_lines.specs.Lines.{Row}
 use Rattle.hyd_network_rows.specs.Rows.{IsPipeRow, pipe_status}
 use Rattle.hyd_network_rows.specs.declared.pipes.PipeRow.{PipeRow}
@@ -12,7 +12,7 @@ use Rattle.hyd_network_rows.specs.declared.pipes.PipeStatus.TheVariants.{Open, C
 use Rattle.hyd_spec_input.specs.Columns.{amount}
 use Rattle.hyd_spec_input.specs.NetworkRows.{has_check_valve, is_closed_pipe, pipe_minor}
 use Rattle.hyd_spec_input.specs.Project.{IsPipeOf}
-use Rattle.hyd_spec_input.specs.WithOthers as others
+use Rattle.hyd_spec_input.specs.RowsTogether as others
 
 pub pipe_made : (rows : List Row) (row : Row) (us : Bool) (pipe : PipeRow) (cap : Capacity) → us ≡ others.us rows
     → IsPipeRow row.words pipe → IsMade cap

@@ -7,20 +7,20 @@ use Rattle.std.proofs.lemmas.Bool.{and_parts}
 use Rattle.std.proofs.lemmas.Int.{ints}
 use lib.Signed.{lt_z}
 use Rattle.hyd_num.specs.CapacityPairs.{IsMade}
-use Rattle.hyd_num.specs.Quantity.{is_us_unit, head_ticks}
-use Rattle.hyd_num.specs.Refusal.{IsRefused}
-use Rattle.hyd_num.specs.declared.capacities.Capacity.{Capacity}
-use Rattle.hyd_num.specs.declared.capacities.Origin.TheVariants.{Pump as PumpOrigin}
+use Rattle.hyd_num.specs.FileQuantity.{is_us_unit, head_ticks}
+use Rattle.hyd_num.specs.CapacityRange.{IsRefused}
+use Rattle.hyd_num.specs.declared.link_capacities.Capacity.{Capacity}
+use Rattle.hyd_num.specs.declared.link_capacities.Origin.TheVariants.{Pump as PumpOrigin}
 use Rattle.hyd_num.specs.declared.decimals.Decimal.{Decimal}
 use Rattle.hyd_num.specs.declared.decimals.Span.{Span}
 use Rattle.hyd_num.specs.declared.flow_units.FlowUnit.{FlowUnit}
-use Rattle.hyd_net.specs.Made.{IsRounded, IsExactly}
+use Rattle.hyd_net.specs.RoundedFileNumbers.{IsRounded, IsExactly}
 use Rattle.hyd_net.specs.declared.links.ShutoffHead.TheVariants.{FourThirds, Given}
 use Rattle.hyd_spec_lines.specs.Lines.{Row}
 use Rattle.hyd_net.specs.declared.links.LinkKind.TheVariants.{Pump}
 use Rattle.hyd_spec_input.specs.Curves.{square, is_bent}
 use Rattle.hyd_spec_input.specs.InForce as force
-use Rattle.hyd_spec_input.specs.RowMeanings.{pattern_number}
+use Rattle.hyd_spec_input.specs.MeaningsAcrossRows.{pattern_number}
 use Rattle.hyd_spec_input.specs.NetworkRows.{pump_curve, pump_pattern}
 use Rattle.hyd_spec_input.specs.Project.{IsPumpKind}
 use Rattle.hyd_spec_input.specs.Tables.{curve_named}

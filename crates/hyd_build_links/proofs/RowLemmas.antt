@@ -4,13 +4,13 @@ use Rattle.std.proofs.Common.{subst, arith, inl, inr}
 use Rattle.std.specs.Prelude.{nat_le}
 use Rattle.std.proofs.lemmas.Bool.{cases_Bool, leb-true, leb-false}
 use Rattle.std.proofs.lemmas.List.{length-map}
-use Rattle.hyd_num.specs.Quantity.{is_us_unit}
+use Rattle.hyd_num.specs.FileQuantity.{is_us_unit}
 use Rattle.hyd_num.specs.declared.decimals.Decimal.{Decimal}
 use Rattle.hyd_spec_lines.specs.Lines.{row_of}
 use Rattle.hyd_spec_lines.specs.declared.line.Line.{Line}
 use Rattle.hyd_spec_lines.specs.declared.section.Section.TheVariants.{Pipes, Pumps, Valves}
-use Rattle.hyd_net.specs.Ranges.{IsUpTo}
-use Rattle.hyd_net.specs.declared.cause.Cause.{Cause}
+use Rattle.hyd_net.specs.NumberRanges.{IsUpTo}
+use Rattle.hyd_net.specs.declared.refusal_cause.Cause.{Cause}
 use Rattle.hyd_network_rows.specs.Rows.{IsPipeRow, IsValveRow}
 use Rattle.hyd_network_rows.specs.declared.pipes.PipeRow.{PipeRow}
 use Rattle.hyd_network_rows.specs.declared.valves.ValveRow.{ValveRow}
@@ -19,15 +19,15 @@ use Rattle.hyd_spec_input.specs.Columns.{or_empty, amount}
 use Rattle.hyd_spec_input.specs.Curves.{is_bent}
 use Rattle.hyd_spec_input.specs.NetworkRows as alone
 use Rattle.hyd_spec_input.specs.Tables.{Point, is_of, curve_named}
-use Rattle.hyd_spec_input.specs.WithOthers as others
+use Rattle.hyd_spec_input.specs.RowsTogether as others
 use Rattle.hyd_theorems_on_input.proofs.Faultless.{right_alone}
 use Rattle.hyd_theorems_on_input.proofs.LinkKinds.{PipeNumbers, pipe_numbers, ValveNumbers, valve_numbers, CurveRight}
 use Rattle.hyd_theorems_on_input.proofs.LinkKinds.{straight_range, pump_right}
-use Rattle.hyd_link_states.proofs.RangeLemmas.{throttle_alone, coefficient_right}
+use Rattle.hyd_asked_link_states.proofs.RangeLemmas.{throttle_alone, coefficient_right}
 use Rattle.hyd_build_links.specs.Pumps.{ArePumpPoints}
 use Rattle.hyd_build_links.specs.CheckedRows.{IsRowOf, rows_from}
 use Rattle.hyd_curves.specs.Points.{points_in}
-use Rattle.hyd_build_links.specs.declared.checked_rows.LinkSource.{LinkSource}
+use Rattle.hyd_build_links.specs.declared.link_source.LinkSource.{LinkSource}
 use Rattle.hyd_curves.specs.declared.points.CurvePoint.{CurvePoint}
 use Rattle.hyd_build_links.proofs.SourceLemmas.{right_source, free_row}
 

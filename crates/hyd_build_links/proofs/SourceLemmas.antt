@@ -7,16 +7,16 @@ use Rattle.std.proofs.lemmas.List.Elements.{filter_passes}
 use Rattle.hyd_spec_lines.specs.Bytes.{words_in, is_blank}
 use Rattle.hyd_spec_lines.specs.Lines.{Row, row_of}
 use Rattle.hyd_spec_lines.specs.declared.section.Section.{Section}
-use Rattle.hyd_net.specs.declared.cause.Cause.TheVariants.{Limit}
-use Rattle.hyd_spec_input.specs.ByItself as itself
+use Rattle.hyd_net.specs.declared.refusal_cause.Cause.TheVariants.{Limit}
+use Rattle.hyd_spec_input.specs.SingleRows as itself
 use Rattle.hyd_spec_input.specs.Capacities.{IsRefusedIn, IsRefusedRow}
 use Rattle.hyd_spec_input.specs.Tables.{is_of}
-use Rattle.hyd_spec_input.specs.WithOthers as others
+use Rattle.hyd_spec_input.specs.RowsTogether as others
 use Rattle.hyd_theorems_on_input.proofs.Faultless.{AreRight, section_is}
 use Rattle.hyd_theorems_on_input.proofs.Places.{source}
-use Rattle.hyd_row_tables.proofs.SectionLemmas.{none_of}
+use Rattle.hyd_text_rows.proofs.SectionLemmas.{none_of}
 use Rattle.hyd_build_links.specs.CheckedRows.{IsRightSource, rows_from}
-use Rattle.hyd_build_links.specs.declared.checked_rows.LinkSource.{LinkSource}
+use Rattle.hyd_build_links.specs.declared.link_source.LinkSource.{LinkSource}
 
 -- no word of a line is empty
 line_words : (line : List ℕ) → All (λ w. 1 ≤ length w) (words_in line)

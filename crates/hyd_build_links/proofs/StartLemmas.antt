@@ -3,7 +3,7 @@ use Rattle.std.proofs.Common.{◌≡◌, ℕ, Bool, true, false, List, length, t
 use Rattle.std.proofs.Common.{ap, ◌∙◌, inl, inr, codes, if◌then◌else◌, arith}
 use Rattle.std.specs.Str.{bytes_eq}
 use Rattle.std.proofs.lemmas.Bool.{cases_Bool}
-use Rattle.hyd_num.specs.Quantity.{is_us_unit}
+use Rattle.hyd_num.specs.FileQuantity.{is_us_unit}
 use Rattle.hyd_num.specs.declared.decimals.Decimal.{Decimal}
 use Rattle.hyd_spec_lines.specs.Bytes.{is_keyword}
 use Rattle.hyd_spec_lines.specs.Lines.{Row, row_of}
@@ -12,33 +12,33 @@ use Rattle.hyd_spec_lines.specs.declared.section.Section.TheVariants.{Pipes, Pum
 use Rattle.hyd_net.specs.declared.links.LinkState.{LinkState}
 use Rattle.hyd_net.specs.declared.links.LinkState.TheVariants.{Throttle}
 use Rattle.hyd_net.specs.declared.links.LinkState.TheVariants as state
-use Rattle.hyd_options_and_rules.specs.Meanings.{IsAsked}
-use Rattle.hyd_options_and_rules.specs.declared.controls.Asked.{Asked}
+use Rattle.hyd_option_and_rule_lines.specs.Meanings.{IsAsked}
+use Rattle.hyd_option_and_rule_lines.specs.declared.controls.Asked.{Asked}
 use Rattle.hyd_network_rows.specs.Rows.{pipe_status}
 use Rattle.hyd_network_rows.specs.declared.pipes.PipeStatus.{PipeStatus}
 use Rattle.hyd_network_rows.specs.declared.pipes.PipeStatus.TheVariants.{Closed}
 use Rattle.hyd_spec_input.specs.Capacities.{IsRefusedSetting}
 use Rattle.hyd_spec_input.specs.Columns.{word, amount, is_option_keyword}
-use Rattle.hyd_spec_input.specs.BelongingRows as data_row
+use Rattle.hyd_spec_input.specs.DemandCurveAndStatusRows as data_row
 use Rattle.hyd_spec_input.specs.InForce as force
-use Rattle.hyd_spec_input.specs.RowMeanings.{status_of, last_naming}
+use Rattle.hyd_spec_input.specs.MeaningsAcrossRows.{status_of, last_naming}
 use Rattle.hyd_spec_input.specs.NetworkRows as alone
 use Rattle.hyd_spec_input.specs.Project.{IsNumberState, Where}
 use Rattle.hyd_spec_input.specs.Tables.{is_of, is_link, link_named, rows_of, own_id}
-use Rattle.hyd_spec_input.specs.WithOthers as others
+use Rattle.hyd_spec_input.specs.RowsTogether as others
 use Rattle.hyd_theorems_on_input.proofs.Faultless.{right_alone, right_among, all_none}
 use Rattle.hyd_theorems_on_input.proofs.InForce.{keyword_same, in_force}
 use Rattle.hyd_theorems_on_input.proofs.LinkKinds.{not_of}
 use Rattle.hyd_theorems_on_input.proofs.LinkStates.{valve_range}
 use Rattle.hyd_theorems_on_input.proofs.Names.{row_named, link_new}
 use Rattle.hyd_theorems_on_input.proofs.Occurs.{same_name}
-use Rattle.hyd_link_states.proofs.StateLemmas as states
-use Rattle.hyd_link_states.specs.States.{IsRightLink, IsSettable, IsThrottled, limit_fault}
-use Rattle.hyd_row_tables.proofs.SectionLemmas.{all_rows}
-use Rattle.hyd_link_states.proofs.RightLinks.{right_link}
+use Rattle.hyd_asked_link_states.proofs.StateLemmas as states
+use Rattle.hyd_asked_link_states.specs.AskedLinks.{IsRightLink, IsSettable, IsThrottled, limit_fault}
+use Rattle.hyd_text_rows.proofs.SectionLemmas.{all_rows}
+use Rattle.hyd_asked_link_states.proofs.RightLinks.{right_link}
 use Rattle.hyd_build_links.specs.CheckedRows.{IsRowOf, rows_from}
-use Rattle.hyd_build_links.specs.declared.checked_rows.LinkSource.{LinkSource}
-use Rattle.hyd_link_states.proofs.RangeLemmas.{throttle_alone}
+use Rattle.hyd_build_links.specs.declared.link_source.LinkSource.{LinkSource}
+use Rattle.hyd_asked_link_states.proofs.RangeLemmas.{throttle_alone}
 use Rattle.hyd_build_links.proofs.SourceLemmas.{right_source, free_row}
 
 -- ---- pipes

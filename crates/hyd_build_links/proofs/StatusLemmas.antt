@@ -13,11 +13,11 @@ use Rattle.hyd_spec_lines.specs.Lines.{Row, LiesIn, row_of}
 use Rattle.hyd_spec_lines.specs.declared.line.Line.{Line}
 use Rattle.hyd_spec_lines.specs.declared.section.Section.TheVariants.{Status}
 use Rattle.hyd_spec_input.specs.InForce.{last_where, or_earlier, where_passes}
-use Rattle.hyd_spec_input.specs.RowMeanings.{number_in, last_naming}
+use Rattle.hyd_spec_input.specs.MeaningsAcrossRows.{number_in, last_naming}
 use Rattle.hyd_spec_input.specs.Tables.{is_of, rows_of, own_id}
-use Rattle.hyd_row_tables.proofs.FoundLemmas.{filter_more, filter_same}
-use Rattle.hyd_row_tables.proofs.SectionLemmas.{all_rows}
-use Rattle.hyd_row_tables.specs.Found.{rows_at}
+use Rattle.hyd_text_rows.proofs.FoundLemmas.{filter_more, filter_same}
+use Rattle.hyd_text_rows.proofs.SectionLemmas.{all_rows}
+use Rattle.hyd_text_rows.specs.Found.{rows_at}
 use Rattle.hyd_theorems_on_input.proofs.Occurs.{same_name, itself, number_names}
 use Rattle.hyd_build_links.specs.Statuses.{row_in, AreNone, AreStatuses}
 

@@ -3,15 +3,15 @@ use Rattle.std.specs.Prelude.{◌≡◌, ℕ, Bool, true, List, Some, slice_get}
 use Rattle.std.specs.List.{All}
 use Rattle.hyd_spec_lines.specs.Lines.{Row, LiesIn, row_of}
 use Rattle.hyd_spec_lines.specs.declared.line.Line.{Line}
-use Rattle.hyd_spec_input.specs.ByItself.{IsWrongByItself}
+use Rattle.hyd_spec_input.specs.SingleRows.{IsWrongByItself}
 use Rattle.hyd_spec_input.specs.Faults.{NoneIs, IsWrongWithOthers}
 use Rattle.hyd_spec_input.specs.InForce as force
-use Rattle.hyd_spec_input.specs.RowMeanings.{number_in, node_ids, pattern_ids, bend_names}
+use Rattle.hyd_spec_input.specs.MeaningsAcrossRows.{number_in, node_ids, pattern_ids, bend_names}
 use Rattle.hyd_spec_input.specs.Tables.{link_rows}
-use Rattle.hyd_row_tables.specs.Found.{rows_at}
-use Rattle.hyd_row_tables.specs.Tables.{IsTable}
+use Rattle.hyd_text_rows.specs.Found.{rows_at}
+use Rattle.hyd_text_rows.specs.Tables.{IsTable}
 use Rattle.hyd_curves.specs.Points.{ArePoints}
-use Rattle.hyd_build_links.specs.declared.checked_rows.LinkSource.{LinkSource}
+use Rattle.hyd_build_links.specs.declared.link_source.LinkSource.{LinkSource}
 
 -- the rows of a source
 abbrev pub rows_from : List ℕ → LinkSource → List Row

@@ -5,7 +5,7 @@ use Rattle.std.specs.Option.{option_map}
 use Rattle.hyd_spec_lines.specs.Lines.{Row, LiesIn, row_of}
 use Rattle.hyd_spec_lines.specs.declared.line.Line.{Line}
 use Rattle.hyd_spec_lines.specs.declared.section.Section.TheVariants.{Status}
-use Rattle.hyd_spec_input.specs.RowMeanings.{number_in, last_naming}
+use Rattle.hyd_spec_input.specs.MeaningsAcrossRows.{number_in, last_naming}
 use Rattle.hyd_spec_input.specs.Tables.{rows_of}
 
 -- the row of a line that may be there

@@ -2,7 +2,7 @@
 //! [VALVES] and [STATUS]), of a file whose rows are right by themselves and with the others.
 #![tactic(auto)]
 
-mod checked_rows;
+mod link_source;
 mod links;
 mod numbering;
 mod pipes;
@@ -12,5 +12,5 @@ mod starts;
 mod statuses;
 mod valves;
 
-pub use checked_rows::LinkSource;
+pub use link_source::LinkSource;
 pub use links::build_links;

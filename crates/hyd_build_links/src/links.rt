@@ -9,7 +9,7 @@ ghost use Rattle.hyd_build_links.specs.CheckedRows.{IsRightSource, IsRowOf, rows
 ghost use Rattle.hyd_build_links.specs.Statuses.{AreStatuses};
 ghost use Rattle.hyd_build_links.specs.Built.{AreBuilt, is_link_section};
 
-use crate::checked_rows::LinkSource;
+use crate::link_source::LinkSource;
 use crate::numbering::number;
 use crate::pipes::pipe_kind;
 use crate::pumps::pump_kind;
@@ -18,7 +18,7 @@ use crate::statuses::gather_statuses;
 use crate::valves::valve_kind;
 use hyd_lex::{Line, Lines, Section};
 use hyd_net::{Link, LinkKind, OutOfMemory};
-use hyd_options_and_rules::or_empty;
+use hyd_option_and_rule_lines::or_empty;
 use std::alloc::Global;
 
 // What the link of a row is.

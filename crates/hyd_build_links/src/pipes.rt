@@ -4,19 +4,19 @@
 ghost use Rattle.std.specs.Prelude.{◌≡◌, List};
 ghost use Rattle.hyd_spec_lines.specs.Lines.{Row, row_of};
 ghost use Rattle.hyd_spec_lines.specs.declared.section.Section.TheVariants.{Pipes};
-ghost use Rattle.hyd_resist.specs.Ranges.{IsLength, IsDiameter, IsRoughness, IsMinorCoefficient};
+ghost use Rattle.hyd_capacities.specs.Ranges.{IsLength, IsDiameter, IsRoughness, IsMinorCoefficient};
 ghost use Rattle.hyd_network_rows.specs.Rows.{IsPipeRow};
 ghost use Rattle.hyd_spec_input.specs.Capacities.{IsRefusedPipe};
 ghost use Rattle.hyd_spec_input.specs.Project.{IsPipeKind};
 ghost use Rattle.hyd_spec_input.specs.Tables.{is_of};
-ghost use Rattle.hyd_spec_input.specs.WithOthers as others;
+ghost use Rattle.hyd_spec_input.specs.RowsTogether as others;
 ghost use Rattle.hyd_build_links.specs.CheckedRows.{IsRowOf, rows_from};
 
-use crate::checked_rows::LinkSource;
+use crate::link_source::LinkSource;
+use hyd_capacities::pipe_capacity;
 use hyd_lex::{Line, Lines};
 use hyd_net::LinkKind;
 use hyd_network_rows::{PipeRow, PipeStatus, read_pipe};
-use hyd_resist::pipe_capacity;
 
 /// What a pipe is whose capacity is in range.
 pub(crate) fn pipe_of(pipe: &PipeRow<'_>, us: bool) -> LinkKind

@@ -2,19 +2,19 @@
 #![tactic(auto)]
 
 ghost use Rattle.std.specs.Prelude.{◌≡◌, ◌≤ℤ◌, ◌<ℤ◌, ◌-ℤ◌, ◌*ℤ◌, ◌≤◌, ◌^◌, pos};
-ghost use Rattle.hyd_num.specs.Quantity as quantity;
-ghost use Rattle.hyd_num.specs.declared.capacities.Origin.TheVariants as origin;
+ghost use Rattle.hyd_num.specs.FileQuantity as quantity;
+ghost use Rattle.hyd_num.specs.declared.link_capacities.Origin.TheVariants as origin;
 ghost use Rattle.hyd_num.specs.CapacityPairs.{IsMade};
-ghost use Rattle.hyd_num.specs.Refusal.{IsRefused};
-ghost use Rattle.hyd_net.specs.Made.{IsRounded, IsExactly};
-ghost use Rattle.hyd_resist.specs.Ranges.{IsCurveFlow};
+ghost use Rattle.hyd_num.specs.CapacityRange.{IsRefused};
+ghost use Rattle.hyd_net.specs.RoundedFileNumbers.{IsRounded, IsExactly};
+ghost use Rattle.hyd_capacities.specs.Ranges.{IsCurveFlow};
 ghost use Rattle.hyd_build_links.specs.Pumps.{ArePumpPoints, IsPumpLaw};
 ghost use Rattle.hyd_curves.specs.Points.{points_in};
 
+use hyd_capacities::pump_capacity;
 use hyd_curves::CurvePoint;
 use hyd_net::ShutoffHead;
 use hyd_num::{Capacity, Decimal, FlowUnit, Span, mul_div_ceil, mul_div_floor};
-use hyd_resist::pump_capacity;
 use hyd_units::head_ticks;
 
 /// What a pump with a curve of one point or three is made of.

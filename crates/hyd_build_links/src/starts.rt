@@ -6,7 +6,7 @@ ghost use Rattle.hyd_spec_lines.specs.Lines.{LiesIn, row_of};
 ghost use Rattle.hyd_spec_lines.specs.declared.section.Section.TheVariants.{Pumps, Valves};
 ghost use Rattle.hyd_network_rows.specs.Rows.{pipe_status};
 ghost use Rattle.hyd_spec_input.specs.Columns.{word, amount};
-ghost use Rattle.hyd_spec_input.specs.RowMeanings.{status_of};
+ghost use Rattle.hyd_spec_input.specs.MeaningsAcrossRows.{status_of};
 ghost use Rattle.hyd_spec_input.specs.NetworkRows as row;
 ghost use Rattle.hyd_spec_input.specs.Project as project;
 ghost use Rattle.hyd_spec_input.specs.Project.{IsOwnState, IsStart, IsState, IsNumberState, Where};
@@ -14,13 +14,13 @@ ghost use Rattle.hyd_spec_input.specs.Tables.{is_of, is_link};
 ghost use Rattle.hyd_build_links.specs.CheckedRows.{IsRowOf, rows_from};
 ghost use Rattle.hyd_build_links.specs.Statuses.{AreStatuses};
 
-use crate::checked_rows::LinkSource;
+use crate::link_source::LinkSource;
 use crate::statuses::status_line;
+use hyd_asked_link_states::{limit_state, link_state, speed_state, throttle_state};
 use hyd_lex::{Line, Lines, Section};
-use hyd_link_states::{limit_state, link_state, speed_state, throttle_state};
 use hyd_net::LinkState;
 use hyd_network_rows::{PipeStatus, ValveSetting, read_pipe, read_pump, read_status, read_valve};
-use hyd_row_tables::own_id;
+use hyd_text_rows::own_id;
 
 // The state of a pipe's status word; a pipe with a check valve is open.
 fn status_state(status: PipeStatus) -> LinkState

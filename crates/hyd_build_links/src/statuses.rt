@@ -4,17 +4,17 @@
 ghost use Rattle.std.specs.Prelude.{◌≡◌, ◌<◌, ◌+◌, ◌==◌, ℕ, List, Option, length, take, IfOk, IfSome};
 ghost use Rattle.std.specs.List.{All};
 ghost use Rattle.hyd_spec_lines.specs.Lines.{LiesIn, Row};
-ghost use Rattle.hyd_spec_input.specs.RowMeanings.{last_naming};
+ghost use Rattle.hyd_spec_input.specs.MeaningsAcrossRows.{last_naming};
 ghost use Rattle.hyd_spec_lines.specs.declared.section.Section.TheVariants.{Status};
 ghost use Rattle.hyd_spec_input.specs.Tables.{place as section_place, rows_of};
-ghost use Rattle.hyd_row_tables.specs.Found.{rows_at};
-ghost use Rattle.hyd_row_tables.specs.Tables.{IsEven};
+ghost use Rattle.hyd_text_rows.specs.Found.{rows_at};
+ghost use Rattle.hyd_text_rows.specs.Tables.{IsEven};
 ghost use Rattle.hyd_build_links.specs.CheckedRows.{HasNumber};
 ghost use Rattle.hyd_build_links.specs.Statuses.{AreNone, AreStatuses, row_in};
 
 use hyd_lex::{Line, Lines, Section};
 use hyd_net::OutOfMemory;
-use hyd_row_tables::{Table, own_id};
+use hyd_text_rows::{Table, own_id};
 use std::alloc::Global;
 
 fn is_status(section: Section) -> bool

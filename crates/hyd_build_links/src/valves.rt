@@ -7,10 +7,10 @@ ghost use Rattle.hyd_spec_input.specs.Project.{IsValveKind};
 ghost use Rattle.hyd_spec_input.specs.Tables.{is_of};
 ghost use Rattle.hyd_build_links.specs.CheckedRows.{IsRowOf, rows_from};
 
-use crate::checked_rows::LinkSource;
+use crate::link_source::LinkSource;
 use crate::numbering::number;
+use hyd_asked_link_states::valve_law;
 use hyd_lex::{Line, Lines};
-use hyd_link_states::valve_law;
 use hyd_net::LinkKind;
 use hyd_network_rows::{ValveSetting, read_valve};
 

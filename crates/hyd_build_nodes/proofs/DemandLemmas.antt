@@ -9,30 +9,30 @@ use Rattle.std.proofs.lemmas.Int.{ints}
 use Rattle.std.proofs.lemmas.List.{map-set, map-append, length-map, get_or-set_same, get_or-set_other, length-set}
 use Rattle.std.proofs.lemmas.List.{get_or-map}
 use Rattle.std.proofs.lemmas.List.Elements.{filter-append, All-push, All-map}
-use Rattle.hyd_num.specs.Quantity.{flow_ticks}
+use Rattle.hyd_num.specs.FileQuantity.{flow_ticks}
 use Rattle.hyd_num.specs.declared.flow_units.FlowUnit.{FlowUnit}
 use Rattle.hyd_spec_lines.specs.Bytes.{text_of}
 use Rattle.hyd_spec_lines.specs.Lines.{Row}
 use Rattle.hyd_spec_lines.specs.declared.line.Line.{Line}
 use Rattle.hyd_spec_lines.specs.declared.section.Section.TheVariants.{Demands}
 use Rattle.hyd_net.specs.ListView.{ListView}
-use Rattle.hyd_net.specs.Ranges.{IsFlow}
+use Rattle.hyd_net.specs.NumberRanges.{IsFlow}
 use Rattle.hyd_net.specs.declared.nodes.Demand.{Demand}
 use Rattle.hyd_network_rows.specs.Rows.{IsDemandRow}
-use Rattle.hyd_network_rows.specs.declared.belongings.DemandRow.{DemandRow}
+use Rattle.hyd_network_rows.specs.declared.demands_curves_and_statuses.DemandRow.{DemandRow}
 use Rattle.hyd_spec_input.specs.Columns.{amount, word, or_empty}
 use Rattle.hyd_spec_input.specs.Faults.{NoneIs, IsWrongWithOthers}
 use Rattle.hyd_spec_input.specs.InForce as force
-use Rattle.hyd_spec_input.specs.RowMeanings.{number_in, pattern_ids, demand_of_row}
+use Rattle.hyd_spec_input.specs.MeaningsAcrossRows.{number_in, pattern_ids, demand_of_row}
 use Rattle.hyd_spec_input.specs.Tables.{is_of, rows_of, rows_with, own_id, node_rows}
-use Rattle.hyd_spec_input.specs.WithOthers as others
+use Rattle.hyd_spec_input.specs.RowsTogether as others
 use Rattle.hyd_theorems_on_input.proofs.Faultless.{all_none}
 use Rattle.hyd_theorems_on_input.proofs.NodeRanges.{flow_right}
-use Rattle.hyd_row_tables.specs.Found.{rows_at}
-use Rattle.hyd_row_tables.specs.Tables.{AreFirsts}
-use Rattle.hyd_row_tables.proofs.FoundLemmas.{filter_more, filter_same}
-use Rattle.hyd_row_tables.proofs.SectionLemmas.{all_rows}
-use Rattle.hyd_row_tables.proofs.TableLemmas.{even}
+use Rattle.hyd_text_rows.specs.Found.{rows_at}
+use Rattle.hyd_text_rows.specs.Tables.{AreFirsts}
+use Rattle.hyd_text_rows.proofs.FoundLemmas.{filter_more, filter_same}
+use Rattle.hyd_text_rows.proofs.SectionLemmas.{all_rows}
+use Rattle.hyd_text_rows.proofs.TableLemmas.{even}
 use Rattle.hyd_build_nodes.specs.Gathered.{demand_by, each, AreEmpty, IsSetAt, value_of, AreDemands}
 use Rattle.hyd_build_nodes.proofs.RightLemmas.{among}
 use Rattle.hyd_build_nodes.proofs.ReservoirLemmas.{pattern_is}

@@ -7,32 +7,32 @@ use Rattle.std.specs.Str.{bytes_eq}
 use Rattle.std.specs.Cmp.Lexicographic.{bytes_decides}
 use Rattle.std.proofs.lemmas.List.{get_or-set_same, get_or-set_other, length-set}
 use Rattle.std.proofs.lemmas.List.Elements.{All-push}
-use Rattle.hyd_num.specs.declared.capacities.Capacity.{Capacity}
+use Rattle.hyd_num.specs.declared.link_capacities.Capacity.{Capacity}
 use Rattle.hyd_num.specs.declared.flow_units.FlowUnit.{FlowUnit}
 use Rattle.hyd_spec_lines.specs.Lines.{Row}
 use Rattle.hyd_spec_lines.specs.declared.line.Line.{Line}
 use Rattle.hyd_spec_lines.specs.declared.section.Section.{Section}
 use Rattle.hyd_spec_lines.specs.declared.section.Section.TheVariants.{Emitters}
-use Rattle.hyd_net.specs.Ranges.{Lies}
-use Rattle.hyd_net.specs.declared.cause.Cause.TheVariants.{Limit}
+use Rattle.hyd_net.specs.NumberRanges.{Lies}
+use Rattle.hyd_net.specs.declared.refusal_cause.Cause.TheVariants.{Limit}
 use Rattle.hyd_network_rows.specs.Rows.{IsEmitterRow}
-use Rattle.hyd_network_rows.specs.declared.belongings.EmitterRow.{EmitterRow}
-use Rattle.hyd_spec_input.specs.ByItself.{IsWrongByItself}
+use Rattle.hyd_network_rows.specs.declared.demands_curves_and_statuses.EmitterRow.{EmitterRow}
+use Rattle.hyd_spec_input.specs.SingleRows.{IsWrongByItself}
 use Rattle.hyd_spec_input.specs.Capacities.{IsRefusedEmitter, IsRefusedIn}
 use Rattle.hyd_spec_input.specs.Columns.{amount, word, or_empty, needed, id, up_to, ends, units}
 use Rattle.hyd_spec_input.specs.Faults.{NoneIs, IsWrongWithOthers}
 use Rattle.hyd_spec_input.specs.InForce as force
 use Rattle.hyd_spec_input.specs.InForce.{last_where, or_earlier, where_passes}
-use Rattle.hyd_spec_input.specs.RowMeanings.{number_in, last_naming, coefficient}
+use Rattle.hyd_spec_input.specs.MeaningsAcrossRows.{number_in, last_naming, coefficient}
 use Rattle.hyd_spec_input.specs.Project.{IsEmitter}
 use Rattle.hyd_spec_input.specs.Tables.{is_of, rows_of, own_id, node_rows}
-use Rattle.hyd_spec_input.specs.WithOthers as others
+use Rattle.hyd_spec_input.specs.RowsTogether as others
 use Rattle.hyd_theorems_on_input.proofs.Faultless.{all_none, needed_none, within, section_is}
-use Rattle.hyd_row_tables.specs.Found.{rows_at}
-use Rattle.hyd_row_tables.specs.Tables.{AreFirsts}
-use Rattle.hyd_row_tables.proofs.FoundLemmas.{filter_more, filter_same}
-use Rattle.hyd_row_tables.proofs.SectionLemmas.{none_of, all_rows}
-use Rattle.hyd_row_tables.proofs.TableLemmas.{even}
+use Rattle.hyd_text_rows.specs.Found.{rows_at}
+use Rattle.hyd_text_rows.specs.Tables.{AreFirsts}
+use Rattle.hyd_text_rows.proofs.FoundLemmas.{filter_more, filter_same}
+use Rattle.hyd_text_rows.proofs.SectionLemmas.{none_of, all_rows}
+use Rattle.hyd_text_rows.proofs.TableLemmas.{even}
 use Rattle.hyd_build_nodes.specs.Gathered.{IsSetAt, value_of, AreNone, AreEmitters}
 use Rattle.hyd_build_nodes.proofs.RightLemmas.{alone, among}
 use Rattle.hyd_build_nodes.proofs.GatherLemmas.{set_named, default_at, known_there}

@@ -14,12 +14,12 @@ use Rattle.std.proofs.Math.ListN.{get_or-eq_default}
 use Rattle.hyd_spec_lines.specs.Lines.{Row}
 use Rattle.hyd_spec_lines.specs.declared.line.Line.{Line}
 use Rattle.hyd_spec_lines.specs.declared.section.Section.TheVariants.{Junctions}
-use Rattle.hyd_spec_input.specs.RowMeanings.{number_in}
+use Rattle.hyd_spec_input.specs.MeaningsAcrossRows.{number_in}
 use Rattle.hyd_spec_input.specs.Tables.{is_of, is_node, node_rows, own_id, row_with, has_id}
-use Rattle.hyd_spec_input.specs.WithOthers.{known_as, known_junction}
-use Rattle.hyd_row_tables.specs.Tables.{AreFirsts}
-use Rattle.hyd_row_tables.proofs.FoundLemmas.{filter_more}
-use Rattle.hyd_row_tables.proofs.TableLemmas.{not_found, has_id-is}
+use Rattle.hyd_spec_input.specs.RowsTogether.{known_as, known_junction}
+use Rattle.hyd_text_rows.specs.Tables.{AreFirsts}
+use Rattle.hyd_text_rows.proofs.FoundLemmas.{filter_more}
+use Rattle.hyd_text_rows.proofs.TableLemmas.{not_found, has_id-is}
 use Rattle.hyd_build_nodes.specs.Gathered.{IsSetAt, value_of}
 
 -- ---- names

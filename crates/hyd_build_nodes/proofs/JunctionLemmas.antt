@@ -5,8 +5,8 @@ use Rattle.std.specs.Prelude.{unsigned_abs, pos}
 use Rattle.std.specs.Str.{bytes_eq}
 use Rattle.std.proofs.lemmas.List.{length-map, get_or-map, take_all}
 use Rattle.std.proofs.lemmas.Option.{get_or_from_slice_get, slice_get-get_or}
-use Rattle.hyd_num.specs.Quantity.{flow_ticks}
-use Rattle.hyd_num.specs.declared.capacities.Capacity.{Capacity}
+use Rattle.hyd_num.specs.FileQuantity.{flow_ticks}
+use Rattle.hyd_num.specs.declared.link_capacities.Capacity.{Capacity}
 use Rattle.hyd_num.specs.declared.flow_units.FlowUnit.{FlowUnit}
 use Rattle.hyd_spec_lines.specs.Bytes.{text_of}
 use Rattle.hyd_spec_lines.specs.Lines.{Row}
@@ -20,14 +20,15 @@ use Rattle.hyd_network_rows.specs.declared.nodes.JunctionRow.{JunctionRow}
 use Rattle.hyd_spec_input.specs.Columns.{amount, amount_or, word, or_empty}
 use Rattle.hyd_spec_input.specs.Faults.{NoneIs, IsWrongWithOthers}
 use Rattle.hyd_spec_input.specs.InForce as force
-use Rattle.hyd_spec_input.specs.RowMeanings.{pattern_ids, or_own, own_demand, emitter_of, demand_of_row, last_naming}
-use Rattle.hyd_spec_input.specs.RowMeanings.{coefficient}
+use Rattle.hyd_spec_input.specs.MeaningsAcrossRows.{pattern_ids, or_own, own_demand, emitter_of, demand_of_row}
+use Rattle.hyd_spec_input.specs.MeaningsAcrossRows.{last_naming}
+use Rattle.hyd_spec_input.specs.MeaningsAcrossRows.{coefficient}
 use Rattle.hyd_spec_input.specs.Project.{Match, IsJunction, IsEmitter}
 use Rattle.hyd_spec_input.specs.Tables.{is_of, is_node, rows_of, rows_with, own_id, node_rows}
-use Rattle.hyd_spec_input.specs.WithOthers as others
+use Rattle.hyd_spec_input.specs.RowsTogether as others
 use Rattle.hyd_theorems_on_input.proofs.Faultless.{all_none}
 use Rattle.hyd_theorems_on_input.proofs.NodeRanges.{head_right, flow_right}
-use Rattle.hyd_row_tables.specs.Tables.{AreFirsts}
+use Rattle.hyd_text_rows.specs.Tables.{AreFirsts}
 use Rattle.hyd_build_nodes.specs.Built.{IsSmall}
 use Rattle.hyd_build_nodes.specs.Gathered.{demand_by, each, value_of, AreDemands, AreEmitters}
 use Rattle.hyd_build_nodes.specs.Joined.{IsJunctionBy, AreParts}

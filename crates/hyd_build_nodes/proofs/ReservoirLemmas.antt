@@ -1,7 +1,7 @@
 -- Reservoirs of a file without a fault.
 use Rattle.std.proofs.Common.{◌≡◌, ◌*◌, ◌^◌, ◌≤◌, ℕ, true, List, Option, Some, None, refl, ◌∙◌, slice_get}
 use Rattle.std.specs.Prelude.{unsigned_abs}
-use Rattle.hyd_num.specs.Quantity.{is_us_unit, head_ticks}
+use Rattle.hyd_num.specs.FileQuantity.{is_us_unit, head_ticks}
 use Rattle.hyd_num.specs.declared.flow_units.FlowUnit.{FlowUnit}
 use Rattle.hyd_spec_lines.specs.Lines.{Row}
 use Rattle.hyd_spec_lines.specs.declared.section.Section.TheVariants.{Reservoirs}
@@ -9,10 +9,10 @@ use Rattle.hyd_net.specs.declared.nodes.Reservoir.{Reservoir}
 use Rattle.hyd_spec_input.specs.Columns.{amount}
 use Rattle.hyd_spec_input.specs.Faults.{NoneIs, IsWrongWithOthers}
 use Rattle.hyd_spec_input.specs.InForce as force
-use Rattle.hyd_spec_input.specs.RowMeanings.{pattern_ids, pattern_number}
+use Rattle.hyd_spec_input.specs.MeaningsAcrossRows.{pattern_ids, pattern_number}
 use Rattle.hyd_spec_input.specs.Project.{IsReservoir}
 use Rattle.hyd_spec_input.specs.Tables.{is_of}
-use Rattle.hyd_spec_input.specs.WithOthers as others
+use Rattle.hyd_spec_input.specs.RowsTogether as others
 use Rattle.hyd_theorems_on_input.proofs.Faultless.{all_none}
 use Rattle.hyd_theorems_on_input.proofs.NodeRanges.{head_right}
 use Rattle.hyd_build_nodes.specs.Built.{number_of, IsReservoirOf}

@@ -5,22 +5,22 @@ use Rattle.std.specs.Prelude.{ℤ, pos, ◌≤ℤ◌, ◌+ℤ◌, unsigned_abs, 
 use Rattle.std.proofs.lemmas.Int.{ints}
 use Rattle.std.proofs.lemmas.Bool.{and_parts}
 use lib.Signed.{le_z}
-use Rattle.hyd_num.specs.Quantity.{head_ticks}
+use Rattle.hyd_num.specs.FileQuantity.{head_ticks}
 use Rattle.hyd_num.specs.declared.flow_units.FlowUnit.{FlowUnit}
 use Rattle.hyd_spec_lines.specs.Lines.{Row}
 use Rattle.hyd_spec_lines.specs.declared.section.Section.TheVariants.{Tanks}
-use Rattle.hyd_net.specs.Ranges.{IsHead, Lies}
+use Rattle.hyd_net.specs.NumberRanges.{IsHead, Lies}
 use Rattle.hyd_net.specs.declared.nodes.Tank.{Tank}
-use Rattle.hyd_spec_input.specs.ByItself.{IsWrongByItself}
+use Rattle.hyd_spec_input.specs.SingleRows.{IsWrongByItself}
 use Rattle.hyd_spec_input.specs.Columns.{needed, optional, ends, id, number, not_negative, one_of, word, amount, units}
 use Rattle.hyd_spec_input.specs.Faults.{NoneIs, IsWrongWithOthers}
 use Rattle.hyd_spec_input.specs.InForce as force
-use Rattle.hyd_spec_input.specs.RowMeanings.{shape_names}
+use Rattle.hyd_spec_input.specs.MeaningsAcrossRows.{shape_names}
 use Rattle.hyd_spec_input.specs.NetworkRows as form
 use Rattle.hyd_spec_input.specs.Project.{Match, IsTank, shape_number}
 use Rattle.hyd_spec_input.specs.Tables.{is_of, rows_of}
-use Rattle.hyd_spec_input.specs.WithOthers as others
-use Rattle.hyd_spec_input.specs.WithOthers.{us}
+use Rattle.hyd_spec_input.specs.RowsTogether as others
+use Rattle.hyd_spec_input.specs.RowsTogether.{us}
 use Rattle.hyd_theorems_on_input.proofs.Faultless.{all_none, needed_none, in_range, at_most, within}
 use Rattle.hyd_theorems_on_input.proofs.NodeRanges.{head_right, head_rises, head_sum}
 use Rattle.hyd_build_nodes.specs.Built.{number_of, AreSmall, IsTankOf, HasTankMore}

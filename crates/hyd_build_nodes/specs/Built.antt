@@ -1,13 +1,13 @@
 -- Nodes as their rows make them.
 use Rattle.std.specs.Prelude.{◌≡◌, ℕ, ◌≤◌, ◌*◌, ◌^◌, List, [], ◌∷◌, ◌++◌, Option, Some, None, slice_get, ℤ, pos, ◌≤ℤ◌}
 use Rattle.std.specs.Prelude.{unsigned_abs}
-use Rattle.hyd_num.specs.Quantity.{is_us_unit, head_ticks}
+use Rattle.hyd_num.specs.FileQuantity.{is_us_unit, head_ticks}
 use Rattle.hyd_num.specs.declared.flow_units.FlowUnit.{FlowUnit}
-use Rattle.hyd_net.specs.Made.{IsAreaMade}
+use Rattle.hyd_net.specs.RoundedFileNumbers.{IsAreaMade}
 use Rattle.hyd_net.specs.declared.nodes.Reservoir.{Reservoir}
 use Rattle.hyd_net.specs.declared.nodes.Tank.{Tank}
 use Rattle.hyd_spec_input.specs.Columns.{amount}
-use Rattle.hyd_spec_input.specs.RowMeanings.{number_in}
+use Rattle.hyd_spec_input.specs.MeaningsAcrossRows.{number_in}
 use Rattle.hyd_network_rows.specs.Rows.{IsTankRow}
 use Rattle.hyd_network_rows.specs.declared.tanks.TankRow.{TankRow}
 use Rattle.hyd_spec_lines.specs.Bytes.{text_of}

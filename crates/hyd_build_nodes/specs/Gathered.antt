@@ -1,15 +1,15 @@
 -- What belongs to junctions, by the numbers that their names have in a table.
 use Rattle.std.specs.Prelude.{◌≡◌, ℕ, List, [], map, length, take, Option, Some, None, slice_index_or, ℤ}
 use Rattle.std.specs.List.{All}
-use Rattle.hyd_num.specs.Quantity.{flow_ticks}
-use Rattle.hyd_num.specs.declared.capacities.Capacity.{Capacity}
+use Rattle.hyd_num.specs.FileQuantity.{flow_ticks}
+use Rattle.hyd_num.specs.declared.link_capacities.Capacity.{Capacity}
 use Rattle.hyd_num.specs.declared.flow_units.FlowUnit.{FlowUnit}
 use Rattle.hyd_spec_lines.specs.Lines.{Row}
 use Rattle.hyd_spec_lines.specs.declared.section.Section.TheVariants.{Demands, Emitters}
 use Rattle.hyd_net.specs.ListView.{ListView}
 use Rattle.hyd_net.specs.declared.nodes.Demand.{Demand}
 use Rattle.hyd_spec_input.specs.InForce as force
-use Rattle.hyd_spec_input.specs.RowMeanings.{number_in, demand_of_row, last_naming, coefficient}
+use Rattle.hyd_spec_input.specs.MeaningsAcrossRows.{number_in, demand_of_row, last_naming, coefficient}
 use Rattle.hyd_spec_input.specs.Project.{IsEmitter}
 use Rattle.hyd_spec_input.specs.Tables.{rows_of, rows_with}
 use Rattle.hyd_build_nodes.specs.Built.{number_of}

@@ -1,7 +1,7 @@
 -- Junctions with what belongs to them.
 use Rattle.std.specs.Prelude.{◌≡◌, ℕ, List, Option}
-use Rattle.hyd_num.specs.Quantity.{is_us_unit, head_ticks}
-use Rattle.hyd_num.specs.declared.capacities.Capacity.{Capacity}
+use Rattle.hyd_num.specs.FileQuantity.{is_us_unit, head_ticks}
+use Rattle.hyd_num.specs.declared.link_capacities.Capacity.{Capacity}
 use Rattle.hyd_num.specs.declared.flow_units.FlowUnit.{FlowUnit}
 use Rattle.hyd_spec_lines.specs.Bytes.{text_of}
 use Rattle.hyd_spec_lines.specs.Lines.{Row}
@@ -9,9 +9,9 @@ use Rattle.hyd_net.specs.declared.nodes.Demand.{Demand}
 use Rattle.hyd_net.specs.declared.nodes.Junction.{Junction}
 use Rattle.hyd_network_rows.specs.declared.nodes.JunctionRow.{JunctionRow}
 use Rattle.hyd_spec_input.specs.InForce as force
-use Rattle.hyd_spec_input.specs.RowMeanings.{pattern_ids, or_own}
+use Rattle.hyd_spec_input.specs.MeaningsAcrossRows.{pattern_ids, or_own}
 use Rattle.hyd_spec_input.specs.Tables.{node_rows}
-use Rattle.hyd_row_tables.specs.Tables.{IsTable}
+use Rattle.hyd_text_rows.specs.Tables.{IsTable}
 use Rattle.hyd_build_nodes.specs.Gathered.{demand_by, each, AreDemands, AreEmitters}
 use Rattle.hyd_build_nodes.specs.declared.junctions.Parts.{Parts}
 

@@ -4,15 +4,15 @@
 ghost use Rattle.std.specs.Prelude.{◌≡◌, ◌<◌, ◌≤◌, ◌+◌, ◌^◌, ◌==◌, ◌++◌, [], ◌∷◌, length, slice_index_or, unsigned_abs};
 ghost use Rattle.std.specs.Prelude.{IfOk, OnOk};
 ghost use Rattle.std.specs.List.{All};
-ghost use Rattle.hyd_num.specs.Quantity as quantity;
+ghost use Rattle.hyd_num.specs.FileQuantity as quantity;
 ghost use Rattle.hyd_spec_lines.specs.Lines.{LiesIn};
-ghost use Rattle.hyd_spec_input.specs.ByItself.{IsWrongByItself};
+ghost use Rattle.hyd_spec_input.specs.SingleRows.{IsWrongByItself};
 ghost use Rattle.hyd_spec_input.specs.Faults.{NoneIs, IsWrongWithOthers};
 ghost use Rattle.hyd_spec_input.specs.InForce as force;
-ghost use Rattle.hyd_spec_input.specs.RowMeanings.{pattern_ids};
+ghost use Rattle.hyd_spec_input.specs.MeaningsAcrossRows.{pattern_ids};
 ghost use Rattle.hyd_spec_input.specs.Tables.{place as section_place, node_rows};
-ghost use Rattle.hyd_row_tables.specs.Found.{rows_at};
-ghost use Rattle.hyd_row_tables.specs.Tables.{IsTable};
+ghost use Rattle.hyd_text_rows.specs.Found.{rows_at};
+ghost use Rattle.hyd_text_rows.specs.Tables.{IsTable};
 ghost use Rattle.hyd_build_nodes.specs.Gathered.{AreDemands, AreEmpty, each, IsSetAt, demand_by as demand_as};
 ghost use Rattle.hyd_spec_lines.specs.Bytes.{text_of};
 
@@ -21,7 +21,7 @@ use hyd_lex::{Line, Lines, Section};
 use hyd_net::{Demand, List, Names, OutOfMemory};
 use hyd_network_rows::read_demand;
 use hyd_num::{Decimal, FlowUnit};
-use hyd_row_tables::Table;
+use hyd_text_rows::Table;
 use std::alloc::Global;
 
 fn is_demands(section: Section) -> bool

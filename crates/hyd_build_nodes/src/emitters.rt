@@ -4,22 +4,22 @@
 ghost use Rattle.std.specs.Prelude.{◌≡◌, ◌<◌, ◌≤◌, ◌+◌, ◌*◌, ◌^◌, ◌==◌, pos, ◌≤ℤ◌, length, IfOk};
 ghost use Rattle.std.specs.List.{All};
 ghost use Rattle.hyd_spec_lines.specs.Lines.{LiesIn};
-ghost use Rattle.hyd_spec_input.specs.ByItself.{IsWrongByItself};
+ghost use Rattle.hyd_spec_input.specs.SingleRows.{IsWrongByItself};
 ghost use Rattle.hyd_spec_input.specs.Capacities.{IsRefusedEmitter};
 ghost use Rattle.hyd_spec_input.specs.Faults.{NoneIs, IsWrongWithOthers};
 ghost use Rattle.hyd_spec_input.specs.InForce as force;
 ghost use Rattle.hyd_spec_input.specs.Project.{IsEmitter};
 ghost use Rattle.hyd_spec_input.specs.Tables.{place as section_place, node_rows};
-ghost use Rattle.hyd_row_tables.specs.Found.{rows_at};
-ghost use Rattle.hyd_row_tables.specs.Tables.{IsTable};
+ghost use Rattle.hyd_text_rows.specs.Found.{rows_at};
+ghost use Rattle.hyd_text_rows.specs.Tables.{IsTable};
 ghost use Rattle.hyd_build_nodes.specs.Gathered.{AreEmitters, AreNone};
 
+use hyd_capacities::emitter_capacity;
 use hyd_lex::{Line, Lines, Section};
 use hyd_net::OutOfMemory;
 use hyd_network_rows::read_emitter;
 use hyd_num::{Capacity, Decimal, FlowUnit};
-use hyd_resist::emitter_capacity;
-use hyd_row_tables::Table;
+use hyd_text_rows::Table;
 use std::alloc::Global;
 
 fn is_emitters(section: Section) -> bool

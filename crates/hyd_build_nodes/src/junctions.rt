@@ -3,20 +3,20 @@
 
 ghost use Rattle.std.specs.Prelude.{◌≡◌, ◌<◌, ◌≤◌, ◌+◌, ◌*◌, ◌^◌, ◌==◌, length, take, unsigned_abs, IfOk, OnOk};
 ghost use Rattle.std.specs.List.{All};
-ghost use Rattle.hyd_num.specs.Quantity as quantity;
-ghost use Rattle.hyd_num.specs.Quantity.{is_us_unit};
+ghost use Rattle.hyd_num.specs.FileQuantity as quantity;
+ghost use Rattle.hyd_num.specs.FileQuantity.{is_us_unit};
 ghost use Rattle.hyd_spec_lines.specs.Bytes.{text_of};
 ghost use Rattle.hyd_spec_lines.specs.Lines.{LiesIn};
 ghost use Rattle.hyd_spec_lines.specs.declared.section.Section.TheVariants.{Junctions};
-ghost use Rattle.hyd_spec_input.specs.ByItself.{IsWrongByItself};
+ghost use Rattle.hyd_spec_input.specs.SingleRows.{IsWrongByItself};
 ghost use Rattle.hyd_spec_input.specs.Faults.{NoneIs, IsWrongWithOthers};
 ghost use Rattle.hyd_spec_input.specs.InForce as force;
-ghost use Rattle.hyd_spec_input.specs.RowMeanings as network;
-ghost use Rattle.hyd_spec_input.specs.RowMeanings.{pattern_ids};
+ghost use Rattle.hyd_spec_input.specs.MeaningsAcrossRows as network;
+ghost use Rattle.hyd_spec_input.specs.MeaningsAcrossRows.{pattern_ids};
 ghost use Rattle.hyd_spec_input.specs.Project.{Match, IsJunction};
 ghost use Rattle.hyd_spec_input.specs.Tables.{place as section_place, rows_of, node_rows};
-ghost use Rattle.hyd_row_tables.specs.Found.{rows_at};
-ghost use Rattle.hyd_row_tables.specs.Tables.{IsTable};
+ghost use Rattle.hyd_text_rows.specs.Found.{rows_at};
+ghost use Rattle.hyd_text_rows.specs.Tables.{IsTable};
 ghost use Rattle.hyd_build_nodes.specs.Built.{IsSmall};
 ghost use Rattle.hyd_build_nodes.specs.Gathered as gathered;
 ghost use Rattle.hyd_build_nodes.specs.Joined.{AreParts, IsJunctionBy};
@@ -28,7 +28,7 @@ use hyd_lex::{Line, Lines, Section};
 use hyd_net::{Demand, Junction, List, Names, OutOfMemory};
 use hyd_network_rows::{JunctionRow, read_junction};
 use hyd_num::{Capacity, FlowUnit};
-use hyd_row_tables::Table;
+use hyd_text_rows::Table;
 use std::alloc::Global;
 
 /// What junctions are made of besides their rows: the table of nodes and, by the numbers of their IDs, demands and

@@ -2,8 +2,8 @@
 #![tactic(auto)]
 
 ghost use Rattle.std.specs.Prelude.{◌≡◌, ◌≤◌, ◌*◌, ◌^◌, unsigned_abs};
-ghost use Rattle.hyd_num.specs.Quantity as quantity;
-ghost use Rattle.hyd_num.specs.Quantity.{is_us_unit};
+ghost use Rattle.hyd_num.specs.FileQuantity as quantity;
+ghost use Rattle.hyd_num.specs.FileQuantity.{is_us_unit};
 ghost use Rattle.hyd_spec_lines.specs.Bytes.{text_of};
 ghost use Rattle.hyd_build_nodes.specs.Built.{number_of};
 

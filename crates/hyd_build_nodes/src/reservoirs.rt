@@ -3,20 +3,20 @@
 
 ghost use Rattle.std.specs.Prelude.{◌≡◌, ◌<◌, ◌≤◌, ◌+◌, ◌*◌, ◌^◌, ◌==◌, None, length, take, unsigned_abs, IfOk, OnOk};
 ghost use Rattle.std.specs.List.{All};
-ghost use Rattle.hyd_num.specs.Quantity as quantity;
-ghost use Rattle.hyd_num.specs.Quantity.{is_us_unit};
+ghost use Rattle.hyd_num.specs.FileQuantity as quantity;
+ghost use Rattle.hyd_num.specs.FileQuantity.{is_us_unit};
 ghost use Rattle.hyd_spec_lines.specs.Lines.{LiesIn, row_of};
 ghost use Rattle.hyd_spec_lines.specs.declared.section.Section.TheVariants.{Reservoirs};
-ghost use Rattle.hyd_options_and_rules.specs.Judged.{words_at};
-ghost use Rattle.hyd_spec_input.specs.ByItself.{IsWrongByItself};
+ghost use Rattle.hyd_option_and_rule_lines.specs.FaultOrValue.{words_at};
+ghost use Rattle.hyd_spec_input.specs.SingleRows.{IsWrongByItself};
 ghost use Rattle.hyd_spec_input.specs.Columns.{amount};
 ghost use Rattle.hyd_spec_input.specs.Faults.{NoneIs, IsWrongWithOthers};
 ghost use Rattle.hyd_spec_input.specs.InForce as force;
-ghost use Rattle.hyd_spec_input.specs.RowMeanings.{pattern_ids};
+ghost use Rattle.hyd_spec_input.specs.MeaningsAcrossRows.{pattern_ids};
 ghost use Rattle.hyd_spec_input.specs.NetworkRows as row;
 ghost use Rattle.hyd_spec_input.specs.Project.{Match, IsReservoir};
 ghost use Rattle.hyd_spec_input.specs.Tables.{place as section_place, rows_of};
-ghost use Rattle.hyd_row_tables.specs.Found.{rows_at};
+ghost use Rattle.hyd_text_rows.specs.Found.{rows_at};
 ghost use Rattle.hyd_build_nodes.specs.Built.{IsReservoirOf};
 
 use crate::quantities::{head_of, number_named};

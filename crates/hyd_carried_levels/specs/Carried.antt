@@ -1,12 +1,12 @@
 -- Carried levels by the facts of a period.
 -- Source: EPANET 2.2 User Manual, chapter 3 (tanks), between two ends.
 use Rattle.std.specs.Prelude.{ℕ}
-use Rattle.hyd_spec.specs.Types.{Project, Tank}
+use Rattle.hyd_spec.specs.ProgramTypes.{Project, Tank}
 use Rattle.hyd_spec.specs.Tank.{walls_of}
 use Rattle.hyd_spec_certificates.specs.Interval.{Interval}
 use Rattle.hyd_spec_certificates.specs.Stocks.{carried_levels}
 use Rattle.hyd_period_facts.specs.declared.facts.Facts.{Facts}
-use Rattle.hyd_watched_levels.specs.Started.{stocks_in, inflow_in}
+use Rattle.hyd_watched_levels.specs.FactsAtStart.{stocks_in, inflow_in}
 
 -- the levels of a tank some seconds after the start of the period of some facts
 abbrev pub carried_in : Project → Facts → ℕ → ℕ → Tank → Interval

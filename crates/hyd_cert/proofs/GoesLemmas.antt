@@ -7,16 +7,17 @@ use Rattle.std.proofs.lemmas.Int.{ints}
 use Rattle.std.proofs.lemmas.Bool.Decides.{Decides-ltb}
 use Rattle.hyd_spec_reports.specs.CertificateText.{words, line_feeds}
 use Rattle.hyd_cert.specs.Lines.{Header, IsHeaderLine, end_word}
-use Rattle.hyd_io.specs.Told.{prepend_known}
-use Rattle.hyd_cert.specs.Cutting.{HasNo}
-use Rattle.hyd_cert.specs.Places.{Place, First, Between, Head, Over, CanStand, MayStand, IsFault, here, later, front_at}
-use Rattle.hyd_cert.specs.Places.{heads_in, place_after, Goes, ends, goes}
+use Rattle.hyd_io.specs.ToldBytes.{prepend_known}
+use Rattle.hyd_cert.specs.TextsWithoutLine.{HasNo}
+use Rattle.hyd_cert.specs.PlacesOfLines.{Place, First, Between, Head, Over, CanStand, MayStand, IsFault, here, later}
+use Rattle.hyd_cert.specs.PlacesOfLines.{front_at}
+use Rattle.hyd_cert.specs.PlacesOfLines.{heads_in, place_after, Goes, ends, goes}
 use Rattle.hyd_cert.proofs.Pieces.{cut-same}
 use Rattle.std.proofs.lemmas.Bool.{eqb-true}
 use Rattle.std.proofs.lemmas.List.{append_cancel_left}
 use Rattle.std.proofs.lemmas.Fmt.{decimal_is_IsNumeral_wide}
 use Rattle.std.specs.Str.Parse.{digits_value}
-use Rattle.hyd_cert.specs.Places.{Lacks}
+use Rattle.hyd_cert.specs.PlacesOfLines.{Lacks}
 use Rattle.hyd_cert.specs.FaultyLine.{IsLines, HasFirstLine, ended, unended}
 use Rattle.hyd_cert.proofs.LineLemmas.{header_is_line, next_is_line, head_is_line, known_short, wide_free}
 use Rattle.hyd_cert.proofs.HeadLemmas.{is_front, end_is}

@@ -7,7 +7,7 @@ use Rattle.std.specs.Fmt.{decimal, signed_decimal}
 use Rattle.std.proofs.lemmas.List.{take_more_set, length-take-le}
 use Rattle.std.proofs.lemmas.List.Elements.{All-push}
 use Rattle.std.proofs.lemmas.Bool.Decides.{Decides-ltb}
-use Rattle.hyd_io.specs.Told.{prepend_known}
+use Rattle.hyd_io.specs.ToldBytes.{prepend_known}
 use Rattle.hyd_io.proofs.ToldLemmas.{prepend_known-prepend_known}
 use Rattle.hyd_io.specs.declared.desk.Faults.{Faults}
 use Rattle.hyd_io.specs.Counts.{with_read_fault}
@@ -16,13 +16,14 @@ use Rattle.hyd_cert.specs.declared.answers.CertNext.{CertNext}
 use Rattle.hyd_cert.specs.declared.answers.CertFault.{CertFault}
 use Rattle.hyd_cert.specs.declared.answers.CertFault.TheVariants.{Read, Grammar, Count}
 use Rattle.hyd_spec_reports.specs.CertificateText.{words}
-use Rattle.hyd_theorems_on_periods.proofs.CertificateLines.{header-short}
-use Rattle.hyd_cert.specs.Cutting.{HasNo}
+use Rattle.hyd_theorems_on_definitions.proofs.CertificateLines.{header-short}
+use Rattle.hyd_cert.specs.TextsWithoutLine.{HasNo}
 use Rattle.hyd_cert.proofs.LineLemmas.{header_is_line}
 use Rattle.hyd_cert.specs.NextLine.{IsPeriodOrEnd}
 use Rattle.hyd_cert.specs.Lines.{Header, IsHeaderLine, IsHeadLine, IsPeriodLine, IsEndLine, end_word}
-use Rattle.hyd_cert.specs.Places.{Place, here, later, Head, Over, Between, First, CanStand, IsFault, front_of, front_at}
-use Rattle.hyd_cert.specs.Places.{heads_in, place_after, head_text}
+use Rattle.hyd_cert.specs.PlacesOfLines.{Place, here, later, Head, Over, Between, First, CanStand, IsFault, front_of}
+use Rattle.hyd_cert.specs.PlacesOfLines.{front_at}
+use Rattle.hyd_cert.specs.PlacesOfLines.{heads_in, place_after, head_text}
 use Rattle.hyd_cert.specs.Faults.{IsLineFault, IsHeadsFault, IsHeaderFault, IsTextFault, HasOtherHeader, IsFront}
 use Rattle.hyd_cert.specs.Faults.{lines_on}
 

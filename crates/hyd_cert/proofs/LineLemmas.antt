@@ -9,13 +9,13 @@ use Rattle.std.proofs.lemmas.Str.Parse.{digit_from_value}
 use Rattle.std.proofs.lemmas.Int.{ints}
 use Rattle.std.proofs.lemmas.List.{append_cancel_left}
 use Rattle.hyd_spec_certificates.specs.Certificate.{IsInBox}
-use Rattle.hyd_cert.specs.Cutting.{HasNo}
-use Rattle.hyd_io.specs.Told.{prepend_known}
+use Rattle.hyd_cert.specs.TextsWithoutLine.{HasNo}
+use Rattle.hyd_io.specs.ToldBytes.{prepend_known}
 use Rattle.hyd_io.specs.declared.desk.Faults.{Faults}
 use Rattle.hyd_cert.specs.declared.answers.CertFault.{CertFault}
 use Rattle.hyd_cert.specs.declared.answers.CertFault.TheVariants.{Read, Grammar, Count}
 use lib.Signed.{mag}
-use Rattle.hyd_cert.specs.Places.{Lacks}
+use Rattle.hyd_cert.specs.PlacesOfLines.{Lacks}
 use Rattle.hyd_cert.specs.Faults.{IsFront, IsLineFault}
 use Rattle.hyd_cert.specs.NextLine.{IsPeriodOrEnd}
 use Rattle.hyd_cert.specs.Lines.{Header, IsHeadLine, IsPeriodLine, IsEndLine, IsHeaderLine, end_word}

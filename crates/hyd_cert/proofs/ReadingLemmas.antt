@@ -7,7 +7,7 @@ use Rattle.std.proofs.lemmas.Grind.{common_steps}
 use Rattle.std.proofs.lemmas.Bool.Decides.{Decides-ltb}
 use Rattle.std.proofs.lemmas.List.Elements.{All-cons, All-nil, All-head, All-tail, All-append}
 use Rattle.hyd_spec.specs.Lists.{joined}
-use Rattle.hyd_io.specs.Told.{prepend_known}
+use Rattle.hyd_io.specs.ToldBytes.{prepend_known}
 use Rattle.hyd_io.proofs.ToldLemmas.{prepend_known-prepend_known}
 use Rattle.hyd_spec_certificates.specs.Certificate.{IsInBox}
 use Rattle.hyd_spec_certificates.specs.Record.{Record as Row, Vectors}
@@ -15,8 +15,9 @@ use Rattle.hyd_spec_reports.specs.CertificateText.{words, period_line, record_te
 use Rattle.hyd_spec_reports.specs.CertificateText.{IsCertificateText, certificate_text}
 use Rattle.hyd_cert.specs.Lines.{Header, header_text, IsHeaderLine, IsPeriodLine, IsHeadLine, IsEndLine, end_word}
 use Rattle.hyd_cert.specs.Lines.{header_words}
-use Rattle.hyd_cert.specs.Places.{Place, First, Between, Head, Over, CanStand, IsFault, later, front_at, heads_in}
-use Rattle.hyd_cert.specs.Places.{place_after, head_text, Goes, ends, goes}
+use Rattle.hyd_cert.specs.PlacesOfLines.{Place, First, Between, Head, Over, CanStand, IsFault, later, front_at}
+use Rattle.hyd_cert.specs.PlacesOfLines.{heads_in}
+use Rattle.hyd_cert.specs.PlacesOfLines.{place_after, head_text, Goes, ends, goes}
 use Rattle.hyd_cert.specs.Vectors.{AreVectors, two_vectors, behind_two, problems_in}
 use Rattle.hyd_cert.specs.FaultyLine.{IsCertificate, lines_of, BeginsWith}
 use Rattle.hyd_cert.proofs.HeadLemmas.{place_head, period_is, end_is}

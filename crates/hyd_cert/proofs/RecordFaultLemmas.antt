@@ -6,15 +6,16 @@ use Rattle.std.specs.Fmt.{decimal, signed_decimal}
 use Rattle.std.proofs.lemmas.List.{append_cancel_left}
 use Rattle.std.proofs.lemmas.List.Elements.{All-head, All-tail}
 use Rattle.hyd_io.specs.declared.desk.Faults.{Faults}
-use Rattle.hyd_io.specs.Told.{prepend_known}
+use Rattle.hyd_io.specs.ToldBytes.{prepend_known}
 use Rattle.hyd_spec_certificates.specs.Certificate.{IsInBox}
 use Rattle.hyd_spec_certificates.specs.Record.{Record as Row}
 use Rattle.hyd_spec_reports.specs.CertificateText.{IsRow, record_text, words}
 use Rattle.hyd_cert.specs.Faults.{IsLineFault, IsHeadsFault, IsHeaderFault, LacksRecord, OnGrammar}
 use Rattle.hyd_cert.specs.Lines.{Header, IsHeaderLine, IsPeriodLine, IsEndLine, header_text}
 use Rattle.hyd_cert.specs.NextLine.{IsPeriodOrEnd}
-use Rattle.hyd_cert.specs.Places.{Place, Between, Head, here, later, CanStand, MayStand, IsFault, front_at, heads_in}
-use Rattle.hyd_cert.specs.Places.{place_after, head_text}
+use Rattle.hyd_cert.specs.PlacesOfLines.{Place, Between, Head, here, later, CanStand, MayStand, IsFault, front_at}
+use Rattle.hyd_cert.specs.PlacesOfLines.{heads_in}
+use Rattle.hyd_cert.specs.PlacesOfLines.{place_after, head_text}
 use Rattle.hyd_cert.specs.declared.answers.CertFault.{CertFault}
 use Rattle.hyd_cert.specs.declared.answers.CertFault.TheVariants.{Read, Grammar, Count}
 use Rattle.hyd_cert.specs.declared.answers.CertNext.{CertNext}

@@ -4,8 +4,9 @@ use Rattle.std.proofs.Common.{◌∷◌, ◌++◌, Option, Some, refl, sym, ap, 
 use Rattle.std.proofs.lemmas.Bool.{eqb-true}
 use Rattle.hyd_spec_reports.specs.CertificateText.{line_feeds}
 use Rattle.hyd_cert.specs.Lines.{Header, IsHeaderLine}
-use Rattle.hyd_cert.specs.Cutting.{HasNo}
-use Rattle.hyd_cert.specs.Places.{Place, First, Between, MayStand, IsFault, here, later, Lacks, CanStand, Goes, goes}
+use Rattle.hyd_cert.specs.TextsWithoutLine.{HasNo}
+use Rattle.hyd_cert.specs.PlacesOfLines.{Place, First, Between, MayStand, IsFault, here, later, Lacks, CanStand, Goes}
+use Rattle.hyd_cert.specs.PlacesOfLines.{goes}
 use Rattle.hyd_cert.specs.Faults.{HasOtherHeader}
 use Rattle.hyd_cert.specs.FaultyLine.{IsCertificate, IsLines, HasFirstLine, ended, unended, IsFirstFault}
 use Rattle.hyd_cert.proofs.Pieces.{cut-same, has_none}

@@ -3,14 +3,14 @@ use Rattle.std.proofs.Common.{◌≡◌, ℕ, ◌+◌, ◌<◌, ℤ, pos, List, 
 use Rattle.std.proofs.Common.{map, Result, Ok, Err, OnOk, OnErr, refl, sym, ap, subst, ◌∙◌, append_assoc, arith}
 use Rattle.std.specs.Fmt.{signed_decimal}
 use Rattle.std.proofs.lemmas.List.{take_more, length-take-le, take-append-drop}
-use Rattle.hyd_io.specs.Told.{Moves, PutOut}
+use Rattle.hyd_io.specs.ToldBytes.{Moves, PutOut}
 use Rattle.hyd_io.specs.Output.{by_channel, OnCert, OnReport, HasOutCause}
 use Rattle.hyd_io.specs.declared.output.Channel.{Channel}
 use Rattle.hyd_io.specs.declared.output.Channel.TheVariants.{Cert, Report}
 use Rattle.hyd_io.specs.declared.output.OutFault.{OutFault}
 use Rattle.hyd_io.specs.declared.desk.Faults.{Faults}
 use Rattle.hyd_io.proofs.ToldLemmas.{moves_then, put_out_then, put_out_more, moves_nothing}
-use Rattle.hyd_cert.specs.Places.{front_at, head_text}
+use Rattle.hyd_cert.specs.PlacesOfLines.{front_at, head_text}
 use Rattle.hyd_cert.proofs.HeadLemmas.{head_text-push}
 use Rattle.hyd_spec.specs.Lists.{joined}
 use Rattle.hyd_spec_reports.specs.CertificateText.{vectors_text, period_line, record_text}

@@ -1,13 +1,13 @@
 -- What the faults of a reader say.
 use Rattle.std.specs.Prelude.{◌≡◌, ◌≢◌, ℕ, ◌+◌, ◌-◌, ◌^◌, ◌<◌, ◌≤◌, min, List, [], ◌∷◌, ◌++◌, length, Option, Some}
-use Rattle.hyd_io.specs.Told.{prepend_known}
+use Rattle.hyd_io.specs.ToldBytes.{prepend_known}
 use Rattle.hyd_io.specs.declared.desk.Faults.{Faults}
 use Rattle.hyd_io.specs.Counts.{with_read_fault}
 use Rattle.hyd_spec_certificates.specs.Record.{Record}
 use Rattle.hyd_spec_reports.specs.CertificateText.{IsRow, record_text}
-use Rattle.hyd_cert.specs.Cutting.{HasNo}
+use Rattle.hyd_cert.specs.TextsWithoutLine.{HasNo}
 use Rattle.hyd_cert.specs.Lines.{Header, IsHeaderLine}
-use Rattle.hyd_cert.specs.Places.{Place, First, Lacks, IsFault, heads_in, place_after}
+use Rattle.hyd_cert.specs.PlacesOfLines.{Place, First, Lacks, IsFault, heads_in, place_after}
 use Rattle.hyd_cert.specs.ReaderView.{lead}
 use Rattle.hyd_cert.specs.declared.answers.Stand.{Stand}
 use Rattle.hyd_cert.specs.declared.answers.CertFault.{CertFault}

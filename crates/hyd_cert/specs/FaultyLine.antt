@@ -2,12 +2,12 @@
 -- text counted in, they begin none.
 use Rattle.std.specs.Prelude.{◌≡◌, ℕ, ◌+◌, ◌*◌, Bool, List, [], ◌∷◌, ◌++◌, length, map, Option, ◌⊎◌}
 use Rattle.hyd_spec.specs.Lists.{joined}
-use Rattle.hyd_io.specs.Told.{prepend_known}
+use Rattle.hyd_io.specs.ToldBytes.{prepend_known}
 use Rattle.hyd_spec_certificates.specs.Record.{Record}
 use Rattle.hyd_spec_reports.specs.CertificateText.{IsCertificateText, record_text, line_feeds}
-use Rattle.hyd_cert.specs.Cutting.{HasNo}
+use Rattle.hyd_cert.specs.TextsWithoutLine.{HasNo}
 use Rattle.hyd_cert.specs.Lines.{Header, header_text}
-use Rattle.hyd_cert.specs.Places.{heads_in}
+use Rattle.hyd_cert.specs.PlacesOfLines.{heads_in}
 
 -- The text is a certificate with this header.
 pub record IsCertificate (header : Header) (text : List ℕ) : Type 0 where

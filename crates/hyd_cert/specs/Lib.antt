@@ -1,8 +1,8 @@
-pub mod Cutting
+pub mod TextsWithoutLine
 pub mod Faults
 pub mod Lines
 pub mod NextLine
-pub mod Places
+pub mod PlacesOfLines
 pub mod ReaderView
 pub mod RecordView
 pub mod FaultyLine

@@ -6,7 +6,7 @@ use Rattle.hyd_spec_certificates.specs.declared.Problem.TheVariants.{Main, Pinne
 use Rattle.hyd_spec_certificates.specs.declared.Side.{Side}
 use Rattle.hyd_spec_certificates.specs.declared.Side.TheVariants.{Upper, Lower}
 use Rattle.hyd_spec_certificates.specs.Record.{Vectors}
-use Rattle.hyd_cert.specs.Places.{heads_in}
+use Rattle.hyd_cert.specs.PlacesOfLines.{heads_in}
 
 -- The list has a head for each junction in each vector.
 abbrev pub AreVectors : ℕ → ℕ → List ℤ → Type 0

@@ -2,9 +2,9 @@
 
 ghost use Rattle.std.specs.Prelude.{◌≡◌, ◌≢◌, ℕ, ◌+◌, ◌-◌, ◌<◌, ◌≤◌, List, [], ◌∷◌, ◌++◌, length, take, drop};
 ghost use Rattle.std.specs.Prelude.{slice_index, false, IsTrue, Some, IfSome, IfNone, IfOk, OnOk, OnErr};
-ghost use Rattle.hyd_io.specs.Told.{where_told, prepend_known};
+ghost use Rattle.hyd_io.specs.ToldBytes.{where_told, prepend_known};
 ghost use Rattle.hyd_io.specs.Counts.{NeverFall, with_read_fault};
-ghost use Rattle.hyd_cert.specs.Cutting.{HasNo, HasNoLine};
+ghost use Rattle.hyd_cert.specs.TextsWithoutLine.{HasNo, HasNoLine};
 
 use hyd_io::{Desk, Failed};
 use std::marker::Model;

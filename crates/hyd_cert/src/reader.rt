@@ -3,14 +3,14 @@
 ghost use Rattle.std.specs.Prelude.{◌≡◌, ◌≢◌, ℕ, ◌+◌, ◌<◌, ◌^◌, false, IsTrue, List, [], ◌∷◌, ◌++◌, length, take, drop};
 ghost use Rattle.std.specs.Prelude.{slice_set, Some, All, IfOk, IfErr, OnOk};
 ghost use Rattle.std.specs.Fmt.{signed_decimal};
-ghost use Rattle.hyd_io.specs.Told.{where_told, prepend_known};
+ghost use Rattle.hyd_io.specs.ToldBytes.{where_told, prepend_known};
 ghost use Rattle.hyd_io.specs.Counts.{NeverFall, with_read_fault};
 ghost use Rattle.hyd_spec_certificates.specs.Certificate.{IsInBox};
 ghost use Rattle.hyd_spec_reports.specs.CertificateText.{IsRow, record_text, end_line};
-ghost use Rattle.hyd_cert.specs.Cutting.{HasNo};
+ghost use Rattle.hyd_cert.specs.TextsWithoutLine.{HasNo};
 ghost use Rattle.hyd_cert.specs.Lines.{Header, IsHeadLine, header_text};
 ghost use Rattle.hyd_cert.specs.NextLine.{next_text, NextFits, IsPeriodOrEnd};
-ghost use Rattle.hyd_cert.specs.Places.{First, Between, front_of, heads_in, head_text};
+ghost use Rattle.hyd_cert.specs.PlacesOfLines.{First, Between, front_of, heads_in, head_text};
 ghost use Rattle.hyd_cert.specs.Faults.{lines_on, IsFront, IsLineFault, IsHeadsFault, IsHeaderFault, IsTextFault};
 ghost use Rattle.hyd_cert.specs.Faults.{LacksRecord, OnGrammar};
 ghost use Rattle.hyd_cert.specs.ReaderView.{fresh, to_come, IsGoing, IsDone, place_of, lead, lead_lines, answer_of};

@@ -4,7 +4,7 @@ ghost use Rattle.std.specs.Prelude.{◌≡◌, ℕ, ◌+◌, ◌^◌, ◌<◌, �
 ghost use Rattle.hyd_spec_certificates.specs.Record.{Record};
 ghost use Rattle.hyd_spec_reports.specs.CertificateText.{IsRow, IsCertificateText, certificate_text};
 ghost use Rattle.hyd_cert.specs.Lines.{Header, IsHeaderLine, header_words};
-ghost use Rattle.hyd_cert.specs.Places.{First, Between, Goes, IsFault};
+ghost use Rattle.hyd_cert.specs.PlacesOfLines.{First, Between, Goes, IsFault};
 ghost use Rattle.hyd_cert.specs.Faults.{HasOtherHeader};
 ghost use Rattle.hyd_cert.specs.FaultyLine.{IsCertificate, IsFirstFault, lines_of, BeginsWith};
 

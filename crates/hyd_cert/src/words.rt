@@ -3,7 +3,7 @@
 ghost use Rattle.std.specs.Prelude.{◌≡◌, ◌≢◌, ℕ, ◌+◌, ◌<◌, ◌≤◌, ◌^◌, ℤ, false, IsTrue, List, [], ◌∷◌, ◌++◌, length};
 ghost use Rattle.std.specs.Prelude.{IfSome, IfNone, decimal, slice_index};
 ghost use Rattle.std.specs.Fmt.{signed_decimal};
-ghost use Rattle.hyd_cert.specs.Cutting.{HasNo};
+ghost use Rattle.hyd_cert.specs.TextsWithoutLine.{HasNo};
 ghost use Rattle.std.specs.Str.Parse.{AllDigits, digits_value};
 ghost use Rattle.hyd_spec_certificates.specs.Certificate.{IsInBox};
 

@@ -4,15 +4,15 @@ use Rattle.std.proofs.Common.{sym, ap, subst, ◌∙◌, arith, append-nil, inl,
 use Rattle.std.specs.Prelude.{⊤, Result, Ok, Err, IfOk, IfErr, OnOk}
 use Rattle.std.proofs.lemmas.List.Elements.{All-push}
 use Rattle.hyd_net.specs.Sound.{Sound}
-use Rattle.hyd_spec.specs.Types.{Project}
-use Rattle.hyd_spec.specs.Network.{junction_count, tank_count}
+use Rattle.hyd_spec.specs.ProgramTypes.{Project}
+use Rattle.hyd_spec.specs.NodeNumbers.{junction_count, tank_count}
 use Rattle.hyd_spec_certificates.specs.Record.{Standing, initial_standing}
 use Rattle.hyd_spec_reports.specs.CertificateText.{IsRow}
 use Rattle.hyd_spec_reports.specs.ReportLine.{report_text}
 use Rattle.hyd_spec_reports.specs.Headline.{Found, IsRun, IsRunFrom, rows_of, lines_of, report_so_far}
-use Rattle.hyd_theorems_on_periods.proofs.Appending.{run_more}
+use Rattle.hyd_theorems_on_definitions.proofs.Appending.{run_more}
 use Rattle.hyd_theorems_on_histories.proofs.Running.{every_history}
-use Rattle.hyd_io.specs.Told.{append_known, Moves, PutOut}
+use Rattle.hyd_io.specs.ToldBytes.{append_known, Moves, PutOut}
 use Rattle.hyd_io.proofs.ToldLemmas.{moves_whole}
 use Rattle.hyd_io.specs.Output.{PenState}
 use Rattle.hyd_cert.specs.ReaderView.{ReaderView, fresh, to_come}

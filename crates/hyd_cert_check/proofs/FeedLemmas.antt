@@ -8,9 +8,9 @@ use Rattle.hyd_spec_certificates.specs.Certificate.{IsInBox}
 use Rattle.hyd_spec_certificates.specs.Record.{Record, Vectors}
 use Rattle.hyd_spec_reports.specs.CertificateText.{words, head_lines, vectors_text, record_text}
 use Rattle.hyd_spec_reports.specs.CertificateText.{line_feeds, IsVector, IsRow, certificate_text}
-use Rattle.hyd_cert.specs.Cutting.{HasNo}
+use Rattle.hyd_cert.specs.TextsWithoutLine.{HasNo}
 use Rattle.hyd_cert.specs.Lines.{Header, IsHeaderLine, header_words, end_word}
-use Rattle.hyd_cert.specs.Places.{heads_in}
+use Rattle.hyd_cert.specs.PlacesOfLines.{heads_in}
 use Rattle.hyd_cert.proofs.LineLemmas.{head_free, header_is_line, next_is_line}
 use Rattle.hyd_cert.proofs.HeadLemmas.{period_is, end_is}
 use Rattle.hyd_cert.proofs.GoesLemmas.{no_feeds}

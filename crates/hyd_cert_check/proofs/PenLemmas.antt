@@ -7,7 +7,7 @@ use Rattle.hyd_io.specs.declared.desk.Openings.{Openings}
 use Rattle.hyd_io.specs.declared.output.OutFault.{OutFault}
 use Rattle.hyd_io.specs.declared.output.Channel.{Channel}
 use Rattle.hyd_io.specs.declared.output.Channel.TheVariants.{Report}
-use Rattle.hyd_io.specs.Told.{Files, Moves, PutOut}
+use Rattle.hyd_io.specs.ToldBytes.{Files, Moves, PutOut}
 use Rattle.hyd_io.specs.Output.{by_channel, OnCert, OnReport, HasOutCause, PenState}
 use Rattle.hyd_io.proofs.ToldLemmas.{moves_then, put_out_then, put_out_nothing, moves_nothing}
 use Rattle.hyd_cert.specs.ReaderView.{ReaderView}

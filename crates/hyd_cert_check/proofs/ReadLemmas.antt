@@ -1,15 +1,15 @@
 -- What was read of a text so far, and one record more.
 use Rattle.std.proofs.Common.{◌≡◌, ℕ, suc, ◌+◌, ◌*◌, List, [], ◌∷◌, ◌++◌, length, length-append, map, Option}
 use Rattle.std.proofs.Common.{Some, sym, ap, ◌∙◌, arith, append-nil, append_assoc, inl, inr}
-use Rattle.hyd_io.specs.Told.{where_told, prepend_known}
+use Rattle.hyd_io.specs.ToldBytes.{where_told, prepend_known}
 use Rattle.hyd_io.proofs.ToldLemmas.{prepend_known-prepend_known}
-use Rattle.hyd_spec.specs.Types.{Project}
+use Rattle.hyd_spec.specs.ProgramTypes.{Project}
 use Rattle.hyd_spec.specs.Lists.{joined}
 use Rattle.hyd_spec_certificates.specs.Record.{Record}
 use Rattle.hyd_spec_reports.specs.CertificateText.{record_text}
 use Rattle.hyd_spec_reports.specs.Headline.{Found, rows_of}
 use Rattle.hyd_cert.specs.Lines.{Header, header_text}
-use Rattle.hyd_cert.specs.Places.{heads_in}
+use Rattle.hyd_cert.specs.PlacesOfLines.{heads_in}
 use Rattle.hyd_cert.specs.Faults.{lines_on}
 use Rattle.hyd_cert.specs.FaultyLine.{lines_of}
 use Rattle.hyd_cert.specs.ReaderView.{lead, lead_lines}

@@ -3,28 +3,28 @@ use Rattle.std.proofs.Common.{◌≡◌, ℕ, suc, ◌+◌, ◌<◌, ◌^◌, []
 use Rattle.std.proofs.Common.{◌∙◌, arith}
 use Rattle.std.proofs.lemmas.List.{length-map}
 use Rattle.hyd_net.specs.Sound.{Sound}
-use Rattle.hyd_spec.specs.Types.{Project}
+use Rattle.hyd_spec.specs.ProgramTypes.{Project}
 use Rattle.hyd_spec_certificates.specs.Record.{Record, Standing}
 use Rattle.hyd_spec_reports.specs.Headline.{Found}
 use Rattle.hyd_spec_reports.specs.CertificateText.{record_text, end_line, IsRow}
 use Rattle.hyd_spec_reports.specs.Refusals.{IsRefused}
 use Rattle.hyd_spec_reports.specs.declared.CertRefused.{CertRefused}
 use Rattle.hyd_io.specs.declared.desk.Faults.{Faults}
-use Rattle.hyd_io.specs.Told.{prepend_known, where_told}
+use Rattle.hyd_io.specs.ToldBytes.{prepend_known, where_told}
 use Rattle.hyd_cert.specs.Faults.{lines_on, IsTextFault, HasOtherHeader, LacksRecord}
 use Rattle.hyd_cert.specs.Lines.{Header}
-use Rattle.hyd_cert.specs.Places.{IsFault}
+use Rattle.hyd_cert.specs.PlacesOfLines.{IsFault}
 use Rattle.hyd_cert.specs.ReaderView.{ReaderView, to_come, lead, lead_lines, place_of}
 use Rattle.hyd_cert.specs.RecordView.{header_of, row_of}
 use Rattle.hyd_cert.specs.declared.answers.CertFault.TheVariants.{Grammar, Count}
 use Rattle.hyd_cert.specs.declared.answers.Stand.TheVariants as stand
 use Rattle.hyd_cert.specs.declared.record.Record.{Record as Row}
-use Rattle.hyd_graph.specs.GridOf.{grid_of, states_of}
-use Rattle.hyd_graph.specs.NetView.{NetView}
-use Rattle.hyd_graph.specs.Periods.{ends_of, IsNetOf}
-use Rattle.hyd_graph.specs.Settings.{AreStates}
+use Rattle.hyd_period_network.specs.GridOf.{grid_of, states_of}
+use Rattle.hyd_period_network.specs.NetView.{NetView}
+use Rattle.hyd_period_network.specs.Periods.{ends_of, IsNetOf}
+use Rattle.hyd_period_network.specs.Settings.{AreStates}
 use Rattle.hyd_period_facts.specs.declared.facts.Facts.{Facts}
-use Rattle.hyd_theorems_on_periods.specs.Laws.{IsSteady}
+use Rattle.hyd_theorems_on_definitions.specs.Laws.{IsSteady}
 use Rattle.hyd_report.specs.LinesOfParts.{texts}
 use Rattle.hyd_report.specs.PeriodLines.{AreBounds, AreTankFacts, lines_of}
 use Rattle.hyd_report.proofs.ReportLemmas.{length-links_of, lines_are_report}

@@ -1,7 +1,7 @@
 -- One turn of a check after another.
 use Rattle.std.proofs.Common.{◌≡◌, sym, subst}
 use Rattle.hyd_net.specs.Sound.{Sound}
-use Rattle.hyd_spec.specs.Types.{Project}
+use Rattle.hyd_spec.specs.ProgramTypes.{Project}
 use Rattle.hyd_spec_certificates.specs.Record.{Standing}
 use Rattle.hyd_cert.specs.ReaderView.{IsGoing}
 use Rattle.hyd_cert.specs.declared.answers.Stand.{Stand}

@@ -4,9 +4,9 @@ use Rattle.std.proofs.Common.{refl, sym, ap, subst, ◌∙◌, arith, append_ass
 use Rattle.std.proofs.lemmas.List.{append_cancel_left}
 use Rattle.std.proofs.lemmas.List.Elements.{All-push}
 use Rattle.hyd_net.specs.Sound.{Sound}
-use Rattle.hyd_spec.specs.Types.{Project}
+use Rattle.hyd_spec.specs.ProgramTypes.{Project}
 use Rattle.hyd_spec.specs.Lists.{joined}
-use Rattle.hyd_spec.specs.Network.{junction_count, tank_count}
+use Rattle.hyd_spec.specs.NodeNumbers.{junction_count, tank_count}
 use Rattle.hyd_spec_certificates.specs.Record.{Record, Standing}
 use Rattle.hyd_spec_reports.specs.CertificateText.{IsRow, IsCertificateText, record_text, end_line, line_feeds}
 use Rattle.hyd_spec_reports.specs.CertificateText.{certificate_text, version_of}
@@ -16,7 +16,7 @@ use Rattle.hyd_spec_reports.specs.Headline.{Found, rows_of, lines_of, accepted_l
 use Rattle.hyd_spec_reports.specs.Headline.{CheckRefusesEnd}
 use Rattle.hyd_theorems_on_histories.proofs.Running.{every_history}
 use Rattle.hyd_cert.specs.Lines.{Header, header_text, header_words}
-use Rattle.hyd_cert.specs.Places.{First, IsFault, heads_in}
+use Rattle.hyd_cert.specs.PlacesOfLines.{First, IsFault, heads_in}
 use Rattle.hyd_cert.specs.Faults.{lines_on, HasOtherHeader, LacksRecord}
 use Rattle.hyd_cert.specs.FaultyLine.{lines_of as record_lines}
 use Rattle.hyd_cert.specs.ReaderView.{place_of}

@@ -1,9 +1,9 @@
 -- What a check of a certificate gives: it accepts it, or refuses it and says why, or is broken off.
 -- Source: this program's.
 use Rattle.std.specs.Prelude.{◌≡◌, ◌≢◌, ℕ, ◌-◌, ◌^◌, ◌⊎◌, min, List, [], ◌∷◌, ◌++◌, map, All, Some, codes, decimal}
-use Rattle.hyd_spec.specs.Types.{Project}
+use Rattle.hyd_spec.specs.ProgramTypes.{Project}
 use Rattle.hyd_spec.specs.Lists.{joined}
-use Rattle.hyd_spec.specs.Network.{junction_count, tank_count}
+use Rattle.hyd_spec.specs.NodeNumbers.{junction_count, tank_count}
 use Rattle.hyd_spec_certificates.specs.Record.{Record, Standing}
 use Rattle.hyd_spec_reports.specs.CertificateText.{IsRow, line, version_of, header_line, record_text}
 use Rattle.hyd_spec_reports.specs.ReportLine.{report_text}

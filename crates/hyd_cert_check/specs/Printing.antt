@@ -4,7 +4,7 @@ use Rattle.std.specs.Prelude.{◌≡◌, ℕ, List, [], ◌++◌, None, Result, 
 use Rattle.hyd_io.specs.declared.desk.Faults.{Faults}
 use Rattle.hyd_io.specs.declared.output.Channel.TheVariants.{Report}
 use Rattle.hyd_io.specs.Counts.{with_read_fault}
-use Rattle.hyd_io.specs.Told.{Moves, PutOut}
+use Rattle.hyd_io.specs.ToldBytes.{Moves, PutOut}
 use Rattle.hyd_io.specs.Output.{HasOutCause, PenState}
 use Rattle.hyd_cert.specs.ReaderView.{ReaderView}
 use Rattle.hyd_run.specs.Pens.{Told}

@@ -2,8 +2,8 @@
 //! report put out through a pen.
 #![tactic(auto)]
 
-mod first_and_bad_lines;
-mod last_line;
+mod first_and_refusing_report_lines;
+mod last_report_line;
 mod outcome;
 mod records;
 mod whole_check;

@@ -5,7 +5,7 @@ ghost use Rattle.std.specs.Prelude.{◌≡◌, None, IsTrue, OnOk, []};
 ghost use Rattle.hyd_io.specs.Output.{OnCert};
 ghost use Rattle.hyd_cert.specs.ReaderView.{ReaderView};
 ghost use Rattle.hyd_cert.specs.RecordView.{header_of, row_of};
-ghost use Rattle.hyd_graph.specs.GridOf.{grid_of, states_of};
+ghost use Rattle.hyd_period_network.specs.GridOf.{grid_of, states_of};
 ghost use Rattle.hyd_report.specs.LinesOfParts.{texts};
 ghost use Rattle.hyd_report.specs.PeriodLines.{lines_of};
 ghost use Rattle.hyd_report.specs.Putting.{Puts};

@@ -2,7 +2,7 @@
 #![tactic(auto)]
 
 ghost use Rattle.std.specs.Prelude.{◌≡◌, ⊤, ℕ, List, None, Some, IfErr, IfOk, OnOk};
-ghost use Rattle.hyd_spec.specs.Types.{Project};
+ghost use Rattle.hyd_spec.specs.ProgramTypes.{Project};
 ghost use Rattle.hyd_spec_certificates.specs.Record.{initial_standing};
 ghost use Rattle.hyd_cert.specs.ReaderView.{ReaderView, fresh};
 ghost use Rattle.hyd_cert.specs.RecordView.{header_of};
@@ -12,8 +12,8 @@ ghost use Rattle.hyd_cert_check.specs.Checks.{CheckEnds, CheckBreaksOff};
 ghost use Rattle.hyd_cert_check.specs.Printing.{Moment, moment, new_pen, IsOpen, Rose};
 ghost use Rattle.hyd_cert_check.specs.RecordByRecord.{AllRead, CheckPuts, IsPrinted, IsWhole, end_of};
 
-use crate::first_and_bad_lines::{empty, put_first};
-use crate::last_line::put_verdict;
+use crate::first_and_refusing_report_lines::{empty, put_first};
+use crate::last_report_line::put_verdict;
 use crate::outcome::{CheckEnd, CheckFault, Verdict};
 use crate::records::take_records;
 use hyd_cert::{CertReader, Record};

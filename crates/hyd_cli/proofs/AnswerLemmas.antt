@@ -3,15 +3,15 @@ use Rattle.std.proofs.Common.{◌≡◌, ◌≢◌, ℕ, List, [], Option, None,
 use Rattle.std.proofs.Common.{is_some}
 use Rattle.std.specs.Option.{option_map_or}
 use Rattle.std.proofs.lemmas.Bool.{false≢true}
-use Rattle.hyd_io.specs.Told.{Files, where_told, append_known, file_at, content_of}
+use Rattle.hyd_io.specs.ToldBytes.{Files, where_told, append_known, file_at, content_of}
 use Rattle.hyd_io.specs.Counts.{with_opened, with_created}
 use Rattle.hyd_io.specs.declared.desk.Faults.{Faults}
 use Rattle.hyd_io.specs.declared.desk.Openings.{Openings}
 use Rattle.hyd_io.specs.declared.output.OutFault.{OutFault}
 use Rattle.hyd_io.specs.declared.output.OutFault.TheVariants.{Fault, Stalled as Stall}
 use Rattle.hyd_spec_lines.specs.Lines.{items_of, rows_in}
-use Rattle.hyd_net.specs.declared.cause.Cause.{Cause}
-use Rattle.hyd_spec.specs.Types.{Project}
+use Rattle.hyd_net.specs.declared.refusal_cause.Cause.{Cause}
+use Rattle.hyd_spec.specs.ProgramTypes.{Project}
 use Rattle.hyd_spec_input.specs.Project.{IsProject}
 use Rattle.hyd_spec_reports.specs.Headline.{Outcome, Finished, Stopped, outcome_number}
 use Rattle.hyd_spec_reports.specs.declared.StopCause.TheVariants.{NoCertificate, TankOpen, RuleOpen, ControlOpen}
@@ -20,8 +20,11 @@ use Rattle.hyd_spec_reports.specs.declared.StopCause.TheVariants.{Demand as OutO
 use Rattle.hyd_sim.specs.declared.settings.Settings.{Settings}
 use Rattle.hyd_run.specs.Pens.{Told, OneRose, LeavesRest}
 use Rattle.hyd_run.specs.Runs.{IsPutOut, IsBrokenOff}
-use Rattle.hyd_cli.specs.Answers.{Seen, IsUntouched, NothingPut, Delivered, CutShort, HasCause, status_of, OpensOnce}
-use Rattle.hyd_cli.specs.Answers.{OpensCert, LeavesRun, Holds, AnswersRefused, AnswersRun, AnswersText}
+use Rattle.hyd_cli.specs.DeskContents.{Seen, IsUntouched, NothingPut}
+use Rattle.hyd_cli.specs.Answers.{HasCause, status_of}
+use Rattle.hyd_cli.specs.RunAnswers.{Delivered, CutShort, OpensOnce}
+use Rattle.hyd_cli.specs.Answers.{LeavesRun, AnswersRefused}
+use Rattle.hyd_cli.specs.RunAnswers.{OpensCert, Holds, AnswersRun, AnswersText}
 use Rattle.hyd_cli.specs.Statuses.{number_of, status_of_outcome}
 use Rattle.hyd_cli.specs.declared.status.Status.{Status}
 use Rattle.hyd_cli.specs.declared.status.Status.TheVariants.{Done, OutOfMemory, Usage, ReadFault, WriteFault}

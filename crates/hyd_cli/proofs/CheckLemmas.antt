@@ -2,14 +2,14 @@
 use Rattle.std.proofs.Common.{◌≡◌, ◌≢◌, ℕ, List, [], Option, None, Some, ◌⊎◌, inl, inr, ◌∙◌, refl, sym, ap, subst}
 use Rattle.std.proofs.Common.{append-nil}
 use Rattle.std.specs.Prelude.{⊤}
-use Rattle.hyd_io.specs.Told.{append_known}
+use Rattle.hyd_io.specs.ToldBytes.{append_known}
 use Rattle.hyd_io.specs.Counts.{with_opened}
 use Rattle.hyd_io.specs.declared.desk.Faults.{Faults}
 use Rattle.hyd_io.specs.declared.desk.Openings.{Openings}
 use Rattle.hyd_io.specs.declared.output.OutFault.TheVariants.{Fault, Stalled as Stall}
 use Rattle.hyd_spec_lines.specs.Lines.{items_of, rows_in}
-use Rattle.hyd_net.specs.declared.cause.Cause.{Cause}
-use Rattle.hyd_spec.specs.Types.{Project}
+use Rattle.hyd_net.specs.declared.refusal_cause.Cause.{Cause}
+use Rattle.hyd_spec.specs.ProgramTypes.{Project}
 use Rattle.hyd_spec_input.specs.Project.{IsProject}
 use Rattle.hyd_cert_check.specs.Checks.{CheckEnds, CheckBreaksOff}
 use Rattle.hyd_cert_check.specs.Printing.{Rose}
@@ -19,8 +19,9 @@ use Rattle.hyd_cert_check.specs.declared.outcome.CheckEnd.TheVariants.{Accepted,
 use Rattle.hyd_cert_check.specs.declared.outcome.CheckFault.{CheckFault}
 use Rattle.hyd_cert_check.specs.declared.outcome.CheckFault.TheVariants.{Read, Output}
 use Rattle.hyd_theorems_on_checks.proofs.NeverRefused.{never_refused}
-use Rattle.hyd_command_words.specs.Orders.{TwoFiles, check}
-use Rattle.hyd_cli.specs.Answers.{Seen, IsUntouched, OnlyPrinted, OnlyPrintedFront, OnlyPrintedSome, HasCause, Leaves}
+use Rattle.hyd_command_words.specs.CommandGrammar.{TwoFiles, check}
+use Rattle.hyd_cli.specs.DeskContents.{Seen, IsUntouched, OnlyPrinted, OnlyPrintedFront, OnlyPrintedSome}
+use Rattle.hyd_cli.specs.Answers.{HasCause, Leaves}
 use Rattle.hyd_cli.specs.Answers.{AnswersRefused}
 use Rattle.hyd_cli.specs.CheckAnswers.{AnswersCert, AnswersCheck, ReadsCert, ReadsBoth, status_of_check}
 use Rattle.hyd_cli.specs.CheckAnswers.{status_of_break}

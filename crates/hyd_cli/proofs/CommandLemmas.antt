@@ -4,12 +4,13 @@ use Rattle.std.proofs.Common.{option_map, option_and_then, bytes_eq, refl, sym, 
 use Rattle.std.proofs.lemmas.Bool.{false≢true}
 use Rattle.std.proofs.lemmas.Option.{same_Some}
 use Rattle.std.proofs.lemmas.Slice.Eq.{bytes_eq-Decides}
-use Rattle.hyd_command_words.specs.Words.{Word, Said, said}
-use Rattle.hyd_command_words.specs.Orders.{RunOrder, GenOrder, TwoFiles, run, check, gen, order_of}
-use Rattle.hyd_command_words.specs.Orders.{run_order, run_command, check_command, gen_command, gen_order, differing}
-use Rattle.hyd_command_words.specs.Orders.{two_files, seed_of, junctions_of, has_names_alone}
+use Rattle.hyd_command_words.specs.SaidWords.{Word, Said, said}
+use Rattle.hyd_command_words.specs.CommandGrammar.{RunOrder, GenOrder, TwoFiles, run, check, gen, order_of}
+use Rattle.hyd_command_words.specs.CommandGrammar.{run_order, run_command, check_command, gen_command, gen_order}
+use Rattle.hyd_command_words.specs.CommandGrammar.{differing}
+use Rattle.hyd_command_words.specs.CommandGrammar.{two_files, seed_of, junctions_of, has_names_alone}
 use Rattle.std.specs.Prelude.{codes}
-use Rattle.hyd_command_words.specs.Seen.{order_seen, run_seen, files_seen, gen_seen}
+use Rattle.hyd_command_words.specs.CommandView.{order_seen, run_seen, files_seen, gen_seen}
 use Rattle.hyd_command_words.specs.declared.command.Command.{Command}
 use Rattle.hyd_command_words.specs.declared.command.Command.TheVariants.{Run, Check, Gen}
 use Rattle.hyd_command_words.specs.declared.command.Files.{Files}

@@ -2,7 +2,7 @@
 use Rattle.std.proofs.Common.{◌≡◌, ◌≢◌, ℕ, Bool, false, List, [], ◌++◌, Option, None, Some, ◌⊎◌, inl, inr, ◌∙◌, refl}
 use Rattle.std.proofs.Common.{sym, subst, is_some}
 use Rattle.std.proofs.lemmas.Bool.{false≢true}
-use Rattle.hyd_io.specs.Told.{where_told, append_known, file_at, content_of, Moves, PutOut}
+use Rattle.hyd_io.specs.ToldBytes.{where_told, append_known, file_at, content_of, Moves, PutOut}
 use Rattle.hyd_io.specs.Counts.{with_created}
 use Rattle.hyd_io.specs.Output.{by_channel}
 use Rattle.hyd_io.specs.declared.desk.Openings.{Openings}
@@ -12,15 +12,17 @@ use Rattle.hyd_io.specs.declared.output.OutFault.{OutFault}
 use Rattle.hyd_io.specs.declared.output.OutFault.TheVariants.{Fault, Stalled as Stall}
 use Rattle.hyd_io.proofs.ToldLemmas.{moves_flush, put_out_flush}
 use Rattle.hyd_spec_lines.specs.Lines.{items_of, rows_in}
-use Rattle.hyd_net.specs.declared.cause.Cause.{Cause}
-use Rattle.hyd_spec.specs.Types.{Project}
+use Rattle.hyd_net.specs.declared.refusal_cause.Cause.{Cause}
+use Rattle.hyd_spec.specs.ProgramTypes.{Project}
 use Rattle.hyd_spec_input.specs.Project.{IsProject}
 use Rattle.hyd_spec_reports.specs.Headline.{Outcome}
 use Rattle.hyd_sim.specs.declared.settings.Settings.{Settings}
 use Rattle.hyd_run.specs.Pens.{Told, LeavesRest}
 use Rattle.hyd_summarised_run.specs.SummarisedRuns.{IsSummed, IsSumBrokenOff}
-use Rattle.hyd_command_words.specs.Orders.{TwoFiles}
-use Rattle.hyd_cli.specs.Answers.{Seen, NothingPut, OfNetwork, OpensCert, LeavesRun, AnswersRefused, status_of}
+use Rattle.hyd_command_words.specs.CommandGrammar.{TwoFiles}
+use Rattle.hyd_cli.specs.DeskContents.{Seen, NothingPut}
+use Rattle.hyd_cli.specs.Answers.{OfNetwork, LeavesRun, AnswersRefused, status_of}
+use Rattle.hyd_cli.specs.RunAnswers.{OpensCert}
 use Rattle.hyd_cli.specs.GenAnswers.{usual_settings, Generated, TextWritten, TextCutShort, CertStays, GenBreaksOff}
 use Rattle.hyd_cli.specs.GenAnswers.{nothing, in_network, no_certificate, in_run, AnswersGenerated, AnswersGen}
 use Rattle.hyd_cli.specs.GenAnswers.{CreatesBoth}

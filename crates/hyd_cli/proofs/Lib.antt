@@ -3,3 +3,4 @@ pub mod CheckLemmas
 pub mod PrintLemmas
 pub mod CommandLemmas
 pub mod GenLemmas
+pub mod TaskLemmas

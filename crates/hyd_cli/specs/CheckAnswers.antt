@@ -3,7 +3,7 @@
 use Rattle.std.specs.Prelude.{◌≡◌, ℕ, ◌⊎◌, List}
 use Rattle.hyd_io.specs.declared.desk.Openings.{Openings}
 use Rattle.hyd_io.specs.Counts.{with_opened}
-use Rattle.hyd_spec.specs.Types.{Project}
+use Rattle.hyd_spec.specs.ProgramTypes.{Project}
 use Rattle.hyd_spec_reports.specs.Headline.{CheckAccepts}
 use Rattle.hyd_cert_check.specs.Checks.{CheckRefusal, CheckBreaksOff}
 use Rattle.hyd_theorems_on_checks.specs.CertificateOfRun.{IsCertificateOfRun}
@@ -12,7 +12,8 @@ use Rattle.hyd_cert_check.specs.declared.outcome.CheckEnd.{CheckEnd}
 use Rattle.hyd_cert_check.specs.declared.outcome.CheckEnd.TheVariants.{Accepted, Refused}
 use Rattle.hyd_cert_check.specs.declared.outcome.CheckFault.{CheckFault}
 use Rattle.hyd_cert_check.specs.declared.outcome.CheckFault.TheVariants.{Read, Output}
-use Rattle.hyd_cli.specs.Answers.{Seen, IsUntouched, OfNetwork, status_of}
+use Rattle.hyd_cli.specs.DeskContents.{Seen, IsUntouched}
+use Rattle.hyd_cli.specs.Answers.{OfNetwork, status_of}
 use Rattle.hyd_cli.specs.declared.status.Status.{Status}
 use Rattle.hyd_cli.specs.declared.status.Status.TheVariants.{Done, OutOfMemory, Usage, ReadFault, WriteFault}
 use Rattle.hyd_cli.specs.declared.status.Status.TheVariants.{InputRefused, Undecided, RoundsSpent, Demand}

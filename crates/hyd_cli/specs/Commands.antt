@@ -1,14 +1,16 @@
 -- What each command does, by the name of its answer: what is said of what it was asked, of what the desk told before
--- and tells now, of how often files were opened and created, and of whether one can be written to.
+-- and tells now, of how often files were opened and created, and, of `gen`, of whether one can be written to.
 -- Source: this program's.
 use Rattle.std.specs.Prelude.{◌≢◌, ℕ, Bool, List}
 use Rattle.hyd_io.specs.declared.desk.Openings.{Openings}
-use Rattle.hyd_io.specs.Told.{IsTold}
-use Rattle.hyd_net.specs.declared.cause.Cause.{Cause}
+use Rattle.hyd_io.specs.ToldBytes.{IsTold}
+use Rattle.hyd_net.specs.declared.refusal_cause.Cause.{Cause}
 use Rattle.hyd_spec_input.specs.Faults.{IsFault, HasNoFault}
-use Rattle.hyd_command_words.specs.Orders.{RunOrder, GenOrder, TwoFiles}
-use Rattle.hyd_cli.specs.Answers.{Seen, OnlyPrintedSome, ChangesOnly, OpensOnce, Holds, settings_of, AnswersRefused}
-use Rattle.hyd_cli.specs.Answers.{AnswersText}
+use Rattle.hyd_command_words.specs.CommandGrammar.{RunOrder, GenOrder, TwoFiles}
+use Rattle.hyd_cli.specs.DeskContents.{Seen, OnlyPrintedSome, ChangesOnly}
+use Rattle.hyd_cli.specs.Answers.{AnswersRefused}
+use Rattle.hyd_cli.specs.RunAnswers.{OpensOnce, Holds, settings_of}
+use Rattle.hyd_cli.specs.RunAnswers.{AnswersText}
 use Rattle.hyd_cli.specs.CheckAnswers.{AnswersCheck, ReadsBoth}
 use Rattle.hyd_cli.specs.GenAnswers.{text_of, AnswersGen, ChangesBoth, CreatesBoth, KeepsCert, KeepsNet}
 use Rattle.hyd_cli.specs.declared.status.Status.{Status}

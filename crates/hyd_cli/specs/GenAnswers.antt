@@ -3,15 +3,16 @@
 use Rattle.std.specs.Prelude.{◌≡◌, ◌≢◌, ℕ, ◌^◌, Bool, false, pos, ◌⊎◌, List, ◌++◌, is_some}
 use Rattle.hyd_io.specs.declared.desk.Openings.{Openings}
 use Rattle.hyd_io.specs.Counts.{with_created}
-use Rattle.hyd_io.specs.Told.{where_told, append_known, file_at}
-use Rattle.hyd_spec.specs.Types.{Project}
+use Rattle.hyd_io.specs.ToldBytes.{where_told, append_known, file_at}
+use Rattle.hyd_spec.specs.ProgramTypes.{Project}
 use Rattle.hyd_spec_generated.specs.GeneratedText.{generated_text}
 use Rattle.hyd_spec_reports.specs.Headline.{Outcome, outcome_number}
 use Rattle.hyd_spec_summary.specs.Summary.{RunSums, SumsBreakOff}
 use Rattle.hyd_run.specs.Runs.{sharpness_of}
 use Rattle.hyd_sim.specs.declared.settings.Settings.{Settings}
-use Rattle.hyd_command_words.specs.Orders.{GenOrder, TwoFiles}
-use Rattle.hyd_cli.specs.Answers.{Seen, IsUntouched, NothingPut, OfNetwork}
+use Rattle.hyd_command_words.specs.CommandGrammar.{GenOrder, TwoFiles}
+use Rattle.hyd_cli.specs.DeskContents.{Seen, IsUntouched, NothingPut}
+use Rattle.hyd_cli.specs.Answers.{OfNetwork}
 use Rattle.hyd_cli.specs.Statuses.{number_of}
 use Rattle.hyd_cli.specs.declared.status.Status.{Status}
 use Rattle.hyd_cli.specs.declared.status.Status.TheVariants.{Done, OutOfMemory, Usage, ReadFault, WriteFault}
@@ -72,10 +73,10 @@ pub record GeneratedShort (network : Project) (text : List ℕ) (names : TwoFile
 abbrev pub CertStays : TwoFiles → Seen → Seen → Type 0
 CertStays names before now = file_at now.files names.cert ≡ file_at before.files names.cert
 
--- What a fault of output leaves: `create` was called for NET, and NET couldn't be created, or holds a front of its
--- text, and CERT is as it was; or `create` was called twice, NET holds the text, and CERT couldn't be created or holds
--- a front of its certificate. Where a file couldn't be created none can be written to, and what that call left of the
--- file isn't told.
+-- What a fault of output leaves: `create` was called once, and nothing could be written, or NET holds a front of its
+-- text, and CERT is as it was; or it was called twice, NET holds the text, and CERT couldn't be created, or the run was
+-- broken off: CERT holds a front of its certificate, and a front of the summary was printed. Where a file couldn't be
+-- created none can be written to, and what that call left of the file isn't told.
 pub data GenBreaksOff (network : Project) (text : List ℕ) (names : TwoFiles) (before now : Seen)
     (opened opens : Openings) (writable : Bool) : Type 0 where
   nothing : NothingPut before now → CertStays names before now → opens ≡ with_created opened → writable ≡ false
@@ -87,8 +88,8 @@ pub data GenBreaksOff (network : Project) (text : List ℕ) (names : TwoFiles) (
   in_run : GeneratedShort network text names before now → opens ≡ with_created (with_created opened)
       → GenBreaksOff network text names before now opened opens writable
 
--- What an answer says of a generated text and its network: of contents, of how often files were opened and created, and
--- of whether the file created last can be written to.
+-- What an answer says of a generated text and its network: of contents, and after a fault of how often files were
+-- opened and created, and of whether the file created last can be written to.
 abbrev pub AnswersGenerated : Project → List ℕ → TwoFiles → Status → Seen → Seen → Openings → Openings → Bool → Type 0
 AnswersGenerated network text names Done before now opened opens writable =
     Generated network text names Done before now
@@ -111,8 +112,8 @@ AnswersGen text names OutOfMemory before now opened opens writable = IsUntouched
 AnswersGen text names status before now opened opens writable =
     OfNetwork text (λ network. AnswersGenerated network text names status before now opened opens writable)
 
--- How often `gen` calls `create`: twice where the run ended, for want of memory never, and at most twice where a fault
--- came. It opens nothing.
+-- How often `gen` calls `create`: twice where the run ended, for want of memory or where the text is refused never, and
+-- at most twice where a fault came. It opens nothing.
 abbrev pub CreatesBoth : Status → Openings → Openings → Type 0
 CreatesBoth Done before now = now ≡ with_created (with_created before)
 CreatesBoth OutOfMemory before now = now ≡ before

@@ -1,7 +1,10 @@
 pub mod Statuses
 pub mod Words
+pub mod DeskContents
 pub mod Answers
+pub mod RunAnswers
 pub mod Reading
 pub mod CheckAnswers
 pub mod GenAnswers
+pub mod Tasks
 pub mod Commands

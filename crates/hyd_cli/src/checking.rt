@@ -1,35 +1,30 @@
 //! The command `check`: a certificate is checked against a network.
 
 ghost use Rattle.std.specs.Prelude.{◌≡◌, ◌≢◌, ℕ, List, Some, None, IsTrue, IfOk};
-ghost use Rattle.hyd_io.specs.Told.{IsTold};
+ghost use Rattle.hyd_io.specs.ToldBytes.{IsTold};
 ghost use Rattle.hyd_net.specs.Sound.{Sound};
-ghost use Rattle.hyd_net.specs.declared.cause.Cause.{Cause};
+ghost use Rattle.hyd_net.specs.declared.refusal_cause.Cause.{Cause};
 ghost use Rattle.hyd_spec_certificates.specs.Record.{initial_standing};
 ghost use Rattle.hyd_spec_input.specs.Faults.{IsFault, HasNoFault};
 ghost use Rattle.hyd_cert.specs.RecordView.{header_of};
 ghost use Rattle.hyd_sim.specs.View.{header_for, standing_of};
-ghost use Rattle.hyd_command_words.specs.Orders.{TwoFiles, check};
-ghost use Rattle.hyd_cli.specs.Answers.{seen, HasCause, Leaves, OnlyPrintedSome, AnswersRefused};
+ghost use Rattle.hyd_command_words.specs.CommandGrammar.{TwoFiles, check};
+ghost use Rattle.hyd_cli.specs.DeskContents.{seen, OnlyPrintedSome};
+ghost use Rattle.hyd_cli.specs.Answers.{HasCause, Leaves, AnswersRefused};
 ghost use Rattle.hyd_cli.specs.CheckAnswers.{AnswersCert, AnswersCheck, ReadsCert, ReadsBoth, status_of_check};
 ghost use Rattle.hyd_cli.specs.CheckAnswers.{status_of_break};
 ghost use Rattle.hyd_cli.specs.declared.status.Status.TheVariants.{Usage, InputRefused};
 
-use crate::output::refuse_text;
 use crate::reading::{Unread, read_network};
 use crate::status::{Status, fault_status};
+use crate::tasks::{Task, do_with_network};
+use crate::usage_and_refusal::refuse_text;
 use hyd_cert::{CertReader, Record, version_of};
 use hyd_cert_check::{CheckEnd, CheckFault, check};
 use hyd_io::{Channel, Desk, Pen};
 use hyd_net::Project;
-use hyd_sim::{Settings, Sim};
+use hyd_sim::Sim;
 use std::alloc::{AllocError, Global};
-
-/// A check finds no vectors, so it needs no rounds.
-const NO_SEARCH: Settings = Settings {
-    rounds: 0,
-    width: 0,
-    tight: false,
-};
 
 /// The status of a check that came to its end.
 fn status_of_end(end: CheckEnd) -> Status
@@ -89,7 +84,12 @@ fn record_for(alloc: Global, project: &Project) -> Result<Record, AllocError>
 }
 
 /// Opens a record, and checks CERT by the run at its start.
-fn check_by_run<D: Desk>(alloc: Global, sim: &mut Sim, cert: &str, desk: &mut D) -> Status
+pub(crate) fn check_by_run<D: Desk>(
+    alloc: Global,
+    sim: &mut Sim,
+    cert: &str,
+    desk: &mut D,
+) -> Status
     requires start { standing_of sim.old ≡ initial_standing sim.old.project }
     requires running { sim.old.stopped ≡ None }
     requires opens { IsTrue (D.may_open cert.now) }
@@ -105,26 +105,6 @@ fn check_by_run<D: Desk>(alloc: Global, sim: &mut Sim, cert: &str, desk: &mut D)
 {
     match record_for(alloc, sim.project()) {
         Ok(mut row) => check_opened(sim, &mut row, cert, desk),
-        Err(_) => Status::OutOfMemory,
-    }
-}
-
-/// Checks CERT against a network that was read. All memory is taken before CERT is opened.
-fn check_network<D: Desk>(alloc: Global, project: Project, cert: &str, desk: &mut D) -> Status
-    requires sound { Sound project }
-    requires opens { IsTrue (D.may_open cert.now) }
-    ensures cause { HasCause result (D.counts desk.old) (D.counts desk.new) }
-    ensures only_prints { OnlyPrintedSome
-        (seen D.files D.written D.printed desk.old) (seen D.files D.written D.printed desk.new) }
-    ensures leaves { (files : TwoFiles) → Leaves (Some (check files)) result
-        (seen D.files D.written D.printed desk.old) (seen D.files D.written D.printed desk.new) }
-    ensures answers { (certificate : List ℕ) → IsTold (D.files desk.old) cert.now certificate
-        → AnswersCert project certificate result
-        (seen D.files D.written D.printed desk.old) (seen D.files D.written D.printed desk.new) }
-    ensures opened { ReadsCert result (D.openings desk.old) (D.openings desk.new) }
-{
-    match Sim::open(alloc, project, NO_SEARCH) {
-        Ok(mut sim) => check_by_run(alloc, &mut sim, cert, desk),
         Err(_) => Status::OutOfMemory,
     }
 }
@@ -150,7 +130,7 @@ pub(crate) fn check_files<D: Desk>(alloc: Global, net: &str, cert: &str, desk: &
     ensures once { ReadsBoth result (D.openings desk.old) (D.openings desk.new) }
 {
     match read_network(alloc, net, desk) {
-        Ok(project) => check_network(alloc, project, cert, desk),
+        Ok(project) => do_with_network(alloc, project, Task::Check { cert }, desk),
         Err(Unread::Fault(fault)) => refuse_text(fault.line, fault.cause, desk),
         Err(Unread::Ended(status)) => status,
     }

@@ -1,23 +1,27 @@
 //! The top call.
 
 ghost use Rattle.std.specs.Prelude.{◌≡◌, ◌≢◌, ℕ, List, Option, Some, None, IsTrue, map, option_map, string_bytes};
-ghost use Rattle.hyd_io.specs.Told.{IsTold, file_at};
-ghost use Rattle.hyd_net.specs.declared.cause.Cause.{Cause};
+ghost use Rattle.hyd_io.specs.ToldBytes.{IsTold, file_at};
+ghost use Rattle.hyd_net.specs.declared.refusal_cause.Cause.{Cause};
 ghost use Rattle.hyd_spec_input.specs.Faults.{IsFault, HasNoFault};
-ghost use Rattle.hyd_command_words.specs.Orders.{Order, RunOrder, GenOrder, TwoFiles, order_of, run, check, gen};
-ghost use Rattle.hyd_command_words.specs.Seen.{order_seen};
-ghost use Rattle.hyd_cli.specs.Answers.{seen, MayUse, ChangesOnly, HasCause, OpensOnce, Leaves, LeavesRun, Holds};
-ghost use Rattle.hyd_cli.specs.Answers.{AnswersUsage, AnswersRefused, AnswersText};
+ghost use Rattle.hyd_command_words.specs.CommandGrammar.{Order, RunOrder, GenOrder, TwoFiles, order_of, run, check};
+ghost use Rattle.hyd_command_words.specs.CommandGrammar.{gen};
+ghost use Rattle.hyd_command_words.specs.CommandView.{order_seen};
+ghost use Rattle.hyd_cli.specs.DeskContents.{seen, ChangesOnly};
+ghost use Rattle.hyd_cli.specs.Answers.{MayUse, HasCause, Leaves, LeavesRun};
+ghost use Rattle.hyd_cli.specs.RunAnswers.{OpensOnce, Holds};
+ghost use Rattle.hyd_cli.specs.Answers.{AnswersUsage, AnswersRefused};
+ghost use Rattle.hyd_cli.specs.RunAnswers.{AnswersText};
 ghost use Rattle.hyd_cli.specs.Commands.{DoesRun, DoesCheck, DoesGen};
 ghost use Rattle.hyd_cli.specs.declared.status.Status.TheVariants.{Usage};
 
 use crate::checking::check_files;
 use crate::generating::generate_network;
-use crate::output::{print_usage, refuse_text};
 use crate::reading::{Unread, read_network};
 use crate::run_settings::settings_of;
-use crate::running::run_network;
 use crate::status::{Status, fault_status};
+use crate::tasks::{Task, do_with_network};
+use crate::usage_and_refusal::{print_usage, refuse_text};
 use hyd_command_words::{Command, read_words};
 use hyd_io::Desk;
 use hyd_sim::Settings;
@@ -123,7 +127,7 @@ fn run<D: Desk>(alloc: Global, net: &str, cert: &str, settings: Settings, desk: 
     ensures once { OpensOnce result (D.openings desk.old) (D.openings desk.new) }
 {
     match read_network(alloc, net, desk) {
-        Ok(project) => run_network(alloc, project, settings, cert, desk),
+        Ok(project) => do_with_network(alloc, project, Task::Run { cert, settings }, desk),
         Err(Unread::Fault(fault)) => refuse_text(fault.line, fault.cause, desk),
         Err(Unread::Ended(status)) => status,
     }

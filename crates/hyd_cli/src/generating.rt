@@ -4,43 +4,36 @@ ghost use Rattle.std.specs.Prelude.{◌≡◌, ◌≢◌, ◌⊎◌, ℕ, false,
 ghost use Rattle.hyd_io.specs.declared.output.Channel.TheVariants.{Cert};
 ghost use Rattle.hyd_io.specs.Counts.{with_created};
 ghost use Rattle.hyd_io.specs.Output.{HasOutCause};
-ghost use Rattle.hyd_io.specs.Told.{append_known, PutOut};
-ghost use Rattle.hyd_net.specs.Sound.{Sound};
-ghost use Rattle.hyd_net.specs.declared.cause.Cause.{Cause};
+ghost use Rattle.hyd_io.specs.ToldBytes.{append_known, PutOut};
+ghost use Rattle.hyd_net.specs.declared.refusal_cause.Cause.{Cause};
 ghost use Rattle.hyd_spec_certificates.specs.Record.{initial_standing};
 ghost use Rattle.hyd_spec_input.specs.Faults.{IsFault, HasNoFault};
 ghost use Rattle.hyd_sim.specs.View.{standing_of};
 ghost use Rattle.hyd_run.specs.Pens.{told, OneRose, LeavesRest};
 ghost use Rattle.hyd_run.specs.Runs.{outcome_of};
-ghost use Rattle.hyd_command_words.specs.Orders.{GenOrder, gen};
-ghost use Rattle.hyd_command_words.specs.Seen.{files_seen, gen_seen};
-ghost use Rattle.hyd_cli.specs.Answers.{seen, HasCause, Leaves, NothingPut, ChangesOnly, AnswersRefused};
+ghost use Rattle.hyd_command_words.specs.CommandGrammar.{GenOrder, gen};
+ghost use Rattle.hyd_command_words.specs.CommandView.{files_seen, gen_seen};
+ghost use Rattle.hyd_cli.specs.DeskContents.{seen, NothingPut, ChangesOnly};
+ghost use Rattle.hyd_cli.specs.Answers.{HasCause, Leaves, AnswersRefused};
 ghost use Rattle.hyd_cli.specs.GenAnswers.{text_of, usual_settings, TextWritten, TextCutShort, Generated};
 ghost use Rattle.hyd_cli.specs.GenAnswers.{GenBreaksOff, AnswersGenerated, AnswersGen, ChangesBoth, CreatesBoth};
 ghost use Rattle.hyd_cli.specs.GenAnswers.{KeepsCert, KeepsNet};
 ghost use Rattle.hyd_cli.specs.Statuses.{status_of_outcome};
 ghost use Rattle.hyd_cli.specs.declared.status.Status.TheVariants.{Usage};
 
-use crate::output::refuse_text;
 use crate::reading::{Unread, network_of};
 use crate::running::status_of_end;
 use crate::status::{Status, fault_status};
+use crate::tasks::{Task, do_with_network};
+use crate::usage_and_refusal::refuse_text;
 use hyd_command_words::{Files, GenWords};
+use hyd_finders::{Finder, Gradient};
 use hyd_gen::generate;
 use hyd_io::{Channel, Desk, OutFault, Pen};
-use hyd_net::Project;
-use hyd_newton::{Finder, Gradient};
 use hyd_run::RunEnd;
-use hyd_sim::{Settings, Sim};
+use hyd_sim::Sim;
 use hyd_summarised_run::run_summed;
 use std::alloc::Global;
-
-/// What the run of a generated network is asked for.
-const USUAL: Settings = Settings {
-    rounds: 200,
-    width: 100_000_000_000,
-    tight: false,
-};
 
 /// Writes the text into the file created last.
 fn put_text<D: Desk>(text: &[u8], desk: &mut D) -> Result<(), OutFault>
@@ -163,7 +156,7 @@ fn run_generated<D: Desk, F: Finder>(
 }
 
 /// Opens the gradient method for a run at its start, and then writes NET and runs its network.
-fn run_by_gradient<D: Desk>(
+pub(crate) fn write_and_run<D: Desk>(
     alloc: Global,
     sim: &mut Sim,
     text: &[u8],
@@ -195,38 +188,6 @@ fn run_by_gradient<D: Desk>(
     }
 }
 
-/// Takes all the memory that the run of the text's network needs, and then writes NET and runs it.
-fn run_project<D: Desk>(
-    alloc: Global,
-    project: Project,
-    text: &[u8],
-    files: Files<'_>,
-    desk: &mut D,
-) -> Status
-    requires sound { Sound project }
-    requires creates_net { IsTrue (D.may_create files.net.now) }
-    requires creates_cert { IsTrue (D.may_create files.cert.now) }
-    requires apart { files.net.now ≢ files.cert.now }
-    ensures cause { HasCause result (D.counts desk.old) (D.counts desk.new) }
-    ensures answers { AnswersGenerated project text.now (files_seen files.entry) result
-        (seen D.files D.written D.printed desk.old) (seen D.files D.written D.printed desk.new)
-        (D.openings desk.old) (D.openings desk.new) (D.ready desk.new) }
-    ensures others { ChangesBoth (files_seen files.entry)
-        (seen D.files D.written D.printed desk.old) (seen D.files D.written D.printed desk.new) }
-    ensures once { CreatesBoth result (D.openings desk.old) (D.openings desk.new) }
-    ensures keeps_cert { KeepsCert text.now (files_seen files.entry)
-        (seen D.files D.written D.printed desk.old) (seen D.files D.written D.printed desk.new)
-        (D.openings desk.old) (D.openings desk.new) }
-    ensures keeps_net { KeepsNet (files_seen files.entry)
-        (seen D.files D.written D.printed desk.old) (seen D.files D.written D.printed desk.new)
-        (D.openings desk.old) (D.openings desk.new) }
-{
-    match Sim::open(alloc, project, USUAL) {
-        Ok(mut sim) => run_by_gradient(alloc, &mut sim, text, files, desk),
-        Err(_) => Status::OutOfMemory,
-    }
-}
-
 /// Reads the text's network, and then writes the text to NET and runs it. A text with a fault is refused as any other.
 fn run_text<D: Desk>(alloc: Global, text: &[u8], files: Files<'_>, desk: &mut D) -> Status
     requires creates_net { IsTrue (D.may_create files.net.now) }
@@ -252,7 +213,7 @@ fn run_text<D: Desk>(alloc: Global, text: &[u8], files: Files<'_>, desk: &mut D)
         (D.openings desk.old) (D.openings desk.new) }
 {
     match network_of(alloc, text) {
-        Ok(project) => run_project(alloc, project, text, files, desk),
+        Ok(project) => do_with_network(alloc, project, Task::Gen { text, files }, desk),
         Err(Unread::Fault(fault)) => refuse_text(fault.line, fault.cause, desk),
         Err(Unread::Ended(status)) => status,
     }

@@ -5,12 +5,13 @@ mod checking;
 mod command;
 mod generating;
 mod messages;
-mod output;
 mod program;
 mod reading;
 mod run_settings;
 mod running;
 mod status;
+mod tasks;
+mod usage_and_refusal;
 
 pub use command::tool;
 pub use program::{run_program, start};

@@ -1,9 +1,11 @@
 //! The program: the words that the system gives, and the desk on its files.
 
 ghost use Rattle.std.specs.Prelude.{◌≡◌, ◌≢◌, Some, None, IfOk, IsOk, IsErr, map, string_bytes};
-ghost use Rattle.hyd_command_words.specs.Orders.{Order, RunOrder, GenOrder, TwoFiles, order_of, run, check, gen};
+ghost use Rattle.hyd_command_words.specs.CommandGrammar.{Order, RunOrder, GenOrder, TwoFiles, order_of, run, check};
+ghost use Rattle.hyd_command_words.specs.CommandGrammar.{gen};
 ghost use Rattle.hyd_cli.specs.Words.{words_behind_name};
-ghost use Rattle.hyd_cli.specs.Answers.{seen, MayUse, HasCause, Leaves, AnswersUsage};
+ghost use Rattle.hyd_cli.specs.DeskContents.{seen};
+ghost use Rattle.hyd_cli.specs.Answers.{MayUse, HasCause, Leaves, AnswersUsage};
 ghost use Rattle.hyd_cli.specs.Commands.{DoesRun, DoesCheck, DoesGen};
 ghost use Rattle.hyd_cli.specs.declared.status.Status.TheVariants.{Usage};
 

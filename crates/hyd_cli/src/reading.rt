@@ -1,13 +1,14 @@
 //! The reading of NET.
 
 ghost use Rattle.std.specs.Prelude.{◌≡◌, ◌⊎◌, ◌<◌, List, ℕ, IsTrue, IfOk, IfErr, IfSome, IfNone, OnOk, length};
-ghost use Rattle.hyd_io.specs.Told.{IsTold};
+ghost use Rattle.hyd_io.specs.ToldBytes.{IsTold};
 ghost use Rattle.hyd_io.specs.Counts.{with_opened};
 ghost use Rattle.hyd_spec_lines.specs.Lines.{items_of, rows_in};
 ghost use Rattle.hyd_net.specs.Sound.{Sound};
 ghost use Rattle.hyd_spec_input.specs.Faults.{IsFault, HasNoFault};
 ghost use Rattle.hyd_spec_input.specs.Project.{IsProject};
-ghost use Rattle.hyd_cli.specs.Answers.{seen, IsUntouched, HasCause};
+ghost use Rattle.hyd_cli.specs.DeskContents.{seen, IsUntouched};
+ghost use Rattle.hyd_cli.specs.Answers.{HasCause};
 ghost use Rattle.hyd_cli.specs.Reading.{IfFault, IfEnded, HasReadCause};
 ghost use Rattle.hyd_cli.specs.declared.status.Status.TheVariants.{ReadFault, OutOfMemory};
 

@@ -1,8 +1,8 @@
 //! What the words of a run ask it for.
 
 ghost use Rattle.std.specs.Prelude.{◌≡◌};
-ghost use Rattle.hyd_command_words.specs.Seen.{run_seen};
-ghost use Rattle.hyd_cli.specs.Answers.{settings_of};
+ghost use Rattle.hyd_command_words.specs.CommandView.{run_seen};
+ghost use Rattle.hyd_cli.specs.RunAnswers.{settings_of};
 
 use hyd_command_words::RunWords;
 use hyd_sim::Settings;

@@ -1,19 +1,19 @@
-//! The run of a network that was read.
+//! The command `run`: a network is run, and its certificate and report are put out.
 
 ghost use Rattle.std.specs.Prelude.{◌≡◌, IsTrue};
-ghost use Rattle.hyd_net.specs.Sound.{Sound};
 ghost use Rattle.hyd_spec_certificates.specs.Record.{initial_standing};
 ghost use Rattle.hyd_sim.specs.View.{standing_of};
 ghost use Rattle.hyd_run.specs.Runs.{outcome_of};
-ghost use Rattle.hyd_cli.specs.Answers.{seen, ChangesOnly, HasCause, OpensCert, AnswersRun};
+ghost use Rattle.hyd_cli.specs.DeskContents.{seen, ChangesOnly};
+ghost use Rattle.hyd_cli.specs.Answers.{HasCause};
+ghost use Rattle.hyd_cli.specs.RunAnswers.{OpensCert, AnswersRun};
 ghost use Rattle.hyd_cli.specs.Statuses.{status_of_outcome};
 
 use crate::status::{Status, fault_status};
+use hyd_finders::{Finder, Gradient};
 use hyd_io::{Channel, Desk, Pen};
-use hyd_net::Project;
-use hyd_newton::{Finder, Gradient};
 use hyd_run::{RunEnd, run};
-use hyd_sim::{Settings, Sim};
+use hyd_sim::Sim;
 use hyd_spec_reports::StopCause;
 use std::alloc::Global;
 
@@ -52,7 +52,12 @@ fn put_run<D: Desk, F: Finder>(sim: &mut Sim, finder: &mut F, cert: &str, desk: 
 }
 
 /// Opens the gradient method for a run at its start, and puts the run out.
-fn run_by_gradient<D: Desk>(alloc: Global, sim: &mut Sim, cert: &str, desk: &mut D) -> Status
+pub(crate) fn run_by_gradient<D: Desk>(
+    alloc: Global,
+    sim: &mut Sim,
+    cert: &str,
+    desk: &mut D,
+) -> Status
     requires start { standing_of sim.old ≡ initial_standing sim.old.project }
     requires creates { IsTrue (D.may_create cert.now) }
     ensures cause { HasCause result (D.counts desk.old) (D.counts desk.new) }
@@ -64,29 +69,6 @@ fn run_by_gradient<D: Desk>(alloc: Global, sim: &mut Sim, cert: &str, desk: &mut
 {
     match Gradient::open(alloc, sim.net()) {
         Ok(mut finder) => put_run(sim, &mut finder, cert, desk),
-        Err(_) => Status::OutOfMemory,
-    }
-}
-
-/// Runs a network that was read.
-pub(crate) fn run_network<D: Desk>(
-    alloc: Global,
-    project: Project,
-    settings: Settings,
-    cert: &str,
-    desk: &mut D,
-) -> Status
-    requires sound { Sound project }
-    requires creates { IsTrue (D.may_create cert.now) }
-    ensures cause { HasCause result (D.counts desk.old) (D.counts desk.new) }
-    ensures answers { AnswersRun project settings cert.now result
-        (seen D.files D.written D.printed desk.old) (seen D.files D.written D.printed desk.new) }
-    ensures others { ChangesOnly cert.now
-        (seen D.files D.written D.printed desk.old) (seen D.files D.written D.printed desk.new) }
-    ensures opens { OpensCert result (D.openings desk.old) (D.openings desk.new) }
-{
-    match Sim::open(alloc, project, settings) {
-        Ok(mut sim) => run_by_gradient(alloc, &mut sim, cert, desk),
         Err(_) => Status::OutOfMemory,
     }
 }

@@ -13,8 +13,8 @@ use Rattle.clap.specs.Matches.{found_of}
 use Rattle.clap.specs.declared.parser.matches.ArgMatches.{ArgMatches}
 use Rattle.hyd_command_words.specs.Parser.{words_command, said_of}
 use Rattle.clap.specs.Walk.{Row, Rule, Walk, default_rows, has_row, idle, is_empty, reading_by, rows_of, with_default}
-use Rattle.hyd_command_words.specs.Words.{Word, Said, said}
-use Rattle.hyd_command_words.specs.Orders.{Order, order_of, order_named}
+use Rattle.hyd_command_words.specs.SaidWords.{Word, Said, said}
+use Rattle.hyd_command_words.specs.CommandGrammar.{Order, order_of, order_named}
 use Rattle.hyd_command_words.proofs.SaidLemmas.{joined}
 use Rattle.hyd_command_words.proofs.RowLemmas.{rules}
 use Rattle.hyd_command_words.proofs.WalkSteps.{shape, held, at}

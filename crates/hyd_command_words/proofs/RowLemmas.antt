@@ -2,7 +2,7 @@
 use Rattle.std.proofs.Common.{◌≡◌, ◌∙◌, ◌+◌, Bool, true, false, List, [], ◌∷◌, ◌++◌, length, Option, Some, None}
 use Rattle.std.proofs.Common.{option_map, unwrap_or, refl, sym, ap, subst, arith, append-nil, codes, bytes_eq, Bor}
 use Rattle.std.specs.Option.{UnwrapsOrElse}
-use Rattle.hyd_command_words.specs.Seen.{texts_seen}
+use Rattle.hyd_command_words.specs.CommandView.{texts_seen}
 use Rattle.clap.specs.Walk.{Row, Rule, Text, with_values}
 use Rattle.clap.specs.Simple.{built}
 use Rattle.clap.specs.Walk.{arg_by_id, used_by_id}
@@ -11,7 +11,7 @@ use Rattle.clap.specs.declared.parser.matches.ValueSource.{ValueSource}
 use Rattle.clap.specs.declared.parser.matches.ValueSource.TheVariants.{CommandLine}
 use Rattle.clap.specs.declared.builder.value_parser.Reading.TheVariants.{AsWritten}
 use Rattle.hyd_command_words.proofs.SaidLemmas.{joined}
-use Rattle.hyd_command_words.specs.Words.{Word, said_by, sweeps, width, tight, name}
+use Rattle.hyd_command_words.specs.SaidWords.{Word, said_by, sweeps, width, tight, name}
 use Rattle.hyd_command_words.specs.Parser.{all_values, words_command, said_of}
 use lib.Pointwise.{bytes_decides}
 

@@ -4,9 +4,9 @@ use Rattle.std.proofs.Common.{append_assoc}
 use Rattle.std.specs.Prelude.{filter}
 use Rattle.std.specs.List.{list_any}
 use Rattle.std.proofs.lemmas.List.Elements.{filter_map-append}
-use Rattle.hyd_command_words.specs.Words.{Part, Said, sweeps, width, tight, name, wrong, sweeps_value, width_value}
-use Rattle.hyd_command_words.specs.Words.{named}
-use Rattle.hyd_command_words.specs.Words.{is_tight, is_wrong, said_by}
+use Rattle.hyd_command_words.specs.SaidWords.{Part, Said, sweeps, width, tight, name, wrong, sweeps_value, width_value}
+use Rattle.hyd_command_words.specs.SaidWords.{named}
+use Rattle.hyd_command_words.specs.SaidWords.{is_tight, is_wrong, said_by}
 
 -- what is said first, and then this
 abbrev pub joined : Said → Said → Said

@@ -8,12 +8,13 @@ use Rattle.hyd_command_words.specs.Parser.{said_of}
 use Rattle.clap.specs.Walk.{Held, Row, Rule, Step, Text, Waiting, Walk, after_flag, after_step, arg_by_id, idle}
 use Rattle.clap.specs.Walk.{long_met, next, option, plain_word, positional, settled_rows}
 use Rattle.hyd_num.specs.Numeral.{is_numeral}
-use Rattle.hyd_command_words.specs.Words.{Word, Part, Kind, Said, sweeps, width, tight, name, wrong, says}
-use Rattle.hyd_command_words.specs.Words.{begins_with_dash}
-use Rattle.hyd_command_words.specs.Words.{kind_of, parts_from, parts_waiting, said, said_by}
-use Rattle.hyd_command_words.specs.Orders.{RunOrder, has_names_alone, is_sound, number_within, width_in_ticks, once}
-use Rattle.hyd_command_words.specs.Orders.{rounds_of}
-use Rattle.hyd_command_words.specs.Orders.{width_of, run, run_command, check_command, gen_command}
+use Rattle.hyd_command_words.specs.SaidWords.{Word, Part, Kind, Said, sweeps, width, tight, name, wrong, says}
+use Rattle.hyd_command_words.specs.SaidWords.{begins_with_dash}
+use Rattle.hyd_command_words.specs.SaidWords.{kind_of, parts_from, parts_waiting, said, said_by}
+use Rattle.hyd_command_words.specs.CommandGrammar.{RunOrder, has_names_alone, is_sound, number_within, width_in_ticks}
+use Rattle.hyd_command_words.specs.CommandGrammar.{once}
+use Rattle.hyd_command_words.specs.CommandGrammar.{rounds_of}
+use Rattle.hyd_command_words.specs.CommandGrammar.{width_of, run, run_command, check_command, gen_command}
 use Rattle.hyd_command_words.proofs.SaidLemmas.{joined}
 use Rattle.hyd_command_words.proofs.RowLemmas.{rules, used_by, sweeps_used, width_used, name_used, tight_used}
 use Rattle.hyd_command_words.proofs.Lexing.{Lexed, closing, plain, short, long, IsPlain, IsLong, and_false, kind_by}

@@ -3,7 +3,7 @@ use Rattle.std.proofs.Common.{◌≡◌, ℕ, zero, suc, ◌^◌, ◌<◌, ◌&&
 use Rattle.std.proofs.Common.{nat_le, refl, arith}
 use Rattle.std.proofs.lemmas.Bool.{lt-leb}
 use Rattle.hyd_num.specs.Numeral.{is_numeral, is_negative, magnitude_of, nano_of, signed}
-use Rattle.hyd_command_words.specs.Orders.{width_in_ticks}
+use Rattle.hyd_command_words.specs.CommandGrammar.{width_in_ticks}
 
 and_false : (a b : Bool) → b ≡ false → (a && b) ≡ false
 and_false true b e = e

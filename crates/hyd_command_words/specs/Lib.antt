@@ -1,4 +1,4 @@
-pub mod Words
-pub mod Orders
-pub mod Seen
+pub mod SaidWords
+pub mod CommandGrammar
+pub mod CommandView
 pub mod Parser

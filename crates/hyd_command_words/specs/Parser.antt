@@ -3,7 +3,7 @@ use Rattle.std.specs.Prelude.{List, [], ◌∷◌, length, Some, codes, true, fa
 use Rattle.clap.specs.Walk.{Row, Rule, Text, all_of}
 use Rattle.clap.specs.Simple.{App, new_app, new_rule, new_shape, with_rule}
 use Rattle.clap.specs.declared.builder.action.ArgAction.TheVariants.{Append}
-use Rattle.hyd_command_words.specs.Words.{Said}
+use Rattle.hyd_command_words.specs.SaidWords.{Said}
 
 -- `--name` with one value
 abbrev pub valued_rule : Text → Rule

@@ -4,8 +4,8 @@
 
 mod command;
 mod matched_words;
+mod named_commands;
 mod numbers;
-mod orders;
 mod parser;
 mod reader;
 

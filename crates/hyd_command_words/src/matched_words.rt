@@ -3,7 +3,7 @@
 ghost use Rattle.std.specs.Prelude.{◌≡◌};
 ghost use Rattle.clap.specs.Words.{found_of, rows_of};
 ghost use Rattle.hyd_command_words.specs.Parser.{all_values, said_of};
-ghost use Rattle.hyd_command_words.specs.Seen.{said_seen, texts_seen};
+ghost use Rattle.hyd_command_words.specs.CommandView.{said_seen, texts_seen};
 
 use clap::ArgMatches;
 

@@ -3,8 +3,8 @@
 ghost use Rattle.std.specs.Prelude.{◌≡◌, ◌≤◌, ◌<◌, ◌^◌, ◌*◌, ◌+◌, ◌-◌, min, fold, length, pos};
 ghost use Rattle.std.specs.List.{list_all};
 ghost use Rattle.hyd_num.specs.Numeral.{is_digit, number};
-ghost use Rattle.hyd_command_words.specs.Orders as orders;
-ghost use Rattle.hyd_command_words.specs.Seen.{texts_seen};
+ghost use Rattle.hyd_command_words.specs.CommandGrammar as orders;
+ghost use Rattle.hyd_command_words.specs.CommandView.{texts_seen};
 
 use hyd_num::{NumFault, read_decimal};
 

@@ -1,12 +1,12 @@
 //! The reader of a command's words.
 
 ghost use Rattle.std.specs.Prelude.{◌≡◌, map, option_map, string_bytes, IfOk};
-ghost use Rattle.hyd_command_words.specs.Orders.{order_of};
-ghost use Rattle.hyd_command_words.specs.Seen.{order_seen};
+ghost use Rattle.hyd_command_words.specs.CommandGrammar.{order_of};
+ghost use Rattle.hyd_command_words.specs.CommandView.{order_seen};
 
 use crate::command::Command;
 use crate::matched_words::said_by;
-use crate::orders::order_named;
+use crate::named_commands::order_named;
 use crate::parser::matches_in;
 use std::alloc::{AllocError, Global};
 

@@ -7,14 +7,14 @@ use Rattle.std.proofs.lemmas.List.{length-map}
 use Rattle.std.proofs.lemmas.Int.{ints}
 use Rattle.std.proofs.lemmas.Bool.{and_parts}
 use lib.Signed.{le_z, lt_z}
-use Rattle.hyd_num.specs.Quantity.{is_us_unit, head_ticks, flow_ticks}
+use Rattle.hyd_num.specs.FileQuantity.{is_us_unit, head_ticks, flow_ticks}
 use Rattle.hyd_num.specs.Rational.{Rational, whole, is_at_most}
 use Rattle.hyd_num.specs.declared.flow_units.FlowUnit.{FlowUnit}
 use Rattle.hyd_net.specs.Curves.{on_line, value_at, head_knots}
 use Rattle.hyd_net.specs.declared.curves.HeadPoint.{HeadPoint}
 use Rattle.hyd_spec_input.specs.Curves.{in_turn, at_start, at_end, has_flow, is_slower, is_faster, is_pump_bend}
 use Rattle.hyd_spec_input.specs.Curves.{begins_at_0, head_point, head_points}
-use Rattle.hyd_curves.specs.Bends.{IsPumpPoint, begins_and_ends, loss_passes}
+use Rattle.hyd_curves.specs.PumpAndValveCurveTests.{IsPumpPoint, begins_and_ends, loss_passes}
 use Rattle.hyd_curves.specs.Asked.{valve_fault}
 use Rattle.hyd_curves.specs.Interpolation.{knot_of}
 use Rattle.hyd_curves.specs.Points.{points_in, point_in}

@@ -12,7 +12,7 @@ use Rattle.std.proofs.lemmas.Grind.{flat_map-append}
 use Rattle.std.proofs.lemmas.List.{length-map, get_or-map}
 use Rattle.std.proofs.lemmas.List.Elements.{All-nil, All-cons}
 use lib.Signed.{le_z, lt_z}
-use Rattle.hyd_num.specs.Quantity.{is_us_unit}
+use Rattle.hyd_num.specs.FileQuantity.{is_us_unit}
 use Rattle.hyd_num.specs.Rational.{Rational, whole, is_at_most}
 use Rattle.hyd_num.specs.declared.flow_units.FlowUnit.{FlowUnit}
 use Rattle.hyd_spec_lines.specs.Lines.{Row, row_of}
@@ -21,30 +21,31 @@ use Rattle.hyd_spec_lines.specs.declared.section.Section.{Section}
 use Rattle.hyd_spec_lines.specs.declared.section.Section.TheVariants.{Pumps, Valves}
 use Rattle.hyd_net.specs.Curves.{Knot, on_line, value_at, head_knots}
 use Rattle.hyd_net.specs.ListView.{ListView}
-use Rattle.hyd_net.specs.declared.cause.Cause.{Cause}
-use Rattle.hyd_net.specs.declared.cause.Cause.TheVariants.{Range, Unsupported}
+use Rattle.hyd_net.specs.declared.refusal_cause.Cause.{Cause}
+use Rattle.hyd_net.specs.declared.refusal_cause.Cause.TheVariants.{Range, Unsupported}
 use Rattle.hyd_net.specs.declared.curves.HeadPoint.{HeadPoint}
-use Rattle.hyd_spec_input.specs.ByItself as itself
-use Rattle.hyd_spec_input.specs.ByItself.{IsWrongByItself}
+use Rattle.hyd_spec_input.specs.SingleRows as itself
+use Rattle.hyd_spec_input.specs.SingleRows.{IsWrongByItself}
 use Rattle.hyd_spec_input.specs.Columns.{first, unless, or_empty}
 use Rattle.hyd_spec_input.specs.Curves.{in_turn, at_start, at_end, has_flow, is_head, is_slower, is_faster, is_bent}
 use Rattle.hyd_spec_input.specs.Curves.{is_pump_curve, is_pump_bend, begins_at_0, is_valve_bend, head_point}
 use Rattle.hyd_spec_input.specs.Curves.{head_points}
 use Rattle.hyd_spec_input.specs.Faults.{NoneIs, IsWrongWithOthers}
 use Rattle.hyd_spec_input.specs.InForce as force
-use Rattle.hyd_spec_input.specs.RowMeanings.{as_list, bent_name, bend_names, new_names, is_among}
+use Rattle.hyd_spec_input.specs.MeaningsAcrossRows.{as_list, bent_name, bend_names, new_names, is_among}
 use Rattle.hyd_spec_input.specs.NetworkRows as row_form
 use Rattle.hyd_spec_input.specs.NetworkRows.{pump_curve, pump_pattern, valve_curve}
 use Rattle.hyd_spec_input.specs.Project.{Match, bend_points}
 use Rattle.hyd_spec_input.specs.Tables.{Point, place, is_of, rows_of, curve_named}
-use Rattle.hyd_spec_input.specs.WithOthers as others
-use Rattle.hyd_spec_input.specs.WithOthers.{us}
-use Rattle.hyd_row_tables.specs.Found.{rows_at}
-use Rattle.hyd_row_tables.proofs.FoundLemmas.{filter_more, filter_same}
-use Rattle.hyd_row_tables.proofs.SectionLemmas.{none_of, all_rows}
-use Rattle.hyd_curves.specs.Bends.{begins_and_ends, loss_passes}
-use Rattle.hyd_curves.specs.Named.{with_name}
-use Rattle.hyd_curves.specs.NamedBends.{IsSmallHead, AreBends, AreOf, AreOfPumps, AreOfValves, pump_names, valve_names}
+use Rattle.hyd_spec_input.specs.RowsTogether as others
+use Rattle.hyd_spec_input.specs.RowsTogether.{us}
+use Rattle.hyd_text_rows.specs.Found.{rows_at}
+use Rattle.hyd_text_rows.proofs.FoundLemmas.{filter_more, filter_same}
+use Rattle.hyd_text_rows.proofs.SectionLemmas.{none_of, all_rows}
+use Rattle.hyd_curves.specs.PumpAndValveCurveTests.{begins_and_ends, loss_passes}
+use Rattle.hyd_curves.specs.NamedVolumeCurves.{with_name}
+use Rattle.hyd_curves.specs.NamedStraightLineCurves.{IsSmallHead, AreBends, AreOf, AreOfPumps, AreOfValves, pump_names}
+use Rattle.hyd_curves.specs.NamedStraightLineCurves.{valve_names}
 use Rattle.hyd_curves.specs.Points.{points_in, point_in}
 use Rattle.hyd_curves.specs.declared.straight_line_curves.Bends.{Bends}
 use Rattle.hyd_curves.specs.declared.points.CurvePoint.{CurvePoint}

@@ -5,14 +5,14 @@ use Rattle.std.specs.Prelude.{◌&&◌}
 use Rattle.std.specs.Ordering.{int_eq}
 use Rattle.std.proofs.lemmas.Bool.{and_parts}
 use lib.Signed.{le_z, lt_z}
-use Rattle.hyd_num.specs.Quantity.{is_us_unit, flow_ticks, head_ticks}
-use Rattle.hyd_num.specs.Refusal.{IsRefused}
+use Rattle.hyd_num.specs.FileQuantity.{is_us_unit, flow_ticks, head_ticks}
+use Rattle.hyd_num.specs.CapacityRange.{IsRefused}
 use Rattle.hyd_num.specs.declared.decimals.Decimal.{Decimal}
 use Rattle.hyd_num.specs.declared.flow_units.FlowUnit.{FlowUnit}
-use Rattle.hyd_num.specs.declared.capacities.Origin.TheVariants.{Pump}
+use Rattle.hyd_num.specs.declared.link_capacities.Origin.TheVariants.{Pump}
 use Rattle.hyd_net.proofs.Equal.{Decimal-equal}
-use Rattle.hyd_net.specs.declared.cause.Cause.{Cause}
-use Rattle.hyd_resist.specs.Ranges.{IsCurveFlow}
+use Rattle.hyd_net.specs.declared.refusal_cause.Cause.{Cause}
+use Rattle.hyd_capacities.specs.Ranges.{IsCurveFlow}
 use Rattle.hyd_spec_input.specs.Capacities.{IsRefusedPump}
 use Rattle.hyd_spec_input.specs.Columns.{or_else, unless}
 use Rattle.hyd_spec_input.specs.Curves as curve

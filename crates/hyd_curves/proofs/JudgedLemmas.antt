@@ -6,15 +6,15 @@ use Rattle.std.proofs.lemmas.List.{take_more, take_all, map-append}
 use Rattle.hyd_num.specs.declared.flow_units.FlowUnit.{FlowUnit}
 use Rattle.hyd_spec_lines.specs.Lines.{Row}
 use Rattle.hyd_net.specs.ListView.{ListView}
-use Rattle.hyd_net.specs.declared.cause.Cause.{Cause}
-use Rattle.hyd_net.specs.declared.cause.Cause.TheVariants.{Range, Unsupported}
+use Rattle.hyd_net.specs.declared.refusal_cause.Cause.{Cause}
+use Rattle.hyd_net.specs.declared.refusal_cause.Cause.TheVariants.{Range, Unsupported}
 use Rattle.hyd_spec_input.specs.Columns.{or_else, unless}
 use Rattle.hyd_spec_input.specs.Curves.{is_bent, is_pump_curve, are_flows, has_shutoff, is_pump_bend, head_points}
 use Rattle.hyd_spec_input.specs.InForce as force
-use Rattle.hyd_spec_input.specs.RowMeanings.{number_in}
+use Rattle.hyd_spec_input.specs.MeaningsAcrossRows.{number_in}
 use Rattle.hyd_spec_input.specs.Project.{Match}
 use Rattle.hyd_spec_input.specs.Tables.{Point, curve_named}
-use Rattle.hyd_spec_input.specs.WithOthers as others
+use Rattle.hyd_spec_input.specs.RowsTogether as others
 use Rattle.hyd_curves.specs.Asked.{pump_fault}
 use Rattle.hyd_curves.specs.Judged.{on_no_points, verdict_at, IsVerdictOf, IsVerdictOn, AreVerdicts}
 use Rattle.hyd_curves.specs.Points.{points_in, each, list_of, ArePoints}

@@ -7,8 +7,8 @@ use Rattle.std.specs.Str.{bytes_eq}
 use Rattle.std.specs.Cmp.Lexicographic.{bytes_decides, nat_list_eq_equiv}
 use Rattle.std.proofs.lemmas.Bool.{cases_Bool}
 use Rattle.std.proofs.lemmas.Map.Views.{Contains-from_any, list_any-from_Contains}
-use Rattle.hyd_spec_input.specs.RowMeanings.{is_among, new_names}
-use Rattle.hyd_curves.specs.Named.{with_name}
+use Rattle.hyd_spec_input.specs.MeaningsAcrossRows.{is_among, new_names}
+use Rattle.hyd_curves.specs.NamedVolumeCurves.{with_name}
 
 -- ---- a name among others
 

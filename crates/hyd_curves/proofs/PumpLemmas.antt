@@ -2,7 +2,7 @@
 use Rattle.std.proofs.Common.{◌≡◌, ◌^◌, Bool, true, List, [], ◌∷◌, length, get_or, pos, ◌-ℤ◌, refl, arith}
 use Rattle.std.specs.Prelude.{◌&&◌}
 use lib.Signed.{le_z}
-use Rattle.hyd_num.specs.Quantity.{head_ticks}
+use Rattle.hyd_num.specs.FileQuantity.{head_ticks}
 use Rattle.hyd_spec_input.specs.Curves as curve
 use Rattle.hyd_curves.specs.Points.{points_in}
 use Rattle.hyd_curves.specs.declared.points.CurvePoint.{CurvePoint}

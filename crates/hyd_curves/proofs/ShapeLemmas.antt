@@ -7,7 +7,7 @@ use Rattle.std.proofs.lemmas.List.{length-map}
 use Rattle.std.proofs.lemmas.Int.{ints}
 use Rattle.std.proofs.lemmas.Bool.{and_parts}
 use Rattle.std.proofs.lemmas.Bool.Decides.{nat_tests}
-use Rattle.hyd_num.specs.Quantity.{head_ticks}
+use Rattle.hyd_num.specs.FileQuantity.{head_ticks}
 use Rattle.hyd_num.specs.Rational.{floor}
 use lib.Signed.{le_z, lt_z}
 use Rattle.hyd_spec_input.specs.Curves as curve
@@ -15,7 +15,7 @@ use Rattle.hyd_spec_input.specs.Curves.{volume_point, volume_points, is_fuller, 
 use Rattle.hyd_net.specs.declared.curves.VolumePoint.{VolumePoint}
 use Rattle.hyd_curves.specs.Points.{points_in, point_in}
 use Rattle.hyd_net.specs.Curves.{Knot, between, value_from, value_at, volume_knots, volume_at}
-use Rattle.hyd_curves.specs.Shapes.{level_passes, begins_and_ends, IsRight}
+use Rattle.hyd_curves.specs.TankCurveTests.{level_passes, begins_and_ends, IsRight}
 use Rattle.hyd_curves.specs.Interpolation.{IsSmall, knot_of}
 use Rattle.hyd_curves.specs.declared.points.CurvePoint.{CurvePoint}
 use Rattle.hyd_curves.specs.declared.ticks.Ticks.{Ticks}

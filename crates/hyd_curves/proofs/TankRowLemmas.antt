@@ -9,36 +9,36 @@ use Rattle.std.proofs.lemmas.Grind.{flat_map-append}
 use Rattle.std.proofs.lemmas.List.{length-map, get_or-map, length-append}
 use Rattle.std.proofs.lemmas.List.Elements.{All-nil, All-cons}
 use lib.Signed.{le_z}
-use Rattle.hyd_num.specs.Quantity.{head_ticks}
+use Rattle.hyd_num.specs.FileQuantity.{head_ticks}
 use Rattle.hyd_spec_lines.specs.Lines.{Row}
 use Rattle.hyd_spec_lines.specs.declared.section.Section.{Section}
 use Rattle.hyd_spec_lines.specs.declared.section.Section.TheVariants.{Tanks}
 use Rattle.hyd_net.specs.Curves.{volume_at}
 use Rattle.hyd_net.specs.ListView.{ListView}
-use Rattle.hyd_net.specs.declared.cause.Cause.{Cause}
-use Rattle.hyd_net.specs.declared.cause.Cause.TheVariants.{Range}
+use Rattle.hyd_net.specs.declared.refusal_cause.Cause.{Cause}
+use Rattle.hyd_net.specs.declared.refusal_cause.Cause.TheVariants.{Range}
 use Rattle.hyd_net.specs.declared.curves.VolumePoint.{VolumePoint}
-use Rattle.hyd_spec_input.specs.ByItself as itself
-use Rattle.hyd_spec_input.specs.ByItself.{IsWrongByItself}
+use Rattle.hyd_spec_input.specs.SingleRows as itself
+use Rattle.hyd_spec_input.specs.SingleRows.{IsWrongByItself}
 use Rattle.hyd_spec_input.specs.Columns.{or_else, first, unless, amount}
 use Rattle.hyd_spec_input.specs.Curves.{volume_point, volume_points, is_fuller, in_turn, is_volume_curve, covers}
 use Rattle.hyd_spec_input.specs.Faults.{NoneIs, IsWrongWithOthers}
-use Rattle.hyd_spec_input.specs.RowMeanings.{as_list, new_names, shape_names, is_among}
+use Rattle.hyd_spec_input.specs.MeaningsAcrossRows.{as_list, new_names, shape_names, is_among}
 use Rattle.hyd_spec_input.specs.NetworkRows as row_form
 use Rattle.hyd_spec_input.specs.NetworkRows.{tank_curve}
 use Rattle.hyd_spec_input.specs.Project.{Match, shape_points}
 use Rattle.hyd_spec_input.specs.Tables.{place, is_of, rows_of, node_rows}
-use Rattle.hyd_spec_input.specs.WithOthers as others
-use Rattle.hyd_spec_input.specs.WithOthers.{us}
-use Rattle.hyd_row_tables.proofs.FoundLemmas.{filter_more, filter_same}
-use Rattle.hyd_row_tables.specs.Found.{rows_at}
-use Rattle.hyd_row_tables.proofs.SectionLemmas.{none_of, all_rows}
+use Rattle.hyd_spec_input.specs.RowsTogether as others
+use Rattle.hyd_spec_input.specs.RowsTogether.{us}
+use Rattle.hyd_text_rows.proofs.FoundLemmas.{filter_more, filter_same}
+use Rattle.hyd_text_rows.specs.Found.{rows_at}
+use Rattle.hyd_text_rows.proofs.SectionLemmas.{none_of, all_rows}
 use Rattle.hyd_spec_lines.specs.declared.line.Line.{Line}
 use Rattle.hyd_spec_input.specs.InForce as force
 use Rattle.hyd_curves.specs.Asked.{tank_curve_fault}
-use Rattle.hyd_curves.specs.Named.{IsSmallVolume, AreShapes, AreShapesAt, with_name}
+use Rattle.hyd_curves.specs.NamedVolumeCurves.{IsSmallVolume, AreShapes, AreShapesAt, with_name}
 use Rattle.hyd_curves.specs.Points.{points_in, point_in}
-use Rattle.hyd_curves.specs.Shapes.{IsRight, level_passes, begins_and_ends}
+use Rattle.hyd_curves.specs.TankCurveTests.{IsRight, level_passes, begins_and_ends}
 use Rattle.hyd_curves.specs.declared.points.CurvePoint.{CurvePoint}
 use Rattle.hyd_curves.specs.declared.volume_curves.Shapes.{Shapes}
 use Rattle.hyd_curves.specs.declared.ticks.Ticks.{Ticks}

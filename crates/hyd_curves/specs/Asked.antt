@@ -1,6 +1,6 @@
 -- What tanks, pumps and general purpose valves ask of a curve, by its points.
 use Rattle.std.specs.Prelude.{◌≡◌, ℕ, Bool, false, ◌&&◌, List, Option, Some, None, if◌then◌else◌, ℤ}
-use Rattle.hyd_num.specs.Quantity.{is_us_unit, head_ticks}
+use Rattle.hyd_num.specs.FileQuantity.{is_us_unit, head_ticks}
 use Rattle.hyd_num.specs.declared.flow_units.FlowUnit.{FlowUnit}
 use Rattle.hyd_spec_lines.specs.Lines.{Row}
 use Rattle.hyd_spec_input.specs.Columns.{or_else, unless}
@@ -8,8 +8,8 @@ use Rattle.hyd_spec_input.specs.Curves.{is_volume_curve, volume_points, is_bent,
 use Rattle.hyd_spec_input.specs.Curves.{is_pump_bend, begins_at_0, is_valve_bend, head_points, drop_of}
 use Rattle.hyd_spec_input.specs.Capacities.{IsRefusedPump}
 use Rattle.hyd_spec_input.specs.Tables.{Point, curve_named}
-use Rattle.hyd_net.specs.declared.cause.Cause.{Cause}
-use Rattle.hyd_net.specs.declared.cause.Cause.TheVariants.{Range, Unsupported}
+use Rattle.hyd_net.specs.declared.refusal_cause.Cause.{Cause}
+use Rattle.hyd_net.specs.declared.refusal_cause.Cause.TheVariants.{Range, Unsupported}
 
 -- the curve of a tank whose levels go from a minimum to a maximum, in billionths of the unit that goes with flows
 abbrev pub shape_fault : FlowUnit → ℤ → ℤ → List Point → Option Cause

@@ -2,8 +2,8 @@ pub mod Points
 pub mod Asked
 pub mod Judged
 pub mod EachWithNext
-pub mod Shapes
+pub mod TankCurveTests
 pub mod Interpolation
-pub mod Bends
-pub mod Named
-pub mod NamedBends
+pub mod PumpAndValveCurveTests
+pub mod NamedVolumeCurves
+pub mod NamedStraightLineCurves

@@ -5,12 +5,12 @@ ghost use Rattle.std.specs.Prelude.{◌≡◌, ◌≤◌, ◌^◌, ℕ, false, L
 ghost use Rattle.std.specs.Bool.{OnTrue, OnFalse};
 ghost use Rattle.hyd_spec_lines.specs.Bytes.{text_of};
 ghost use Rattle.hyd_spec_lines.specs.Lines.{Row};
-ghost use Rattle.hyd_resist.specs.Ranges.{IsCurveFlow};
+ghost use Rattle.hyd_capacities.specs.Ranges.{IsCurveFlow};
 ghost use Rattle.hyd_spec_input.specs.Capacities.{IsRefusedCurve};
 ghost use Rattle.hyd_spec_input.specs.Curves.{drop_of, is_bent};
 ghost use Rattle.hyd_spec_input.specs.InForce as force;
 ghost use Rattle.hyd_spec_input.specs.Tables.{Point};
-ghost use Rattle.hyd_spec_input.specs.WithOthers as others;
+ghost use Rattle.hyd_spec_input.specs.RowsTogether as others;
 ghost use Rattle.hyd_curves.specs.Asked as asked;
 ghost use Rattle.hyd_curves.specs.Asked.{IsRefusedPoints};
 ghost use Rattle.hyd_curves.specs.Points.{ArePoints, points_in};
@@ -19,10 +19,10 @@ ghost use Rattle.hyd_curves.specs.Judged.{AreVerdicts, IsVerdictOf, verdict_name
 use crate::points::{CurvePoint, Points};
 use crate::pumps::pump_fault;
 use crate::valves::valve_fault;
+use hyd_capacities::pump_capacity;
 use hyd_net::{Cause, OutOfMemory};
 use hyd_num::{Decimal, FlowUnit};
-use hyd_resist::pump_capacity;
-use hyd_row_tables::Table;
+use hyd_text_rows::Table;
 use std::alloc::Global;
 
 /// What is wrong with a curve as a pump's, and as a general purpose valve's.

@@ -5,14 +5,14 @@ ghost use Rattle.std.specs.Prelude.{◌≡◌, ◌<◌, ◌≤◌, ◌*◌, ◌^
 ghost use Rattle.std.specs.List.{list_all};
 ghost use Rattle.std.specs.Ordering.{int_eq};
 ghost use lib.Signed.{le_z, lt_z};
-ghost use Rattle.hyd_num.specs.Quantity as quantity;
-ghost use Rattle.hyd_num.specs.Quantity.{is_us_unit};
+ghost use Rattle.hyd_num.specs.FileQuantity as quantity;
+ghost use Rattle.hyd_num.specs.FileQuantity.{is_us_unit};
 ghost use Rattle.hyd_num.specs.Rational.{is_at_most, whole};
 ghost use Rattle.hyd_net.specs.Curves as curve_form;
 ghost use Rattle.hyd_spec_input.specs.Curves as curve;
 ghost use Rattle.hyd_spec_input.specs.Curves.{square, is_flow, is_slower, has_flow, at_start, at_end};
 ghost use Rattle.hyd_curves.specs.Asked as asked;
-ghost use Rattle.hyd_curves.specs.Bends.{IsPumpPoint, begins_and_ends};
+ghost use Rattle.hyd_curves.specs.PumpAndValveCurveTests.{IsPumpPoint, begins_and_ends};
 ghost use Rattle.hyd_curves.specs.Interpolation.{knot_of};
 ghost use Rattle.hyd_curves.specs.Points.{points_in, point_in};
 ghost use Rattle.hyd_curves.specs.EachWithNext.{goes_on, all_in_turn};

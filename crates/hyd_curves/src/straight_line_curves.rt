@@ -2,21 +2,21 @@
 #![tactic(auto)]
 
 ghost use Rattle.std.specs.Prelude.{◌≡◌, ◌==◌, ◌<◌, ◌≤◌, ◌+◌, ◌^◌, ℕ, List, length, All, IfOk, OnOk};
-ghost use Rattle.hyd_num.specs.Quantity.{is_us_unit};
+ghost use Rattle.hyd_num.specs.FileQuantity.{is_us_unit};
 ghost use Rattle.hyd_spec_lines.specs.Bytes.{text_of};
 ghost use Rattle.hyd_spec_lines.specs.Lines.{LiesIn, Row};
-ghost use Rattle.hyd_options_and_rules.specs.Judged.{words_at};
-ghost use Rattle.hyd_spec_input.specs.ByItself.{IsWrongByItself};
+ghost use Rattle.hyd_option_and_rule_lines.specs.FaultOrValue.{words_at};
+ghost use Rattle.hyd_spec_input.specs.SingleRows.{IsWrongByItself};
 ghost use Rattle.hyd_spec_input.specs.Curves as curve;
 ghost use Rattle.hyd_spec_input.specs.Faults.{NoneIs, IsWrongWithOthers};
 ghost use Rattle.hyd_spec_input.specs.InForce as force;
-ghost use Rattle.hyd_spec_input.specs.RowMeanings.{bend_names};
+ghost use Rattle.hyd_spec_input.specs.MeaningsAcrossRows.{bend_names};
 ghost use Rattle.hyd_spec_input.specs.NetworkRows as row;
 ghost use Rattle.hyd_spec_input.specs.Project.{Match, bend_points};
 ghost use Rattle.hyd_spec_input.specs.Tables.{place as section_place};
-ghost use Rattle.hyd_row_tables.specs.Found.{rows_at};
-ghost use Rattle.hyd_curves.specs.Named.{with_name};
-ghost use Rattle.hyd_curves.specs.NamedBends.{IsSmallHead, AreBends, AreOfPumps, AreOfValves};
+ghost use Rattle.hyd_text_rows.specs.Found.{rows_at};
+ghost use Rattle.hyd_curves.specs.NamedVolumeCurves.{with_name};
+ghost use Rattle.hyd_curves.specs.NamedStraightLineCurves.{IsSmallHead, AreBends, AreOfPumps, AreOfValves};
 ghost use Rattle.hyd_curves.specs.Points.{ArePoints, points_in, point_in};
 
 use crate::points::{CurvePoint, Points};
@@ -25,8 +25,8 @@ use hyd_lex::{Line, Lines, Section};
 use hyd_net::{HeadPoint, Names, OutOfMemory};
 use hyd_network_rows::read_pump;
 use hyd_num::FlowUnit;
-use hyd_options_and_rules::word_is;
-use hyd_row_tables::Table;
+use hyd_option_and_rule_lines::word_is;
+use hyd_text_rows::Table;
 use std::alloc::Global;
 
 /// The curves by straight lines that pumps name, then those that general purpose valves name, each once, in the order

@@ -11,14 +11,14 @@ ghost use Rattle.hyd_net.specs.Curves.{volume_at};
 ghost use Rattle.hyd_curves.specs.Asked as asked;
 ghost use Rattle.hyd_curves.specs.Points.{ArePoints, points_in, point_in};
 ghost use Rattle.hyd_curves.specs.EachWithNext.{goes_on, all_in_turn};
-ghost use Rattle.hyd_curves.specs.Shapes.{level_passes, begins_and_ends, IsRight};
+ghost use Rattle.hyd_curves.specs.TankCurveTests.{level_passes, begins_and_ends, IsRight};
 
 use crate::points::{CurvePoint, Points};
 use crate::ticks::{GREATEST_HEAD, Ticks, is_within, rises, volume_point};
 use crate::volumes::volume_up_to;
 use hyd_net::Cause;
 use hyd_num::{Decimal, FlowUnit};
-use hyd_row_tables::Table;
+use hyd_text_rows::Table;
 use hyd_units::head_ticks;
 
 const GREATEST_VOLUME: i128 = 1_000_000_000_000_000_000;

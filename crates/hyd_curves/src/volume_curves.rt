@@ -3,15 +3,15 @@
 
 ghost use Rattle.std.specs.Prelude.{◌≡◌, ◌==◌, ◌<◌, ◌≤◌, ◌+◌, ◌^◌, ℕ, List, length, All, IfOk, OnOk};
 ghost use Rattle.hyd_spec_lines.specs.Lines.{LiesIn, Row};
-ghost use Rattle.hyd_spec_input.specs.ByItself.{IsWrongByItself};
+ghost use Rattle.hyd_spec_input.specs.SingleRows.{IsWrongByItself};
 ghost use Rattle.hyd_spec_input.specs.Curves as curve;
 ghost use Rattle.hyd_spec_input.specs.Faults.{NoneIs, IsWrongWithOthers};
 ghost use Rattle.hyd_spec_input.specs.InForce as force;
-ghost use Rattle.hyd_spec_input.specs.RowMeanings.{shape_names};
+ghost use Rattle.hyd_spec_input.specs.MeaningsAcrossRows.{shape_names};
 ghost use Rattle.hyd_spec_input.specs.Project.{Match, shape_points};
 ghost use Rattle.hyd_spec_input.specs.Tables.{place as section_place};
-ghost use Rattle.hyd_row_tables.specs.Found.{rows_at};
-ghost use Rattle.hyd_curves.specs.Named.{IsSmallVolume, AreShapesAt, AreShapes, with_name};
+ghost use Rattle.hyd_text_rows.specs.Found.{rows_at};
+ghost use Rattle.hyd_curves.specs.NamedVolumeCurves.{IsSmallVolume, AreShapesAt, AreShapes, with_name};
 ghost use Rattle.hyd_curves.specs.Points.{ArePoints, points_in, point_in};
 
 use crate::points::{CurvePoint, Points};
@@ -20,7 +20,7 @@ use hyd_lex::{Line, Lines, Section};
 use hyd_net::{Names, OutOfMemory, VolumePoint};
 use hyd_network_rows::read_tank;
 use hyd_num::FlowUnit;
-use hyd_row_tables::Table;
+use hyd_text_rows::Table;
 use std::alloc::Global;
 
 /// The volume curves that tanks name, each once, in the order in which they are first named.

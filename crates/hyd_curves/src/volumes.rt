@@ -8,7 +8,7 @@ ghost use Rattle.hyd_net.specs.Curves.{between, volume_at};
 ghost use Rattle.hyd_spec_input.specs.Curves.{volume_points};
 ghost use Rattle.hyd_curves.specs.Points.{points_in};
 ghost use Rattle.hyd_curves.specs.Interpolation.{IsSmall, knot_of};
-ghost use Rattle.hyd_curves.specs.Shapes.{IsRight};
+ghost use Rattle.hyd_curves.specs.TankCurveTests.{IsRight};
 
 use crate::interpolation::on_line;
 use crate::points::CurvePoint;

@@ -2,7 +2,7 @@
 -- Source: EPANET 2.2 User Manual, chapter 3 (junctions, reservoirs, time patterns).
 use Rattle.std.specs.Prelude.{ℕ, ℤ, pos, ◌^◌, ◌<◌, ◌≤◌, unsigned_abs, slice_get}
 use Rattle.std.specs.Option.{option_map_or}
-use Rattle.hyd_spec.specs.Types.{Project}
+use Rattle.hyd_spec.specs.ProgramTypes.{Project}
 use Rattle.hyd_spec.specs.Quantity.{demand_of, reservoir_head}
 
 -- the demand of a junction of this number at a time, in flow ticks; none where there is no such junction

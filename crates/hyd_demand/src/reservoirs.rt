@@ -4,7 +4,7 @@
 ghost use Rattle.std.specs.Prelude.{◌≡◌, ◌<◌, ◌≤◌, ◌*◌, ◌^◌, ◌*ℤ◌, length, unsigned_abs};
 ghost use Rattle.std.specs.List.{All};
 ghost use Rattle.hyd_net.specs.Sound.{Sound, IsPattern};
-ghost use Rattle.hyd_net.specs.Ranges.{IsHead};
+ghost use Rattle.hyd_net.specs.NumberRanges.{IsHead};
 ghost use Rattle.hyd_spec.specs.Scale.{cut};
 ghost use Rattle.hyd_spec.specs.Quantity.{multiplier_at};
 ghost use Rattle.hyd_demand.specs.Numbered.{head_of_reservoir};

@@ -10,17 +10,17 @@ use Rattle.hyd_spec_lines.specs.Lines.{Row, row_of, items_of, rows_in, fault_in}
 use Rattle.hyd_spec_lines.specs.declared.fault.LexFault.{LexFault}
 use Rattle.hyd_spec_lines.specs.declared.line.Line.{Line}
 use Rattle.hyd_spec_lines.specs.declared.section.Section.TheVariants.{Reservoirs, Tanks}
-use Rattle.hyd_net.specs.declared.cause.Cause.{Cause}
-use Rattle.hyd_net.specs.declared.cause.Cause.TheVariants.{Missing}
-use Rattle.hyd_spec_input.specs.ByItself.{IsWrongByItself}
+use Rattle.hyd_net.specs.declared.refusal_cause.Cause.{Cause}
+use Rattle.hyd_net.specs.declared.refusal_cause.Cause.TheVariants.{Missing}
+use Rattle.hyd_spec_input.specs.SingleRows.{IsWrongByItself}
 use Rattle.hyd_spec_input.specs.Faults.{NoneIs, IsFirst, IsFaultOf, HasNoFault, IsWrongWithOthers, IsFault, line_cause}
 use Rattle.hyd_spec_input.specs.Faults.{lack, has_some}
 use Rattle.hyd_spec_input.specs.InForce.{names_head_loss}
 use Rattle.hyd_spec_input.specs.Tables.{is_of, rows_of}
-use Rattle.hyd_row_tables.specs.declared.first_wrong.Found.{Found}
-use Rattle.hyd_row_tables.specs.Found.{HasFound, rows_at}
-use Rattle.hyd_row_tables.proofs.FoundLemmas.{first_of, none_of}
-use Rattle.hyd_inp.specs.ReservoirsAndTanks.{is_source}
+use Rattle.hyd_text_rows.specs.declared.first_wrong.Found.{Found}
+use Rattle.hyd_text_rows.specs.Found.{HasFound, rows_at}
+use Rattle.hyd_text_rows.proofs.FoundLemmas.{first_of, none_of}
+use Rattle.hyd_inp.specs.WaterSourceRows.{is_source}
 use Rattle.hyd_net.specs.Sound.{Sound}
 use Rattle.hyd_net.specs.declared.project.Project.{Project}
 use Rattle.hyd_spec_input.specs.Project.{IsProject}

@@ -4,14 +4,14 @@ use Rattle.std.specs.List.{All}
 use Rattle.hyd_spec_lines.specs.Lines.{Row, LiesIn}
 use Rattle.hyd_spec_lines.specs.declared.section.Section.TheVariants.{Curves}
 use Rattle.hyd_curves.specs.Points.{ArePoints}
-use Rattle.hyd_spec_input.specs.ByItself.{IsWrongByItself}
+use Rattle.hyd_spec_input.specs.SingleRows.{IsWrongByItself}
 use Rattle.hyd_spec_input.specs.Faults.{NoneIs, IsWrongWithOthers}
 use Rattle.hyd_spec_input.specs.InForce as force
 use Rattle.hyd_spec_input.specs.Tables.{node_rows, link_rows, rows_of}
-use Rattle.hyd_row_tables.specs.Found.{rows_at}
-use Rattle.hyd_row_tables.specs.Tables.{IsTable}
+use Rattle.hyd_text_rows.specs.Found.{rows_at}
+use Rattle.hyd_text_rows.specs.Tables.{IsTable}
 use Rattle.hyd_inp.specs.Parts.{AreNumbers}
-use Rattle.hyd_inp.specs.declared.checked_rows.Source.{Source}
+use Rattle.hyd_inp.specs.declared.network_source.Source.{Source}
 
 -- the rows of a source
 abbrev pub rows_from : List ℕ → Source → List Row

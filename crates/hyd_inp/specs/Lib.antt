@@ -1,6 +1,6 @@
-pub mod Refused
-pub mod ReservoirsAndTanks
-pub mod JudgedSections
+pub mod FaultOrNoMemory
+pub mod WaterSourceRows
+pub mod SectionFamilies
 pub mod Parts
 pub mod IdTables
 pub mod CheckedRows

@@ -5,8 +5,8 @@ use Rattle.hyd_spec_lines.specs.declared.section.Section.TheVariants.{Junctions,
 use Rattle.hyd_net.specs.declared.options.Options.{Options}
 use Rattle.hyd_net.specs.declared.options.Times.{Times}
 use Rattle.hyd_net.specs.declared.project.Project.{Project}
-use Rattle.hyd_spec_input.specs.RowMeanings.{node_ids, tank_ids, link_ids, pattern_ids, shape_names, bend_names}
-use Rattle.hyd_spec_input.specs.RowMeanings.{rule_groups}
+use Rattle.hyd_spec_input.specs.MeaningsAcrossRows.{node_ids, tank_ids, link_ids, pattern_ids, shape_names, bend_names}
+use Rattle.hyd_spec_input.specs.MeaningsAcrossRows.{rule_groups}
 use Rattle.hyd_spec_input.specs.Project.{Match, IsJunction, IsReservoir, IsTank, IsLink, IsPattern, IsControl, IsRule}
 use Rattle.hyd_spec_input.specs.Project.{IsOptions, IsTimes, IsProject, numbered_links, shape_points, bend_points}
 use Rattle.hyd_spec_input.specs.Tables.{rows_of, words_of}

@@ -5,15 +5,15 @@ ghost use Rattle.std.specs.Prelude.{◌≡◌, ◌≤◌, ◌^◌, length, IfOk,
 ghost use Rattle.std.specs.List.{All};
 ghost use Rattle.hyd_spec_lines.specs.Lines.{LiesIn, items_of, rows_in, fault_in};
 ghost use Rattle.hyd_spec_input.specs.Faults.{IsFault, IsFaultOf, HasNoFault};
-ghost use Rattle.hyd_row_tables.specs.Found.{rows_at};
+ghost use Rattle.hyd_text_rows.specs.Found.{rows_at};
 
 use crate::fault::{InpFault, line_cause};
-use crate::lack::lack;
-use crate::with_others::first_with_others;
+use crate::first_wrong_with_others::first_with_others;
+use crate::missing_from_file::lack;
 use hyd_judge_single_rows::first_by_itself;
 use hyd_lex::{LexFault, Line, Lines};
 use hyd_net::{Cause, OutOfMemory};
-use hyd_row_tables::gather;
+use hyd_text_rows::gather;
 use std::alloc::Global;
 
 /// The most bytes of a text.

@@ -2,15 +2,15 @@
 #![tactic(auto)]
 
 mod build;
-mod checked_rows;
 mod fault;
 mod first_fault;
-mod lack;
+mod first_wrong_with_others;
+mod missing_from_file;
 mod network_parts;
+mod network_source;
 mod numbering;
 mod project;
 mod tables;
-mod with_others;
 
 pub use fault::{InpFault, InpRefused};
 pub use first_fault::find_fault;

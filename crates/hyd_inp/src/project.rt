@@ -6,14 +6,14 @@ ghost use Rattle.hyd_spec_lines.specs.Lines.{items_of, rows_in};
 ghost use Rattle.hyd_net.specs.Sound.{Sound};
 ghost use Rattle.hyd_spec_input.specs.Faults.{IsFault, HasNoFault};
 ghost use Rattle.hyd_spec_input.specs.Project.{IsProject};
-ghost use Rattle.hyd_inp.specs.Refused.{IfFault};
+ghost use Rattle.hyd_inp.specs.FaultOrNoMemory.{IfFault};
 
 use crate::build::build;
 use crate::fault::{InpFault, InpRefused};
 use crate::first_fault::{LONGEST, fault_of};
 use hyd_lex::Lines;
 use hyd_net::{Cause, Project};
-use hyd_row_tables::gather;
+use hyd_text_rows::gather;
 use std::alloc::Global;
 
 /// Reads the network of a text of the input grammar. A fault is the first in this order: more than 64 MiB (line 0), the

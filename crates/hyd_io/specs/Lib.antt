@@ -1,4 +1,4 @@
-pub mod Told
+pub mod ToldBytes
 pub mod Counts
 pub mod Output
 pub mod Memory

@@ -5,7 +5,7 @@ use Rattle.std.specs.List.{list_any}
 use Rattle.std.specs.BTreeMap.{BTreeMap, get_by_text}
 use Rattle.hyd_io.specs.declared.desk.Faults.{Faults}
 use Rattle.hyd_io.specs.declared.desk.Openings.{Openings}
-use Rattle.hyd_io.specs.Told.{Files}
+use Rattle.hyd_io.specs.ToldBytes.{Files}
 use Rattle.hyd_io.specs.Counts.{next_count}
 
 -- what a map of files holds at a name

@@ -2,7 +2,7 @@
 
 ghost use Rattle.std.specs.Prelude.{◌≡◌, ◌≢◌, ℕ, ◌+◌, ◌-◌, ◌<◌, ◌≤◌, List, [], ◌++◌, length, take, drop, min, Option};
 ghost use Rattle.std.specs.Prelude.{Some, None, Err, IsTrue, IfOk, IfErr, IfSome, IsSome, OnOk, OnErr, is_some};
-ghost use Rattle.hyd_io.specs.Told.{append_known, file_at, Moves, PutOut};
+ghost use Rattle.hyd_io.specs.ToldBytes.{append_known, file_at, Moves, PutOut};
 ghost use Rattle.hyd_io.specs.Counts.{NeverFall};
 ghost use Rattle.hyd_io.specs.Output.{by_channel, OnCert, OnReport, HasOutCause, PenState};
 

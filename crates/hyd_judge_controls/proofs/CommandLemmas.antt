@@ -3,16 +3,16 @@ use Rattle.std.proofs.Common.{◌≡◌, ◌↔◌, ℕ, Bool, true, false, List
 use Rattle.std.proofs.Common.{true≢false}
 use Rattle.hyd_spec_lines.specs.Lines.{Row}
 use Rattle.hyd_spec_lines.specs.declared.section.Section.{Section}
-use Rattle.hyd_net.specs.declared.cause.Cause.{Cause}
-use Rattle.hyd_net.specs.declared.cause.Cause.TheVariants.{Limit}
+use Rattle.hyd_net.specs.declared.refusal_cause.Cause.{Cause}
+use Rattle.hyd_net.specs.declared.refusal_cause.Cause.TheVariants.{Limit}
 use Rattle.hyd_spec_input.specs.Capacities.{IsRefusedSetting}
 use Rattle.hyd_spec_input.specs.Columns.{or_else}
 use Rattle.hyd_spec_input.specs.Tables.{is_of, link_named}
-use Rattle.hyd_spec_input.specs.WithOthers as others
+use Rattle.hyd_spec_input.specs.RowsTogether as others
 use Rattle.hyd_spec_input.specs.declared.LinkWord.{LinkWord}
-use Rattle.hyd_row_tables.specs.Found.{IsVerdict}
-use Rattle.hyd_row_tables.specs.Sections.{IsWrongIn, IsCapacityFault, IsFaultThen}
-use Rattle.hyd_row_tables.proofs.SectionLemmas.{other_section}
+use Rattle.hyd_text_rows.specs.Found.{IsVerdict}
+use Rattle.hyd_text_rows.specs.WrongInSection.{IsWrongIn, IsCapacityFault, IsFaultThen}
+use Rattle.hyd_text_rows.proofs.SectionLemmas.{other_section}
 
 -- ---- faults in turn
 

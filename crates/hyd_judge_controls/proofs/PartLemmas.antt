@@ -3,21 +3,21 @@ use Rattle.std.proofs.Common.{◌≡◌, ℕ, List, [], ◌∷◌, Option, Some,
 use Rattle.std.proofs.lemmas.Bool.{cases_Bool}
 use Rattle.hyd_spec_lines.specs.Headings.{is_one_of}
 use Rattle.hyd_spec_lines.specs.Lines.{Row}
-use Rattle.hyd_net.specs.declared.cause.Cause.{Cause}
-use Rattle.hyd_net.specs.declared.cause.Cause.TheVariants.{Syntax}
+use Rattle.hyd_net.specs.declared.refusal_cause.Cause.{Cause}
+use Rattle.hyd_net.specs.declared.refusal_cause.Cause.TheVariants.{Syntax}
 use Rattle.hyd_spec_input.specs.Capacities.{IsRefusedSetting}
 use Rattle.hyd_spec_input.specs.Columns.{id, one_of, meant, number, asked, needed, ends, word, status_words}
 use Rattle.hyd_spec_input.specs.Keywords.{link_word, attribute_word}
 use Rattle.hyd_spec_input.specs.RuleRows as form
 use Rattle.hyd_spec_input.specs.RuleRows.{set_attribute, set_value}
 use Rattle.hyd_spec_input.specs.Tables.{link_named}
-use Rattle.hyd_spec_input.specs.WithOthers as others
+use Rattle.hyd_spec_input.specs.RowsTogether as others
 use Rattle.hyd_spec_input.specs.declared.Attribute.{Attribute}
 use Rattle.hyd_spec_input.specs.declared.Attribute.TheVariants.{Head, Pressure, Level, Flow, Setting, Status, Time}
 use Rattle.hyd_spec_input.specs.declared.Attribute.TheVariants.{Clock}
 use Rattle.hyd_spec_input.specs.declared.LinkWord.{LinkWord}
 use Rattle.hyd_theorems_on_input.proofs.Faultless.{all_none, needed_none, unless_none}
-use Rattle.hyd_row_tables.specs.Sections.{IsFaultThen}
+use Rattle.hyd_text_rows.specs.WrongInSection.{IsFaultThen}
 use Rattle.hyd_judge_controls.proofs.CommandLemmas.{command_unknown, command_known}
 
 -- ---- the state of an action

@@ -15,10 +15,10 @@ use Rattle.hyd_spec_lines.specs.declared.section.Section.TheVariants.{Rules as I
 use Rattle.hyd_spec_input.specs.Columns.{word}
 use Rattle.hyd_spec_input.specs.RuleRows.{begins_with, is_rule}
 use Rattle.hyd_spec_input.specs.Tables.{is_of, rows_of}
-use Rattle.hyd_spec_input.specs.WithOthers.{names_rule, is_part, is_part_word, has_rule, rules_in, parts_in}
+use Rattle.hyd_spec_input.specs.RowsTogether.{names_rule, is_part, is_part_word, has_rule, rules_in, parts_in}
 use Rattle.hyd_spec_input.specs.declared.RuleWord.{RuleWord}
 use Rattle.hyd_spec_input.specs.declared.RuleWord.TheVariants.{Rule, If, And, Or, Then, Else, Priority}
-use Rattle.hyd_row_tables.proofs.FoundLemmas.{filter_more, filter_same}
+use Rattle.hyd_text_rows.proofs.FoundLemmas.{filter_more, filter_same}
 use Rattle.hyd_judge_controls.specs.Rules.{AreCounted}
 use Rattle.hyd_judge_controls.specs.declared.rules.RuleCounts.{RuleCounts}
 

@@ -4,10 +4,10 @@ use Rattle.std.proofs.Common.{Some, None, refl, sym, ap, ◌∙◌, subst, true�
 use Rattle.hyd_spec_lines.specs.Lines.{Row}
 use Rattle.hyd_spec_lines.specs.declared.section.Section.{Section}
 use Rattle.hyd_spec_lines.specs.declared.section.Section.TheVariants.{Rules as InRules}
-use Rattle.hyd_net.specs.declared.cause.Cause.{Cause}
-use Rattle.hyd_net.specs.declared.cause.Cause.TheVariants.{Syntax, DuplicateId}
-use Rattle.hyd_spec_input.specs.ByItself as itself
-use Rattle.hyd_spec_input.specs.ByItself.{IsWrongByItself}
+use Rattle.hyd_net.specs.declared.refusal_cause.Cause.{Cause}
+use Rattle.hyd_net.specs.declared.refusal_cause.Cause.TheVariants.{Syntax, DuplicateId}
+use Rattle.hyd_spec_input.specs.SingleRows as itself
+use Rattle.hyd_spec_input.specs.SingleRows.{IsWrongByItself}
 use Rattle.hyd_spec_input.specs.Capacities.{IsRefusedIn, IsRefusedSetting}
 use Rattle.hyd_spec_input.specs.Columns.{or_else, unless, word}
 use Rattle.hyd_spec_input.specs.Faults.{NoneIs}
@@ -15,15 +15,15 @@ use Rattle.hyd_spec_input.specs.RuleRows as form
 use Rattle.hyd_spec_input.specs.RuleRows.{begins_with, is_rule, stage_after, in_order, line_words}
 use Rattle.hyd_spec_input.specs.RuleRows.{words_about, gets_then}
 use Rattle.hyd_spec_input.specs.Tables.{is_of, words_of, words_of_row, link_named}
-use Rattle.hyd_spec_input.specs.WithOthers as others
-use Rattle.hyd_spec_input.specs.WithOthers.{is_part_word, is_action_word, holds_action, rules_in, parts_in}
+use Rattle.hyd_spec_input.specs.RowsTogether as others
+use Rattle.hyd_spec_input.specs.RowsTogether.{is_part_word, is_action_word, holds_action, rules_in, parts_in}
 use Rattle.hyd_spec_input.specs.declared.RuleWord.{RuleWord}
 use Rattle.hyd_spec_input.specs.declared.RuleWord.TheVariants.{Rule, If, And, Or, Then, Else, Priority}
 use Rattle.hyd_theorems_on_input.proofs.Faultless.{or_none, section_is}
-use Rattle.hyd_row_tables.specs.Found.{IsVerdict, kept}
-use Rattle.hyd_row_tables.specs.Sections.{IsWrongIn, IsFaultThen}
-use Rattle.hyd_row_tables.proofs.SectionLemmas.{none_of, verdict_with_capacity, other_section}
-use Rattle.hyd_row_tables.proofs.FoundLemmas.{filter_same, found_skip, found_kept}
+use Rattle.hyd_text_rows.specs.Found.{IsVerdict, kept}
+use Rattle.hyd_text_rows.specs.WrongInSection.{IsWrongIn, IsFaultThen}
+use Rattle.hyd_text_rows.proofs.SectionLemmas.{none_of, verdict_with_capacity, other_section}
+use Rattle.hyd_text_rows.proofs.FoundLemmas.{filter_same, found_skip, found_kept}
 use Rattle.hyd_judge_single_rows.specs.Stages.{stage_with}
 use Rattle.hyd_judge_single_rows.proofs.StageLemmas.{next_stage}
 use Rattle.hyd_judge_controls.proofs.CommandLemmas.{last_fault}

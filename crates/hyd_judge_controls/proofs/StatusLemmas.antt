@@ -3,20 +3,20 @@ use Rattle.std.proofs.Common.{◌≡◌, ◌+◌, ℕ, true, List, take, drop, s
 use Rattle.hyd_spec_lines.specs.Lines.{Row}
 use Rattle.hyd_spec_lines.specs.declared.section.Section.{Section}
 use Rattle.hyd_spec_lines.specs.declared.section.Section.TheVariants.{Rules, Status}
-use Rattle.hyd_net.specs.declared.cause.Cause.{Cause}
-use Rattle.hyd_spec_input.specs.ByItself as itself
-use Rattle.hyd_spec_input.specs.ByItself.{IsWrongByItself}
+use Rattle.hyd_net.specs.declared.refusal_cause.Cause.{Cause}
+use Rattle.hyd_spec_input.specs.SingleRows as itself
+use Rattle.hyd_spec_input.specs.SingleRows.{IsWrongByItself}
 use Rattle.hyd_spec_input.specs.Capacities.{IsRefusedIn, IsRefusedSetting}
 use Rattle.hyd_spec_input.specs.Columns.{word, or_empty, or_else}
-use Rattle.hyd_spec_input.specs.BelongingRows as row_form
+use Rattle.hyd_spec_input.specs.DemandCurveAndStatusRows as row_form
 use Rattle.hyd_spec_input.specs.Faults.{NoneIs}
 use Rattle.hyd_spec_input.specs.Tables.{is_of, link_named, words_of}
-use Rattle.hyd_spec_input.specs.WithOthers as others
+use Rattle.hyd_spec_input.specs.RowsTogether as others
 use Rattle.hyd_spec_input.specs.declared.LinkWord.TheVariants.{Link}
 use Rattle.hyd_theorems_on_input.proofs.Faultless.{section_is}
-use Rattle.hyd_row_tables.specs.Found.{IsVerdict}
-use Rattle.hyd_row_tables.specs.Sections.{IsWrongIn, IsFaultThen}
-use Rattle.hyd_row_tables.proofs.SectionLemmas.{none_of, verdict_with_capacity}
+use Rattle.hyd_text_rows.specs.Found.{IsVerdict}
+use Rattle.hyd_text_rows.specs.WrongInSection.{IsWrongIn, IsFaultThen}
+use Rattle.hyd_text_rows.proofs.SectionLemmas.{none_of, verdict_with_capacity}
 use Rattle.hyd_judge_controls.proofs.CommandLemmas.{last_fault}
 
 pub status_is_right : (rows : List Row) (k : ℕ) (row : Row) → NoneIs (IsWrongByItself rows)

@@ -3,15 +3,15 @@ use Rattle.std.specs.Prelude.{◌≡◌, ℕ, ◌≤◌, true, false, List, [], 
 use Rattle.hyd_spec_lines.specs.Lines.{Row, row_of}
 use Rattle.hyd_spec_lines.specs.declared.line.Line.{Line}
 use Rattle.hyd_spec_lines.specs.declared.section.Section.TheVariants.{Controls as InControls}
-use Rattle.hyd_net.specs.declared.cause.Cause.{Cause}
+use Rattle.hyd_net.specs.declared.refusal_cause.Cause.{Cause}
 use Rattle.hyd_spec_input.specs.Capacities.{IsRefusedSetting}
 use Rattle.hyd_spec_input.specs.Columns.{word, first}
 use Rattle.hyd_spec_input.specs.Keywords.{link_word}
 use Rattle.hyd_spec_input.specs.Tables.{rows_of, link_named, node_named}
-use Rattle.hyd_spec_input.specs.WithOthers.{passes, link_by_word, is_at_level, control_node, control_tank}
-use Rattle.hyd_spec_input.specs.WithOthers.{control_level, set_link}
-use Rattle.hyd_row_tables.specs.Found.{HasFound}
-use Rattle.hyd_row_tables.specs.Sections.{IsWrongIn, IsFaultThen}
+use Rattle.hyd_spec_input.specs.RowsTogether.{passes, link_by_word, is_at_level, control_node, control_tank}
+use Rattle.hyd_spec_input.specs.RowsTogether.{control_level, set_link}
+use Rattle.hyd_text_rows.specs.Found.{HasFound}
+use Rattle.hyd_text_rows.specs.WrongInSection.{IsWrongIn, IsFaultThen}
 use Rattle.hyd_judge_controls.specs.declared.controls.Controls.{Controls}
 
 -- the node at whose level a control acts, where it acts at one

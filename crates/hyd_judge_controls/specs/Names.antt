@@ -3,7 +3,7 @@ use Rattle.std.specs.Prelude.{◌≡◌, ℕ, List, Some}
 use Rattle.hyd_spec_lines.specs.Lines.{Row, LiesIn, row_of}
 use Rattle.hyd_spec_lines.specs.declared.line.Line.{Line}
 use Rattle.hyd_spec_input.specs.Tables.{node_named, link_named}
-use Rattle.hyd_link_states.specs.States.{IsRightLink}
+use Rattle.hyd_asked_link_states.specs.AskedLinks.{IsRightLink}
 
 -- the line of the link of a name
 pub record IsNamedLink (text : List ℕ) (rows : List Row) (name : List ℕ) (line : Line) : Type 0 where

@@ -3,18 +3,18 @@
 
 ghost use Rattle.std.specs.Prelude.{◌≡◌, ℕ, List, None, Some};
 ghost use Rattle.hyd_spec_lines.specs.Lines.{LiesIn, Row, row_of};
-ghost use Rattle.hyd_options_and_rules.specs.Meanings.{IsAsked};
+ghost use Rattle.hyd_option_and_rule_lines.specs.Meanings.{IsAsked};
 ghost use Rattle.hyd_spec_input.specs.Capacities.{IsRefusedSetting};
 ghost use Rattle.hyd_spec_input.specs.InForce as force;
-ghost use Rattle.hyd_spec_input.specs.WithOthers as others;
-ghost use Rattle.hyd_link_states.specs.States.{IsRightLink, IsAllowed};
-ghost use Rattle.hyd_row_tables.specs.Sections.{IsCapacityFault, IsFaultThen};
+ghost use Rattle.hyd_spec_input.specs.RowsTogether as others;
+ghost use Rattle.hyd_asked_link_states.specs.AskedLinks.{IsRightLink, IsAllowed};
+ghost use Rattle.hyd_text_rows.specs.WrongInSection.{IsCapacityFault, IsFaultThen};
 
+use hyd_asked_link_states::{is_refused, state_fault};
 use hyd_lex::{Line, Lines};
-use hyd_link_states::{is_refused, state_fault};
 use hyd_net::Cause;
 use hyd_num::FlowUnit;
-use hyd_options_and_rules::Asked;
+use hyd_option_and_rule_lines::Asked;
 
 /// Limit 13 where the setting that is asked of a throttle control valve makes a capacity out of range.
 pub(crate) fn capacity_fault(

@@ -5,30 +5,30 @@ ghost use Rattle.std.specs.Prelude.{◌≡◌, ◌<◌, ◌+◌, ◌^◌, ◌==�
 ghost use Rattle.std.specs.List.{All};
 ghost use Rattle.hyd_spec_lines.specs.Lines.{LiesIn, Row, row_of};
 ghost use Rattle.hyd_spec_lines.specs.declared.section.Section.TheVariants.{Controls as InControls};
-ghost use Rattle.hyd_options_and_rules.specs.Judged.{Judged, words_at};
-ghost use Rattle.hyd_options_and_rules.specs.Meanings.{IsControlLine, IsWhen};
-ghost use Rattle.hyd_spec_input.specs.ByItself.{IsWrongByItself};
+ghost use Rattle.hyd_option_and_rule_lines.specs.FaultOrValue.{Judged, words_at};
+ghost use Rattle.hyd_option_and_rule_lines.specs.Meanings.{IsControlLine, IsWhen};
+ghost use Rattle.hyd_spec_input.specs.SingleRows.{IsWrongByItself};
 ghost use Rattle.hyd_spec_input.specs.Capacities.{IsRefusedSetting};
 ghost use Rattle.hyd_spec_input.specs.Columns.{word};
 ghost use Rattle.hyd_spec_input.specs.Faults.{NoneIs};
 ghost use Rattle.hyd_spec_input.specs.InForce as force;
 ghost use Rattle.hyd_spec_input.specs.Tables.{place as section_place, is_of, link_rows, node_rows};
-ghost use Rattle.hyd_spec_input.specs.WithOthers as others;
-ghost use Rattle.hyd_link_states.specs.States.{IsRightLink};
-ghost use Rattle.hyd_row_tables.specs.Found.{HasFound, rows_at};
-ghost use Rattle.hyd_row_tables.specs.Sections.{IsWrongIn, IsFaultThen};
-ghost use Rattle.hyd_row_tables.specs.Tables.{IsTable, IsEven};
+ghost use Rattle.hyd_spec_input.specs.RowsTogether as others;
+ghost use Rattle.hyd_asked_link_states.specs.AskedLinks.{IsRightLink};
+ghost use Rattle.hyd_text_rows.specs.Found.{HasFound, rows_at};
+ghost use Rattle.hyd_text_rows.specs.WrongInSection.{IsWrongIn, IsFaultThen};
+ghost use Rattle.hyd_text_rows.specs.Tables.{IsTable, IsEven};
 ghost use Rattle.hyd_judge_controls.specs.Controls.{AreControls, IsControlNode, IsControlFault};
 ghost use Rattle.hyd_judge_controls.specs.Controls.{commanded_fault as fault_of_commanded};
 
 use crate::asked_states::capacity_fault;
 use crate::names::{named_link, named_node};
+use hyd_asked_link_states::state_fault;
 use hyd_lex::{Line, Lines, Section};
-use hyd_link_states::state_fault;
 use hyd_net::Cause;
 use hyd_num::FlowUnit;
-use hyd_options_and_rules::{ControlLine, WhenLine, or_empty, read_control};
-use hyd_row_tables::{Found, Table, head_fault, kept, limit};
+use hyd_option_and_rule_lines::{ControlLine, WhenLine, or_empty, read_control};
+use hyd_text_rows::{Found, Table, head_fault, kept, limit};
 
 const MOST_CONTROLS: usize = 10_000;
 

@@ -3,19 +3,19 @@
 
 ghost use Rattle.std.specs.Prelude.{◌≡◌, ◌==◌, List, Some};
 ghost use Rattle.hyd_spec_lines.specs.Lines.{Row, row_of};
-ghost use Rattle.hyd_options_and_rules.specs.Judged.{Judged};
-ghost use Rattle.hyd_spec_input.specs.ByItself.{IsWrongByItself};
+ghost use Rattle.hyd_option_and_rule_lines.specs.FaultOrValue.{Judged};
+ghost use Rattle.hyd_spec_input.specs.SingleRows.{IsWrongByItself};
 ghost use Rattle.hyd_spec_input.specs.Faults.{NoneIs};
 ghost use Rattle.hyd_spec_input.specs.Tables as table;
 ghost use Rattle.hyd_spec_input.specs.Tables.{place as section_place, link_rows, node_rows};
-ghost use Rattle.hyd_spec_input.specs.WithOthers as others;
-ghost use Rattle.hyd_row_tables.specs.Tables.{IsTable, IsEven};
+ghost use Rattle.hyd_spec_input.specs.RowsTogether as others;
+ghost use Rattle.hyd_text_rows.specs.Tables.{IsTable, IsEven};
 ghost use Rattle.hyd_judge_controls.specs.Names.{IsNamedLink, IsNamedNode};
 
 use hyd_lex::{Line, Lines, Section};
 use hyd_net::Cause;
-use hyd_row_tables::Table;
 use hyd_spec_input::{LinkWord, NodeWord};
+use hyd_text_rows::Table;
 
 // Whether the word before a link's ID allows a row of a section.
 fn allows_link(kind: LinkWord, section: Section) -> bool

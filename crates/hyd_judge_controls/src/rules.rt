@@ -5,16 +5,16 @@ ghost use Rattle.std.specs.Prelude.{◌≡◌, ◌<◌, ◌+◌, ◌^◌, ◌∷
 ghost use Rattle.std.specs.List.{All};
 ghost use Rattle.hyd_spec_lines.specs.Lines.{LiesIn, Row};
 ghost use Rattle.hyd_spec_lines.specs.declared.section.Section.TheVariants.{Rules as InRules};
-ghost use Rattle.hyd_net.specs.declared.cause.Cause.TheVariants as cause;
-ghost use Rattle.hyd_spec_input.specs.ByItself.{IsWrongByItself};
+ghost use Rattle.hyd_net.specs.declared.refusal_cause.Cause.TheVariants as cause;
+ghost use Rattle.hyd_spec_input.specs.SingleRows.{IsWrongByItself};
 ghost use Rattle.hyd_spec_input.specs.Columns.{or_else, unless, word};
 ghost use Rattle.hyd_spec_input.specs.Faults.{NoneIs};
 ghost use Rattle.hyd_spec_input.specs.InForce as force;
 ghost use Rattle.hyd_spec_input.specs.Tables.{link_rows, node_rows};
-ghost use Rattle.hyd_spec_input.specs.WithOthers as others;
-ghost use Rattle.hyd_row_tables.specs.Found.{HasFound, rows_at};
-ghost use Rattle.hyd_row_tables.specs.Sections.{IsWrongIn};
-ghost use Rattle.hyd_row_tables.specs.Tables.{IsTable};
+ghost use Rattle.hyd_spec_input.specs.RowsTogether as others;
+ghost use Rattle.hyd_text_rows.specs.Found.{HasFound, rows_at};
+ghost use Rattle.hyd_text_rows.specs.WrongInSection.{IsWrongIn};
+ghost use Rattle.hyd_text_rows.specs.Tables.{IsTable};
 ghost use Rattle.hyd_judge_controls.specs.declared.rule_parts.Part.TheVariants as part_form;
 ghost use Rattle.hyd_judge_controls.specs.Rules.{AreCounted, AreRules, IsPartAt, IsRuleFault};
 
@@ -23,9 +23,9 @@ use hyd_judge_single_rows::{is_acting, is_rules, next_stage};
 use hyd_lex::{Line, Lines};
 use hyd_net::{Cause, Names, OutOfMemory};
 use hyd_num::FlowUnit;
-use hyd_options_and_rules::or_empty;
-use hyd_row_tables::{Found, Table, kept, limit};
+use hyd_option_and_rule_lines::or_empty;
 use hyd_spec_input::Stage;
+use hyd_text_rows::{Found, Table, kept, limit};
 use std::alloc::Global;
 
 const MOST_RULES: usize = 10_000;

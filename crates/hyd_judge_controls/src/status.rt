@@ -5,13 +5,13 @@ ghost use Rattle.std.specs.Prelude.{◌≡◌, ◌<◌, ◌==◌, length};
 ghost use Rattle.std.specs.List.{All};
 ghost use Rattle.hyd_spec_lines.specs.Lines.{LiesIn};
 ghost use Rattle.hyd_spec_lines.specs.declared.section.Section.TheVariants.{Status};
-ghost use Rattle.hyd_spec_input.specs.ByItself.{IsWrongByItself};
+ghost use Rattle.hyd_spec_input.specs.SingleRows.{IsWrongByItself};
 ghost use Rattle.hyd_spec_input.specs.Faults.{NoneIs};
 ghost use Rattle.hyd_spec_input.specs.InForce as force;
 ghost use Rattle.hyd_spec_input.specs.Tables.{place as section_place, link_rows};
-ghost use Rattle.hyd_row_tables.specs.Found.{HasFound, IsVerdict, rows_at};
-ghost use Rattle.hyd_row_tables.specs.Sections.{IsWrongIn};
-ghost use Rattle.hyd_row_tables.specs.Tables.{IsTable};
+ghost use Rattle.hyd_text_rows.specs.Found.{HasFound, IsVerdict, rows_at};
+ghost use Rattle.hyd_text_rows.specs.WrongInSection.{IsWrongIn};
+ghost use Rattle.hyd_text_rows.specs.Tables.{IsTable};
 
 use crate::asked_states::asked_fault;
 use crate::names::named_link;
@@ -19,8 +19,8 @@ use hyd_lex::{Line, Lines, Section};
 use hyd_net::Cause;
 use hyd_network_rows::read_status;
 use hyd_num::FlowUnit;
-use hyd_row_tables::{Found, Table, kept};
 use hyd_spec_input::LinkWord;
+use hyd_text_rows::{Found, Table, kept};
 
 fn is_status(section: Section) -> bool
     ensures { result ≡ (section_place section == 10) }

@@ -6,21 +6,21 @@ use Rattle.hyd_num.specs.declared.flow_units.FlowUnit.{FlowUnit}
 use Rattle.hyd_spec_lines.specs.Lines.{Row}
 use Rattle.hyd_spec_lines.specs.declared.section.Section.{Section}
 use Rattle.hyd_spec_lines.specs.declared.section.Section.TheVariants.{Pipes, Pumps, Valves}
-use Rattle.hyd_net.specs.declared.cause.Cause.{Cause}
-use Rattle.hyd_spec_input.specs.ByItself as itself
-use Rattle.hyd_spec_input.specs.ByItself.{IsWrongByItself}
+use Rattle.hyd_net.specs.declared.refusal_cause.Cause.{Cause}
+use Rattle.hyd_spec_input.specs.SingleRows as itself
+use Rattle.hyd_spec_input.specs.SingleRows.{IsWrongByItself}
 use Rattle.hyd_spec_input.specs.Capacities.{IsRefusedIn, IsRefusedRow}
 use Rattle.hyd_spec_input.specs.Faults.{NoneIs}
 use Rattle.hyd_spec_input.specs.InForce as force
 use Rattle.hyd_spec_input.specs.Tables.{place, is_of, is_link, link_rows, own_id, has_id}
-use Rattle.hyd_spec_input.specs.WithOthers as others
-use Rattle.hyd_row_tables.specs.Found.{IsVerdict, kept}
-use Rattle.hyd_row_tables.specs.Sections.{IsFaultThen, IsWrongIn}
-use Rattle.hyd_row_tables.specs.Tables.{AreFirsts}
-use Rattle.hyd_row_tables.proofs.FoundLemmas.{filter_more, filter_same, found_skip, found_kept}
-use Rattle.hyd_row_tables.proofs.SectionLemmas.{none_of, verdict_with_capacity, fault_then_alike}
-use Rattle.hyd_judge_links.specs.Judged.{AreLinks, IsWrongLink}
-use Rattle.hyd_judge_links.specs.Links.{link_alone, fault_among, IsRefusedLink}
+use Rattle.hyd_spec_input.specs.RowsTogether as others
+use Rattle.hyd_text_rows.specs.Found.{IsVerdict, kept}
+use Rattle.hyd_text_rows.specs.WrongInSection.{IsFaultThen, IsWrongIn}
+use Rattle.hyd_text_rows.specs.Tables.{AreFirsts}
+use Rattle.hyd_text_rows.proofs.FoundLemmas.{filter_more, filter_same, found_skip, found_kept}
+use Rattle.hyd_text_rows.proofs.SectionLemmas.{none_of, verdict_with_capacity, fault_then_alike}
+use Rattle.hyd_judge_links.specs.LinksSoFar.{AreLinks, IsWrongLink}
+use Rattle.hyd_judge_links.specs.LinkFaults.{link_alone, fault_among, IsRefusedLink}
 use Rattle.hyd_judge_links.specs.declared.links.Links.{Links}
 
 -- ---- a link that is right by itself

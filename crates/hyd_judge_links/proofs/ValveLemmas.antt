@@ -2,14 +2,14 @@
 use Rattle.std.proofs.Common.{◌≡◌, ℕ, Bool, true, false, List, Option, None, Some, refl, sym, inl, inr, ◌⊎◌, true≢false}
 use Rattle.hyd_num.specs.declared.flow_units.FlowUnit.{FlowUnit}
 use Rattle.hyd_spec_lines.specs.Lines.{Row}
-use Rattle.hyd_net.specs.declared.cause.Cause.{Cause}
+use Rattle.hyd_net.specs.declared.refusal_cause.Cause.{Cause}
 use Rattle.hyd_spec_input.specs.Capacities.{IsRefusedValve}
 use Rattle.hyd_spec_input.specs.Columns.{or_else, amount}
 use Rattle.hyd_spec_input.specs.NetworkRows.{is_throttle, is_general, valve_minor}
-use Rattle.hyd_row_tables.proofs.SectionLemmas.{fault_then_alike}
-use Rattle.hyd_row_tables.specs.Ranges.{flow_fault}
-use Rattle.hyd_row_tables.specs.Sections.{IsCapacityFault, IsFaultThen}
-use Rattle.hyd_judge_links.specs.Links.{setting_fault, IsRefusedValveOf}
+use Rattle.hyd_text_rows.proofs.SectionLemmas.{fault_then_alike}
+use Rattle.hyd_text_rows.specs.QuantityRanges.{flow_fault}
+use Rattle.hyd_text_rows.specs.WrongInSection.{IsCapacityFault, IsFaultThen}
+use Rattle.hyd_judge_links.specs.LinkFaults.{setting_fault, IsRefusedValveOf}
 
 -- the verdict on a throttle control valve
 pub throttle_verdict : (rows : List Row) (unit : FlowUnit) (words : List (List ℕ)) (us : Bool) (cause : Option Cause)

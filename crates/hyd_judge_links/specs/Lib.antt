@@ -1,2 +1,2 @@
-pub mod Links
-pub mod Judged
+pub mod LinkFaults
+pub mod LinksSoFar

@@ -3,11 +3,11 @@
 #![tactic(auto)]
 
 mod id_and_ends;
+mod judged_against;
 mod links;
 mod pipes;
 mod pumps;
-mod tables;
 mod valves;
 
+pub use judged_against::LinkTables;
 pub use links::{Links, judge_links};
-pub use tables::LinkTables;

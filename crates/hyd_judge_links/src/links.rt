@@ -4,24 +4,24 @@
 ghost use Rattle.std.specs.Prelude.{◌≡◌, ◌<◌, ◌+◌, ◌^◌, ◌==◌, ◌||◌, List, None, length, IfOk, OnOk};
 ghost use Rattle.std.specs.List.{All};
 ghost use Rattle.hyd_spec_lines.specs.Lines.{LiesIn, Row};
-ghost use Rattle.hyd_options_and_rules.specs.Judged.{words_at};
-ghost use Rattle.hyd_spec_input.specs.ByItself.{IsWrongByItself};
+ghost use Rattle.hyd_option_and_rule_lines.specs.FaultOrValue.{words_at};
+ghost use Rattle.hyd_spec_input.specs.SingleRows.{IsWrongByItself};
 ghost use Rattle.hyd_spec_input.specs.Faults.{NoneIs};
 ghost use Rattle.hyd_spec_input.specs.Tables.{place as section_place, link_rows};
-ghost use Rattle.hyd_row_tables.specs.Found.{HasFound, rows_at};
-ghost use Rattle.hyd_row_tables.specs.Sections.{IsFaultThen};
-ghost use Rattle.hyd_row_tables.specs.Tables.{IsTable};
-ghost use Rattle.hyd_judge_links.specs.Judged.{AreLinks, IsWrongLink};
-ghost use Rattle.hyd_judge_links.specs.Links as among;
-ghost use Rattle.hyd_judge_links.specs.Links.{AreEven, AreTables, IsRefusedLink};
+ghost use Rattle.hyd_text_rows.specs.Found.{HasFound, rows_at};
+ghost use Rattle.hyd_text_rows.specs.WrongInSection.{IsFaultThen};
+ghost use Rattle.hyd_text_rows.specs.Tables.{IsTable};
+ghost use Rattle.hyd_judge_links.specs.LinksSoFar.{AreLinks, IsWrongLink};
+ghost use Rattle.hyd_judge_links.specs.LinkFaults as among;
+ghost use Rattle.hyd_judge_links.specs.LinkFaults.{AreEven, AreTables, IsRefusedLink};
 
+use crate::judged_against::LinkTables;
 use crate::pipes::pipe_fault;
 use crate::pumps::pump_fault;
-use crate::tables::LinkTables;
 use crate::valves::valve_fault;
 use hyd_lex::{Line, Lines, Section};
 use hyd_net::{Cause, OutOfMemory};
-use hyd_row_tables::{Found, Table, kept};
+use hyd_text_rows::{Found, Table, kept};
 use std::alloc::Global;
 
 /// The links of a file, and the first of their rows that is wrong with the others.

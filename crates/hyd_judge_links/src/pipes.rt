@@ -3,24 +3,24 @@
 
 ghost use Rattle.std.specs.Prelude.{◌≡◌, List, None};
 ghost use Rattle.hyd_spec_lines.specs.Lines.{LiesIn, Row};
-ghost use Rattle.hyd_num.specs.Quantity.{is_us_unit};
-ghost use Rattle.hyd_options_and_rules.specs.Judged.{words_at};
-ghost use Rattle.hyd_resist.specs.Ranges.{IsLength, IsDiameter, IsRoughness, IsMinorCoefficient};
+ghost use Rattle.hyd_num.specs.FileQuantity.{is_us_unit};
+ghost use Rattle.hyd_option_and_rule_lines.specs.FaultOrValue.{words_at};
+ghost use Rattle.hyd_capacities.specs.Ranges.{IsLength, IsDiameter, IsRoughness, IsMinorCoefficient};
 ghost use Rattle.hyd_spec_input.specs.Capacities.{IsRefusedPipe};
 ghost use Rattle.hyd_spec_input.specs.NetworkRows as row;
 ghost use Rattle.hyd_spec_input.specs.Tables.{node_rows};
-ghost use Rattle.hyd_row_tables.specs.Sections.{IsCapacityFault, IsFaultThen};
-ghost use Rattle.hyd_row_tables.specs.Tables.{IsTable, IsEven};
-ghost use Rattle.hyd_judge_links.specs.Links as links;
-ghost use Rattle.hyd_judge_links.specs.Links.{IsRefusedPipeOf};
+ghost use Rattle.hyd_text_rows.specs.WrongInSection.{IsCapacityFault, IsFaultThen};
+ghost use Rattle.hyd_text_rows.specs.Tables.{IsTable, IsEven};
+ghost use Rattle.hyd_judge_links.specs.LinkFaults as links;
+ghost use Rattle.hyd_judge_links.specs.LinkFaults.{IsRefusedPipeOf};
 
 use crate::id_and_ends::ends_fault;
+use hyd_capacities::pipe_capacity;
 use hyd_lex::{Line, Lines};
 use hyd_net::Cause;
 use hyd_network_rows::{PipeRow, read_pipe};
 use hyd_num::FlowUnit;
-use hyd_resist::pipe_capacity;
-use hyd_row_tables::Table;
+use hyd_text_rows::Table;
 
 // Limit 13 where the capacity of a pipe is out of range.
 fn capacity_fault(pipe: &PipeRow<'_>, us: bool) -> Option<Cause>

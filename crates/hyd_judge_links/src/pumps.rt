@@ -5,27 +5,27 @@ ghost use Rattle.std.specs.Prelude.{◌≡◌, [], ◌∷◌, ℕ, List, Some, N
 ghost use Rattle.hyd_spec_lines.specs.Bytes.{text_of};
 ghost use Rattle.hyd_spec_lines.specs.Lines.{LiesIn, Row};
 ghost use Rattle.hyd_spec_lines.specs.declared.section.Section.TheVariants.{Curves};
-ghost use Rattle.hyd_options_and_rules.specs.Judged.{words_at};
+ghost use Rattle.hyd_option_and_rule_lines.specs.FaultOrValue.{words_at};
 ghost use Rattle.hyd_spec_input.specs.Capacities.{IsRefusedCurve};
 ghost use Rattle.hyd_spec_input.specs.Columns.{first};
 ghost use Rattle.hyd_spec_input.specs.NetworkRows as row;
 ghost use Rattle.hyd_spec_input.specs.Tables.{node_rows, rows_of};
-ghost use Rattle.hyd_spec_input.specs.WithOthers as others;
-ghost use Rattle.hyd_row_tables.specs.Sections.{IsFaultThen};
-ghost use Rattle.hyd_row_tables.specs.Tables.{IsTable};
+ghost use Rattle.hyd_spec_input.specs.RowsTogether as others;
+ghost use Rattle.hyd_text_rows.specs.WrongInSection.{IsFaultThen};
+ghost use Rattle.hyd_text_rows.specs.Tables.{IsTable};
 ghost use Rattle.hyd_curves.specs.Judged.{AreVerdicts};
-ghost use Rattle.hyd_judge_nodes_and_options.specs.Patterns.{ArePatterns};
-ghost use Rattle.hyd_judge_links.specs.Links as links;
-ghost use Rattle.hyd_judge_links.specs.Links.{AreEven};
+ghost use Rattle.hyd_judge_nodes_curves_and_options.specs.Patterns.{ArePatterns};
+ghost use Rattle.hyd_judge_links.specs.LinkFaults as links;
+ghost use Rattle.hyd_judge_links.specs.LinkFaults.{AreEven};
 
 use crate::id_and_ends::ends_fault;
-use crate::tables::LinkTables;
-use hyd_judge_nodes_and_options::Patterns;
+use crate::judged_against::LinkTables;
+use hyd_judge_nodes_curves_and_options::Patterns;
 use hyd_lex::{Line, Lines};
 use hyd_net::Cause;
 use hyd_network_rows::{PumpRow, read_pump};
 use hyd_num::Decimal;
-use hyd_row_tables::{unknown_curve, unknown_pattern};
+use hyd_text_rows::{unknown_curve, unknown_pattern};
 
 const GREATEST_SPEED: i128 = 10 * 1_000_000_000;
 

@@ -4,32 +4,32 @@
 ghost use Rattle.std.specs.Prelude.{◌≡◌, ◌⊎◌, [], ◌∷◌, List, Some, None};
 ghost use Rattle.hyd_spec_lines.specs.Lines.{LiesIn, Row};
 ghost use Rattle.hyd_spec_lines.specs.declared.section.Section.TheVariants.{Curves};
-ghost use Rattle.hyd_num.specs.Quantity.{is_us_unit};
-ghost use Rattle.hyd_options_and_rules.specs.Judged.{words_at};
-ghost use Rattle.hyd_resist.specs.Ranges.{IsDiameter};
+ghost use Rattle.hyd_num.specs.FileQuantity.{is_us_unit};
+ghost use Rattle.hyd_option_and_rule_lines.specs.FaultOrValue.{words_at};
+ghost use Rattle.hyd_capacities.specs.Ranges.{IsDiameter};
 ghost use Rattle.hyd_network_rows.specs.Rows.{IsValveRow};
 ghost use Rattle.hyd_spec_input.specs.Capacities.{IsRefusedValve};
 ghost use Rattle.hyd_spec_input.specs.Columns.{first};
 ghost use Rattle.hyd_spec_input.specs.NetworkRows as row;
 ghost use Rattle.hyd_spec_input.specs.Tables.{node_rows, rows_of};
-ghost use Rattle.hyd_spec_input.specs.WithOthers as others;
-ghost use Rattle.hyd_link_states.specs.States.{IsThrottleCoefficient};
-ghost use Rattle.hyd_row_tables.specs.Ranges as range;
-ghost use Rattle.hyd_row_tables.specs.Sections.{IsCapacityFault, IsFaultThen};
-ghost use Rattle.hyd_row_tables.specs.Tables.{IsTable, IsEven};
+ghost use Rattle.hyd_spec_input.specs.RowsTogether as others;
+ghost use Rattle.hyd_asked_link_states.specs.AskedLinks.{IsThrottleCoefficient};
+ghost use Rattle.hyd_text_rows.specs.QuantityRanges as range;
+ghost use Rattle.hyd_text_rows.specs.WrongInSection.{IsCapacityFault, IsFaultThen};
+ghost use Rattle.hyd_text_rows.specs.Tables.{IsTable, IsEven};
 ghost use Rattle.hyd_curves.specs.Judged.{AreVerdicts};
-ghost use Rattle.hyd_judge_links.specs.Links as links;
-ghost use Rattle.hyd_judge_links.specs.Links.{AreEven, IsRefusedValveOf};
+ghost use Rattle.hyd_judge_links.specs.LinkFaults as links;
+ghost use Rattle.hyd_judge_links.specs.LinkFaults.{AreEven, IsRefusedValveOf};
 
 use crate::id_and_ends::ends_fault;
-use crate::tables::LinkTables;
+use crate::judged_against::LinkTables;
+use hyd_asked_link_states::is_refused_valve;
 use hyd_curves::Verdicts;
 use hyd_lex::{Line, Lines};
-use hyd_link_states::is_refused_valve;
 use hyd_net::Cause;
 use hyd_network_rows::{ValveRow, ValveSetting, read_valve};
 use hyd_num::{Decimal, FlowUnit};
-use hyd_row_tables::{Table, flow_fault, unknown_curve};
+use hyd_text_rows::{Table, flow_fault, unknown_curve};
 
 // What is wrong with a throttle control valve: Limit 13 where its capacity, fully open or at its setting, is out of
 // range.

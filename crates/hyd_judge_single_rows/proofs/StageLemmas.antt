@@ -9,15 +9,15 @@ use Rattle.hyd_spec_lines.specs.Lines.{Row, row_of}
 use Rattle.hyd_spec_lines.specs.declared.line.Line.{Line}
 use Rattle.hyd_spec_lines.specs.declared.section.Section.{Section}
 use Rattle.hyd_spec_lines.specs.declared.section.Section.TheVariants.{Rules}
-use Rattle.hyd_spec_input.specs.ByItself.{section_fault, row_fault, IsWrongByItself}
+use Rattle.hyd_spec_input.specs.SingleRows.{section_fault, row_fault, IsWrongByItself}
 use Rattle.hyd_spec_input.specs.Faults.{NoneIs}
 use Rattle.hyd_spec_input.specs.RuleRows.{stage_by, begins_with, stage_after}
 use Rattle.hyd_spec_input.specs.Tables.{is_of, words_of, words_of_row, rows_of}
 use Rattle.hyd_spec_input.specs.declared.Stage.{Stage}
 use Rattle.hyd_spec_input.specs.declared.Stage.TheVariants.{Outside}
-use Rattle.hyd_net.specs.declared.cause.Cause.{Cause}
-use Rattle.hyd_row_tables.specs.Found.{HasFound, IsFirstAt, rows_at}
-use Rattle.hyd_row_tables.proofs.FoundLemmas.{filter_more, filter_same, none_more, none_of, first_here, row_at}
+use Rattle.hyd_net.specs.declared.refusal_cause.Cause.{Cause}
+use Rattle.hyd_text_rows.specs.Found.{HasFound, IsFirstAt, rows_at}
+use Rattle.hyd_text_rows.proofs.FoundLemmas.{filter_more, filter_same, none_more, none_of, first_here, row_at}
 use Rattle.hyd_judge_single_rows.specs.Stages.{stage_with, fault_at_stage, rule_lines}
 
 -- ---- the stage, one row further

@@ -4,14 +4,14 @@ use Rattle.hyd_spec_lines.specs.Lines.{Row}
 use Rattle.hyd_spec_lines.specs.declared.line.Line.{Line}
 use Rattle.hyd_spec_lines.specs.declared.section.Section.{Section}
 use Rattle.hyd_spec_lines.specs.declared.section.Section.TheVariants.{Rules}
-use Rattle.hyd_spec_input.specs.ByItself.{section_fault}
+use Rattle.hyd_spec_input.specs.SingleRows.{section_fault}
 use Rattle.hyd_spec_input.specs.Columns.{first, unless}
 use Rattle.hyd_spec_input.specs.RuleRows.{stage_by, begins_with, in_order, line_words, is_acting, gets_then}
 use Rattle.hyd_spec_input.specs.Tables.{is_of, words_of}
 use Rattle.hyd_spec_input.specs.declared.Stage.{Stage}
-use Rattle.hyd_net.specs.declared.cause.Cause.{Cause}
-use Rattle.hyd_net.specs.declared.cause.Cause.TheVariants.{Syntax}
-use Rattle.hyd_row_tables.specs.Found.{rows_at}
+use Rattle.hyd_net.specs.declared.refusal_cause.Cause.{Cause}
+use Rattle.hyd_net.specs.declared.refusal_cause.Cause.TheVariants.{Syntax}
+use Rattle.hyd_text_rows.specs.Found.{rows_at}
 
 -- the stage after one row more
 abbrev pub stage_with : Stage → Row → Stage

@@ -3,7 +3,7 @@
 
 ghost use Rattle.std.specs.Prelude.{◌≡◌};
 ghost use Rattle.hyd_spec_lines.specs.Lines.{LiesIn, row_of};
-ghost use Rattle.hyd_options_and_rules.specs.Judged.{Judged, words_at};
+ghost use Rattle.hyd_option_and_rule_lines.specs.FaultOrValue.{Judged, words_at};
 ghost use Rattle.hyd_spec_input.specs.RuleRows as rules;
 ghost use Rattle.hyd_spec_input.specs.RuleRows.{begins_with};
 ghost use Rattle.hyd_spec_input.specs.Tables.{is_of};
@@ -12,7 +12,7 @@ ghost use Rattle.hyd_judge_single_rows.specs.Stages.{stage_with};
 
 use hyd_lex::{Line, Lines, Section};
 use hyd_net::Cause;
-use hyd_options_and_rules::{or_empty, rule_word};
+use hyd_option_and_rule_lines::{or_empty, rule_word};
 use hyd_spec_input::{RuleWord, Stage};
 
 /// What a line of a rule is, by its first word.

@@ -4,14 +4,14 @@
 ghost use Rattle.std.specs.Prelude.{◌≡◌};
 ghost use Rattle.std.specs.List.{All};
 ghost use Rattle.hyd_spec_lines.specs.Lines.{LiesIn};
-ghost use Rattle.hyd_options_and_rules.specs.Judged.{Judged, words_at};
+ghost use Rattle.hyd_option_and_rule_lines.specs.FaultOrValue.{Judged, words_at};
 ghost use Rattle.hyd_spec_input.specs.RuleRows as rules;
 ghost use Rattle.hyd_judge_single_rows.specs.Stages.{line_fault, rule_lines};
 
 use crate::rule_line_order::{check_order, first_word, is_acting, is_rule, is_rules, is_then};
 use hyd_lex::{Line, Lines};
 use hyd_net::Cause;
-use hyd_options_and_rules::read_rule_line;
+use hyd_option_and_rule_lines::read_rule_line;
 use hyd_spec_input::Stage;
 
 // Whether a line that begins with THEN comes before the next rule.

@@ -4,7 +4,7 @@
 ghost use Rattle.std.specs.Prelude.{◌≡◌};
 ghost use Rattle.std.specs.List.{All};
 ghost use Rattle.hyd_spec_lines.specs.Lines.{LiesIn};
-ghost use Rattle.hyd_options_and_rules.specs.Judged.{words_at};
+ghost use Rattle.hyd_option_and_rule_lines.specs.FaultOrValue.{words_at};
 ghost use Rattle.hyd_judge_single_rows.specs.Stages.{rule_lines, fault_at_stage};
 
 use crate::rules::check_rule_line;
@@ -14,7 +14,7 @@ use hyd_network_rows::{
     read_curve, read_demand, read_emitter, read_junction, read_pattern, read_pipe, read_pump,
     read_reservoir, read_status, read_tank, read_valve,
 };
-use hyd_options_and_rules::{read_control, read_option, read_time_line};
+use hyd_option_and_rule_lines::{read_control, read_option, read_time_line};
 use hyd_spec_input::Stage;
 
 /// What is wrong with a row by itself, where the lines of rules before it end at a stage and these rows are behind it.

@@ -8,8 +8,8 @@ use Rattle.hyd_num.specs.declared.decimals.Decimal.{Decimal}
 use Rattle.hyd_num.specs.declared.decimals.Span.{Span}
 use Rattle.hyd_spec.specs.Quantity.{pressure_value}
 use Rattle.hyd_lemmas.proofs.Integers.{floor_greatest, floor_at_most_ceiling}
-use Rattle.hyd_law.specs.Wrapped.{IsLift}
-use Rattle.hyd_law.specs.OutLaws.{stepped}
+use Rattle.hyd_law.specs.LawsOfLaws.{IsLift}
+use Rattle.hyd_law.specs.DemandLaws.{stepped}
 
 not_up_to : (a p : ℤ) → a <ℤ p → int_le p a ≡ false
 not_up_to a p h = grind (arith, ints)

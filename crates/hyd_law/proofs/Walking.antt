@@ -4,7 +4,7 @@ use Rattle.std.proofs.Common.{◌∷◌, length, drop, slice_index_or, unsigned_
 use Rattle.std.specs.Prelude.{int_lt}
 use Rattle.std.proofs.lemmas.Int.{ints}
 use Rattle.std.proofs.lemmas.List.{drop_more, drop_all, get_or-map, length-map}
-use Rattle.hyd_law.specs.declared.kinds.Knot.{Knot as LawKnot}
+use Rattle.hyd_law.specs.declared.law_kinds.Knot.{Knot as LawKnot}
 use Rattle.hyd_law.specs.Curves.{place_of, places, IsValue}
 use Rattle.hyd_num.specs.Rational.{Rational, whole}
 use Rattle.hyd_num.proofs.Integers.{times_one_more}

@@ -1,5 +1,5 @@
-pub mod Wrapped
-pub mod WrappedLaws
+pub mod LawsOfLaws
+pub mod LawsOfLawsAreLaws
 pub mod Curves
 pub mod LinkLaws
-pub mod OutLaws
+pub mod DemandLaws

@@ -2,19 +2,19 @@
 //! ticks.
 #![tactic(auto)]
 
-mod bent;
-mod kinds;
+mod demand_kinds;
+mod demand_laws;
 mod law;
+mod law_kinds;
+mod laws_of_laws;
 mod link_law;
-mod link_law_is_law;
-mod outflow_laws;
-mod outflows;
+mod link_law_by_kind;
+mod plain_laws;
 mod quadratic;
-mod single_laws;
+mod straight_line_law;
 mod straight_lines;
-mod wrapped;
 
-pub use kinds::{Bent, Capped, Held, Knot, Lifted, Linear, OneWay, Quad, Shut};
+pub use demand_kinds::{Fixed, OutLaw, Pda};
 pub use law::Law;
+pub use law_kinds::{Bent, Capped, Held, Knot, Lifted, Linear, OneWay, Quad, Shut};
 pub use link_law::LinkLaw;
-pub use outflows::{Fixed, OutLaw, Pda};

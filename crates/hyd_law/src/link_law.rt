@@ -1,7 +1,7 @@
 //! The law of any link.
 #![tactic(auto)]
 
-use crate::kinds::{Bent, Capped, Held, Lifted, Linear, OneWay, Quad, Shut};
+use crate::law_kinds::{Bent, Capped, Held, Lifted, Linear, OneWay, Quad, Shut};
 
 /// The law of a link in its state, between tanks that may be full or empty.
 #[derive(Drop)]

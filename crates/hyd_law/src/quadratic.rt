@@ -2,7 +2,7 @@
 #![tactic(auto)]
 
 ghost use Rattle.std.specs.Prelude.{◌≡◌, ◌*◌, ◌^◌, ◌≤◌, unsigned_abs};
-ghost use Rattle.hyd_spec_certificates.specs.Enclosing.{quadratic_low, quadratic_high};
+ghost use Rattle.hyd_spec_certificates.specs.EnclosingFunctions.{quadratic_low, quadratic_high};
 
 use hyd_num::{Capacity, sqrt_down, sqrt_up};
 

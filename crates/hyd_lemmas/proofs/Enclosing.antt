@@ -6,7 +6,7 @@ use borrow.Author.Differences.{up, down}
 use Rattle.hyd_num.specs.declared.binary.Scaled.{Scaled}
 use Rattle.hyd_num.specs.declared.pairs.Pair.{Pair}
 use Rattle.hyd_num.specs.Fraction.{Fraction, fraction, times, plus, over, power, AtMost}
-use Rattle.hyd_num.specs.Scaled.{numerator, denominator, as_fraction, IsDown, IsUp}
+use Rattle.hyd_num.specs.BinaryNumbers.{numerator, denominator, as_fraction, IsDown, IsUp}
 use Rattle.hyd_num.specs.Pairs.{Encloses, IsRatio, IsProduct, IsQuotient, IsSum, IsPower, once, even, odd, IsOwnPower}
 use Rattle.hyd_num.specs.Pairs.{IsRoot533}
 use Rattle.hyd_lemmas.proofs.Fractions.{AtMost-itself, AtMost-along, times-rises, over-rises, plus-rises}

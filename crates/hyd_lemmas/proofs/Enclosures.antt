@@ -2,11 +2,11 @@
 use Rattle.std.proofs.Common.{ℕ, ◌*◌, ◌≤◌, subst, sym}
 use Rattle.hyd_num.specs.declared.binary.Scaled.{Scaled}
 use Rattle.hyd_num.specs.declared.pairs.Pair.{Pair}
-use Rattle.hyd_num.specs.Scaled.{numerator, denominator}
+use Rattle.hyd_num.specs.BinaryNumbers.{numerator, denominator}
 use Rattle.hyd_num.specs.CapacityPairs.{StandsFor, IsMade}
-use Rattle.hyd_spec.specs.Types.{Origin, Pipe, Valve, Pump, Emitter, PressureDemand, Capacity}
+use Rattle.hyd_spec.specs.ProgramTypes.{Origin, Pipe, Valve, Pump, Emitter, PressureDemand, Capacity}
 use Rattle.hyd_spec.specs.Law.{loss_at_most, loss_at_least}
-use Rattle.hyd_spec.specs.Enclosure.{IsEnclosure}
+use Rattle.hyd_spec.specs.CapacityEnclosure.{IsEnclosure}
 use Rattle.hyd_lemmas.proofs.FeetLost.{valve-at_most, valve-at_least, pipe-at_most, pipe-at_least}
 use Rattle.hyd_lemmas.proofs.SquaredFlows.{pump-at_most, pump-at_least, emitter-at_most, emitter-at_least}
 use Rattle.hyd_lemmas.proofs.SquaredFlows.{pressure-at_most, pressure-at_least}

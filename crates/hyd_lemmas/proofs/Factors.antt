@@ -7,7 +7,7 @@ use Rattle.std.proofs.lemmas.Nat.{mul-pow, pow-add, mul-le}
 use Rattle.std.proofs.lemmas.Bool.{cases_lt}
 use Rattle.hyd_num.specs.declared.pairs.Pair.{Pair}
 use Rattle.hyd_num.specs.Fraction.{Fraction, power, AtMost}
-use Rattle.hyd_num.specs.Scaled.{as_fraction}
+use Rattle.hyd_num.specs.BinaryNumbers.{as_fraction}
 use Rattle.hyd_lemmas.proofs.Grains.{grain, grain_above}
 use Rattle.hyd_lemmas.proofs.Widths.{IsNear, above, high, low}
 

@@ -4,8 +4,8 @@ use Rattle.hyd_num.specs.declared.binary.Scaled.{Scaled}
 use Rattle.hyd_num.specs.declared.pairs.Pair.{Pair}
 use Rattle.hyd_num.specs.declared.decimals.Decimal.{Decimal}
 use Rattle.hyd_num.specs.Fraction.{Fraction, fraction, times, plus, minus, over, power, AtMost}
-use Rattle.hyd_num.specs.Quantity.{billionths, ordinary, feet, feet_across}
-use Rattle.hyd_num.specs.Scaled.{numerator, denominator, as_fraction}
+use Rattle.hyd_num.specs.FileQuantity.{billionths, ordinary, feet, feet_across}
+use Rattle.hyd_num.specs.BinaryNumbers.{numerator, denominator, as_fraction}
 use Rattle.hyd_num.specs.Pairs.{Encloses}
 use Rattle.hyd_num.specs.CapacityPairs.{IsMinorPair, IsFrictionPair, IsUnitOver, IsValvePair, IsPlainPipePair}
 use Rattle.hyd_num.specs.CapacityPairs.{IsFittedPipePair}

@@ -7,7 +7,7 @@ use Rattle.std.proofs.lemmas.Bool.{cases_lt, cases_eq}
 use Rattle.std.proofs.lemmas.Int.{ints}
 use borrow.Author.Differences.{up, down}
 use Rattle.hyd_num.specs.declared.binary.Scaled.{Scaled}
-use Rattle.hyd_num.specs.Scaled.{numerator, denominator, IsDown, IsUp}
+use Rattle.hyd_num.specs.BinaryNumbers.{numerator, denominator, IsDown, IsUp}
 
 -- the least mantissa, which is the number of grains in a number of that mantissa
 pub grain : ℕ

@@ -4,13 +4,13 @@ use Rattle.hyd_num.specs.declared.binary.Scaled.{Scaled}
 use Rattle.hyd_num.specs.declared.pairs.Pair.{Pair}
 use Rattle.hyd_num.specs.declared.decimals.Decimal.{Decimal}
 use Rattle.hyd_num.specs.Fraction.{fraction, AtMost}
-use Rattle.hyd_num.specs.Scaled.{as_fraction, IsDown, IsUp}
+use Rattle.hyd_num.specs.BinaryNumbers.{as_fraction, IsDown, IsUp}
 use Rattle.hyd_num.specs.Pairs.{IsRatio, IsProduct, IsQuotient, IsSum, IsPower, once, even, odd, IsRootDown, IsRootUp}
 use Rattle.hyd_num.specs.Pairs.{IsRoot533}
-use Rattle.hyd_num.specs.Quantity.{billionths}
+use Rattle.hyd_num.specs.FileQuantity.{billionths}
 use Rattle.hyd_num.specs.CapacityPairs.{StandsFor, IsMinorPair, IsFrictionPair, IsUnitOver, IsSquareOver}
 use Rattle.hyd_num.specs.CapacityPairs.{IsPipePairWith}
-use Rattle.hyd_spec.specs.Types.{Origin, Pipe, Valve, Pump, Emitter, PressureDemand}
+use Rattle.hyd_spec.specs.ProgramTypes.{Origin, Pipe, Valve, Pump, Emitter, PressureDemand}
 use Rattle.hyd_lemmas.proofs.Fractions.{AtMost-itself, AtMost-along, times-rises, over-rises, plus-rises}
 use Rattle.hyd_lemmas.proofs.Enclosing.{numerator_above, denominator_above, down_below, up_above}
 use Rattle.hyd_lemmas.proofs.SquaredFlows.{ratio-above}

@@ -8,13 +8,13 @@ use borrow.Author.Differences.{up, down}
 use Rattle.hyd_num.specs.declared.binary.Scaled.{Scaled}
 use Rattle.hyd_num.specs.declared.pairs.Pair.{Pair}
 use Rattle.hyd_num.specs.declared.decimals.Decimal.{Decimal}
-use Rattle.hyd_num.specs.Quantity.{billionths, pressure_fraction}
+use Rattle.hyd_num.specs.FileQuantity.{billionths, pressure_fraction}
 use Rattle.hyd_num.specs.Fraction.{AtMost, whole}
-use Rattle.hyd_num.specs.Scaled.{numerator, denominator, IsDown, IsUp}
+use Rattle.hyd_num.specs.BinaryNumbers.{numerator, denominator, IsDown, IsUp}
 use Rattle.hyd_num.specs.Pairs.{IsRatio}
 use Rattle.hyd_num.specs.CapacityPairs.{IsPairOf, IsSquareOver, IsPressurePair, IsMade}
-use Rattle.hyd_num.specs.declared.capacities.Capacity.{Capacity}
-use Rattle.hyd_num.specs.declared.capacities.Origin.TheVariants.{PressureDemand}
+use Rattle.hyd_num.specs.declared.link_capacities.Capacity.{Capacity}
+use Rattle.hyd_num.specs.declared.link_capacities.Origin.TheVariants.{PressureDemand}
 use Rattle.hyd_lemmas.proofs.Products.{product_of}
 use Rattle.hyd_lemmas.proofs.Ratios.{ratio_of, quotient_of}
 use Rattle.hyd_lemmas.proofs.Enclosing.{denominator_above}

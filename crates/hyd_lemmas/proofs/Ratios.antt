@@ -8,7 +8,7 @@ use Rattle.std.proofs.lemmas.Int.{ints}
 use borrow.Author.Differences.{up, down}
 use Rattle.hyd_num.specs.declared.binary.Scaled.{Scaled}
 use Rattle.hyd_num.specs.declared.pairs.Pair.{Pair}
-use Rattle.hyd_num.specs.Scaled.{numerator, denominator}
+use Rattle.hyd_num.specs.BinaryNumbers.{numerator, denominator}
 use Rattle.hyd_num.specs.Rounding.{IsCut}
 use Rattle.hyd_num.specs.Pairs.{IsRatio, IsQuotient}
 use Rattle.hyd_num.proofs.RoundingLemmas.{IsCut-ratio, IsDown-from_cut}

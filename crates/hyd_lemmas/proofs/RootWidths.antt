@@ -5,7 +5,7 @@ use Rattle.std.proofs.lemmas.Bool.{cases_lt}
 use Rattle.hyd_num.specs.declared.binary.Scaled.{Scaled}
 use Rattle.hyd_num.specs.declared.pairs.Pair.{Pair}
 use Rattle.hyd_num.specs.Fraction.{power, AtMost}
-use Rattle.hyd_num.specs.Scaled.{numerator, denominator, as_fraction}
+use Rattle.hyd_num.specs.BinaryNumbers.{numerator, denominator, as_fraction}
 use Rattle.hyd_num.specs.Pairs.{IsOwnPower, IsRootDown, IsRootUp, IsRoot533}
 use Rattle.hyd_lemmas.proofs.Enclosing.{own-encloses, denominator_above, pow_once}
 use Rattle.hyd_lemmas.proofs.Losses.{square_is}

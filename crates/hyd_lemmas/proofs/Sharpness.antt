@@ -3,13 +3,13 @@ use Rattle.std.proofs.Common.{◌≡◌, ℕ, zero, suc, ◌+◌, ◌*◌, ◌^�
 use Rattle.hyd_num.specs.declared.binary.Scaled.{Scaled}
 use Rattle.hyd_num.specs.declared.pairs.Pair.{Pair}
 use Rattle.hyd_num.specs.declared.decimals.Decimal.{Decimal}
-use Rattle.hyd_num.specs.Scaled.{numerator, denominator, IsUp}
-use Rattle.hyd_num.specs.Quantity.{billionths}
+use Rattle.hyd_num.specs.BinaryNumbers.{numerator, denominator, IsUp}
+use Rattle.hyd_num.specs.FileQuantity.{billionths}
 use Rattle.hyd_num.specs.Pairs.{IsRatio}
 use Rattle.hyd_num.specs.CapacityPairs.{StandsFor, IsMade, IsMinorPair, IsFrictionPair, IsPipePairWith, IsUnitOver}
 use Rattle.hyd_num.specs.CapacityPairs.{IsSquareOver}
-use Rattle.hyd_spec.specs.Types.{Origin, Pipe, Valve, Pump, Emitter, PressureDemand, Capacity}
-use Rattle.hyd_spec.specs.Enclosure.{IsSharp}
+use Rattle.hyd_spec.specs.ProgramTypes.{Origin, Pipe, Valve, Pump, Emitter, PressureDemand, Capacity}
+use Rattle.hyd_spec.specs.CapacityEnclosure.{IsSharp}
 use Rattle.hyd_lemmas.proofs.Enclosing.{denominator_above}
 use Rattle.hyd_lemmas.proofs.SquaredFlows.{ratio-above}
 use Rattle.hyd_lemmas.proofs.Widths.{IsNear, high, low, ratio-near, product-near, quotient-near, sum-near, power-near}

@@ -11,8 +11,8 @@ use Rattle.hyd_num.specs.declared.pairs.Pair.{Pair}
 use Rattle.hyd_num.specs.declared.decimals.Decimal.{Decimal}
 use Rattle.hyd_num.specs.declared.flow_units.FlowUnit.{FlowUnit}
 use Rattle.hyd_num.specs.Fraction.{Fraction, fraction, times, over, power}
-use Rattle.hyd_num.specs.Quantity.{billionths, is_us_unit, head_ticks, flow_fraction, pressure_fraction}
-use Rattle.hyd_num.specs.Scaled.{numerator, denominator, IsDown}
+use Rattle.hyd_num.specs.FileQuantity.{billionths, is_us_unit, head_ticks, flow_fraction, pressure_fraction}
+use Rattle.hyd_num.specs.BinaryNumbers.{numerator, denominator, IsDown}
 use Rattle.hyd_num.specs.Pairs.{Encloses, IsRatio}
 use Rattle.hyd_num.specs.CapacityPairs.{IsSquareOver, IsPumpPair, IsEmitterPair, IsPressurePair}
 use Rattle.hyd_spec.specs.Loss.{SquareLossAtMost, SquareLossAtLeast}

@@ -11,7 +11,7 @@ use Rattle.std.proofs.lemmas.Option.{slice_get_within}
 use denote.Ref.{Bor}
 use Rattle.hyd_spec_lines.specs.Bytes.{is_line_feed, is_blank, without_empty_end, text_lines, words_in, text_of}
 use Rattle.hyd_spec_lines.specs.Lines.{given, kind_of}
-use Rattle.hyd_lex.specs.Walk.{items, region_after}
+use Rattle.hyd_lex.specs.RemainingRows.{items, region_after}
 use Rattle.hyd_spec_lines.specs.declared.section.Region.{Region}
 use Rattle.hyd_spec_lines.specs.declared.section.Kind.{Kind}
 use Rattle.hyd_spec_lines.specs.declared.section.Kind.TheVariants.{Nothing, Wrong, Row as RowOf, Opens}

@@ -10,7 +10,7 @@ use Rattle.hyd_spec_lines.specs.Headings.{heading_kind, kind_by_section, read_se
 use Rattle.hyd_spec_lines.specs.Lines.{Row, items_of, kind_of, line_kind, body_kind, row_kind, only_kind, given}
 use Rattle.hyd_spec_lines.specs.Lines.{begin_heading, is_heading, heading, ends_text, is_end, given_under, section_of}
 use Rattle.hyd_spec_lines.specs.Lines.{sections_of, through_fault}
-use Rattle.hyd_lex.specs.Walk.{items, region_after}
+use Rattle.hyd_lex.specs.RemainingRows.{items, region_after}
 use Rattle.hyd_spec_lines.specs.declared.section.Section.{Section}
 use Rattle.hyd_spec_lines.specs.declared.fault.LexFault.{LexFault}
 use Rattle.hyd_spec_lines.specs.declared.fault.LexCause.TheVariants.{NotAscii}

@@ -11,7 +11,7 @@ use Rattle.std.proofs.lemmas.List.Sums.{passes_at_first}
 use Rattle.hyd_spec_lines.specs.Bytes.{text_lines, body, is_line_feed}
 use Rattle.hyd_spec_lines.specs.Lines.{Begins, IsLineOf}
 use Rattle.hyd_spec_lines.specs.declared.line.Line.{Line}
-use Rattle.hyd_lex.specs.Walk.{Stands}
+use Rattle.hyd_lex.specs.RemainingRows.{Stands}
 
 -- up to the first that passes, one passes
 one_passes : (p : ℕ → Bool) (xs : List ℕ) → position_or_len p xs < length xs

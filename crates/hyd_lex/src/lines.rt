@@ -7,10 +7,10 @@ ghost use Rattle.hyd_spec_lines.specs.Bytes as form;
 ghost use Rattle.hyd_spec_lines.specs.Bytes.{words_in, text_of};
 ghost use Rattle.hyd_spec_lines.specs.Lines.{items_of, item_of, row_of, LiesIn, IsLineOf};
 ghost use Rattle.hyd_spec_lines.specs.Lines as lines_form;
-ghost use Rattle.hyd_lex.specs.Walk as walk;
+ghost use Rattle.hyd_lex.specs.RemainingRows as walk;
 
-use crate::bytes::{body, first_line, is_plain, word};
 use crate::headings::heading_kind;
+use crate::scanning::{body, first_line, is_plain, word};
 use hyd_spec_lines::{Kind, LexCause, LexFault, Line, Region};
 use std::marker::Model;
 
@@ -30,7 +30,7 @@ pub struct Lines<'a> {
 impl<'a> Model for Lines<'a> {
     ghost use Rattle.std.specs.Prelude.{◌≤◌, ◌^◌, ◌+◌, length, drop};
     ghost use Rattle.hyd_spec_lines.specs.Lines.{Reading};
-    ghost use Rattle.hyd_lex.specs.Walk.{Stands, items};
+    ghost use Rattle.hyd_lex.specs.RemainingRows.{Stands, items};
     ghost use Rattle.hyd_spec_lines.specs.Bytes.{text_lines};
 
     ghost Value = { Reading };

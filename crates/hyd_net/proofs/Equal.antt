@@ -11,13 +11,13 @@ use Rattle.std.proofs.lemmas.List.{map-id, get_or-map}
 use Rattle.std.proofs.lemmas.Slice.Eq.{slice_eq-Decides, bytes_eq-Decides}
 use Rattle.std.proofs.lemmas.Bool.Decides.{Decides-eqb, Decides-int_eq}
 use denote.Struct.Props.{props}
-use Rattle.hyd_num.specs.Scaled.{numerator, denominator}
+use Rattle.hyd_num.specs.BinaryNumbers.{numerator, denominator}
 use Rattle.hyd_num.specs.declared.binary.Scaled.{Scaled}
 use Rattle.hyd_num.specs.declared.decimals.Decimal.{Decimal}
 use Rattle.hyd_num.specs.declared.decimals.Span.{Span}
-use Rattle.hyd_num.specs.declared.capacities.Capacity.{Capacity}
+use Rattle.hyd_num.specs.declared.link_capacities.Capacity.{Capacity}
 use Rattle.hyd_net.specs.ListView.{ListView}
-use Rattle.hyd_net.specs.Views.{plain_capacity, no_origin, bare_list}
+use Rattle.hyd_net.specs.ProjectAsCompared.{plain_capacity, no_origin, bare_list}
 
 one_proof-≤ℤ : (x y : ℤ) → IsProp (x ≤ℤ y)
 one_proof-≤ℤ x y = hlevel props

@@ -4,7 +4,7 @@
 use Rattle.std.specs.Prelude.{◌≡◌, ℕ, ◌*◌, ◌^◌, ◌≤◌, List, [], ◌∷◌, length, map, All, AllPairs, HoldsAt, IsTrue, ℤ, pos}
 use Rattle.std.specs.Prelude.{◌+ℤ◌, ◌-ℤ◌, ◌*ℤ◌, ◌≤ℤ◌, ◌<ℤ◌, int_lt, unsigned_abs, if◌then◌else◌}
 use Rattle.hyd_num.specs.Rational.{Rational, whole, is_at_most, floor}
-use Rattle.hyd_net.specs.Ranges.{Lies, IsHead, IsFlow}
+use Rattle.hyd_net.specs.NumberRanges.{Lies, IsHead, IsFlow}
 use Rattle.hyd_net.specs.declared.curves.VolumePoint.{VolumePoint}
 use Rattle.hyd_net.specs.declared.curves.HeadPoint.{HeadPoint}
 

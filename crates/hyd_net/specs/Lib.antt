@@ -1,11 +1,11 @@
 pub mod ControlsAndRules
 pub mod Curves
 pub mod Ids
-pub mod Lending
+pub mod ListAfterBorrow
 pub mod ListView
-pub mod Made
-pub mod Ranges
+pub mod RoundedFileNumbers
+pub mod NumberRanges
 pub mod NetworkRanges
 pub mod Sound
 pub mod States
-pub mod Views
+pub mod ProjectAsCompared

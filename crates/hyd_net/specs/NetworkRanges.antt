@@ -3,13 +3,13 @@
 use Rattle.std.specs.Prelude.{◌≡◌, ℕ, ◌-◌, ◌*◌, ◌^◌, Bool, true, List, length, Option, is_some, IfSome, ℤ, pos, ◌+ℤ◌}
 use Rattle.std.specs.Prelude.{◌-ℤ◌, ◌*ℤ◌, ◌≤ℤ◌, ⊤, if◌then◌else◌}
 use Rattle.std.specs.List.{All, HoldsAt}
-use Rattle.hyd_num.specs.Quantity.{is_us_unit, head_ticks, flow_ticks, pressure_numerator, pressure_denominator}
+use Rattle.hyd_num.specs.FileQuantity.{is_us_unit, head_ticks, flow_ticks, pressure_numerator, pressure_denominator}
 use Rattle.hyd_num.specs.declared.flow_units.FlowUnit.{FlowUnit}
 use Rattle.hyd_num.specs.declared.decimals.Decimal.{Decimal}
-use Rattle.hyd_num.specs.declared.capacities.Origin.{Origin}
-use Rattle.hyd_num.specs.declared.capacities.Origin.TheVariants.{Pipe as PipeOrigin, Valve as ValveOrigin}
-use Rattle.hyd_num.specs.declared.capacities.Origin.TheVariants.{Pump as PumpOrigin, Emitter as EmitterOrigin}
-use Rattle.hyd_net.specs.Ranges.{Lies, LiesWithin, IsHead, IsFlow, IsUpTo, IsNumberUpTo, IsPositiveUpTo, Numbers}
+use Rattle.hyd_num.specs.declared.link_capacities.Origin.{Origin}
+use Rattle.hyd_num.specs.declared.link_capacities.Origin.TheVariants.{Pipe as PipeOrigin, Valve as ValveOrigin}
+use Rattle.hyd_num.specs.declared.link_capacities.Origin.TheVariants.{Pump as PumpOrigin, Emitter as EmitterOrigin}
+use Rattle.hyd_net.specs.NumberRanges.{Lies, LiesWithin, IsHead, IsFlow, IsUpTo, IsNumberUpTo, IsPositiveUpTo, Numbers}
 use Rattle.hyd_net.specs.ListView.{ListView}
 use Rattle.hyd_net.specs.Curves.{volume_at, IsVolumeCurve, IsPumpCurve, IsLossCurve}
 use Rattle.hyd_net.specs.declared.curves.VolumePoint.{VolumePoint}

@@ -4,10 +4,10 @@
 use Rattle.std.specs.Prelude.{◌≡◌, ◌≢◌, ℕ, ◌+◌, ◌*◌, ◌^◌, ◌<◌, ◌≤◌, length, sum_by, nat_lt, if◌then◌else◌}
 use Rattle.std.specs.List.{All}
 use Rattle.hyd_net.specs.Ids.{AreDistinct, IsId}
-use Rattle.hyd_net.specs.Ranges.{LiesWithin}
+use Rattle.hyd_net.specs.NumberRanges.{LiesWithin}
 use Rattle.hyd_net.specs.States.{CanHave}
 use Rattle.hyd_net.specs.NetworkRanges.{HasQuantities}
-use Rattle.hyd_net.specs.Made.{IsAllMade}
+use Rattle.hyd_net.specs.RoundedFileNumbers.{IsAllMade}
 use Rattle.hyd_net.specs.ControlsAndRules.{node_count, IsControl, IsRule}
 use Rattle.hyd_net.specs.ListView.{ListView}
 use Rattle.hyd_net.specs.declared.curves.VolumePoint.{VolumePoint}

@@ -1,7 +1,7 @@
 -- Which states a link can have. Each state has one form: OPEN of a pump is speed 1, and speed 0 is `Closed`.
 -- Source: EPANET 2.2 User Manual, appendix C ([STATUS], [CONTROLS]).
 use Rattle.std.specs.Prelude.{ℤ, pos, ◌*◌, ◌^◌, ◌≤ℤ◌, ⊤}
-use Rattle.hyd_net.specs.Ranges.{Lies, IsUpTo, IsFlow}
+use Rattle.hyd_net.specs.NumberRanges.{Lies, IsUpTo, IsFlow}
 use Rattle.hyd_net.specs.declared.links.LinkKind.{LinkKind}
 use Rattle.hyd_net.specs.declared.links.LinkKind.TheVariants.{Pipe, CheckPipe, Pump, CurvePump, Tcv, Fcv, Gpv}
 use Rattle.hyd_net.specs.declared.links.LinkState.{LinkState}

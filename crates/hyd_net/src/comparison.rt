@@ -3,10 +3,12 @@
 
 ghost use Rattle.std.specs.Prelude.{◌≡◌, ◌↔◌, IsTrue, map};
 ghost use Rattle.std.specs.Option.{option_map};
-ghost use Rattle.hyd_net.specs.Views.{bare_list, plain_list, plain_capacity, plain_valve, plain_state, plain_kind};
-ghost use Rattle.hyd_net.specs.Views.{plain_link, plain_tank, plain_junction, plain_pattern, plain_control};
-ghost use Rattle.hyd_net.specs.Views.{plain_value, plain_clause, plain_rule_clause, plain_action, plain_rule};
-ghost use Rattle.hyd_net.specs.Views.{plain_project};
+ghost use Rattle.hyd_net.specs.ProjectAsCompared.{bare_list, plain_list, plain_capacity, plain_valve, plain_state};
+ghost use Rattle.hyd_net.specs.ProjectAsCompared.{plain_kind};
+ghost use Rattle.hyd_net.specs.ProjectAsCompared.{plain_link, plain_tank, plain_junction, plain_pattern, plain_control};
+ghost use Rattle.hyd_net.specs.ProjectAsCompared.{plain_value, plain_clause, plain_rule_clause, plain_action};
+ghost use Rattle.hyd_net.specs.ProjectAsCompared.{plain_rule};
+ghost use Rattle.hyd_net.specs.ProjectAsCompared.{plain_project};
 
 use crate::controls::Control;
 use crate::curves::{HeadPoint, VolumePoint};

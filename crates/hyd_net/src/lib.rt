@@ -2,7 +2,6 @@
 //! quantities as whole numbers of ticks, and the two containers that hold them.
 #![tactic(auto)]
 
-mod cause;
 mod comparison;
 mod controls;
 mod curves;
@@ -13,9 +12,9 @@ mod nodes;
 mod options;
 mod patterns;
 mod project;
+mod refusal_cause;
 mod rules;
 
-pub use cause::Cause;
 pub use comparison::same;
 pub use controls::{Control, When};
 pub use curves::{HeadPoint, VolumePoint};
@@ -26,6 +25,7 @@ pub use nodes::{Demand, Junction, Reservoir, Tank};
 pub use options::{Options, Times};
 pub use patterns::Pattern;
 pub use project::Project;
+pub use refusal_cause::Cause;
 pub use rules::{Action, Clause, Joined, Relation, Rule, RuleClause, Value, What};
 
 /// The error of a call that found no memory.

@@ -1,7 +1,7 @@
 //! `List`, the list that every public field holds.
 ghost use Rattle.std.specs.Prelude.{◌≡◌, ◌+◌, ◌<◌, ◌≤◌, [], ◌∷◌, ◌++◌, length, IsOk, OnOk, OnErr};
 ghost use Rattle.std.specs.Borrow.{sem};
-ghost use Rattle.hyd_net.specs.Lending.{lends_items};
+ghost use Rattle.hyd_net.specs.ListAfterBorrow.{lends_items};
 
 use std::alloc::{AllocError as OutOfMemory, Global};
 use std::marker::Model;

@@ -6,13 +6,13 @@ use Rattle.std.specs.Prelude.{◌&&◌}
 use Rattle.hyd_num.specs.Numeral.{nano_of}
 use Rattle.hyd_num.specs.declared.decimals.Decimal.{Decimal}
 use Rattle.hyd_spec_lines.specs.Bytes.{is_keyword}
-use Rattle.hyd_options_and_rules.specs.Judged.{Judged}
+use Rattle.hyd_option_and_rule_lines.specs.FaultOrValue.{Judged}
 use Rattle.hyd_spec_input.specs.Columns.{number, or_else, unless, up_to, units}
 use Rattle.hyd_spec_input.specs.NetworkRows.{pump_key, pump_value, pump_pairs, none_earlier, and_key, pair_value}
 use Rattle.hyd_spec_input.specs.NetworkRows.{speed_of}
 use Rattle.hyd_spec_input.specs.declared.EarlierKeys.{EarlierKeys}
-use Rattle.hyd_net.specs.declared.cause.Cause.{Cause}
-use Rattle.hyd_net.specs.declared.cause.Cause.TheVariants.{Range}
+use Rattle.hyd_net.specs.declared.refusal_cause.Cause.{Cause}
+use Rattle.hyd_net.specs.declared.refusal_cause.Cause.TheVariants.{Range}
 
 nothing_more : (fault : Option Cause) → fault ≡ or_else fault None
 nothing_more None = refl

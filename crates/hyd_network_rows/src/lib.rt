@@ -2,8 +2,8 @@
 //! says, or the first thing that is wrong with it, word by word from the left.
 #![tactic(auto)]
 
-mod belongings;
 mod columns;
+mod demands_curves_and_statuses;
 mod end_nodes;
 mod nodes;
 mod patterns;
@@ -12,11 +12,11 @@ mod pumps;
 mod tanks;
 mod valves;
 
-pub use belongings::{
+pub use demands_curves_and_statuses::{
     CurveRow, DemandRow, EmitterRow, StatusRow, read_curve, read_demand, read_emitter, read_status,
 };
 pub use end_nodes::LinkEnds;
-pub use hyd_options_and_rules::Asked;
+pub use hyd_option_and_rule_lines::Asked;
 pub use nodes::{JunctionRow, ReservoirRow, read_junction, read_reservoir};
 pub use patterns::{PatternRow, read_pattern};
 pub use pipes::{PipeRow, PipeStatus, read_pipe};

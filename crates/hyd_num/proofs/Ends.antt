@@ -5,7 +5,7 @@ use Rattle.std.proofs.lemmas.Nat.{pow_pos}
 use borrow.Author.Differences.{up, down}
 use Rattle.hyd_num.specs.declared.binary.Scaled.{Scaled}
 use Rattle.hyd_num.specs.declared.pairs.Pair.{Pair}
-use Rattle.hyd_num.specs.Scaled.{numerator, denominator, IsDown, IsUp}
+use Rattle.hyd_num.specs.BinaryNumbers.{numerator, denominator, IsDown, IsUp}
 
 pub numerator_positive : (s : Scaled) → 0 < numerator s
 numerator_positive s = let m : 0 < s.mant = lt_of_lt_of_le (lit< tt) s.normal in mul-pos m (pow_pos (up s.exp))

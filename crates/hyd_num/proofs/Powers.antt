@@ -8,7 +8,7 @@ use Rattle.std.proofs.lemmas.Int.{ints}
 use borrow.Author.Differences.{up, down}
 use Rattle.hyd_num.specs.declared.binary.Scaled.{Scaled}
 use Rattle.hyd_num.specs.declared.pairs.Pair.{Pair}
-use Rattle.hyd_num.specs.Scaled.{numerator, denominator, IsDown, IsUp}
+use Rattle.hyd_num.specs.BinaryNumbers.{numerator, denominator, IsDown, IsUp}
 use Rattle.hyd_num.specs.Pairs.{IsProduct, IsPower, once, even, odd}
 use Rattle.hyd_num.proofs.Ends.{denominator_positive}
 

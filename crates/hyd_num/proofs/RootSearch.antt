@@ -9,7 +9,7 @@ use Rattle.std.proofs.lemmas.Bool.{cases_lt}
 use borrow.Author.Differences.{up, down}
 use Rattle.hyd_num.specs.declared.binary.Scaled.{Scaled}
 use Rattle.hyd_num.specs.declared.pairs.Pair.{Pair}
-use Rattle.hyd_num.specs.Scaled.{numerator, denominator}
+use Rattle.hyd_num.specs.BinaryNumbers.{numerator, denominator}
 use Rattle.hyd_num.specs.Pairs.{IsPower, RootsBelow, RootsAbove}
 use Rattle.hyd_num.specs.Rounding.{RootsOver, RootsUnder}
 use Rattle.hyd_num.proofs.RoundingLemmas.{not_between, not_below, crossed}

@@ -9,7 +9,7 @@ use Rattle.std.proofs.lemmas.Nat.{pow_pos, pow-add}
 use Rattle.std.proofs.lemmas.Bool.{cases_order, cases_lt, eqb-false}
 use borrow.Author.Differences.{up, down}
 use Rattle.hyd_num.specs.declared.binary.Scaled.{Scaled}
-use Rattle.hyd_num.specs.Scaled.{numerator, denominator, reach, IsDown, IsUp}
+use Rattle.hyd_num.specs.BinaryNumbers.{numerator, denominator, reach, IsDown, IsUp}
 use Rattle.hyd_num.specs.Rounding.{IsCut, IsNext, IsShortened}
 
 -- two powers of two are equal, or one is at least twice the other

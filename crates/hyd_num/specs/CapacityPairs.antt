@@ -10,13 +10,13 @@ use borrow.Author.Differences.{up}
 use Rattle.hyd_num.specs.declared.pairs.Pair.{Pair}
 use Rattle.hyd_num.specs.declared.decimals.Decimal.{Decimal}
 use Rattle.hyd_num.specs.declared.flow_units.FlowUnit.{FlowUnit}
-use Rattle.hyd_num.specs.declared.capacities.Capacity.{Capacity}
-use Rattle.hyd_num.specs.declared.capacities.Origin.{Origin}
-use Rattle.hyd_num.specs.declared.capacities.Origin.TheVariants.{Pipe, Valve, Pump, Emitter, PressureDemand}
+use Rattle.hyd_num.specs.declared.link_capacities.Capacity.{Capacity}
+use Rattle.hyd_num.specs.declared.link_capacities.Origin.{Origin}
+use Rattle.hyd_num.specs.declared.link_capacities.Origin.TheVariants.{Pipe, Valve, Pump, Emitter, PressureDemand}
 use Rattle.hyd_num.specs.Fraction.{Fraction}
 use Rattle.hyd_num.specs.Pairs.{IsRatio, IsProduct, IsQuotient, IsSum, IsPower, IsRoot533}
-use Rattle.hyd_num.specs.Quantity.{billionths, ordinary, feet, feet_across, flow_fraction, pressure_fraction}
-use Rattle.hyd_num.specs.Quantity.{head_ticks, is_us_unit}
+use Rattle.hyd_num.specs.FileQuantity.{billionths, ordinary, feet, feet_across, flow_fraction, pressure_fraction}
+use Rattle.hyd_num.specs.FileQuantity.{head_ticks, is_us_unit}
 
 -- r encloses x as tightly as can be
 abbrev pub IsPairOf : Fraction → Pair → Type 0

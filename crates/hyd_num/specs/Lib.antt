@@ -1,12 +1,12 @@
 pub mod Fraction
-pub mod Scaled
+pub mod BinaryNumbers
 pub mod Pairs
 pub mod Numeral
-pub mod Quantity
+pub mod FileQuantity
 pub mod CapacityPairs
 pub mod Rounding
 pub mod Roots
 pub mod PrintedDecimals
 pub mod Rational
-pub mod Refusal
+pub mod CapacityRange
 pub mod Wide

@@ -5,7 +5,7 @@ use Rattle.std.specs.Prelude.{◌≡◌, ℕ, ◌+◌, ◌*◌, ◌^◌, ◌≤�
 use Rattle.hyd_num.specs.declared.binary.Scaled.{Scaled}
 use Rattle.hyd_num.specs.declared.pairs.Pair.{Pair}
 use Rattle.hyd_num.specs.Fraction.{Fraction, AtMost}
-use Rattle.hyd_num.specs.Scaled.{numerator, denominator, as_fraction, IsDown, IsUp, reach}
+use Rattle.hyd_num.specs.BinaryNumbers.{numerator, denominator, as_fraction, IsDown, IsUp, reach}
 
 -- x lies between the ends of r
 pub record Encloses (r : Pair) (x : Fraction) : Type 0 where

@@ -2,7 +2,7 @@
 #![tactic(auto)]
 
 ghost use Rattle.std.specs.Prelude.{◌≡◌};
-ghost use Rattle.hyd_num.specs.Quantity.{is_us_unit, flow_factor};
+ghost use Rattle.hyd_num.specs.FileQuantity.{is_us_unit, flow_factor};
 
 /// A unit of flow (EPANET 2.2 User Manual, Units of Measurement).
 #[derive(Debug, Clone, Copy, PartialEq, Eq, Drop)]

@@ -2,7 +2,7 @@
 #![tactic(auto)]
 
 ghost use Rattle.std.specs.Prelude.{◌≡◌, ℕ, ◌+◌, ◌*◌, ◌^◌, ◌<◌, ◌≤◌};
-ghost use Rattle.hyd_num.specs.Scaled.{reach};
+ghost use Rattle.hyd_num.specs.BinaryNumbers.{reach};
 ghost use Rattle.hyd_num.specs.Rounding.{IsCut};
 
 use crate::rounding::{Cut, cut_at};

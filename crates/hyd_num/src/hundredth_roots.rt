@@ -3,7 +3,7 @@
 
 ghost use Rattle.std.specs.Prelude.{◌≡◌, ℕ, ◌+◌, ◌*◌, ◌^◌, ◌<◌, ◌≤◌, true, false, pos, ◌+ℤ◌, ◌*ℤ◌, ◌≤ℤ◌, ◌<ℤ◌};
 ghost use Rattle.std.specs.Prelude.{unsigned_abs};
-ghost use Rattle.hyd_num.specs.Scaled.{numerator, denominator, reach};
+ghost use Rattle.hyd_num.specs.BinaryNumbers.{numerator, denominator, reach};
 ghost use Rattle.hyd_num.specs.Pairs.{IsOwnPower, RootsBelow, RootsAbove, IsRootDown, IsRootUp, IsRoot533, pair_reach};
 ghost use Rattle.hyd_num.specs.Rounding.{RootsOver, RootsUnder};
 

@@ -3,11 +3,11 @@
 #![tactic(auto)]
 
 mod binary;
-mod capacities;
 mod decimals;
 mod flow_units;
 mod fractions;
 mod hundredth_roots;
+mod link_capacities;
 mod numerals;
 mod operations;
 mod pairs;
@@ -18,10 +18,10 @@ mod scaled_roots;
 mod wide;
 
 pub use binary::Scaled;
-pub use capacities::{Capacity, Origin};
 pub use decimals::{Decimal, NumFault, Span};
 pub use flow_units::FlowUnit;
 pub use hundredth_roots::root533;
+pub use link_capacities::{Capacity, Origin};
 pub use numerals::read_decimal;
 pub use operations::{add, div, mul, pow, ratio};
 pub use pairs::Pair;

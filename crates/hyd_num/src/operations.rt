@@ -6,7 +6,7 @@
 #![tactic(auto)]
 
 ghost use Rattle.std.specs.Prelude.{ℕ, ◌+◌, ◌*◌, ◌^◌, ◌<◌, ◌≤◌, ◌≡◌, ◌⊎◌};
-ghost use Rattle.hyd_num.specs.Scaled.{numerator, denominator, reach, IsDown, IsUp};
+ghost use Rattle.hyd_num.specs.BinaryNumbers.{numerator, denominator, reach, IsDown, IsUp};
 ghost use Rattle.hyd_num.specs.Pairs.{IsRatio, IsProduct, IsQuotient, IsSum, IsPower, StaysNear, pair_reach};
 
 use crate::binary::Scaled;

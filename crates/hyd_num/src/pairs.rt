@@ -2,7 +2,7 @@
 #![tactic(auto)]
 
 ghost use Rattle.std.specs.Prelude.{◌≤◌, ◌*◌};
-ghost use Rattle.hyd_num.specs.Scaled.{numerator, denominator};
+ghost use Rattle.hyd_num.specs.BinaryNumbers.{numerator, denominator};
 
 use crate::binary::Scaled;
 

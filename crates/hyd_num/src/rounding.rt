@@ -3,7 +3,7 @@
 #![tactic(auto)]
 
 ghost use Rattle.std.specs.Prelude.{◌≡◌, ℕ, ◌+◌, ◌*◌, ◌^◌, ◌<◌, ◌≤◌, unsigned_abs, pos, negsuc, ◌+ℤ◌, ◌≤ℤ◌};
-ghost use Rattle.hyd_num.specs.Scaled.{numerator, denominator, reach, IsDown, IsUp};
+ghost use Rattle.hyd_num.specs.BinaryNumbers.{numerator, denominator, reach, IsDown, IsUp};
 ghost use Rattle.hyd_num.specs.Rounding.{IsCut, IsNext, IsShortened};
 
 use crate::binary::Scaled;

@@ -2,7 +2,7 @@
 use Rattle.std.proofs.Common.{◌≡◌, ℕ, ℤ, List, ◌++◌, map, sym, ap, subst, ◌∙◌}
 use Rattle.std.specs.Prelude.{None, position, Result, Ok, Err, IfOk}
 use Rattle.hyd_num.specs.declared.decimals.Span.{Span}
-use Rattle.hyd_spec.specs.Types.{Project, Tank, LinkState}
+use Rattle.hyd_spec.specs.ProgramTypes.{Project, Tank, LinkState}
 use Rattle.hyd_spec.specs.Lists.{map_from}
 use Rattle.hyd_spec.specs.declared.Change.{Change}
 use Rattle.hyd_spec_certificates.specs.Interval.{Interval}
@@ -18,14 +18,14 @@ use Rattle.hyd_spec_reports.specs.Report.{events_of}
 use Rattle.hyd_spec_reports.specs.Stops.{open_states}
 use Rattle.hyd_period_facts.specs.OfPeriod.{levels_of, volumes_of, flows_of}
 use Rattle.hyd_period_facts.specs.declared.facts.Facts.{Facts}
-use Rattle.hyd_ctrl.specs.Instants.{flow_interval}
-use Rattle.hyd_ctrl.specs.Starts.{IsFirstOpen as IsFirstUnsure}
-use Rattle.hyd_ctrl.specs.declared.controls.LevelOpen.{LevelOpen}
+use Rattle.hyd_controls_and_rules.specs.Instants.{flow_interval}
+use Rattle.hyd_controls_and_rules.specs.Starts.{IsFirstOpen as IsFirstUnsure}
+use Rattle.hyd_controls_and_rules.specs.declared.period_start.LevelOpen.{LevelOpen}
 use Rattle.hyd_period_stocks.specs.TankStart.{IsFirstOpen}
 use Rattle.hyd_period_stocks.specs.declared.states.TankOpen.{TankOpen}
-use Rattle.hyd_rule_evaluation.specs.Trial.{AreRead}
-use Rattle.hyd_watched_levels.specs.Started.{AreStarted, HaveTanks}
-use Rattle.hyd_period_end.specs.Begun.{AreBegun}
+use Rattle.hyd_rules_in_period.specs.Trial.{AreRead}
+use Rattle.hyd_watched_levels.specs.FactsAtStart.{AreStarted, HaveTanks}
+use Rattle.hyd_period_end.specs.FactsBeforeVectors.{AreBegun}
 use Rattle.hyd_period_end.specs.EndOfPeriod.{Decides, EndsAfter, by_rules, by_clock, IsClosed}
 use Rattle.hyd_period_end.specs.declared.period_end.PeriodEnd.{PeriodEnd}
 use Rattle.hyd_period_end.specs.OpenMatters.{EndsWith, IsFirstControl, SharesVectors}

@@ -1,8 +1,8 @@
 -- What the end of a period brings.
 -- Source: this program's.
 use Rattle.std.specs.Prelude.{◌≡◌, ℕ, length, List, [], ◌++◌, map, Some, slice_get}
-use Rattle.hyd_spec.specs.Types.{Project, LinkState, Tank}
-use Rattle.hyd_spec.specs.Network.{tank_count}
+use Rattle.hyd_spec.specs.ProgramTypes.{Project, LinkState, Tank}
+use Rattle.hyd_spec.specs.NodeNumbers.{tank_count}
 use Rattle.hyd_spec.specs.Tank.{walls_of}
 use Rattle.hyd_spec.specs.declared.Change.{Change}
 use Rattle.hyd_spec_certificates.specs.Grid.{Grid}
@@ -11,12 +11,12 @@ use Rattle.hyd_spec_certificates.specs.Decided.{EndsBy, ByRules, WithoutRules, d
 use Rattle.hyd_spec_certificates.specs.Valid.{LeavesLinks, levels_next, volumes_next, AreStates, ControlsAreDecided}
 use Rattle.hyd_tank.specs.Spans.{AreHeld}
 use Rattle.hyd_period_facts.specs.OfPeriod.{AreFacts, levels_of, volumes_of}
-use Rattle.hyd_period_facts.specs.Room.{Takes}
+use Rattle.hyd_period_facts.specs.ReservedMemory.{Takes}
 use Rattle.hyd_period_facts.specs.declared.facts.Facts.{Facts}
-use Rattle.hyd_rule_operands.specs.Room.{HasRoom as HasReadingsRoom}
+use Rattle.hyd_rule_operands.specs.ReservedMemory.{HasRoom as HasReadingsRoom}
 use Rattle.hyd_period_stocks.specs.TankStart.{stocks_among}
-use Rattle.hyd_period_stocks.specs.Room.{HasRoom as HasNextRoom}
-use Rattle.hyd_period_stocks.specs.declared.tank_start.TankStart.{TankStart}
+use Rattle.hyd_period_stocks.specs.ReservedMemory.{HasRoom as HasNextRoom}
+use Rattle.hyd_period_stocks.specs.declared.tanks_at_start.TankStart.{TankStart}
 use Rattle.hyd_period_end.specs.declared.period_end.PeriodEnd.{PeriodEnd}
 
 -- there is room for each period of a network

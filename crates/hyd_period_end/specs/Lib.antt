@@ -1,3 +1,3 @@
-pub mod Begun
+pub mod FactsBeforeVectors
 pub mod OpenMatters
 pub mod EndOfPeriod

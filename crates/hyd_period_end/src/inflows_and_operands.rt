@@ -3,24 +3,24 @@
 
 ghost use Rattle.std.specs.Prelude.{◌≡◌, ◌≤◌, ◌+◌, length, All};
 ghost use Rattle.hyd_net.specs.Sound.{Sound};
-ghost use Rattle.hyd_spec.specs.Network.{nodes_before_tanks, tank_count};
+ghost use Rattle.hyd_spec.specs.NodeNumbers.{nodes_before_tanks, tank_count};
 ghost use Rattle.hyd_spec_certificates.specs.Record.{Standing};
 ghost use Rattle.hyd_spec_certificates.specs.Valid.{AreCertificates};
 ghost use Rattle.hyd_cert.specs.RecordView.{row_of};
-ghost use Rattle.hyd_ctrl.specs.Instants.{IsBounded};
-ghost use Rattle.hyd_graph.specs.GridOf.{grid_of};
-ghost use Rattle.hyd_graph.specs.Periods.{IsNetOf};
+ghost use Rattle.hyd_controls_and_rules.specs.Instants.{IsBounded};
+ghost use Rattle.hyd_period_network.specs.GridOf.{grid_of};
+ghost use Rattle.hyd_period_network.specs.Periods.{IsNetOf};
 ghost use Rattle.hyd_bounds.specs.Bounds.{TanksInOrder};
-ghost use Rattle.hyd_period_facts.specs.Room.{Takes};
-ghost use Rattle.hyd_rule_operands.specs.Room.{HasRoom};
-ghost use Rattle.hyd_rule_evaluation.specs.Trial.{AreRead};
-ghost use Rattle.hyd_watched_levels.specs.Started.{AreStarted, HaveTanks};
-ghost use Rattle.hyd_period_end.specs.Begun.{AreBegun, AreReady};
+ghost use Rattle.hyd_period_facts.specs.ReservedMemory.{Takes};
+ghost use Rattle.hyd_rule_operands.specs.ReservedMemory.{HasRoom};
+ghost use Rattle.hyd_rules_in_period.specs.Trial.{AreRead};
+ghost use Rattle.hyd_watched_levels.specs.FactsAtStart.{AreStarted, HaveTanks};
+ghost use Rattle.hyd_period_end.specs.FactsBeforeVectors.{AreBegun, AreReady};
 
 use hyd_cert::Record;
-use hyd_graph::Net;
 use hyd_net::Project;
 use hyd_period_facts::Facts;
+use hyd_period_network::Net;
 use hyd_rule_operands::Readings;
 use hyd_tank_inflows::put_inflows;
 

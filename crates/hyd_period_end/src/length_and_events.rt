@@ -3,12 +3,12 @@
 
 ghost use Rattle.std.specs.Prelude.{◌≡◌, ◌≤◌, ◌+◌, ◌^◌, length, map};
 ghost use Rattle.hyd_net.specs.Sound.{Sound};
-ghost use Rattle.hyd_spec.specs.Network.{tank_count};
+ghost use Rattle.hyd_spec.specs.NodeNumbers.{tank_count};
 ghost use Rattle.hyd_spec_certificates.specs.Grid.{Grid};
 ghost use Rattle.hyd_spec_certificates.specs.Record.{Record, Standing};
 ghost use Rattle.hyd_spec_reports.specs.Report.{events_of};
-ghost use Rattle.hyd_period_facts.specs.Room.{Takes};
-ghost use Rattle.hyd_watched_levels.specs.Started.{AreStarted, HaveTanks};
+ghost use Rattle.hyd_period_facts.specs.ReservedMemory.{Takes};
+ghost use Rattle.hyd_watched_levels.specs.FactsAtStart.{AreStarted, HaveTanks};
 
 use hyd_carried_levels::put_carried;
 use hyd_net::{List, Project};

@@ -3,16 +3,16 @@
 
 ghost use Rattle.std.specs.Prelude.{◌≡◌, ◌<◌, ◌≤◌, ◌+◌, length, IfOk, IfErr, OnOk, OnErr};
 ghost use Rattle.hyd_net.specs.Sound.{Sound};
-ghost use Rattle.hyd_spec.specs.Network.{tank_count};
+ghost use Rattle.hyd_spec.specs.NodeNumbers.{tank_count};
 ghost use Rattle.hyd_spec_certificates.specs.Record.{Record as Row, Standing};
 ghost use Rattle.hyd_spec_certificates.specs.Valid.{AreCertificates};
 ghost use Rattle.hyd_cert.specs.RecordView.{row_of};
-ghost use Rattle.hyd_period_facts.specs.Room.{HasRoom as HasFactsRoom};
-ghost use Rattle.hyd_graph.specs.GridOf.{grid_of};
-ghost use Rattle.hyd_graph.specs.Periods.{IsNetOf};
+ghost use Rattle.hyd_period_facts.specs.ReservedMemory.{HasRoom as HasFactsRoom};
+ghost use Rattle.hyd_period_network.specs.GridOf.{grid_of};
+ghost use Rattle.hyd_period_network.specs.Periods.{IsNetOf};
 ghost use Rattle.hyd_bounds.specs.Bounds.{TanksInOrder};
-ghost use Rattle.hyd_watched_levels.specs.Started.{HaveTanks};
-ghost use Rattle.hyd_period_end.specs.Begun.{AreBegun, AreReady};
+ghost use Rattle.hyd_watched_levels.specs.FactsAtStart.{HaveTanks};
+ghost use Rattle.hyd_period_end.specs.FactsBeforeVectors.{AreBegun, AreReady};
 ghost use Rattle.hyd_period_end.specs.EndOfPeriod.{HasRoom, AreKeptIn, IsClosed};
 ghost use Rattle.hyd_period_end.specs.OpenMatters.{IsOpenAt, SharesVectors};
 
@@ -21,9 +21,9 @@ use crate::inflows_and_operands::look;
 use crate::length_and_events::tell_end;
 use crate::undecided::Open;
 use hyd_cert::Record;
-use hyd_graph::Net;
 use hyd_net::{LinkState, List, OutOfMemory, Project};
 use hyd_period_facts::Facts;
+use hyd_period_network::Net;
 use hyd_period_stocks::TankStart;
 use hyd_rule_operands::Readings;
 use hyd_spec_certificates::LevelSpan;

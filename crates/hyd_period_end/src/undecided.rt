@@ -1,9 +1,9 @@
 //! What the end of a period may leave open.
 #![tactic(auto)]
 
-use hyd_ctrl::LevelOpen;
+use hyd_controls_and_rules::LevelOpen;
 use hyd_period_stocks::TankOpen;
-use hyd_rule_truths::RuleOpen;
+use hyd_rule_values::RuleOpen;
 
 /// The first matter that the vectors of a period leave open: rules and the end of the period in order of time, then
 /// tanks, then level controls.

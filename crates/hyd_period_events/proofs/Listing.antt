@@ -3,7 +3,7 @@ use Rattle.std.proofs.Common.{◌≡◌, ℕ, zero, suc, ◌+◌, ◌<◌, ◌�
 use Rattle.std.proofs.Common.{append_assoc, arith}
 use Rattle.std.specs.Prelude.{Option, Some, None, map, slice_get}
 use Rattle.std.proofs.lemmas.List.{take_all, length-map}
-use Rattle.hyd_spec.specs.Types.{Project, Tank, Control}
+use Rattle.hyd_spec.specs.ProgramTypes.{Project, Tank, Control}
 use Rattle.hyd_spec.specs.declared.TankState.{TankState}
 use Rattle.hyd_spec.specs.Lists.{map_from, present}
 use Rattle.hyd_spec_certificates.specs.Interval.{Interval}

@@ -1,6 +1,6 @@
 -- Events at the end of a period, by what is known at its start and its carried levels.
 use Rattle.std.specs.Prelude.{List, ◌++◌}
-use Rattle.hyd_spec.specs.Types.{Project}
+use Rattle.hyd_spec.specs.ProgramTypes.{Project}
 use Rattle.hyd_spec.specs.declared.TankState.{TankState}
 use Rattle.hyd_spec.specs.Lists.{map_from, present}
 use Rattle.hyd_spec_certificates.specs.Interval.{Interval}

@@ -4,15 +4,15 @@
 ghost use Rattle.std.specs.Prelude.{◌≡◌, ◌<◌, ◌≤◌, ◌+◌, ◌++◌, Some, length, map, slice_get, slice_index_or};
 ghost use Rattle.hyd_net.specs.Sound.{Sound};
 ghost use Rattle.hyd_net.specs.ControlsAndRules.{IsControl};
-ghost use Rattle.hyd_spec.specs.Types.{Control as Each};
+ghost use Rattle.hyd_spec.specs.ProgramTypes.{Control as Each};
 ghost use Rattle.hyd_spec.specs.Lists.{map_from, present};
-ghost use Rattle.hyd_spec.specs.Network.{tank_count};
+ghost use Rattle.hyd_spec.specs.NodeNumbers.{tank_count};
 ghost use Rattle.hyd_spec_certificates.specs.Verdict.{is_yes};
 ghost use Rattle.hyd_spec_certificates.specs.Decided.{acts_on, control_truth, nowhere};
 ghost use Rattle.hyd_spec_reports.specs.Report.{control_event};
 ghost use Rattle.hyd_period_facts.specs.OfPeriod.{levels_of};
 
-use crate::listed::add_event;
+use crate::event_list::add_event;
 use hyd_net::{Control, List, Project, When};
 use hyd_spec_certificates::LevelSpan;
 use hyd_spec_reports::{Event, EventKind};

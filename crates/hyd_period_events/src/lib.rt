@@ -2,8 +2,8 @@
 #![tactic(auto)]
 
 mod controls;
+mod event_list;
 mod events;
-mod listed;
 mod tanks;
 
 pub use events::put_events;

@@ -3,15 +3,15 @@
 
 ghost use Rattle.std.specs.Prelude.{◌≡◌, ◌<◌, ◌≤◌, ◌+◌, ◌++◌, ◌∷◌, [], Some, length, map, slice_get};
 ghost use Rattle.hyd_net.specs.Sound.{Sound};
-ghost use Rattle.hyd_spec.specs.Types.{Tank as Each};
+ghost use Rattle.hyd_spec.specs.ProgramTypes.{Tank as Each};
 ghost use Rattle.hyd_spec.specs.declared.TankState.{TankState as State};
 ghost use Rattle.hyd_spec.specs.Lists.{present};
-ghost use Rattle.hyd_spec.specs.Network.{tank_count};
+ghost use Rattle.hyd_spec.specs.NodeNumbers.{tank_count};
 ghost use Rattle.hyd_spec_certificates.specs.declared.LevelSpan.{LevelSpan as Levels};
 ghost use Rattle.hyd_spec_reports.specs.Report.{tank_event, tank_events};
 ghost use Rattle.hyd_period_facts.specs.OfPeriod.{levels_of};
 
-use crate::listed::add_event;
+use crate::event_list::add_event;
 use hyd_net::{List, Project, Tank};
 use hyd_spec::TankState;
 use hyd_spec_certificates::LevelSpan;

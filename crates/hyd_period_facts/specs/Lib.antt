@@ -1,2 +1,2 @@
 pub mod OfPeriod
-pub mod Room
+pub mod ReservedMemory

@@ -2,7 +2,7 @@
 -- Source: this program's.
 use Rattle.std.specs.Prelude.{◌≡◌, List, ◌++◌, map}
 use Rattle.hyd_num.specs.declared.decimals.Span.{Span}
-use Rattle.hyd_spec.specs.Types.{Project}
+use Rattle.hyd_spec.specs.ProgramTypes.{Project}
 use Rattle.hyd_spec.specs.Lists.{map_from}
 use Rattle.hyd_spec.specs.declared.Change.{Change}
 use Rattle.hyd_spec_certificates.specs.declared.LevelSpan.{LevelSpan}

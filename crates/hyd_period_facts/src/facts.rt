@@ -3,7 +3,7 @@
 ghost use Rattle.std.specs.Prelude.{◌≡◌, ◌≤◌, [], length, IfOk};
 ghost use Rattle.hyd_net.specs.Sound.{Sound};
 
-use hyd_ctrl::Changes;
+use hyd_controls_and_rules::Changes;
 use hyd_net::{LinkState, List, Project};
 use hyd_num::Span;
 use hyd_spec::TankState;
@@ -46,7 +46,7 @@ fn with_room<T: Drop>(alloc: Global, items: usize) -> Result<List<T>, OutOfMemor
 }
 
 impl Facts {
-    ghost use Rattle.hyd_period_facts.specs.Room.{HasRoom, AreNone};
+    ghost use Rattle.hyd_period_facts.specs.ReservedMemory.{HasRoom, AreNone};
 
     /// Facts of no period, with room for those of each period of a project: filling them takes no memory.
     pub fn open(alloc: Global, project: &Project) -> Result<Facts, OutOfMemory>

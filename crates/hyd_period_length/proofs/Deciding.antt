@@ -2,7 +2,7 @@
 use Rattle.std.proofs.Common.{◌≡◌, ◌≢◌, inl, inr, ℕ, ◌<◌, List, ◌++◌, ap, sym, ◌∙◌, subst, arith}
 use Rattle.std.proofs.lemmas.Bool.{cases_eq}
 use Rattle.std.proofs.lemmas.List.{append-nil}
-use Rattle.hyd_spec.specs.Types.{Project, LinkState}
+use Rattle.hyd_spec.specs.ProgramTypes.{Project, LinkState}
 use Rattle.hyd_spec.specs.declared.Change.{Change}
 use Rattle.hyd_spec_certificates.specs.Grid.{Grid}
 use Rattle.hyd_spec_certificates.specs.Record.{Record, Standing}

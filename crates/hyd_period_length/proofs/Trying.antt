@@ -4,7 +4,7 @@ use Rattle.std.specs.List.{list_any}
 use Rattle.std.proofs.lemmas.List.Quantifiers.{position-Some}
 use Rattle.std.proofs.lemmas.List.Folds.{list_any_at}
 use Rattle.hyd_net.specs.ListView.{ListView}
-use Rattle.hyd_spec.specs.Types.{Project, LinkState}
+use Rattle.hyd_spec.specs.ProgramTypes.{Project, LinkState}
 use Rattle.hyd_spec.specs.declared.Change.{Change}
 use Rattle.hyd_spec.specs.Rules.{acted, rule_changes}
 use Rattle.hyd_spec_certificates.specs.Grid.{Grid}
@@ -14,8 +14,8 @@ use Rattle.hyd_spec_certificates.specs.Decided.{links_at, rule_truths, decided_c
 use Rattle.hyd_spec_certificates.specs.Decided.{IsOpenRule}
 use Rattle.hyd_theorems_on_nesting.specs.Nesting.{IsWalked}
 use Rattle.hyd_period_facts.specs.declared.facts.Facts.{Facts}
-use Rattle.hyd_watched_levels.specs.Started.{AreStarted}
-use Rattle.hyd_rule_evaluation.specs.Trial.{AreDecided, open_rule}
+use Rattle.hyd_watched_levels.specs.FactsAtStart.{AreStarted}
+use Rattle.hyd_rules_in_period.specs.Trial.{AreDecided, open_rule}
 use Rattle.hyd_period_length.specs.declared.end_kinds.Ending.{Ending}
 use Rattle.hyd_period_length.specs.declared.end_kinds.Ending.TheVariants.{ByRules, WithoutRules, RuleOpen, EventOpen}
 use Rattle.hyd_period_length.specs.Endings.{IfDecided, UnlessByRules, HaveActed, IsBrought, IsFirstBrought}

@@ -1,7 +1,7 @@
 //! The kinds of ends.
 #![tactic(auto)]
 
-use hyd_rule_truths::RuleOpen;
+use hyd_rule_values::RuleOpen;
 
 /// How a period ends that doesn't begin at the end of the run. Seconds count from its start.
 #[derive(Debug, Clone, Copy, PartialEq, Eq, Drop)]

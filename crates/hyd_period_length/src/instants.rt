@@ -4,19 +4,19 @@
 ghost use Rattle.std.specs.Prelude.{◌≡◌, ◌≢◌, ℕ, ◌+◌, ◌<◌, ◌≤◌, ◌^◌, ◌++◌, [], true, false, length, IfNone, IfSome};
 ghost use Rattle.std.specs.List.{All};
 ghost use Rattle.hyd_net.specs.Sound.{Sound};
-ghost use Rattle.hyd_spec.specs.Network.{nodes_before_tanks, tank_count};
+ghost use Rattle.hyd_spec.specs.NodeNumbers.{nodes_before_tanks, tank_count};
 ghost use Rattle.hyd_spec.specs.Rules.{acted, rule_changes};
 ghost use Rattle.hyd_spec_certificates.specs.Decided.{RulesMatter};
-ghost use Rattle.hyd_ctrl.specs.Instants.{IsBounded};
-ghost use Rattle.hyd_watched_levels.specs.Started.{HaveTanks};
+ghost use Rattle.hyd_controls_and_rules.specs.Instants.{IsBounded};
+ghost use Rattle.hyd_watched_levels.specs.FactsAtStart.{HaveTanks};
 ghost use Rattle.hyd_period_length.specs.Endings.{ForPeriod, IfDecided, UnlessByRules, IsBrought, IsFirstBrought};
 
 use crate::end_kinds::Ending;
-use hyd_ctrl::{Changes, act};
+use hyd_controls_and_rules::{Changes, act};
 use hyd_net::{LinkState, List, Project};
 use hyd_num::Span;
 use hyd_period_facts::Facts;
-use hyd_rule_evaluation::try_rules;
+use hyd_rules_in_period::try_rules;
 use hyd_spec_certificates::LevelSpan;
 
 // Carries out what rules with these values change, and tells whether that is anything.

@@ -2,8 +2,8 @@
 #![tactic(auto)]
 
 mod end_kinds;
-mod end_of_period;
+mod finding_the_end;
 mod instants;
 
 pub use end_kinds::Ending;
-pub use end_of_period::find_end;
+pub use finding_the_end::find_end;

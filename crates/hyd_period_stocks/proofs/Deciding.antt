@@ -6,7 +6,7 @@ use Rattle.std.proofs.lemmas.Int.{ints}
 use Rattle.std.proofs.lemmas.List.{length-map}
 use Rattle.hyd_net.specs.Sound.{Sound}
 use Rattle.hyd_net.specs.NetworkRanges.{IsTank}
-use Rattle.hyd_spec.specs.Types.{Project, Tank}
+use Rattle.hyd_spec.specs.ProgramTypes.{Project, Tank}
 use Rattle.hyd_spec.specs.declared.TankState.{TankState}
 use Rattle.hyd_spec.specs.Lists.{map_from}
 use Rattle.hyd_spec_certificates.specs.Interval.{Interval}
@@ -15,7 +15,7 @@ use Rattle.hyd_spec_certificates.specs.Decided.{nowhere}
 use Rattle.hyd_spec_certificates.specs.Valid.{AreStates}
 use Rattle.hyd_spec_reports.specs.Stops.{open_states}
 use Rattle.hyd_tank.specs.Spans.{IsTankOfRange}
-use Rattle.hyd_ctrl.proofs.Positions as places
+use Rattle.hyd_controls_and_rules.proofs.Positions as places
 use Rattle.hyd_tank_inflows.proofs.Numbered.{placed_first, item_there, item_is, as_long}
 
 -- the levels of a tank of a sound network

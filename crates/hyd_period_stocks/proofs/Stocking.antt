@@ -3,7 +3,7 @@ use Rattle.std.proofs.Common.{◌≡◌, inl, inr, ℕ, suc, ◌+◌, ◌<◌, L
 use Rattle.std.specs.Prelude.{Some, map, slice_get, slice_index_or}
 use Rattle.std.proofs.lemmas.Bool.{cases_lt}
 use Rattle.std.proofs.lemmas.Option.{slice_get_within}
-use Rattle.hyd_spec.specs.Types.{Project, Tank}
+use Rattle.hyd_spec.specs.ProgramTypes.{Project, Tank}
 use Rattle.hyd_spec.specs.Lists.{map_from}
 use Rattle.hyd_spec.specs.Tank.{walls_of}
 use Rattle.hyd_spec_certificates.specs.Interval.{Interval}
@@ -18,7 +18,7 @@ use Rattle.hyd_tank.specs.declared.spans.VolumeSpan.{VolumeSpan}
 use Rattle.hyd_period_facts.specs.OfPeriod.{levels_of, volumes_of}
 use Rattle.hyd_period_facts.specs.declared.facts.Facts.{Facts}
 use Rattle.hyd_tank_inflows.proofs.Numbered.{placed_first, item_is}
-use Rattle.hyd_watched_levels.specs.Started.{AreStarted, inflow_in}
+use Rattle.hyd_watched_levels.specs.FactsAtStart.{AreStarted, inflow_in}
 use Rattle.hyd_watched_levels.proofs.Reaching.{stocks_are, inflow_is}
 use Rattle.hyd_period_stocks.specs.TankStart.{next_in, stocks_among}
 

@@ -1,2 +1,2 @@
 pub mod TankStart
-pub mod Room
+pub mod ReservedMemory

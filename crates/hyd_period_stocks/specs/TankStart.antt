@@ -1,7 +1,7 @@
 -- What the next period begins with.
 -- Source: EPANET 2.2 User Manual, chapter 3 (tanks), between two ends.
 use Rattle.std.specs.Prelude.{◌≡◌, ℕ, List, Some, None, map, slice_get, slice_index_or, position}
-use Rattle.hyd_spec.specs.Types.{Project, Tank}
+use Rattle.hyd_spec.specs.ProgramTypes.{Project, Tank}
 use Rattle.hyd_spec.specs.Tank.{walls_of}
 use Rattle.hyd_spec_certificates.specs.Interval.{Interval}
 use Rattle.hyd_spec_certificates.specs.Stocks.{Stocks, next_stocks}
@@ -11,11 +11,12 @@ use Rattle.hyd_spec_reports.specs.Stops.{open_states}
 use Rattle.hyd_tank.specs.declared.spans.VolumeSpan.{VolumeSpan}
 use Rattle.hyd_period_facts.specs.OfPeriod.{levels_of, volumes_of}
 use Rattle.hyd_period_facts.specs.declared.facts.Facts.{Facts}
-use Rattle.hyd_watched_levels.specs.Started.{stocks_in, inflow_in}
-use Rattle.hyd_ctrl.specs.Starts.{IsFirstOpen as IsFirstControl}
+use Rattle.hyd_watched_levels.specs.FactsAtStart.{stocks_in, inflow_in}
+use Rattle.hyd_controls_and_rules.specs.Starts.{IsFirstOpen as IsFirstControl}
 use Rattle.hyd_period_stocks.specs.declared.states.TankOpen.{TankOpen}
-use Rattle.hyd_period_stocks.specs.declared.settled.Unsettled.{Unsettled}
-use Rattle.hyd_period_stocks.specs.declared.settled.Unsettled.TheVariants.{Tank as TankIsOpen, Control as ControlIsOpen}
+use Rattle.hyd_period_stocks.specs.declared.decided_or_open.Unsettled.{Unsettled}
+use Rattle.hyd_period_stocks.specs.declared.decided_or_open.Unsettled.TheVariants.{Tank as TankIsOpen}
+use Rattle.hyd_period_stocks.specs.declared.decided_or_open.Unsettled.TheVariants.{Control as ControlIsOpen}
 
 -- the stocks of a tank some seconds after the start of the period of some facts
 abbrev pub next_in : Project → Facts → ℕ → ℕ → Tank → Stocks

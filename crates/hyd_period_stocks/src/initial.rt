@@ -3,8 +3,8 @@
 
 ghost use Rattle.std.specs.Prelude.{◌≡◌, ◌≤◌, ◌+◌, ℕ, Some, length, map, slice_get};
 ghost use Rattle.hyd_net.specs.Sound.{Sound};
-ghost use Rattle.hyd_spec.specs.Types.{Tank};
-ghost use Rattle.hyd_spec.specs.Network.{tank_count};
+ghost use Rattle.hyd_spec.specs.ProgramTypes.{Tank};
+ghost use Rattle.hyd_spec.specs.NodeNumbers.{tank_count};
 ghost use Rattle.hyd_spec.specs.Tank.{walls_of};
 ghost use Rattle.hyd_spec_certificates.specs.Record.{initial_standing};
 ghost use Rattle.hyd_tank.specs.Spans.{AreHeld};

@@ -1,13 +1,13 @@
 //! The stocks and the states of tanks with which a period begins.
 #![tactic(auto)]
 
+mod decided_or_open;
 mod initial;
-mod settled;
 mod states;
 mod stocks;
-mod tank_start;
+mod tanks_at_start;
 
-pub use settled::Unsettled;
+pub use decided_or_open::Unsettled;
 pub use states::{TankOpen, put_states};
 pub use stocks::put_stocks;
-pub use tank_start::TankStart;
+pub use tanks_at_start::TankStart;

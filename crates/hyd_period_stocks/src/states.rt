@@ -4,8 +4,8 @@
 ghost use Rattle.std.specs.Prelude.{◌≡◌, ◌<◌, ◌≤◌, ◌+◌, ◌++◌, ◌∷◌, [], Some, length, map, slice_get, slice_index_or};
 ghost use Rattle.std.specs.Prelude.{IfErr, OnOk};
 ghost use Rattle.hyd_net.specs.Sound.{Sound};
-ghost use Rattle.hyd_spec.specs.Types.{Tank as Each};
-ghost use Rattle.hyd_spec.specs.Network.{tank_count};
+ghost use Rattle.hyd_spec.specs.ProgramTypes.{Tank as Each};
+ghost use Rattle.hyd_spec.specs.NodeNumbers.{tank_count};
 ghost use Rattle.hyd_spec_certificates.specs.Stocks.{state_of};
 ghost use Rattle.hyd_spec_certificates.specs.Decided.{nowhere};
 ghost use Rattle.hyd_spec_certificates.specs.Valid.{AreStates};

@@ -7,7 +7,7 @@ use Rattle.hyd_spec_certificates.specs.declared.Side.TheVariants.{Upper, Lower}
 use Rattle.hyd_spec_certificates.specs.Grid.{Grid}
 use Rattle.hyd_spec_certificates.specs.Record.{Record}
 use Rattle.hyd_spec_reports.specs.Stops.{turn}
-use Rattle.hyd_period_vectors.specs.Room.{Room}
+use Rattle.hyd_period_vectors.specs.OpenedSearch.{Room}
 use Rattle.hyd_period_vectors.specs.Vectors.{Comes, EachBefore}
 
 -- both sides of a problem come one after the other

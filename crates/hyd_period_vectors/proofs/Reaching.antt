@@ -12,8 +12,8 @@ use Rattle.hyd_spec_certificates.specs.declared.Side.TheVariants.{Upper, Lower}
 use Rattle.hyd_spec_certificates.specs.Grid.{Grid, GridJunction}
 use Rattle.hyd_spec_certificates.specs.Certificate.{IsInBox, IsBeyond, IsCertificate}
 use Rattle.hyd_spec_certificates.specs.SearchSteps.{IsStart, Fails}
-use Rattle.hyd_theorems_on_periods.specs.Laws.{IsSteady}
-use Rattle.hyd_theorems_on_periods.specs.Sides.{along}
+use Rattle.hyd_theorems_on_definitions.specs.Laws.{IsSteady}
+use Rattle.hyd_theorems_on_definitions.specs.Sides.{along}
 use Rattle.hyd_theorems_on_raises.proofs.Leading.{is-beyond, lead, fails-leading}
 use Rattle.hyd_theorems_on_raises.proofs.Raising.{beyond-self, set-here, set-there, set-in-box}
 use Rattle.hyd_theorems_on_raises.proofs.Sweeping.{one-vector}

@@ -5,8 +5,8 @@ use Rattle.hyd_spec_certificates.specs.declared.Problem.{Problem}
 use Rattle.hyd_spec_certificates.specs.declared.Side.{Side}
 use Rattle.hyd_spec_certificates.specs.Grid.{Grid}
 use Rattle.hyd_spec_certificates.specs.Certificate.{IsCertificate, IsTight}
-use Rattle.hyd_graph.specs.NetView.{NetView}
-use Rattle.hyd_newton.specs.ToldVectors.{Leaves, IsOfSize, told_vector}
+use Rattle.hyd_period_network.specs.NetView.{NetView}
+use Rattle.hyd_finders.specs.ToldVectors.{Leaves, IsOfSize, told_vector}
 use Rattle.hyd_sweep.specs.Strides.{AreLeapingRounds}
 use Rattle.hyd_period_vectors.specs.Vectors.{IsTold, IsFound, IsSought, IsAtHand, IsBegun, IsReached, Tells, Comes}
 

@@ -7,7 +7,7 @@ use Rattle.hyd_spec_certificates.specs.declared.Side.{Side}
 use Rattle.hyd_spec_certificates.specs.Grid.{Grid, GridJunction}
 use Rattle.hyd_spec_certificates.specs.Certificate.{IsInBox, IsCertificate}
 use Rattle.hyd_spec_certificates.specs.SearchSteps.{Fails}
-use Rattle.hyd_theorems_on_periods.specs.Sides.{along}
+use Rattle.hyd_theorems_on_definitions.specs.Sides.{along}
 use Rattle.hyd_sweep.specs.Leaps.{nearer}
 
 -- turns lead from y to w: each junction fails when it is its turn, and is put to its head in v then

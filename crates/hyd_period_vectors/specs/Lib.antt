@@ -1,3 +1,3 @@
-pub mod Room
+pub mod OpenedSearch
 pub mod JunctionTurns
 pub mod Vectors

@@ -13,8 +13,8 @@ use Rattle.hyd_spec_reports.specs.Stops.{beginning, turn}
 use Rattle.hyd_cert.specs.RecordView.{header_of, IsProblemOf}
 use Rattle.hyd_cert.specs.Lines.{Header}
 use Rattle.hyd_cert.specs.declared.record.Record.{Record as Row}
-use Rattle.hyd_graph.specs.NetView.{NetView}
-use Rattle.hyd_newton.specs.ToldVectors.{IsOfSize, told_vector}
+use Rattle.hyd_period_network.specs.NetView.{NetView}
+use Rattle.hyd_finders.specs.ToldVectors.{IsOfSize, told_vector}
 use Rattle.hyd_sweep.specs.Strides.{AreLeapingRounds}
 use Rattle.hyd_period_vectors.specs.JunctionTurns.{ComesInTurn}
 use Rattle.hyd_period_vectors.specs.declared.lack.Lack.{Lack}

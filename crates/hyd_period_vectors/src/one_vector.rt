@@ -5,8 +5,8 @@ ghost use Rattle.std.specs.Prelude.{◌≡◌, ◌≤◌, ℕ, ℤ, List, length
 ghost use Rattle.hyd_spec_certificates.specs.Certificate.{IsTight};
 ghost use Rattle.hyd_spec_certificates.specs.SearchSteps.{IsStart};
 ghost use Rattle.hyd_cert.specs.RecordView.{header_of, row_of};
-ghost use Rattle.hyd_graph.specs.GridOf.{grid_of};
-ghost use Rattle.hyd_graph.specs.Nets.{HasProblem};
+ghost use Rattle.hyd_period_network.specs.GridOf.{grid_of};
+ghost use Rattle.hyd_period_network.specs.Nets.{HasProblem};
 ghost use Rattle.hyd_sweep.specs.Strides.{AreLeapingRounds};
 ghost use Rattle.hyd_period_vectors.specs.Vectors.{HasOther, InOrder, Fits, IsFound, IsTold};
 ghost use Rattle.hyd_period_vectors.specs.Vectors.{IsSought, IsOffered, Tells};
@@ -15,11 +15,11 @@ ghost use Rattle.hyd_period_vectors.specs.Vectors.{Comes, Lacks};
 use crate::lack::Lack;
 use crate::starting::{Starter, begin_near};
 use hyd_cert::Record;
-use hyd_check::check;
-use hyd_graph::Net;
-use hyd_newton::Finder;
+use hyd_finders::Finder;
+use hyd_period_network::Net;
 use hyd_spec_certificates::{Problem, Side};
 use hyd_sweep::{Sweeper, Swept, begin};
+use hyd_vector_check::check;
 
 // Whether the finder proposes a certificate, which then stands in `heads`.
 fn propose<F: Finder>(

@@ -5,8 +5,8 @@ ghost use Rattle.std.specs.Prelude.{◌≡◌, ◌+◌, ◌*◌, ℤ, List, leng
 ghost use Rattle.hyd_spec_certificates.specs.declared.Side.TheVariants.{Upper};
 ghost use Rattle.hyd_spec_reports.specs.Stops.{turn};
 ghost use Rattle.hyd_cert.specs.RecordView.{header_of, row_of};
-ghost use Rattle.hyd_graph.specs.GridOf.{grid_of};
-ghost use Rattle.hyd_graph.specs.Nets.{HasProblem};
+ghost use Rattle.hyd_period_network.specs.GridOf.{grid_of};
+ghost use Rattle.hyd_period_network.specs.Nets.{HasProblem};
 ghost use Rattle.hyd_period_vectors.specs.Vectors.{IsSought, Comes, LacksFirst, EachBefore};
 ghost use Rattle.hyd_period_vectors.specs.Vectors.{OfEach, InOrder, Stays, Fits};
 
@@ -14,8 +14,8 @@ use crate::lack::Lack;
 use crate::one_vector::find;
 use crate::starting::Starter;
 use hyd_cert::Record;
-use hyd_graph::Net;
-use hyd_newton::Finder;
+use hyd_finders::Finder;
+use hyd_period_network::Net;
 use hyd_spec_certificates::{Problem, Side};
 use hyd_sweep::Sweeper;
 use std::alloc::{AllocError as OutOfMemory, Global};
@@ -33,7 +33,7 @@ pub struct Search {
 
 impl Model for Search {
     ghost use Rattle.std.specs.Prelude.{◌≡◌, length};
-    ghost use Rattle.hyd_period_vectors.specs.Room.{Room};
+    ghost use Rattle.hyd_period_vectors.specs.OpenedSearch.{Room};
 
     ghost Value = { Room };
 

@@ -11,18 +11,18 @@ ghost use Rattle.hyd_spec_certificates.specs.Certificate.{IsInBox};
 ghost use Rattle.hyd_spec_certificates.specs.SearchSteps.{IsStart};
 ghost use Rattle.hyd_spec_reports.specs.Stops.{turn};
 ghost use Rattle.hyd_cert.specs.RecordView.{header_of, row_of};
-ghost use Rattle.hyd_graph.specs.GridOf.{grid_of};
-ghost use Rattle.hyd_graph.specs.Nets.{HasProblem};
+ghost use Rattle.hyd_period_network.specs.GridOf.{grid_of};
+ghost use Rattle.hyd_period_network.specs.Nets.{HasProblem};
 ghost use Rattle.hyd_sweep.specs.Leaps.{nearer};
 ghost use Rattle.hyd_period_vectors.specs.JunctionTurns.{ComesInTurn, AreInTurn};
 ghost use Rattle.hyd_period_vectors.specs.Vectors.{HasOther, InOrder, IsAtHand, IsBegun, Fits};
 
 use hyd_cert::Record;
-use hyd_check::{head_of, is_in_box, passes};
-use hyd_graph::Net;
-use hyd_newton::Finder;
+use hyd_finders::Finder;
+use hyd_period_network::Net;
 use hyd_spec_certificates::{Problem, Side};
 use hyd_sweep::begin;
+use hyd_vector_check::{head_of, is_in_box, passes};
 use std::alloc::{AllocError as OutOfMemory, Global};
 use std::marker::Model;
 

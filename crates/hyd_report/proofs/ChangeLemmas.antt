@@ -4,10 +4,10 @@ use Rattle.std.proofs.Common.{map, Bool, ℤ, Option, Some, None, if◌then◌el
 use Rattle.hyd_spec.specs.declared.Change.{Change}
 use Rattle.std.specs.Prelude.{slice_set}
 use Rattle.std.specs.Option.{option_and_then}
-use Rattle.hyd_spec.specs.Types.{Project, Control, LinkState}
+use Rattle.hyd_spec.specs.ProgramTypes.{Project, Control, LinkState}
 use Rattle.hyd_spec.specs.Lists.{map_from, present}
 use Rattle.hyd_spec.specs.declared.Source.TheVariants.{Control as ByControl, Rule as ByRule}
-use Rattle.hyd_spec.specs.Start.{patterned, control_acts}
+use Rattle.hyd_spec.specs.PeriodStart.{patterned, control_acts}
 use Rattle.hyd_spec.specs.Rules.{is_same_state, state_of_link, Offer, change_by, change_of, best_offer, offers_from}
 use Rattle.hyd_spec_certificates.specs.Grid.{Grid}
 use Rattle.hyd_spec_certificates.specs.Record.{Record, Standing}

@@ -5,7 +5,7 @@ use Rattle.std.specs.Prelude.{slice_get, slice_index_or, IfSome}
 use Rattle.std.proofs.lemmas.Int.{ints}
 use Rattle.std.proofs.lemmas.Option.{slice_get-get_or, get_or_from_slice_get}
 use Rattle.hyd_num.specs.declared.decimals.Span.{Span}
-use Rattle.hyd_spec.specs.Types.{Project, Tank, Link, LinkState}
+use Rattle.hyd_spec.specs.ProgramTypes.{Project, Tank, Link, LinkState}
 use Rattle.hyd_spec.specs.declared.TankState.{TankState}
 use Rattle.hyd_spec.specs.declared.TankState.TheVariants.{Between}
 use Rattle.hyd_spec_certificates.specs.declared.LevelSpan.{LevelSpan}
@@ -29,8 +29,8 @@ use Rattle.hyd_report.specs.LinesOfParts.{texts, junction_between, junction_line
 use Rattle.hyd_report.specs.LinesOfParts.{no_link}
 use Rattle.hyd_report.specs.LinesOfParts.{link_line}
 use Rattle.hyd_report.proofs.Joining.{map-append, joined-append}
-use Rattle.hyd_report.specs.declared.printed.Ends.{Ends}
-use Rattle.hyd_report.specs.declared.printed.Quantity.TheVariants.{Head, Pressure, Flow}
+use Rattle.hyd_report.specs.declared.printed_intervals.Ends.{Ends}
+use Rattle.hyd_report.specs.declared.printed_intervals.Quantity.TheVariants.{Head, Pressure, Flow}
 
 -- ---- items
 

@@ -6,7 +6,7 @@ use Rattle.std.proofs.lemmas.Option.{slice_get_within, slice_get-map, get_or_fro
 use Rattle.hyd_net.specs.ListView.{ListView}
 use Rattle.hyd_net.specs.States.{CanHave}
 use Rattle.hyd_net.specs.declared.curves.HeadPoint.{HeadPoint}
-use Rattle.hyd_spec.specs.Types.{Project, Link, LinkKind, LinkState, Closed}
+use Rattle.hyd_spec.specs.ProgramTypes.{Project, Link, LinkKind, LinkState, Closed}
 use Rattle.hyd_spec.specs.Law.{Law}
 use Rattle.hyd_spec.specs.LinkLaw.{own_law}
 use Rattle.hyd_spec.specs.Quantity.{is_us}
@@ -16,12 +16,12 @@ use Rattle.hyd_spec_certificates.specs.Boxes.{difference}
 use Rattle.hyd_spec_reports.specs.Report.{status_of}
 use Rattle.hyd_spec_reports.specs.declared.StatusWord.{StatusWord}
 use Rattle.hyd_law.specs.declared.link_law.LinkLaw.{LinkLaw}
-use Rattle.hyd_graph.specs.declared.network_parts.Setting.{Setting}
-use Rattle.hyd_graph.specs.ExactLaw.{exact_law}
-use Rattle.hyd_graph.specs.NetView.{NetView}
-use Rattle.hyd_graph.specs.GridOf.{grid_of, state_of, states_of, own_laws}
-use Rattle.hyd_graph.specs.Periods.{IsNetOf}
-use Rattle.hyd_graph.specs.Settings.{AreStates}
+use Rattle.hyd_period_network.specs.declared.junctions_ties_and_settings.Setting.{Setting}
+use Rattle.hyd_period_network.specs.ExactLaw.{exact_law}
+use Rattle.hyd_period_network.specs.NetView.{NetView}
+use Rattle.hyd_period_network.specs.GridOf.{grid_of, state_of, states_of, own_laws}
+use Rattle.hyd_period_network.specs.Periods.{IsNetOf}
+use Rattle.hyd_period_network.specs.Settings.{AreStates}
 use Rattle.hyd_report.proofs.LineLemmas.{found}
 
 -- what a status word says of each kind, state and place of a link

@@ -4,9 +4,9 @@ use Rattle.std.specs.Prelude.{Ok, Err, IfSome, slice_get}
 use Rattle.hyd_io.specs.declared.desk.Faults.{Faults}
 use Rattle.hyd_io.specs.declared.desk.Openings.{Openings}
 use Rattle.hyd_io.specs.declared.output.OutFault.{OutFault}
-use Rattle.hyd_io.specs.Told.{Files}
+use Rattle.hyd_io.specs.ToldBytes.{Files}
 use Rattle.hyd_io.specs.Output.{PenState}
-use Rattle.hyd_spec.specs.Types.{Project}
+use Rattle.hyd_spec.specs.ProgramTypes.{Project}
 use Rattle.hyd_spec.specs.Lists.{map_from}
 use Rattle.hyd_spec_reports.specs.ReportLine.{ReportLine, line_text}
 use Rattle.hyd_report.specs.Putting.{Puts}

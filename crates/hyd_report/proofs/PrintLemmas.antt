@@ -7,13 +7,13 @@ use Rattle.hyd_num.specs.PrintedDecimals.{head_quantity, pressure_quantity, flow
 use Rattle.hyd_num.specs.declared.flow_units.FlowUnit.{FlowUnit}
 use Rattle.hyd_num.specs.declared.flow_units.FlowUnit.TheVariants.{Cfs, Gpm, Mgd, Imgd, Afd, Lps, Lpm, Mld, Cmh, Cmd}
 use Rattle.hyd_units.proofs.Wholes.{IsFloor-floor, IsCeiling-ceiling}
-use Rattle.hyd_spec.specs.Types.{Project}
+use Rattle.hyd_spec.specs.ProgramTypes.{Project}
 use Rattle.hyd_spec.specs.Quantity.{is_us}
 use Rattle.hyd_spec_certificates.specs.Interval.{Interval}
 use Rattle.hyd_spec_reports.specs.Report.{Prints}
 use Rattle.hyd_report.specs.Printing.{in_ten_thousandths, printed, quantity_in}
-use Rattle.hyd_report.specs.declared.printed.Quantity.{Quantity}
-use Rattle.hyd_report.specs.declared.printed.Quantity.TheVariants.{Head, Pressure, Flow}
+use Rattle.hyd_report.specs.declared.printed_intervals.Quantity.{Quantity}
+use Rattle.hyd_report.specs.declared.printed_intervals.Quantity.TheVariants.{Head, Pressure, Flow}
 
 head_above : (us : Bool) (t : ℤ) → 0 < (head_quantity us t).den
 head_above true t = omega arith

@@ -4,7 +4,7 @@ use Rattle.std.proofs.Common.{take, drop, Option, Some, if◌then◌else◌, ref
 use Rattle.std.specs.Prelude.{slice_get, slice_index_or}
 use Rattle.std.specs.Option.{option_map}
 use Rattle.std.proofs.lemmas.Option.{slice_get_within, slice_get-get_or, slice_get-map}
-use Rattle.hyd_spec.specs.Types.{Project, Tank, Link, LinkState}
+use Rattle.hyd_spec.specs.ProgramTypes.{Project, Tank, Link, LinkState}
 use Rattle.hyd_spec.specs.Lists.{map_from}
 use Rattle.hyd_spec.specs.Quantity.{is_us}
 use Rattle.hyd_spec.specs.Assignment.{head_at}
@@ -22,12 +22,12 @@ use Rattle.hyd_spec_reports.specs.Report.{AreStateLines, AreEndLines, IsReport, 
 use Rattle.hyd_spec_reports.specs.Report.{changes_at, status_of}
 use Rattle.hyd_period_facts.specs.declared.facts.Facts.{Facts}
 use Rattle.hyd_period_facts.specs.OfPeriod.{AreFacts, levels_of, flows_of}
-use Rattle.hyd_graph.specs.GridOf.{links_of}
-use Rattle.hyd_graph.specs.declared.network_parts.Ends.{Ends}
-use Rattle.hyd_graph.specs.declared.network_parts.Setting.{Setting}
+use Rattle.hyd_period_network.specs.GridOf.{links_of}
+use Rattle.hyd_period_network.specs.declared.junctions_ties_and_settings.Ends.{Ends}
+use Rattle.hyd_period_network.specs.declared.junctions_ties_and_settings.Setting.{Setting}
 use Rattle.hyd_law.specs.declared.link_law.LinkLaw.{LinkLaw}
 use Rattle.hyd_report.specs.Printing.{printed, quantity_in}
-use Rattle.hyd_report.specs.declared.printed.Quantity.TheVariants.{Head, Pressure, Flow}
+use Rattle.hyd_report.specs.declared.printed_intervals.Quantity.TheVariants.{Head, Pressure, Flow}
 use Rattle.hyd_report.specs.Words.{before_rules}
 use Rattle.hyd_report.specs.LinesOfParts.{junction_line, reservoir_line, tank_line, no_link, link_line}
 use Rattle.hyd_report.specs.PeriodLines.{AreTankFacts, state_lines, middle_lines, end_lines, lines_of}

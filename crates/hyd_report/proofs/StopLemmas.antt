@@ -1,7 +1,7 @@
 -- The texts of stops and of refusals, as they are put together.
 use Rattle.std.proofs.Common.{◌≡◌, ℕ, ◌<◌, length, arith, List, [], ◌∷◌, ◌++◌, codes, refl, ap, ◌∙◌, append_assoc}
 use Rattle.std.specs.Fmt.{decimal}
-use Rattle.hyd_spec.specs.Types.{Project}
+use Rattle.hyd_spec.specs.ProgramTypes.{Project}
 use Rattle.hyd_spec.specs.Lists.{joined}
 use Rattle.hyd_spec_reports.specs.CertificateText.{words, line}
 use Rattle.hyd_spec_reports.specs.ReportLine.{clock_text, cause_words, stop_line, refusal_words, refused_line}

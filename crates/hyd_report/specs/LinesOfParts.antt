@@ -1,6 +1,6 @@
 -- The lines of a period, as the program makes them from a net's grid, from vectors below and above and from facts.
 use Rattle.std.specs.Prelude.{ℕ, ℤ, ◌-ℤ◌, List, map, slice_index_or}
-use Rattle.hyd_spec.specs.Types.{Project, Tank, Link, LinkState}
+use Rattle.hyd_spec.specs.ProgramTypes.{Project, Tank, Link, LinkState}
 use Rattle.hyd_spec.specs.Law.{Shut}
 use Rattle.hyd_spec.specs.Lists.{joined}
 use Rattle.hyd_spec.specs.Quantity.{is_us}
@@ -18,7 +18,7 @@ use Rattle.hyd_spec_certificates.specs.Boxes.{difference, flow_box, out_box}
 use Rattle.hyd_spec_reports.specs.Report.{status_of}
 use Rattle.hyd_spec_reports.specs.ReportLine.{ReportLine, JunctionLine, ReservoirLine, TankLine, LinkLine, line_text}
 use Rattle.hyd_report.specs.Printing.{printed, quantity_in}
-use Rattle.hyd_report.specs.declared.printed.Quantity.TheVariants.{Head, Pressure, Flow}
+use Rattle.hyd_report.specs.declared.printed_intervals.Quantity.TheVariants.{Head, Pressure, Flow}
 
 -- The bytes of lines, one after another.
 abbrev pub texts : Project → List ReportLine → List ℕ

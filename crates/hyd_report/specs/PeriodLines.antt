@@ -1,15 +1,15 @@
 -- The lines of a period, as the program makes them, and what it needs of the period.
 use Rattle.std.specs.Prelude.{◌≡◌, ◌+◌, pos, List, [], ◌∷◌, ◌++◌, length, map, take, drop, All, if◌then◌else◌}
-use Rattle.hyd_spec.specs.Types.{Project, LinkState}
+use Rattle.hyd_spec.specs.ProgramTypes.{Project, LinkState}
 use Rattle.hyd_spec.specs.Lists.{map_from}
-use Rattle.hyd_spec.specs.Network.{tank_count}
+use Rattle.hyd_spec.specs.NodeNumbers.{tank_count}
 use Rattle.hyd_spec_certificates.specs.Grid.{Grid}
 use Rattle.hyd_spec_certificates.specs.Record.{Record}
 use Rattle.hyd_spec_certificates.specs.Decided.{heads_below, heads_above}
 use Rattle.hyd_spec_reports.specs.Report.{is_report_time, change_line, event_line}
 use Rattle.hyd_spec_reports.specs.ReportLine.{ReportLine, TimeLine}
-use Rattle.hyd_graph.specs.NetView.{NetView}
-use Rattle.hyd_graph.specs.GridOf.{grid_of}
+use Rattle.hyd_period_network.specs.NetView.{NetView}
+use Rattle.hyd_period_network.specs.GridOf.{grid_of}
 use Rattle.hyd_bounds.specs.Bounds.{IsVector, AreInOrder}
 use Rattle.hyd_period_facts.specs.declared.facts.Facts.{Facts}
 use Rattle.hyd_report.specs.Printing.{IsSmall}

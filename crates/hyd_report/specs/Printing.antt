@@ -4,12 +4,12 @@ use Rattle.std.specs.Prelude.{◌≡◌, ◌≤◌, ◌^◌, ℤ, pos, ◌*ℤ�
 use Rattle.hyd_num.specs.declared.decimals.Span.{Span}
 use Rattle.hyd_num.specs.Rational.{Rational, floor, ceiling}
 use Rattle.hyd_num.specs.PrintedDecimals.{head_quantity, pressure_quantity, flow_quantity, decimal_text}
-use Rattle.hyd_spec.specs.Types.{Project}
+use Rattle.hyd_spec.specs.ProgramTypes.{Project}
 use Rattle.hyd_spec.specs.Quantity.{is_us}
 use Rattle.hyd_spec_certificates.specs.Interval.{Interval}
-use Rattle.hyd_report.specs.declared.printed.Ends.{Ends}
-use Rattle.hyd_report.specs.declared.printed.Quantity.{Quantity}
-use Rattle.hyd_report.specs.declared.printed.Quantity.TheVariants.{Head, Pressure, Flow}
+use Rattle.hyd_report.specs.declared.printed_intervals.Ends.{Ends}
+use Rattle.hyd_report.specs.declared.printed_intervals.Quantity.{Quantity}
+use Rattle.hyd_report.specs.declared.printed_intervals.Quantity.TheVariants.{Head, Pressure, Flow}
 
 -- A value as a number of ten-thousandths.
 abbrev pub in_ten_thousandths : Rational → Rational

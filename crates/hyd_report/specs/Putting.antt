@@ -6,7 +6,7 @@ use Rattle.std.specs.Prelude.{IfErr, OnOk, OnErr}
 use Rattle.hyd_io.specs.declared.desk.Faults.{Faults}
 use Rattle.hyd_io.specs.declared.desk.Openings.{Openings}
 use Rattle.hyd_io.specs.declared.output.OutFault.{OutFault}
-use Rattle.hyd_io.specs.Told.{Files, file_at, Moves, PutOut}
+use Rattle.hyd_io.specs.ToldBytes.{Files, file_at, Moves, PutOut}
 use Rattle.hyd_io.specs.Counts.{NeverFall}
 use Rattle.hyd_io.specs.Output.{by_channel, OnCert, OnReport, HasOutCause, PenState}
 

@@ -1,9 +1,10 @@
 -- The one line that is printed of an input file that is refused.
 -- Source: this program's.
 use Rattle.std.specs.Prelude.{ℕ, List, [], ◌∷◌, codes, decimal}
-use Rattle.hyd_net.specs.declared.cause.Cause.{Cause}
-use Rattle.hyd_net.specs.declared.cause.Cause.TheVariants.{Syntax, Number, Range, DuplicateId, UnknownName, Unsupported}
-use Rattle.hyd_net.specs.declared.cause.Cause.TheVariants.{Limit, Missing}
+use Rattle.hyd_net.specs.declared.refusal_cause.Cause.{Cause}
+use Rattle.hyd_net.specs.declared.refusal_cause.Cause.TheVariants.{Syntax, Number, Range, DuplicateId, UnknownName}
+use Rattle.hyd_net.specs.declared.refusal_cause.Cause.TheVariants.{Unsupported}
+use Rattle.hyd_net.specs.declared.refusal_cause.Cause.TheVariants.{Limit, Missing}
 use Rattle.hyd_spec_reports.specs.CertificateText.{line}
 
 -- the number of a cause

@@ -12,7 +12,7 @@ ghost use Rattle.hyd_report.specs.Words.{event_text};
 use crate::ids::tank_id;
 use crate::numbers::{clock, number};
 use crate::pieces::put_pieces;
-use crate::words::Text;
+use crate::short_text::Text;
 use hyd_io::{Desk, OutFault, Pen};
 use hyd_net::Project;
 use hyd_spec_reports::{Event, EventKind};

@@ -11,7 +11,7 @@ ghost use Rattle.hyd_spec_certificates.specs.Interval.{Interval};
 ghost use Rattle.hyd_spec_certificates.specs.declared.Problem.TheVariants.{Main};
 ghost use Rattle.hyd_spec_certificates.specs.declared.Side.TheVariants.{Upper, Lower};
 ghost use Rattle.hyd_spec_reports.specs.ReportLine.{JunctionLine, line_text};
-ghost use Rattle.hyd_graph.specs.GridOf.{grid_of};
+ghost use Rattle.hyd_period_network.specs.GridOf.{grid_of};
 ghost use Rattle.hyd_bounds.specs.Bounds.{IsVector, AreInOrder};
 ghost use Rattle.hyd_report.specs.Putting.{Puts};
 ghost use Rattle.hyd_report.specs.Printing.{ArePrinted};
@@ -19,11 +19,11 @@ ghost use Rattle.hyd_report.specs.LinesOfParts.{texts, junction_between, junctio
 
 use crate::ids::node_id;
 use crate::pieces::put_pieces;
-use crate::printed::{Ends, print_flows, print_heads, print_pressures};
+use crate::printed_intervals::{Ends, print_flows, print_heads, print_pressures};
 use hyd_bounds::out_box;
-use hyd_graph::Net;
 use hyd_io::{Desk, OutFault, Pen};
 use hyd_net::Project;
+use hyd_period_network::Net;
 
 /// Puts the line of a junction by its heads, its elevation and its outflow.
 fn put_parts<D: Desk>(

@@ -9,9 +9,9 @@ ghost use Rattle.hyd_spec_certificates.specs.Interval.{Interval};
 ghost use Rattle.hyd_spec_certificates.specs.declared.Problem.TheVariants.{Main};
 ghost use Rattle.hyd_spec_certificates.specs.declared.Side.TheVariants.{Upper, Lower};
 ghost use Rattle.hyd_spec_reports.specs.ReportLine.{LinkLine, line_text};
-ghost use Rattle.hyd_graph.specs.GridOf.{grid_of, states_of};
-ghost use Rattle.hyd_graph.specs.Periods.{IsNetOf};
-ghost use Rattle.hyd_graph.specs.Settings.{AreStates};
+ghost use Rattle.hyd_period_network.specs.GridOf.{grid_of, states_of};
+ghost use Rattle.hyd_period_network.specs.Periods.{IsNetOf};
+ghost use Rattle.hyd_period_network.specs.Settings.{AreStates};
 ghost use Rattle.hyd_bounds.specs.Bounds.{IsVector, AreInOrder};
 ghost use Rattle.hyd_report.specs.Putting.{Puts};
 ghost use Rattle.hyd_report.specs.Printing.{ArePrinted};
@@ -19,12 +19,12 @@ ghost use Rattle.hyd_report.specs.LinesOfParts.{texts, link_line};
 
 use crate::ids::link_id;
 use crate::pieces::put_pieces;
-use crate::printed::{Ends, print_flows};
+use crate::printed_intervals::{Ends, print_flows};
 use crate::states::status_word;
 use hyd_bounds::{flow_box, status_of};
-use hyd_graph::Net;
 use hyd_io::{Desk, OutFault, Pen};
 use hyd_net::Project;
+use hyd_period_network::Net;
 use hyd_spec_reports::StatusWord;
 
 /// Puts the line of a link by its printed flow and its status.

@@ -5,7 +5,7 @@ ghost use Rattle.std.specs.Fmt.{signed_decimal};
 ghost use Rattle.hyd_num.specs.PrintedDecimals.{last_digits, setting_text};
 ghost use Rattle.hyd_spec_reports.specs.ReportLine.{clock_text};
 
-use crate::words::Text;
+use crate::short_text::Text;
 use itoa::Buffer;
 
 /// Appends a number of at most 20 digits.

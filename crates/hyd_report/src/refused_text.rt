@@ -7,7 +7,7 @@ ghost use Rattle.hyd_report.specs.RefusedText.{cause_number, detail_of, refused_
 
 use crate::numbers::number;
 use crate::pieces::put_pieces;
-use crate::words::Text;
+use crate::short_text::Text;
 use hyd_io::{Desk, OutFault, Pen};
 use hyd_net::Cause;
 

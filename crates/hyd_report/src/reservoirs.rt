@@ -6,17 +6,17 @@ ghost use Rattle.hyd_net.specs.Sound.{Sound};
 ghost use Rattle.hyd_spec.specs.Lists.{map_from};
 ghost use Rattle.hyd_spec_certificates.specs.Interval.{Interval};
 ghost use Rattle.hyd_spec_reports.specs.ReportLine.{ReservoirLine, line_text};
-ghost use Rattle.hyd_graph.specs.GridOf.{grid_of};
+ghost use Rattle.hyd_period_network.specs.GridOf.{grid_of};
 ghost use Rattle.hyd_report.specs.Putting.{Puts};
 ghost use Rattle.hyd_report.specs.Printing.{ArePrinted};
 ghost use Rattle.hyd_report.specs.LinesOfParts.{texts, reservoir_line};
 
 use crate::ids::reservoir_id;
 use crate::pieces::put_pieces;
-use crate::printed::{Ends, print_heads};
-use hyd_graph::Net;
+use crate::printed_intervals::{Ends, print_heads};
 use hyd_io::{Desk, OutFault, Pen};
 use hyd_net::Project;
+use hyd_period_network::Net;
 use hyd_spec_certificates::{Problem, Side};
 
 /// Puts the line of a reservoir by its printed head.

@@ -14,9 +14,9 @@ ghost use Rattle.hyd_report.specs.LinesOfParts.{texts, tank_at, tank_line};
 
 use crate::ids::tank_id;
 use crate::pieces::put_pieces;
-use crate::printed::{Ends, print_flows, print_levels, print_tank_heads};
+use crate::printed_intervals::{Ends, print_flows, print_levels, print_tank_heads};
+use crate::short_text::Text;
 use crate::states::tank_word;
-use crate::words::Text;
 use hyd_io::{Desk, OutFault, Pen};
 use hyd_net::Project;
 use hyd_num::Span;

@@ -4,7 +4,7 @@ ghost use Rattle.std.specs.Prelude.{◌≡◌, IsTrue};
 ghost use Rattle.hyd_net.specs.Sound.{Sound};
 ghost use Rattle.hyd_spec_reports.specs.Report.{is_report_time};
 ghost use Rattle.hyd_io.specs.Output.{OnCert};
-ghost use Rattle.hyd_spec.specs.Types.{Project};
+ghost use Rattle.hyd_spec.specs.ProgramTypes.{Project};
 ghost use Rattle.hyd_spec_reports.specs.ReportLine.{TimeLine, line_text};
 ghost use Rattle.hyd_report.specs.Putting.{Puts};
 

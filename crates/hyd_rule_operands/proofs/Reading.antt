@@ -5,17 +5,17 @@ use Rattle.std.specs.Prelude.{slice_get, IfSome}
 use Rattle.std.proofs.lemmas.List.{take_more, take_all, map_push, map_more, length-map}
 use Rattle.std.proofs.lemmas.Option.{slice_get_within, slice_get-get_or}
 use Rattle.hyd_num.specs.declared.decimals.Span.{Span}
-use Rattle.hyd_spec.specs.Types.{Project}
+use Rattle.hyd_spec.specs.ProgramTypes.{Project}
 use Rattle.hyd_spec.specs.Assignment.{head_at}
-use Rattle.hyd_spec.specs.Network.{nodes_before_tanks}
+use Rattle.hyd_spec.specs.NodeNumbers.{nodes_before_tanks}
 use Rattle.hyd_spec_certificates.specs.Interval.{Interval}
 use Rattle.hyd_spec_certificates.specs.Grid.{GridLink}
-use Rattle.hyd_graph.specs.NetView.{NetView}
-use Rattle.hyd_graph.specs.Demands.{IsNetJunction}
-use Rattle.hyd_graph.specs.Periods.{IsNetOf, ends_of}
-use Rattle.hyd_graph.proofs.Sounding.{long_zipped}
+use Rattle.hyd_period_network.specs.NetView.{NetView}
+use Rattle.hyd_period_network.specs.Demands.{IsNetJunction}
+use Rattle.hyd_period_network.specs.Periods.{IsNetOf, ends_of}
+use Rattle.hyd_period_network.proofs.Sounding.{long_zipped}
 use Rattle.hyd_bounds.specs.Bounds.{IsSpan}
-use Rattle.hyd_ctrl.specs.Instants.{flow_interval}
+use Rattle.hyd_controls_and_rules.specs.Instants.{flow_interval}
 use Rattle.hyd_tank_inflows.proofs.Numbered.{item_there, item_is}
 
 -- ---- counts of a net of a project

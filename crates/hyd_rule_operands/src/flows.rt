@@ -5,15 +5,15 @@ ghost use Rattle.std.specs.Prelude.{◌≡◌, ◌<◌, ◌≤◌, ◌+◌, ◌+
 ghost use Rattle.hyd_spec_certificates.specs.declared.Problem.TheVariants.{Main};
 ghost use Rattle.hyd_spec_certificates.specs.declared.Side.TheVariants.{Upper, Lower};
 ghost use Rattle.hyd_spec_certificates.specs.Grid.{all_heads};
-ghost use Rattle.hyd_graph.specs.GridOf.{grid_of};
+ghost use Rattle.hyd_period_network.specs.GridOf.{grid_of};
 ghost use Rattle.hyd_bounds.specs.Bounds.{IsVector, AreInOrder};
-ghost use Rattle.hyd_ctrl.specs.Instants.{flow_interval, IsBounded};
-ghost use Rattle.hyd_rule_operands.specs.Room.{boxes_between};
+ghost use Rattle.hyd_controls_and_rules.specs.Instants.{flow_interval, IsBounded};
+ghost use Rattle.hyd_rule_operands.specs.FlowBoxes.{boxes_between};
 
 use hyd_bounds::flow_box;
-use hyd_graph::Net;
 use hyd_net::List;
 use hyd_num::Span;
+use hyd_period_network::Net;
 
 // Appends a flow, for which there is room.
 fn add_flow(flows: &mut List<Span>, flow: Span)

@@ -3,8 +3,8 @@
 
 ghost use Rattle.std.specs.Prelude.{◌≡◌, ◌<◌, ◌≤◌, ◌+◌, ◌++◌, ◌∷◌, [], Some, length, slice_get};
 
-use hyd_graph::Net;
 use hyd_net::List;
+use hyd_period_network::Net;
 use hyd_spec_certificates::{Problem, Side};
 
 // The head of a reservoir in head ticks, the same in all problems and on both sides.

@@ -6,9 +6,9 @@ ghost use Rattle.hyd_net.specs.Sound.{Sound};
 use crate::flows::put_flows;
 use crate::heads::put_heads;
 use hyd_cert::Record;
-use hyd_graph::Net;
 use hyd_net::{List, Project};
 use hyd_num::Span;
+use hyd_period_network::Net;
 use hyd_spec_certificates::{Problem, Side};
 use std::alloc::{AllocError as OutOfMemory, Global};
 
@@ -37,12 +37,12 @@ fn with_room<T: Drop>(alloc: Global, items: usize) -> Result<List<T>, OutOfMemor
 impl Readings {
     ghost use Rattle.hyd_spec_certificates.specs.Decided.{heads_below, heads_above};
     ghost use Rattle.hyd_cert.specs.RecordView.{row_of};
-    ghost use Rattle.hyd_graph.specs.GridOf.{grid_of};
-    ghost use Rattle.hyd_graph.specs.Periods.{IsNetOf};
+    ghost use Rattle.hyd_period_network.specs.GridOf.{grid_of};
+    ghost use Rattle.hyd_period_network.specs.Periods.{IsNetOf};
     ghost use Rattle.hyd_bounds.specs.Bounds.{IsVector, AreInOrder};
-    ghost use Rattle.hyd_ctrl.specs.Instants.{IsBounded};
-    ghost use Rattle.hyd_rule_evaluation.specs.Trial.{AreRead};
-    ghost use Rattle.hyd_rule_operands.specs.Room.{HasRoom, AreNone};
+    ghost use Rattle.hyd_controls_and_rules.specs.Instants.{IsBounded};
+    ghost use Rattle.hyd_rules_in_period.specs.Trial.{AreRead};
+    ghost use Rattle.hyd_rule_operands.specs.ReservedMemory.{HasRoom, AreNone};
 
     /// Readings of no period, with room for those of each period of a project: filling them takes no memory.
     pub fn open(alloc: Global, project: &Project) -> Result<Readings, OutOfMemory>

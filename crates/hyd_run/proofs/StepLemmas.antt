@@ -3,14 +3,14 @@ use Rattle.std.proofs.Common.{◌≡◌, suc, ◌<◌, ◌^◌, true, false, len
 use Rattle.std.proofs.Common.{Some, refl, sym, ap, subst, ◌∙◌, arith}
 use Rattle.std.specs.Prelude.{IfSome}
 use Rattle.std.proofs.lemmas.List.{length-map}
-use Rattle.hyd_spec.specs.Types.{Project}
+use Rattle.hyd_spec.specs.ProgramTypes.{Project}
 use Rattle.hyd_spec_certificates.specs.Record.{Standing}
 use Rattle.hyd_spec_reports.specs.Headline.{Found, EndsSo, Finished, Stopped}
 use Rattle.hyd_spec_reports.specs.Stops.{Stops}
 use Rattle.hyd_spec_reports.specs.declared.StopCause.{StopCause}
 use Rattle.hyd_cert.specs.RecordView.{row_of}
-use Rattle.hyd_graph.specs.GridOf.{grid_of, states_of}
-use Rattle.hyd_graph.specs.Periods.{ends_of, IsNetOf}
+use Rattle.hyd_period_network.specs.GridOf.{grid_of, states_of}
+use Rattle.hyd_period_network.specs.Periods.{ends_of, IsNetOf}
 use Rattle.hyd_report.specs.PeriodLines.{AreTankFacts, lines_of}
 use Rattle.hyd_report.proofs.ReportLemmas.{length-links_of, lines_are_report}
 use Rattle.hyd_bounds.specs.Bounds.{TanksInOrder}
@@ -23,8 +23,8 @@ use Rattle.hyd_spec_certificates.specs.Valid.{AreCertificates}
 use Rattle.hyd_spec_reports.specs.CertificateText.{record_text}
 use Rattle.hyd_cert.specs.declared.record.Record.{Record as Row}
 use Rattle.hyd_period_facts.specs.declared.facts.Facts.{Facts}
-use Rattle.hyd_graph.specs.NetView.{NetView}
-use Rattle.hyd_graph.specs.Settings.{AreStates}
+use Rattle.hyd_period_network.specs.NetView.{NetView}
+use Rattle.hyd_period_network.specs.Settings.{AreStates}
 use Rattle.hyd_report.specs.LinesOfParts.{texts}
 use Rattle.hyd_run.specs.Pens.{Moment, PutIn, IsCutOff}
 use Rattle.hyd_run.specs.Runs.{sharpness_of, IsStep, IsSoFar, IsCutShort, DidPeriod, LostPeriod, IsOver, periods_left}

@@ -13,9 +13,9 @@ ghost use Rattle.hyd_spec_reports.specs.Report.{IsReport};
 ghost use Rattle.hyd_cert.specs.RecordView.{row_of};
 ghost use Rattle.hyd_period_facts.specs.OfPeriod.{AreFacts};
 ghost use Rattle.hyd_bounds.specs.Bounds.{TanksInOrder};
-ghost use Rattle.hyd_graph.specs.GridOf.{grid_of, states_of};
-ghost use Rattle.hyd_graph.specs.Periods.{IsNetOf};
-ghost use Rattle.hyd_graph.specs.Settings.{AreStates};
+ghost use Rattle.hyd_period_network.specs.GridOf.{grid_of, states_of};
+ghost use Rattle.hyd_period_network.specs.Periods.{IsNetOf};
+ghost use Rattle.hyd_period_network.specs.Settings.{AreStates};
 ghost use Rattle.hyd_report.specs.LinesOfParts.{texts};
 ghost use Rattle.hyd_report.specs.PeriodLines.{AreTankFacts, lines_of};
 ghost use Rattle.hyd_report.specs.Putting.{Puts};
@@ -25,10 +25,10 @@ ghost use Rattle.hyd_run.specs.Runs.{outcome_of};
 use crate::outcome::RunEnd;
 use crate::pens::{put_end_line, put_row};
 use hyd_cert::Record;
-use hyd_graph::Net;
 use hyd_io::{Desk, OutFault, Pen};
 use hyd_net::Project;
 use hyd_period_facts::Facts;
+use hyd_period_network::Net;
 use hyd_report::{put_done, put_report, put_stop};
 
 // A number is below 2^32.

@@ -7,8 +7,8 @@ ghost use Rattle.hyd_run.specs.Runs.{StepPuts, StepsPut};
 
 use crate::outcome::RunEnd;
 use crate::period::{has_small_numbers, put_period};
+use hyd_finders::Finder;
 use hyd_io::{Desk, OutFault, Pen};
-use hyd_newton::Finder;
 use hyd_sim::{Sim, Step};
 
 // Does the period that is due and puts its record and its report. Answers how the run ended where none is due.

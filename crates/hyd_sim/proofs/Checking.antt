@@ -11,8 +11,8 @@ use Rattle.hyd_cert.specs.RecordView.{row_of, IsProblemOf}
 use Rattle.hyd_cert.specs.Vectors.{place_in}
 use Rattle.hyd_cert.specs.declared.record.Record.{Record as Row}
 use Rattle.hyd_cert.proofs.VectorLemmas.{vector_at, vector_within}
-use Rattle.hyd_graph.specs.NetView.{NetView}
-use Rattle.hyd_graph.specs.Nets.{HasProblem}
+use Rattle.hyd_period_network.specs.NetView.{NetView}
+use Rattle.hyd_period_network.specs.Nets.{HasProblem}
 use Rattle.hyd_period_vectors.specs.Vectors.{EachBefore}
 use Rattle.hyd_period_vectors.proofs.Turning.{own-turn}
 

@@ -8,8 +8,8 @@ use Rattle.hyd_spec_certificates.specs.declared.Side.TheVariants.{Upper}
 use Rattle.hyd_spec_certificates.specs.Grid.{Grid}
 use Rattle.hyd_spec_certificates.specs.Certificate.{IsCertificate}
 use Rattle.hyd_spec_certificates.specs.Record.{Record, vector_of}
-use Rattle.hyd_theorems_on_periods.specs.Laws.{IsSteady}
-use Rattle.hyd_theorems_on_periods.proofs.OneStanding.{one_vector}
+use Rattle.hyd_theorems_on_definitions.specs.Laws.{IsSteady}
+use Rattle.hyd_theorems_on_definitions.proofs.OneStanding.{one_vector}
 use Rattle.hyd_period_vectors.specs.Vectors.{IsAtHand, IsFound, IsReached, IsSought, IsTold}
 use Rattle.hyd_period_vectors.specs.Vectors.{InOrder, Comes, Tells, Lacks}
 use Rattle.hyd_period_vectors.specs.Vectors.{AreTold, HaveSame, LacksFirst, OfEach}

@@ -1,7 +1,7 @@
 -- A matter that the tight vectors of a standing leave open stops a run there.
 use Rattle.std.proofs.Common.{◌≡◌, ℕ, ℤ, Bool, List, refl}
 use Rattle.std.specs.Prelude.{Some, None, position, slice_get}
-use Rattle.hyd_spec.specs.Types.{Project, LinkState, Control, AtLevel}
+use Rattle.hyd_spec.specs.ProgramTypes.{Project, LinkState, Control, AtLevel}
 use Rattle.hyd_spec_certificates.specs.Grid.{Grid}
 use Rattle.hyd_spec_certificates.specs.Record.{Record, Standing}
 use Rattle.hyd_spec_certificates.specs.Decided.{EndsBy, RuleIsOpen, EventIsOpen}

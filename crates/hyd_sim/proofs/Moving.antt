@@ -3,7 +3,7 @@ use Rattle.std.proofs.Common.{◌≡◌, ◌≢◌, suc, ◌+◌, ◌^◌, ◌�
 use Rattle.std.proofs.Common.{◌∙◌, arith}
 use Rattle.std.proofs.lemmas.Bool.{true≢false}
 use Rattle.hyd_net.specs.Sound.{Sound}
-use Rattle.hyd_spec.specs.Types.{Project}
+use Rattle.hyd_spec.specs.ProgramTypes.{Project}
 use Rattle.hyd_spec_certificates.specs.Record.{Standing}
 use Rattle.hyd_spec_certificates.specs.Valid.{IsValid, LeadsOn, Continues, continues, finishes}
 use Rattle.hyd_theorems_on_histories.specs.Agreement.{IsKept}
@@ -13,9 +13,9 @@ use Rattle.hyd_theorems_on_nesting.proofs.Holding.{tidy_next}
 use Rattle.hyd_cert.specs.RecordView.{row_of}
 use Rattle.hyd_cert.specs.declared.record.Record.{Record as Row}
 use Rattle.hyd_period_facts.specs.declared.facts.Facts.{Facts}
-use Rattle.hyd_graph.specs.GridOf.{grid_of}
-use Rattle.hyd_graph.specs.NetView.{NetView}
-use Rattle.hyd_period_stocks.specs.Room.{HasRoom as HasNextRoom}
+use Rattle.hyd_period_network.specs.GridOf.{grid_of}
+use Rattle.hyd_period_network.specs.NetView.{NetView}
+use Rattle.hyd_period_stocks.specs.ReservedMemory.{HasRoom as HasNextRoom}
 use Rattle.hyd_period_end.specs.EndOfPeriod.{HasRoom, AreKeptIn}
 use Rattle.hyd_period_end.specs.declared.period_end.PeriodEnd.{PeriodEnd}
 use Rattle.hyd_sim.specs.Attempts.{IsMade, later_standing}

@@ -2,20 +2,20 @@
 use Rattle.std.proofs.Common.{◌≡◌, ℕ, suc, ◌<◌, List, [], ◌∷◌, length}
 use Rattle.std.proofs.Common.{refl, sym, subst, ◌∙◌, arith}
 use Rattle.std.specs.Prelude.{slice_index_or}
-use Rattle.hyd_spec.specs.Types.{Project}
+use Rattle.hyd_spec.specs.ProgramTypes.{Project}
 use Rattle.hyd_spec_certificates.specs.declared.Problem.TheVariants.{Main, Pinned}
 use Rattle.hyd_spec_certificates.specs.declared.Side.TheVariants.{Upper, Lower}
 use Rattle.hyd_spec_certificates.specs.Interval.{Interval}
 use Rattle.hyd_spec_certificates.specs.Grid.{Grid}
 use Rattle.hyd_spec_certificates.specs.Record.{Record, Standing, Vectors, no_vectors}
 use Rattle.hyd_spec_certificates.specs.Valid.{IsValid, LeadsOn, Continues, continues, finishes, levels_next}
-use Rattle.hyd_theorems_on_periods.proofs.OneLength.{one_length}
-use Rattle.hyd_theorems_on_periods.proofs.OneStanding.{one_standing}
+use Rattle.hyd_theorems_on_definitions.proofs.OneLength.{one_length}
+use Rattle.hyd_theorems_on_definitions.proofs.OneStanding.{one_standing}
 use Rattle.hyd_period_end.specs.OpenMatters.{SharesVectors, IsOpenAt, EndsWith, IsFirstControl}
 use Rattle.hyd_period_end.specs.declared.undecided.Open.{Open}
 use Rattle.hyd_period_end.specs.declared.undecided.Open.TheVariants.{Rule, Event, Tank, Control}
 use Rattle.hyd_period_stocks.specs.TankStart.{IsFirstOpen}
-use Rattle.hyd_rule_evaluation.specs.Trial.{open_rule}
+use Rattle.hyd_rules_in_period.specs.Trial.{open_rule}
 use Rattle.hyd_period_vectors.specs.Vectors.{HaveSame}
 use Rattle.hyd_sim.proofs.Proposing.{not-last, not-last-left, not-open-by-rule, not-open-by-event, same-seconds}
 use Rattle.hyd_sim.proofs.Proposing.{no-open-tank, no-open-control}

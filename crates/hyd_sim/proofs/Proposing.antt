@@ -4,7 +4,7 @@ use Rattle.std.proofs.Common.{ap, ◌∙◌, arith}
 use Rattle.std.specs.Prelude.{Option, Some, position, slice_get, slice_index_or, is_none}
 use Rattle.std.proofs.lemmas.List.Quantifiers.{position-Some}
 use Rattle.std.proofs.lemmas.Option.{slice_get_within, get_or_from_slice_get}
-use Rattle.hyd_spec.specs.Types.{Project, Tank, LinkState, Control, AtLevel}
+use Rattle.hyd_spec.specs.ProgramTypes.{Project, Tank, LinkState, Control, AtLevel}
 use Rattle.hyd_spec.specs.Lists.{map_from}
 use Rattle.hyd_spec.specs.declared.TankState.{TankState}
 use Rattle.hyd_spec_certificates.specs.Interval.{Interval}
@@ -18,7 +18,7 @@ use Rattle.hyd_spec_certificates.specs.Decided.{by_clock as decided_by_clock, ev
 use Rattle.hyd_spec_certificates.specs.Valid.{LeavesLinks, by_rules, by_clock, AreStates}
 use Rattle.hyd_spec_certificates.specs.Valid.{ControlsAreDecided}
 use Rattle.hyd_spec_reports.specs.Stops.{open_states, is_open_control}
-use Rattle.hyd_theorems_on_periods.proofs.OneAnswer.{one_end}
+use Rattle.hyd_theorems_on_definitions.proofs.OneAnswer.{one_end}
 
 -- ---- positions
 

@@ -6,7 +6,7 @@ use Rattle.hyd_spec_certificates.specs.declared.Side.{Side}
 use Rattle.hyd_spec_certificates.specs.Grid.{Grid}
 use Rattle.hyd_spec_certificates.specs.Certificate.{IsCertificate, IsTight}
 use Rattle.hyd_spec_certificates.specs.SearchSteps.{IsStart}
-use Rattle.hyd_theorems_on_periods.specs.Laws.{IsSteady}
+use Rattle.hyd_theorems_on_definitions.specs.Laws.{IsSteady}
 use Rattle.hyd_theorems_on_raises.proofs.Beginnings.{start-end}
 use Rattle.hyd_theorems_on_raises.proofs.Raising.{start-tight}
 use Rattle.hyd_sweep.specs.Strides.{AreLeapingRounds, no_round, one_round}

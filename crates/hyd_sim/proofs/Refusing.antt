@@ -2,8 +2,8 @@
 use Rattle.std.proofs.Common.{◌≡◌, ◌≢◌, ℕ, List, length, refl, sym, ap, subst, ◌∙◌}
 use Rattle.std.specs.Prelude.{true, Result, Ok, Err, IfErr, IsOk, is_err, slice_index_or}
 use Rattle.std.proofs.lemmas.Bool.{false≢true}
-use Rattle.hyd_spec.specs.Types.{Project, LinkState}
-use Rattle.hyd_spec.specs.Network.{tank_count}
+use Rattle.hyd_spec.specs.ProgramTypes.{Project, LinkState}
+use Rattle.hyd_spec.specs.NodeNumbers.{tank_count}
 use Rattle.hyd_spec_certificates.specs.declared.Problem.{Problem}
 use Rattle.hyd_spec_certificates.specs.declared.Problem.TheVariants.{Main, Pinned}
 use Rattle.hyd_spec_certificates.specs.declared.Side.{Side}
@@ -16,8 +16,8 @@ use Rattle.hyd_spec_certificates.specs.Valid.{continues, finishes, IsValid, Dema
 use Rattle.hyd_spec_reports.specs.declared.CertRefused.TheVariants.{Demand, Fails, Open as MatterOpen, Length}
 use Rattle.hyd_spec_reports.specs.Refusals.{IsRefused, IsInPlace, HasItsGrid, LeavesOpen, rule, event, tank, control}
 use Rattle.hyd_spec_reports.specs.Refusals.{HasOtherLength, at_end, before_end}
-use Rattle.hyd_theorems_on_periods.proofs.OneLength.{ends_again}
-use Rattle.hyd_theorems_on_periods.proofs.OneRefusal.{refused_invalid}
+use Rattle.hyd_theorems_on_definitions.proofs.OneLength.{ends_again}
+use Rattle.hyd_theorems_on_definitions.proofs.OneRefusal.{refused_invalid}
 use Rattle.hyd_cert.specs.RecordView.{row_of, IsProblemOf}
 use Rattle.hyd_cert.specs.Vectors.{two_vectors, behind_two, problems_in}
 use Rattle.hyd_cert.specs.declared.record.Record.{Record as Row}
@@ -25,10 +25,10 @@ use Rattle.hyd_period_end.specs.OpenMatters.{SharesVectors, IsOpenAt}
 use Rattle.hyd_period_end.specs.declared.undecided.Open.{Open}
 use Rattle.hyd_period_end.specs.declared.undecided.Open.TheVariants.{Rule as RuleIsFound, Event as EventIsFound}
 use Rattle.hyd_period_end.specs.declared.undecided.Open.TheVariants.{Tank as TankIsFound, Control as ControlIsFound}
-use Rattle.hyd_rule_evaluation.specs.Trial.{open_rule}
+use Rattle.hyd_rules_in_period.specs.Trial.{open_rule}
 use Rattle.hyd_period_end.specs.declared.period_end.PeriodEnd.{PeriodEnd}
 use Rattle.hyd_period_facts.specs.declared.facts.Facts.{Facts}
-use Rattle.hyd_graph.specs.NetView.{NetView}
+use Rattle.hyd_period_network.specs.NetView.{NetView}
 use Rattle.hyd_sim.specs.Acceptance.{FailsAt, IsTaken}
 use Rattle.hyd_sim.specs.Attempts.{IsMade, next_standing}
 use Rattle.hyd_sim.specs.View.{standing_for}

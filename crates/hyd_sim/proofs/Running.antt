@@ -6,8 +6,8 @@ use Rattle.std.proofs.Common.{◌≢◌, eq-eqb}
 use Rattle.std.proofs.lemmas.Bool.{ne_eqb}
 use Rattle.std.proofs.lemmas.Option.{slice_get_within, get_or_from_slice_get}
 use Rattle.hyd_spec.specs.Quantity.{demand_of}
-use Rattle.hyd_spec.specs.Types.{Project, Junction}
-use Rattle.hyd_spec.specs.Network.{junction_count, tank_count}
+use Rattle.hyd_spec.specs.ProgramTypes.{Project, Junction}
+use Rattle.hyd_spec.specs.NodeNumbers.{junction_count, tank_count}
 use Rattle.hyd_spec_certificates.specs.declared.Problem.{Problem}
 use Rattle.hyd_spec_certificates.specs.declared.Problem.TheVariants.{Main, Pinned}
 use Rattle.hyd_spec_certificates.specs.declared.Side.{Side}
@@ -19,9 +19,9 @@ use Rattle.hyd_spec_reports.specs.Stops.{Stops, IsFirstDemand, IsTightRow, Earli
 use Rattle.hyd_spec_reports.specs.Stops.{SpendsRounds}
 use Rattle.hyd_cert.specs.RecordView.{IsProblemOf}
 use Rattle.hyd_cert.specs.Vectors.{problems_in, behind_two}
-use Rattle.hyd_graph.proofs.Sounding.{long_zipped}
-use Rattle.hyd_graph.specs.NetView.{NetView}
-use Rattle.hyd_graph.specs.Periods.{IsNetOf}
+use Rattle.hyd_period_network.proofs.Sounding.{long_zipped}
+use Rattle.hyd_period_network.specs.NetView.{NetView}
+use Rattle.hyd_period_network.specs.Periods.{IsNetOf}
 use Rattle.hyd_period_vectors.specs.Vectors.{OfEach, Lacks, HasNone, AreSpent}
 use Rattle.hyd_period_vectors.specs.declared.lack.Lack.{Lack}
 use Rattle.hyd_period_vectors.specs.declared.lack.Lack.TheVariants.{NoCertificate as LacksCertificate}

@@ -7,22 +7,22 @@ use Rattle.std.proofs.lemmas.List.{length-map}
 use Rattle.std.specs.List.{AllZip}
 use Rattle.std.proofs.lemmas.Bool.{true≢false}
 use Rattle.hyd_net.specs.States.{CanHave}
-use Rattle.hyd_net.specs.Made.{IsStateMade}
-use Rattle.hyd_spec.specs.Types.{Project, Link, LinkState}
+use Rattle.hyd_net.specs.RoundedFileNumbers.{IsStateMade}
+use Rattle.hyd_spec.specs.ProgramTypes.{Project, Link, LinkState}
 use Rattle.hyd_theorems_on_histories.specs.Agreement.{IsOwnState}
 use Rattle.hyd_spec.specs.Tank.{walls_of}
 use Rattle.hyd_spec_certificates.specs.Valid.{ControlsAreDecided}
 use Rattle.hyd_spec_certificates.specs.declared.LevelSpan.{LevelSpan}
 use Rattle.hyd_tank.specs.Spans.{AreHeld}
 use Rattle.hyd_tank.specs.declared.spans.VolumeSpan.{VolumeSpan}
-use Rattle.hyd_ctrl.specs.Starts.{IsFirstOpen}
-use Rattle.hyd_ctrl.specs.declared.controls.LevelOpen.{LevelOpen}
+use Rattle.hyd_controls_and_rules.specs.Starts.{IsFirstOpen}
+use Rattle.hyd_controls_and_rules.specs.declared.period_start.LevelOpen.{LevelOpen}
 use Rattle.hyd_period_facts.specs.OfPeriod.{levels_of, volumes_of}
-use Rattle.hyd_period_facts.specs.Room.{HasRoom}
+use Rattle.hyd_period_facts.specs.ReservedMemory.{HasRoom}
 use Rattle.hyd_period_facts.specs.declared.facts.Facts.{Facts}
-use Rattle.hyd_graph.specs.Settings.{AreStates}
+use Rattle.hyd_period_network.specs.Settings.{AreStates}
 use Rattle.hyd_period_stocks.specs.TankStart.{stocks_among}
-use Rattle.hyd_period_end.specs.Begun.{AreReady}
+use Rattle.hyd_period_end.specs.FactsBeforeVectors.{AreReady}
 use Rattle.hyd_sim.specs.View.{IsStanding}
 use Rattle.hyd_sim.specs.declared.standing.Standing.{Standing as Here}
 use Rattle.hyd_sim.proofs.Proposing.{no-open-control}

@@ -1,8 +1,8 @@
 -- An attempt at a period: its vectors, and the end of the period by them.
 -- Source: this program's.
 use Rattle.std.specs.Prelude.{◌≡◌, ◌≢◌, ℕ, suc, ◌+◌, ◌<◌, ℤ, Bool, true, false, List, Option, ◌==◌, if◌then◌else◌}
-use Rattle.hyd_spec.specs.Types.{Project}
-use Rattle.hyd_spec.specs.Network.{tank_count}
+use Rattle.hyd_spec.specs.ProgramTypes.{Project}
+use Rattle.hyd_spec.specs.NodeNumbers.{tank_count}
 use Rattle.hyd_spec_certificates.specs.Grid.{Grid}
 use Rattle.hyd_spec_certificates.specs.Record.{Record, Standing}
 use Rattle.hyd_spec_certificates.specs.Valid.{LeadsOn, DemandsAreInRange, IsGridAt, IsValid}
@@ -10,16 +10,16 @@ use Rattle.hyd_cert.specs.RecordView.{row_of}
 use Rattle.hyd_cert.specs.declared.record.Record.{Record as Row}
 use Rattle.hyd_period_facts.specs.OfPeriod.{AreFacts}
 use Rattle.hyd_period_facts.specs.declared.facts.Facts.{Facts}
-use Rattle.hyd_graph.specs.GridOf.{grid_of, states_of}
-use Rattle.hyd_graph.specs.NetView.{NetView}
-use Rattle.hyd_graph.specs.Settings.{AreStates}
+use Rattle.hyd_period_network.specs.GridOf.{grid_of, states_of}
+use Rattle.hyd_period_network.specs.NetView.{NetView}
+use Rattle.hyd_period_network.specs.Settings.{AreStates}
 use Rattle.hyd_bounds.specs.Bounds.{TanksInOrder}
 use Rattle.hyd_spec_reports.specs.declared.StopCause.{StopCause}
-use Rattle.hyd_period_end.specs.Begun.{AreBegun, AreReady}
+use Rattle.hyd_period_end.specs.FactsBeforeVectors.{AreBegun, AreReady}
 use Rattle.hyd_period_end.specs.EndOfPeriod.{AreKeptIn}
 use Rattle.hyd_period_end.specs.OpenMatters.{IsOpenAt, SharesVectors}
 use Rattle.hyd_period_end.specs.declared.period_end.PeriodEnd.{PeriodEnd}
-use Rattle.hyd_watched_levels.specs.Started.{HaveTanks}
+use Rattle.hyd_watched_levels.specs.FactsAtStart.{HaveTanks}
 use Rattle.hyd_period_vectors.specs.Vectors.{OfEach, IsSought, Comes, LacksFirst}
 use Rattle.hyd_sim.specs.Sharp.{stop_of, open_stop_of}
 use Rattle.hyd_sim.specs.View.{standing_at, standing_for}

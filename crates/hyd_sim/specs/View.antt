@@ -1,7 +1,7 @@
 -- A run as contracts see it.
 use Rattle.std.specs.Prelude.{◌≡◌, ◌≤◌, ℕ, ◌+◌, Bool, false, List, length, map, Option, IfSome}
 use Rattle.hyd_net.specs.Sound.{Sound}
-use Rattle.hyd_spec.specs.Types.{Project, LinkState}
+use Rattle.hyd_spec.specs.ProgramTypes.{Project, LinkState}
 use Rattle.hyd_spec_certificates.specs.Record.{Standing}
 use Rattle.hyd_spec_reports.specs.CertificateText.{version_of}
 use Rattle.hyd_spec_reports.specs.Stops.{Stops}
@@ -13,14 +13,14 @@ use Rattle.hyd_cert.specs.RecordView.{header_of}
 use Rattle.hyd_cert.specs.declared.record.Record.{Record}
 use Rattle.hyd_period_facts.specs.OfPeriod.{levels_of, volumes_of}
 use Rattle.hyd_period_facts.specs.declared.facts.Facts.{Facts}
-use Rattle.hyd_period_facts.specs.Room.{HasRoom}
-use Rattle.hyd_graph.specs.NetView.{NetView}
-use Rattle.hyd_graph.specs.Periods.{IsNetOf}
-use Rattle.hyd_period_stocks.specs.Room.{HasRoom as HasNextRoom}
-use Rattle.hyd_period_stocks.specs.declared.tank_start.TankStart.{TankStart}
+use Rattle.hyd_period_facts.specs.ReservedMemory.{HasRoom}
+use Rattle.hyd_period_network.specs.NetView.{NetView}
+use Rattle.hyd_period_network.specs.Periods.{IsNetOf}
+use Rattle.hyd_period_stocks.specs.ReservedMemory.{HasRoom as HasNextRoom}
+use Rattle.hyd_period_stocks.specs.declared.tanks_at_start.TankStart.{TankStart}
 use Rattle.hyd_period_end.specs.EndOfPeriod.{HasRoom as HasCloseRoom, AreKeptIn}
 use Rattle.hyd_period_end.specs.declared.period_end.PeriodEnd.{PeriodEnd}
-use Rattle.hyd_period_vectors.specs.Room.{Room}
+use Rattle.hyd_period_vectors.specs.OpenedSearch.{Room}
 use Rattle.hyd_sim.specs.declared.settings.Settings.{Settings}
 use Rattle.hyd_sim.specs.declared.standing.Standing.{Standing as Here}
 

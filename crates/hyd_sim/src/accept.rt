@@ -3,13 +3,13 @@
 
 ghost use Rattle.std.specs.Prelude.{◌≡◌, Err, None, length, IfErr, OnErr, OnOk};
 ghost use Rattle.hyd_net.specs.Sound.{Sound};
-ghost use Rattle.hyd_spec.specs.Network.{tank_count};
+ghost use Rattle.hyd_spec.specs.NodeNumbers.{tank_count};
 ghost use Rattle.hyd_spec_certificates.specs.Valid.{AreCertificates};
 ghost use Rattle.hyd_spec_reports.specs.Refusals.{HasItsGrid, IsInPlace, IsRefused};
 ghost use Rattle.hyd_cert.specs.RecordView.{header_of, row_of};
-ghost use Rattle.hyd_period_facts.specs.Room.{HasRoom};
-ghost use Rattle.hyd_graph.specs.GridOf.{grid_of};
-ghost use Rattle.hyd_graph.specs.Periods.{IsNetOf};
+ghost use Rattle.hyd_period_facts.specs.ReservedMemory.{HasRoom};
+ghost use Rattle.hyd_period_network.specs.GridOf.{grid_of};
+ghost use Rattle.hyd_period_network.specs.Periods.{IsNetOf};
 ghost use Rattle.hyd_period_end.specs.EndOfPeriod.{HasRoom as HasCloseRoom};
 ghost use Rattle.hyd_period_end.specs.OpenMatters.{SharesVectors};
 ghost use Rattle.hyd_period_vectors.specs.Vectors.{Stays};
@@ -18,15 +18,15 @@ ghost use Rattle.hyd_sim.specs.Attempts.{IsMade, IsStarted};
 ghost use Rattle.hyd_sim.specs.View.{IsStanding, header_for, standing_for, standing_of};
 
 use crate::attempt::end_period;
+use crate::found_period::start_period;
 use crate::given_vectors::{check_vectors, take_vectors};
-use crate::period::start_period;
 use crate::sim::Sim;
 use crate::standing::Standing;
 use hyd_cert::Record;
-use hyd_graph::Net;
 use hyd_net::{LinkState, Project};
 use hyd_period_end::PeriodEnd;
 use hyd_period_facts::Facts;
+use hyd_period_network::Net;
 use hyd_spec_reports::CertRefused;
 
 // Decides whether a record is the one that is due: the run isn't over, and its number and its time are the next.

@@ -3,14 +3,14 @@
 
 ghost use Rattle.std.specs.Prelude.{◌≡◌, false, length, IfErr, OnOk};
 ghost use Rattle.hyd_net.specs.Sound.{Sound};
-ghost use Rattle.hyd_spec.specs.Network.{tank_count};
+ghost use Rattle.hyd_spec.specs.NodeNumbers.{tank_count};
 ghost use Rattle.hyd_spec_certificates.specs.Valid.{AreCertificates};
 ghost use Rattle.hyd_cert.specs.RecordView.{header_of, row_of};
-ghost use Rattle.hyd_period_facts.specs.Room.{HasRoom};
-ghost use Rattle.hyd_graph.specs.GridOf.{grid_of};
-ghost use Rattle.hyd_graph.specs.Periods.{IsNetOf};
+ghost use Rattle.hyd_period_facts.specs.ReservedMemory.{HasRoom};
+ghost use Rattle.hyd_period_network.specs.GridOf.{grid_of};
+ghost use Rattle.hyd_period_network.specs.Periods.{IsNetOf};
 ghost use Rattle.hyd_bounds.specs.Bounds.{TanksInOrder};
-ghost use Rattle.hyd_period_end.specs.Begun.{AreBegun, AreReady};
+ghost use Rattle.hyd_period_end.specs.FactsBeforeVectors.{AreBegun, AreReady};
 ghost use Rattle.hyd_period_end.specs.EndOfPeriod.{HasRoom as HasCloseRoom};
 ghost use Rattle.hyd_period_end.specs.declared.period_end.PeriodEnd as closes;
 ghost use Rattle.hyd_period_end.specs.OpenMatters.{IsOpenAt, SharesVectors};
@@ -20,11 +20,11 @@ ghost use Rattle.hyd_sim.specs.Attempts.{AreSought, IsFault, IsMade, IsOver, IsS
 
 use crate::standing::Standing;
 use hyd_cert::Record;
-use hyd_graph::Net;
+use hyd_finders::Finder;
 use hyd_net::Project;
-use hyd_newton::Finder;
 use hyd_period_end::{Open, PeriodEnd};
 use hyd_period_facts::Facts;
+use hyd_period_network::Net;
 use hyd_period_vectors::{Lack, Search};
 use hyd_tank_inflows::put_inflows;
 

@@ -6,15 +6,15 @@ ghost use Rattle.hyd_spec_certificates.specs.declared.Side.TheVariants.{Upper};
 ghost use Rattle.hyd_spec_certificates.specs.Certificate.{IsCertificate};
 ghost use Rattle.hyd_spec_reports.specs.Stops.{turn};
 ghost use Rattle.hyd_cert.specs.RecordView.{header_of, row_of};
-ghost use Rattle.hyd_graph.specs.GridOf.{grid_of};
-ghost use Rattle.hyd_graph.specs.Nets.{HasProblem};
+ghost use Rattle.hyd_period_network.specs.GridOf.{grid_of};
+ghost use Rattle.hyd_period_network.specs.Nets.{HasProblem};
 ghost use Rattle.hyd_period_vectors.specs.Vectors.{EachBefore, OfEach, Fits, Stays};
 ghost use Rattle.hyd_sim.specs.Acceptance.{FailsAt};
 
 use hyd_cert::Record;
-use hyd_check::check;
-use hyd_graph::Net;
+use hyd_period_network::Net;
 use hyd_spec_certificates::{Problem, Side};
+use hyd_vector_check::check;
 
 /// The first vector of a record that isn't a certificate.
 #[derive(Debug, Clone, Copy, PartialEq, Eq, Drop)]

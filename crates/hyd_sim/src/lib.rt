@@ -3,16 +3,16 @@
 
 mod accept;
 mod attempt;
-mod causes;
+mod found_period;
 mod given_vectors;
 mod narrow;
 mod opening;
-mod period;
+mod period_start;
 mod settings;
 mod sim;
 mod standing;
-mod start;
 mod steps;
+mod stop_causes;
 
 pub use settings::Settings;
 pub use sim::Sim;

@@ -6,18 +6,18 @@ ghost use Rattle.hyd_net.specs.Sound.{Sound};
 ghost use Rattle.hyd_spec_certificates.specs.Record.{initial_standing};
 ghost use Rattle.hyd_cert.specs.RecordView.{header_of};
 ghost use Rattle.hyd_period_end.specs.EndOfPeriod.{HasRoom as HasCloseRoom};
-ghost use Rattle.hyd_period_facts.specs.Room.{HasRoom};
-ghost use Rattle.hyd_graph.specs.Periods.{IsNetOf};
+ghost use Rattle.hyd_period_facts.specs.ReservedMemory.{HasRoom};
+ghost use Rattle.hyd_period_network.specs.Periods.{IsNetOf};
 ghost use Rattle.hyd_sim.specs.View.{IsStanding, header_for, standing_for, standing_of};
 
 use crate::settings::Settings;
 use crate::sim::Sim;
 use crate::standing::Standing;
 use hyd_cert::{Record, version_of};
-use hyd_graph::Net;
 use hyd_net::{LinkState, OutOfMemory, Project};
 use hyd_period_end::PeriodEnd;
 use hyd_period_facts::Facts;
+use hyd_period_network::Net;
 use hyd_period_stocks::TankStart;
 use hyd_period_vectors::Search;
 use std::alloc::Global;
@@ -52,41 +52,82 @@ fn first_standing(alloc: Global, project: &Project) -> Result<Standing, OutOfMem
     })
 }
 
-// All that a run holds beside its network and what it is asked for.
+// What finds and keeps the vectors of a period.
 #[derive(Drop)]
-struct Parts {
-    net: Net,
-    search: Search,
+struct VectorParts {
     row: Record,
-    facts: Facts,
-    standing: Standing,
+    search: Search,
+    net: Net,
+}
+
+// What a run knows of a period besides, and of its end.
+#[derive(Drop)]
+struct PeriodParts {
     links: Vec<LinkState>,
+    standing: Standing,
+    facts: Facts,
     close: PeriodEnd,
 }
 
-// The parts of a run at its start.
-fn open_parts(alloc: Global, project: &Project, rounds: u32) -> Result<Parts, OutOfMemory>
+// All that a run holds beside its network and what it is asked for.
+#[derive(Drop)]
+struct Parts {
+    period: PeriodParts,
+    vectors: VectorParts,
+}
+
+fn open_vector_parts(
+    alloc: Global,
+    project: &Project,
+    rounds: u32,
+) -> Result<VectorParts, OutOfMemory>
     requires { Sound project.now }
     ensures net { IfOk result (λ parts. IsNetOf project.now parts.net) }
     ensures search { IfOk result (λ parts. parts.search
         ≡ record { junctions = length project.now.junctions.list; rounds = rounds }) }
     ensures header { IfOk result (λ parts. header_of parts.row ≡ header_for project.now) }
+{
+    let junctions = project.junctions.len() as u32;
+    let tanks = project.tanks.len() as u32;
+    Ok(VectorParts {
+        row: Record::open(alloc, version_of(project), junctions, tanks)?,
+        search: Search::open(alloc, junctions, rounds)?,
+        net: Net::open(alloc, project)?,
+    })
+}
+
+fn open_period_parts(alloc: Global, project: &Project) -> Result<PeriodParts, OutOfMemory>
+    requires { Sound project.now }
     ensures facts { IfOk result (λ parts. HasRoom project.now parts.facts) }
     ensures initial { IfOk result (λ parts. standing_for parts.standing ≡ initial_standing project.now) }
     ensures standing { IfOk result (λ parts. IsStanding project.now parts.standing) }
     ensures links { IfOk result (λ parts. length parts.links.items ≡ length project.now.links.list) }
     ensures close { IfOk result (λ parts. HasCloseRoom project.now parts.close) }
 {
-    let junctions = project.junctions.len() as u32;
-    let tanks = project.tanks.len() as u32;
-    Ok(Parts {
-        net: Net::open(alloc, project)?,
-        search: Search::open(alloc, junctions, rounds)?,
-        row: Record::open(alloc, version_of(project), junctions, tanks)?,
-        facts: Facts::open(alloc, project)?,
-        standing: first_standing(alloc, project)?,
+    Ok(PeriodParts {
         links: starts(alloc, project)?,
+        standing: first_standing(alloc, project)?,
+        facts: Facts::open(alloc, project)?,
         close: PeriodEnd::open(alloc, project)?,
+    })
+}
+
+// The parts of a run at its start, in two steps: a function that takes memory often and owns much is slow to prove.
+fn open_parts(alloc: Global, project: &Project, rounds: u32) -> Result<Parts, OutOfMemory>
+    requires { Sound project.now }
+    ensures net { IfOk result (λ parts. IsNetOf project.now parts.vectors.net) }
+    ensures search { IfOk result (λ parts. parts.vectors.search
+        ≡ record { junctions = length project.now.junctions.list; rounds = rounds }) }
+    ensures header { IfOk result (λ parts. header_of parts.vectors.row ≡ header_for project.now) }
+    ensures facts { IfOk result (λ parts. HasRoom project.now parts.period.facts) }
+    ensures initial { IfOk result (λ parts. standing_for parts.period.standing ≡ initial_standing project.now) }
+    ensures standing { IfOk result (λ parts. IsStanding project.now parts.period.standing) }
+    ensures links { IfOk result (λ parts. length parts.period.links.items ≡ length project.now.links.list) }
+    ensures close { IfOk result (λ parts. HasCloseRoom project.now parts.period.close) }
+{
+    Ok(Parts {
+        period: open_period_parts(alloc, project)?,
+        vectors: open_vector_parts(alloc, project, rounds)?,
     })
 }
 
@@ -103,13 +144,13 @@ impl Sim {
         Ok(Sim {
             project,
             settings,
-            net: parts.net,
-            search: parts.search,
-            row: parts.row,
-            facts: parts.facts,
-            standing: parts.standing,
-            links: parts.links,
-            close: parts.close,
+            net: parts.vectors.net,
+            search: parts.vectors.search,
+            row: parts.vectors.row,
+            facts: parts.period.facts,
+            standing: parts.period.standing,
+            links: parts.period.links,
+            close: parts.period.close,
             stopped: None,
         })
     }

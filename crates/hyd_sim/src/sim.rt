@@ -3,10 +3,10 @@
 use crate::settings::Settings;
 use crate::standing::Standing;
 use hyd_cert::Record;
-use hyd_graph::Net;
 use hyd_net::{LinkState, Project};
 use hyd_period_end::PeriodEnd;
 use hyd_period_facts::Facts;
+use hyd_period_network::Net;
 use hyd_period_vectors::Search;
 use hyd_spec_reports::StopCause;
 use std::marker::Model;

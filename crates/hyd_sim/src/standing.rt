@@ -5,10 +5,10 @@ ghost use Rattle.std.specs.Prelude.{◌≡◌, ◌≤◌, ◌+◌, ◌^◌, true
 ghost use Rattle.hyd_net.specs.Sound.{Sound};
 
 use hyd_cert::Record;
-use hyd_graph::Net;
 use hyd_net::{LinkState, Project};
 use hyd_period_end::PeriodEnd;
 use hyd_period_facts::Facts;
+use hyd_period_network::Net;
 use hyd_period_stocks::TankStart;
 use std::mem::swap;
 

@@ -2,8 +2,8 @@
 ghost use Rattle.std.specs.Prelude.{◌≡◌, length, IfOk};
 
 use crate::elimination::eliminate;
-use crate::layout::make_pattern;
 use crate::pattern::Pattern;
+use crate::pattern_making::make_pattern;
 use crate::solution::solve;
 use std::alloc::{AllocError as OutOfMemory, Global};
 use std::marker::Model;

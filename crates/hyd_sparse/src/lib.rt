@@ -5,9 +5,9 @@
 
 mod elimination;
 mod factor;
-mod layout;
 mod ordering;
 mod pattern;
+mod pattern_making;
 mod permutation;
 mod queue;
 mod solution;

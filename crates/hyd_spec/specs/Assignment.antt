@@ -3,12 +3,12 @@
 -- Source: EPANET 2.2 User Manual, chapter 3 (hydraulic simulation model).
 use Rattle.std.specs.Prelude.{◌≡◌, ℕ, ◌≤◌, ℤ, pos, ◌+ℤ◌, ◌-ℤ◌, Bool, true, false, List, [], ◌∷◌, ◌++◌, length, map}
 use Rattle.std.specs.Prelude.{slice_index_or, ◌==◌}
-use Rattle.hyd_spec.specs.Types.{Project, Junction, Link, LinkState, Tank, TankState}
+use Rattle.hyd_spec.specs.ProgramTypes.{Project, Junction, Link, LinkState, Tank, TankState}
 use Rattle.hyd_spec.specs.Scale.{at_scale}
 use Rattle.hyd_spec.specs.Quantity.{reservoir_head}
 use Rattle.hyd_spec.specs.Law.{Follows}
 use Rattle.hyd_spec.specs.LinkLaw.{law_of}
-use Rattle.hyd_spec.specs.Network.{junction_count, tank_count}
+use Rattle.hyd_spec.specs.NodeNumbers.{junction_count, tank_count}
 use Rattle.hyd_spec.specs.Lists.{Each}
 use Rattle.hyd_spec.specs.Outflow.{IsWithinTolerance, FollowsDemand, FollowsEmitter}
 

@@ -2,15 +2,15 @@
 -- Source: EPANET 2.2 User Manual, chapter 3 (extended period simulation).
 use Rattle.std.specs.Prelude.{◌≡◌, ◌≢◌, ℕ, ◌+◌, ◌%◌, ℤ, pos, List, [], ◌∷◌, length, map, ⊤, slice_index_or}
 use Rattle.std.specs.Prelude.{if◌then◌else◌, ◌==◌}
-use Rattle.hyd_spec.specs.Types.{Project, Tank, TankState, LinkState}
+use Rattle.hyd_spec.specs.ProgramTypes.{Project, Tank, TankState, LinkState}
 use Rattle.hyd_spec.specs.Lists.{Each}
 use Rattle.hyd_spec.specs.Scale.{at_scale}
-use Rattle.hyd_spec.specs.Network.{tank_count}
+use Rattle.hyd_spec.specs.NodeNumbers.{tank_count}
 use Rattle.hyd_spec.specs.Assignment.{IsAssignment}
 use Rattle.hyd_spec.specs.Tank.{IsNextStock, walls_of, kept_volume, tank_state, tank_inflow}
-use Rattle.hyd_spec.specs.Start.{started, acts_at}
+use Rattle.hyd_spec.specs.PeriodStart.{started, acts_at}
 use Rattle.hyd_spec.specs.Rules.{acted}
-use Rattle.hyd_spec.specs.Length.{Period, HasItsLength, stock_at_start, values_at}
+use Rattle.hyd_spec.specs.PeriodLength.{Period, HasItsLength, stock_at_start, values_at}
 
 -- The states of tanks at their levels.
 abbrev pub tank_states : ℕ → List Tank → List ℤ → List TankState

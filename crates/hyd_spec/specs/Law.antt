@@ -5,8 +5,8 @@
 use Rattle.std.specs.Prelude.{ℕ, ◌*◌, ◌^◌, ℤ, pos, negsuc, neg_ℤ, unsigned_abs, ◌*ℤ◌, ◌+ℤ◌, ◌-ℤ◌, ◌≤ℤ◌, ◌⊎◌, suc, ⊤}
 use Rattle.std.specs.Prelude.{Bool, List}
 use Rattle.hyd_num.specs.Fraction.{Fraction, fraction, over, power}
-use Rattle.hyd_num.specs.Quantity.{is_us_unit, billionths, head_ticks, flow_fraction, pressure_fraction}
-use Rattle.hyd_spec.specs.Types.{Decimal, FlowUnit, Origin, Pipe, Valve, Pump, Emitter, PressureDemand, Capacity}
+use Rattle.hyd_num.specs.FileQuantity.{is_us_unit, billionths, head_ticks, flow_fraction, pressure_fraction}
+use Rattle.hyd_spec.specs.ProgramTypes.{Decimal, FlowUnit, Origin, Pipe, Valve, Pump, Emitter, PressureDemand, Capacity}
 use Rattle.hyd_num.specs.Rational.{Rational}
 use Rattle.hyd_net.specs.Curves.{Knot, value_at}
 use Rattle.hyd_spec.specs.Scale.{at_scale, tolerance}

@@ -4,10 +4,12 @@
 use Rattle.std.specs.Prelude.{ℕ, ◌^◌, ℤ, pos, neg_ℤ, Bool, true, false, ◌&&◌, ◌||◌, not, List, slice_get, if◌then◌else◌}
 use Rattle.std.specs.Option.{option_map_or}
 use Rattle.hyd_net.specs.ListView.{ListView}
-use Rattle.hyd_spec.specs.Types.{Project, Tank, Link, HeadPoint, LinkKind, PipeLink, CheckPipe, PumpLink, CurvePump}
-use Rattle.hyd_spec.specs.Types.{Tcv, Fcv, Gpv, OpenValve, Quadratic, Linear, LinkState, Open, Closed, Speed, Throttle}
-use Rattle.hyd_spec.specs.Types.{Limit, TankState, Full, Empty, Between}
-use Rattle.hyd_spec.specs.Network.{is_tank, tank_number}
+use Rattle.hyd_spec.specs.ProgramTypes.{Project, Tank, Link, HeadPoint, LinkKind, PipeLink, CheckPipe, PumpLink}
+use Rattle.hyd_spec.specs.ProgramTypes.{CurvePump}
+use Rattle.hyd_spec.specs.ProgramTypes.{Tcv, Fcv, Gpv, OpenValve, Quadratic, Linear, LinkState, Open, Closed, Speed}
+use Rattle.hyd_spec.specs.ProgramTypes.{Throttle}
+use Rattle.hyd_spec.specs.ProgramTypes.{Limit, TankState, Full, Empty, Between}
+use Rattle.hyd_spec.specs.NodeNumbers.{is_tank, tank_number}
 use Rattle.hyd_spec.specs.Quantity.{is_us, lift_of, points_of, pump_knots, valve_knots}
 use Rattle.hyd_spec.specs.Law.{Law, Shut, QuadraticLaw, LinearLaw, Lifted, ForwardOnly, ReverseOnly, Capped, Bent, Held}
 

@@ -10,8 +10,8 @@
 -- (minor losses).
 use Rattle.std.specs.Prelude.{ℕ, ◌*◌, ◌^◌, ◌≤◌, Bool}
 use Rattle.hyd_num.specs.Fraction.{Fraction, AtMost, times, minus, over, power}
-use Rattle.hyd_num.specs.Quantity.{billionths, ordinary, feet, feet_across}
-use Rattle.hyd_spec.specs.Types.{Decimal}
+use Rattle.hyd_num.specs.FileQuantity.{billionths, ordinary, feet, feet_across}
+use Rattle.hyd_spec.specs.ProgramTypes.{Decimal}
 
 -- ---- units of the formulas
 

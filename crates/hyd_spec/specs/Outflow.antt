@@ -4,7 +4,7 @@
 -- pressure-driven analysis and an emitter at a negative pressure are this program's.
 use Rattle.std.specs.Prelude.{◌≡◌, ℕ, ℤ, pos, ◌+ℤ◌, ◌-ℤ◌, ◌≤ℤ◌, Bool, false, int_le, if◌then◌else◌, MatchBool}
 use Rattle.std.specs.Prelude.{MatchOption}
-use Rattle.hyd_spec.specs.Types.{Project, Junction}
+use Rattle.hyd_spec.specs.ProgramTypes.{Project, Junction}
 use Rattle.hyd_num.specs.Rational.{Rational, negated, is_at_most}
 use Rattle.hyd_spec.specs.Scale.{at_scale, tolerance}
 use Rattle.hyd_spec.specs.Quantity.{is_us, demand_of, minimum_pressure, required_pressure}

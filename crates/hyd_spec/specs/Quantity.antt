@@ -7,11 +7,11 @@
 use Rattle.std.specs.Prelude.{ℕ, ◌+◌, ◌*◌, ◌/◌, ◌%◌, ◌^◌, ℤ, pos, neg_ℤ, unsigned_abs, ◌*ℤ◌, Bool, List, [], ◌++◌}
 use Rattle.std.specs.Prelude.{length, map, reverse, slice_get, slice_index_or}
 use Rattle.std.specs.Option.{option_map_or, option_or}
-use Rattle.hyd_num.specs.Quantity.{is_us_unit, head_ticks, pressure_numerator, pressure_denominator}
+use Rattle.hyd_num.specs.FileQuantity.{is_us_unit, head_ticks, pressure_numerator, pressure_denominator}
 use Rattle.hyd_net.specs.ListView.{ListView}
 use Rattle.hyd_net.specs.Curves.{Knot}
-use Rattle.hyd_spec.specs.Types.{Project, Junction, Demand, Reservoir, Decimal, ShutoffHead, FourThirds, Given}
-use Rattle.hyd_spec.specs.Types.{HeadPoint}
+use Rattle.hyd_spec.specs.ProgramTypes.{Project, Junction, Demand, Reservoir, Decimal, ShutoffHead, FourThirds, Given}
+use Rattle.hyd_spec.specs.ProgramTypes.{HeadPoint}
 use Rattle.hyd_num.specs.Rational.{Rational}
 use Rattle.hyd_spec.specs.Scale.{cut, total}
 

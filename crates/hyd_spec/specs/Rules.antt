@@ -7,16 +7,19 @@ use Rattle.std.specs.Prelude.{List, [], ◌∷◌, ◌++◌, Option, Some, None,
 use Rattle.std.specs.Prelude.{unsigned_abs, if◌then◌else◌, ◌==◌}
 use Rattle.std.specs.List.{list_any, list_all}
 use Rattle.std.specs.Option.{option_map_or, option_and_then}
-use Rattle.hyd_spec.specs.Types.{Project, Rule, RuleClause, Joined, And, Or, Clause, What, Head, Pressure, Level, Flow}
-use Rattle.hyd_spec.specs.Types.{Setting, Status, Time, Clock, Relation, Less, NotMore, More, NotLess, Equal, Unequal}
-use Rattle.hyd_spec.specs.Types.{Value, Amount, ValueOpen, ValueClosed, ValueActive, Action, LinkState, Open, Closed}
-use Rattle.hyd_spec.specs.Types.{Speed, Throttle, Limit, Change, ByRule}
+use Rattle.hyd_spec.specs.ProgramTypes.{Project, Rule, RuleClause, Joined, And, Or, Clause, What, Head, Pressure, Level}
+use Rattle.hyd_spec.specs.ProgramTypes.{Flow}
+use Rattle.hyd_spec.specs.ProgramTypes.{Setting, Status, Time, Clock, Relation, Less, NotMore, More, NotLess, Equal}
+use Rattle.hyd_spec.specs.ProgramTypes.{Unequal}
+use Rattle.hyd_spec.specs.ProgramTypes.{Value, Amount, ValueOpen, ValueClosed, ValueActive, Action, LinkState, Open}
+use Rattle.hyd_spec.specs.ProgramTypes.{Closed}
+use Rattle.hyd_spec.specs.ProgramTypes.{Speed, Throttle, Limit, Change, ByRule}
 use Rattle.hyd_spec.specs.Lists.{map_from, present}
 use Rattle.hyd_num.specs.Rational.{Rational, whole, total_of, is_less, is_at_most}
 use Rattle.hyd_spec.specs.Scale.{at_scale, is_same_number}
-use Rattle.hyd_spec.specs.Network.{is_tank, tank_number}
+use Rattle.hyd_spec.specs.NodeNumbers.{is_tank, tank_number}
 use Rattle.hyd_spec.specs.Quantity.{is_us, pressure_value}
-use Rattle.hyd_spec.specs.Start.{day, clock_at}
+use Rattle.hyd_spec.specs.PeriodStart.{day, clock_at}
 
 -- ---- commanded states
 

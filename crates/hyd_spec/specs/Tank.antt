@@ -7,11 +7,11 @@ use Rattle.std.specs.Prelude.{◌≡◌, ℕ, ◌*◌, ◌^◌, ℤ, pos, ◌+�
 use Rattle.std.specs.Prelude.{slice_get, if◌then◌else◌, int_le, unsigned_abs, MatchBool}
 use Rattle.std.specs.Option.{option_map_or}
 use Rattle.hyd_net.specs.Curves.{Knot, value_at, volume_at}
-use Rattle.hyd_spec.specs.Types.{Project, Tank, VolumePoint, TankState, Full, Between, Empty}
+use Rattle.hyd_spec.specs.ProgramTypes.{Project, Tank, VolumePoint, TankState, Full, Between, Empty}
 use Rattle.hyd_num.specs.Rational.{Rational, is_at_most, whole}
 use Rattle.hyd_spec.specs.Scale.{at_scale, is_same_number}
 use Rattle.hyd_spec.specs.Assignment.{net_outflow}
-use Rattle.hyd_spec.specs.Network.{tank_node}
+use Rattle.hyd_spec.specs.NodeNumbers.{tank_node}
 
 -- ---- stocks
 

@@ -1,12 +1,13 @@
 -- Boxes: intervals for flows, outflows and tank inflows, from certificates. Flows are in flow ticks.
 -- Source: this program's, from the bounds of heads (Rheinboldt 1970).
 use Rattle.std.specs.Prelude.{ℕ, ◌*◌, ℤ, pos, neg_ℤ, ◌-ℤ◌, List, Option, is_some, if◌then◌else◌}
-use Rattle.hyd_spec.specs.Types.{Capacity}
+use Rattle.hyd_spec.specs.ProgramTypes.{Capacity}
 use Rattle.hyd_spec_certificates.specs.declared.Problem.TheVariants.{Pinned}
 use Rattle.hyd_spec_certificates.specs.declared.Side.TheVariants.{Upper, Lower}
 use Rattle.hyd_spec_certificates.specs.Interval.{Interval, widened, sum_of, exactly}
 use Rattle.hyd_spec.specs.Assignment.{head_at}
-use Rattle.hyd_spec_certificates.specs.Enclosing.{low, high, demand_low, demand_high, emitter_low, emitter_high}
+use Rattle.hyd_spec_certificates.specs.EnclosingFunctions.{low, high, demand_low, demand_high, emitter_low}
+use Rattle.hyd_spec_certificates.specs.EnclosingFunctions.{emitter_high}
 use Rattle.hyd_spec_certificates.specs.Grid.{Grid, GridLink, GridJunction, all_heads}
 use Rattle.hyd_spec_certificates.specs.NetOutflow.{net, link_ends}
 

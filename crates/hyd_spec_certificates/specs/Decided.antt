@@ -6,7 +6,7 @@ use Rattle.std.specs.Prelude.{◌⊎◌, List, [], ◌∷◌, ◌++◌, Option, 
 use Rattle.std.specs.Prelude.{if◌then◌else◌, int_le, unsigned_abs, Contains, position}
 use Rattle.std.specs.Int.{int_max}
 use Rattle.std.specs.List.{list_any}
-use Rattle.hyd_spec.specs.Types.{Project, Tank, LinkState, Control, When, AtLevel, Rule, RuleClause, Clause}
+use Rattle.hyd_spec.specs.ProgramTypes.{Project, Tank, LinkState, Control, When, AtLevel, Rule, RuleClause, Clause}
 use Rattle.hyd_spec.specs.declared.TankState.{TankState}
 use Rattle.hyd_spec.specs.declared.Change.{Change}
 use Rattle.hyd_spec_certificates.specs.declared.Problem.TheVariants.{Main}
@@ -16,12 +16,12 @@ use Rattle.hyd_spec_certificates.specs.declared.Truth.TheVariants.{True, False, 
 use Rattle.hyd_spec.specs.Lists.{map_from, present}
 use Rattle.hyd_num.specs.Rational.{whole, floor, ceiling}
 use Rattle.hyd_spec_certificates.specs.Interval.{Interval, exactly}
-use Rattle.hyd_spec.specs.Network.{tank_node}
+use Rattle.hyd_spec.specs.NodeNumbers.{tank_node}
 use Rattle.hyd_spec.specs.Tank.{Walls, walls_of, reaches}
 use Rattle.hyd_spec.specs.LinkLaw.{is_full, is_empty}
-use Rattle.hyd_spec.specs.Start.{started}
+use Rattle.hyd_spec.specs.PeriodStart.{started}
 use Rattle.hyd_spec.specs.Rules.{Readings, clause_holds, groups_of, rule_changes, measured}
-use Rattle.hyd_spec.specs.Length.{IsLeast, EndsByClock}
+use Rattle.hyd_spec.specs.PeriodLength.{IsLeast, EndsByClock}
 use Rattle.hyd_spec_certificates.specs.Grid.{Grid, all_heads}
 use Rattle.hyd_spec_certificates.specs.Boxes.{flow_box, inflow_box}
 use Rattle.hyd_spec_certificates.specs.Record.{Record, Standing}

@@ -1,8 +1,8 @@
 -- The first second at which a tank may, or must, have reached a target level, up to a cap.
 -- Source: EPANET 2.2 User Manual, chapter 3 (tanks: when one fills or empties), between two ends.
 use Rattle.std.specs.Prelude.{◌≡◌, ℕ, ◌≤◌, ℤ, Bool, IsTrue, ◌⊎◌}
-use Rattle.hyd_spec.specs.Types.{Tank}
-use Rattle.hyd_spec.specs.Length.{IsLeast}
+use Rattle.hyd_spec.specs.ProgramTypes.{Tank}
+use Rattle.hyd_spec.specs.PeriodLength.{IsLeast}
 use Rattle.hyd_spec_certificates.specs.Interval.{Interval}
 use Rattle.hyd_spec.specs.Tank.{Walls}
 use Rattle.hyd_spec_certificates.specs.Stocks.{Stocks, may_reach, must_reach}

@@ -4,7 +4,7 @@
 use Rattle.std.specs.Prelude.{◌≡◌, ℕ, ℤ, List, [], ◌∷◌, ◌++◌, map, Option, MatchBool, ◌==◌, if◌then◌else◌}
 use Rattle.std.specs.List.{AllZip}
 use Rattle.hyd_num.specs.CapacityPairs.{IsMade}
-use Rattle.hyd_spec.specs.Types.{Project, Junction, Link, LinkState, Tank, Capacity, PressureDemand}
+use Rattle.hyd_spec.specs.ProgramTypes.{Project, Junction, Link, LinkState, Tank, Capacity, PressureDemand}
 use Rattle.hyd_spec.specs.declared.TankState.{TankState}
 use Rattle.hyd_spec_certificates.specs.declared.Problem.{Problem}
 use Rattle.hyd_spec_certificates.specs.declared.Problem.TheVariants.{Main, Pinned}
@@ -16,7 +16,7 @@ use Rattle.hyd_spec.specs.Quantity.{is_us, demand_of, reservoir_head, minimum_pr
 use Rattle.hyd_spec.specs.Law.{Law}
 use Rattle.hyd_spec.specs.LinkLaw.{law_of}
 use Rattle.hyd_spec.specs.Outflow.{is_pressure_driven}
-use Rattle.hyd_spec_certificates.specs.Enclosing.{DemandLaw, Fixed, Driven}
+use Rattle.hyd_spec_certificates.specs.EnclosingFunctions.{DemandLaw, Fixed, Driven}
 
 -- A link: the numbers of its nodes, and its law in its state and between its tanks.
 pub record GridLink : Type 0 where

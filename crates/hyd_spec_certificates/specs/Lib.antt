@@ -1,10 +1,10 @@
 pub mod Interval
-pub mod Enclosing
+pub mod EnclosingFunctions
 pub mod Grid
 pub mod NetOutflow
 pub mod Certificate
 pub mod SearchSteps
-pub mod HeldBoxes
+pub mod BoxesWithHeldJunction
 pub mod Boxes
 pub mod Stocks
 pub mod Verdict

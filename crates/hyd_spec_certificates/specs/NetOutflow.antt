@@ -6,7 +6,8 @@ use Rattle.hyd_spec_certificates.specs.declared.Problem.{Problem}
 use Rattle.hyd_spec_certificates.specs.declared.Side.TheVariants.{Upper, Lower}
 use Rattle.hyd_spec.specs.Assignment.{head_at, where_so}
 use Rattle.hyd_spec.specs.Law.{Law}
-use Rattle.hyd_spec_certificates.specs.Enclosing.{low, high, demand_low, demand_high, emitter_low, emitter_high}
+use Rattle.hyd_spec_certificates.specs.EnclosingFunctions.{low, high, demand_low, demand_high, emitter_low}
+use Rattle.hyd_spec_certificates.specs.EnclosingFunctions.{emitter_high}
 use Rattle.hyd_spec_certificates.specs.Grid.{Grid, GridLink, GridJunction, all_heads}
 
 -- The flows out of a node by one function of a law, less those into it by another, over a list of links.

@@ -1,7 +1,7 @@
 -- Records of a certificate, and what is carried from one period to the next.
 -- Source: this program's.
 use Rattle.std.specs.Prelude.{ℕ, ℤ, Bool, false, List, [], map, slice_index_or}
-use Rattle.hyd_spec.specs.Types.{Project, Tank, LinkState}
+use Rattle.hyd_spec.specs.ProgramTypes.{Project, Tank, LinkState}
 use Rattle.hyd_spec.specs.declared.TankState.{TankState}
 use Rattle.hyd_spec_certificates.specs.declared.Problem.{Problem}
 use Rattle.hyd_spec_certificates.specs.declared.Problem.TheVariants.{Main, Pinned}

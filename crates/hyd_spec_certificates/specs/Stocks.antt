@@ -3,7 +3,7 @@
 -- Source: EPANET 2.2 User Manual, chapter 3 (tanks; curves), over intervals.
 use Rattle.std.specs.Prelude.{ℕ, ℤ, pos, ◌+ℤ◌, ◌-ℤ◌, Bool, true, false, List, Option, Some, None, if◌then◌else◌}
 use Rattle.std.specs.Int.{int_max, int_min}
-use Rattle.hyd_spec.specs.Types.{Tank, VolumePoint}
+use Rattle.hyd_spec.specs.ProgramTypes.{Tank, VolumePoint}
 use Rattle.hyd_spec.specs.declared.TankState.{TankState}
 use Rattle.hyd_spec.specs.declared.TankState.TheVariants.{Full, Between, Empty}
 use Rattle.hyd_num.specs.Rational.{Rational, floor, ceiling, whole}

@@ -4,8 +4,8 @@ use Rattle.std.specs.Prelude.{◌≡◌, ℕ, Bool, true, false, ◌&&◌, not, 
 use Rattle.hyd_num.specs.Numeral.{nano_of}
 use Rattle.hyd_num.specs.declared.decimals.Decimal.{Decimal}
 use Rattle.hyd_num.specs.declared.flow_units.FlowUnit.{FlowUnit}
-use Rattle.hyd_num.specs.declared.capacities.Origin.TheVariants.{Pipe, Valve, Pump, Emitter}
-use Rattle.hyd_num.specs.Refusal.{IsRefused}
+use Rattle.hyd_num.specs.declared.link_capacities.Origin.TheVariants.{Pipe, Valve, Pump, Emitter}
+use Rattle.hyd_num.specs.CapacityRange.{IsRefused}
 use Rattle.hyd_spec_lines.specs.Lines.{Row}
 use Rattle.hyd_spec_lines.specs.declared.section.Section.{Section}
 use Rattle.hyd_spec_lines.specs.declared.section.Section.TheVariants.{Pipes, Pumps, Valves, Emitters, Status, Controls}
@@ -15,7 +15,7 @@ use Rattle.hyd_spec_input.specs.NetworkRows.{pipe_minor, pump_curve, is_throttle
 use Rattle.hyd_spec_input.specs.Tables.{is_of, link_named, curve_named}
 use Rattle.hyd_spec_input.specs.InForce.{unit}
 use Rattle.hyd_spec_input.specs.Curves.{Drop, drop_of, is_bent}
-use Rattle.hyd_spec_input.specs.WithOthers.{us, is_status, holds_action}
+use Rattle.hyd_spec_input.specs.RowsTogether.{us, is_status, holds_action}
 
 -- ---- numbers in billionths
 

@@ -7,8 +7,8 @@ use lib.Signed.{le_z}
 use Rattle.hyd_num.specs.Numeral.{is_numeral, magnitude_of, nano_of}
 use Rattle.hyd_spec_lines.specs.Bytes.{is_keyword}
 use Rattle.hyd_spec_lines.specs.Headings.{is_one_of}
-use Rattle.hyd_net.specs.declared.cause.Cause.{Cause}
-use Rattle.hyd_net.specs.declared.cause.Cause.TheVariants.{Syntax, Number, Range, Unsupported, Limit}
+use Rattle.hyd_net.specs.declared.refusal_cause.Cause.{Cause}
+use Rattle.hyd_net.specs.declared.refusal_cause.Cause.TheVariants.{Syntax, Number, Range, Unsupported, Limit}
 
 -- ---- the first of several faults
 

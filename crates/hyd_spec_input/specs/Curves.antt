@@ -6,7 +6,7 @@ use Rattle.std.specs.Prelude.{◌*ℤ◌, ◌-ℤ◌, int_div}
 use Rattle.std.specs.Ordering.{int_eq}
 use Rattle.std.specs.List.{list_all}
 use lib.Signed.{le_z, lt_z}
-use Rattle.hyd_num.specs.Quantity.{head_ticks, flow_ticks}
+use Rattle.hyd_num.specs.FileQuantity.{head_ticks, flow_ticks}
 use Rattle.hyd_num.specs.Rational.{whole, is_at_most}
 use Rattle.hyd_num.specs.declared.flow_units.FlowUnit.{FlowUnit}
 use Rattle.hyd_net.specs.Curves.{value_at, head_knots, volume_at}

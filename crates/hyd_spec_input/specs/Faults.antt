@@ -9,13 +9,13 @@ use Rattle.hyd_spec_lines.specs.declared.fault.LexCause.{LexCause}
 use Rattle.hyd_spec_lines.specs.declared.fault.LexCause.TheVariants.{LongLine}
 use Rattle.hyd_spec_lines.specs.declared.section.Section.TheVariants.{Reservoirs, Tanks}
 use Rattle.hyd_spec_input.specs.Columns.{first, unless}
-use Rattle.hyd_spec_input.specs.ByItself.{IsWrongByItself}
+use Rattle.hyd_spec_input.specs.SingleRows.{IsWrongByItself}
 use Rattle.hyd_spec_input.specs.Tables.{rows_of}
 use Rattle.hyd_spec_input.specs.InForce.{names_head_loss}
-use Rattle.hyd_spec_input.specs.WithOthers.{row_fault}
+use Rattle.hyd_spec_input.specs.RowsTogether.{row_fault}
 use Rattle.hyd_spec_input.specs.Capacities.{IsRefusedRow}
-use Rattle.hyd_net.specs.declared.cause.Cause.{Cause}
-use Rattle.hyd_net.specs.declared.cause.Cause.TheVariants.{Syntax, Unsupported, Limit, Missing}
+use Rattle.hyd_net.specs.declared.refusal_cause.Cause.{Cause}
+use Rattle.hyd_net.specs.declared.refusal_cause.Cause.TheVariants.{Syntax, Unsupported, Limit, Missing}
 
 -- ---- wrong with the others
 

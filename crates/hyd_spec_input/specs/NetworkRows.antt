@@ -10,8 +10,8 @@ use Rattle.hyd_spec_input.specs.Columns.{Column, id, one_of, number, number_wher
 use Rattle.hyd_spec_input.specs.Columns.{above_0_to, supported, or_else, first, unless, is_there, needed, optional}
 use Rattle.hyd_spec_input.specs.Columns.{ends, word, amount_or, amount, word_is, word_is_of, units}
 use Rattle.hyd_spec_input.specs.declared.EarlierKeys.{EarlierKeys}
-use Rattle.hyd_net.specs.declared.cause.Cause.{Cause}
-use Rattle.hyd_net.specs.declared.cause.Cause.TheVariants.{Syntax, Range, Unsupported}
+use Rattle.hyd_net.specs.declared.refusal_cause.Cause.{Cause}
+use Rattle.hyd_net.specs.declared.refusal_cause.Cause.TheVariants.{Syntax, Range, Unsupported}
 
 -- ---- nodes
 

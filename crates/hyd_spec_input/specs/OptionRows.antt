@@ -10,8 +10,8 @@ use Rattle.hyd_spec_input.specs.declared.OptionWord.TheVariants.{Units, HeadLoss
 use Rattle.hyd_spec_input.specs.declared.OptionWord.TheVariants.{Pressure, Emitter, Specific, Unused}
 use Rattle.hyd_spec_input.specs.declared.TimeWord.{TimeWord}
 use Rattle.hyd_spec_input.specs.declared.TimeWord.TheVariants as at
-use Rattle.hyd_net.specs.declared.cause.Cause.{Cause}
-use Rattle.hyd_net.specs.declared.cause.Cause.TheVariants.{Syntax}
+use Rattle.hyd_net.specs.declared.refusal_cause.Cause.{Cause}
+use Rattle.hyd_net.specs.declared.refusal_cause.Cause.TheVariants.{Syntax}
 
 -- ---- options
 

@@ -5,13 +5,13 @@ use Rattle.std.specs.Prelude.{◌≡◌, ℕ, ◌+◌, Bool, true, false, ◌&&�
 use Rattle.std.specs.Prelude.{slice_get, if◌then◌else◌, ℤ, pos, ◌<ℤ◌, ◌*ℤ◌, ⊤}
 use Rattle.std.specs.Ordering.{int_eq}
 use Rattle.hyd_num.specs.Numeral.{nano_of}
-use Rattle.hyd_num.specs.Quantity.{head_ticks, flow_ticks}
+use Rattle.hyd_num.specs.FileQuantity.{head_ticks, flow_ticks}
 use Rattle.hyd_num.specs.CapacityPairs.{IsMade}
 use Rattle.hyd_num.specs.declared.decimals.Decimal.{Decimal}
 use Rattle.hyd_num.specs.declared.flow_units.FlowUnit.{FlowUnit}
-use Rattle.hyd_num.specs.declared.capacities.Capacity.{Capacity}
-use Rattle.hyd_num.specs.declared.capacities.Origin.TheVariants.{Pipe as PipeOrigin, Valve as ValveOrigin}
-use Rattle.hyd_num.specs.declared.capacities.Origin.TheVariants.{Pump as PumpOrigin, Emitter as EmitterOrigin}
+use Rattle.hyd_num.specs.declared.link_capacities.Capacity.{Capacity}
+use Rattle.hyd_num.specs.declared.link_capacities.Origin.TheVariants.{Pipe as PipeOrigin, Valve as ValveOrigin}
+use Rattle.hyd_num.specs.declared.link_capacities.Origin.TheVariants.{Pump as PumpOrigin, Emitter as EmitterOrigin}
 use Rattle.hyd_spec_lines.specs.Bytes.{is_keyword}
 use Rattle.hyd_spec_lines.specs.Lines.{Row}
 use Rattle.hyd_spec_lines.specs.declared.section.Section.TheVariants.{Junctions, Reservoirs, Tanks, Pipes, Pumps}
@@ -27,16 +27,18 @@ use Rattle.hyd_spec_input.specs.Tables.{Point, is_of, rows_of, words_of, link_na
 use Rattle.hyd_spec_input.specs.InForce as force
 use Rattle.hyd_spec_input.specs.InForce.{unit}
 use Rattle.hyd_spec_input.specs.Curves.{Drop, drop_of, is_bent, head_points, volume_points}
-use Rattle.hyd_spec_input.specs.WithOthers.{us}
-use Rattle.hyd_spec_input.specs.RowMeanings.{node_ids, tank_ids, link_ids, number_in, pattern_ids, pattern_number}
-use Rattle.hyd_spec_input.specs.RowMeanings.{shape_names, bend_names, demands_of, emitter_of, status_of, rule_groups}
-use Rattle.hyd_spec_input.specs.RowMeanings.{clause_lines, then_lines, else_lines, rule_id, priority_of}
+use Rattle.hyd_spec_input.specs.RowsTogether.{us}
+use Rattle.hyd_spec_input.specs.MeaningsAcrossRows.{node_ids, tank_ids, link_ids, number_in, pattern_ids}
+use Rattle.hyd_spec_input.specs.MeaningsAcrossRows.{pattern_number}
+use Rattle.hyd_spec_input.specs.MeaningsAcrossRows.{shape_names, bend_names, demands_of, emitter_of, status_of}
+use Rattle.hyd_spec_input.specs.MeaningsAcrossRows.{rule_groups}
+use Rattle.hyd_spec_input.specs.MeaningsAcrossRows.{clause_lines, then_lines, else_lines, rule_id, priority_of}
 use Rattle.hyd_spec_input.specs.declared.ObjectWord.{ObjectWord}
 use Rattle.hyd_spec_input.specs.declared.Attribute.{Attribute}
 use Rattle.hyd_spec_input.specs.declared.Attribute.TheVariants as attribute
 use Rattle.hyd_spec_input.specs.declared.RuleWord.{RuleWord}
 use Rattle.hyd_spec_input.specs.declared.RuleWord.TheVariants as rule
-use Rattle.hyd_net.specs.Made.{IsAreaMade, IsShutoffMade, IsAmount}
+use Rattle.hyd_net.specs.RoundedFileNumbers.{IsAreaMade, IsShutoffMade, IsAmount}
 use Rattle.hyd_net.specs.declared.curves.VolumePoint.{VolumePoint}
 use Rattle.hyd_net.specs.declared.curves.HeadPoint.{HeadPoint}
 use Rattle.hyd_net.specs.declared.options.Options.{Options}

@@ -20,8 +20,8 @@ use Rattle.hyd_spec_input.specs.declared.Stage.{Stage}
 use Rattle.hyd_spec_input.specs.declared.Stage.TheVariants.{Outside, Named, Asking, Acting, Otherwise, Closed}
 use Rattle.hyd_net.specs.declared.rules.Relation.{Relation}
 use Rattle.hyd_net.specs.declared.rules.Relation.TheVariants.{Equal, Unequal}
-use Rattle.hyd_net.specs.declared.cause.Cause.{Cause}
-use Rattle.hyd_net.specs.declared.cause.Cause.TheVariants.{Syntax, Unsupported}
+use Rattle.hyd_net.specs.declared.refusal_cause.Cause.{Cause}
+use Rattle.hyd_net.specs.declared.refusal_cause.Cause.TheVariants.{Syntax, Unsupported}
 
 -- ---- the order of a rule's lines
 

@@ -14,7 +14,7 @@ use Rattle.hyd_spec_input.specs.declared.NodeWord.{NodeWord}
 use Rattle.hyd_spec_input.specs.declared.NodeWord.TheVariants.{Node, Junction, Tank, Reservoir}
 use Rattle.hyd_spec_input.specs.declared.LinkWord.{LinkWord}
 use Rattle.hyd_spec_input.specs.declared.LinkWord.TheVariants.{Link, Pipe, Pump, Valve}
-use Rattle.hyd_spec_input.specs.BelongingRows.{multipliers}
+use Rattle.hyd_spec_input.specs.DemandCurveAndStatusRows.{multipliers}
 
 -- ---- rows by section
 

@@ -6,9 +6,10 @@ use Rattle.hyd_num.specs.Rational.{Rational, is_at_most, whole}
 use Rattle.hyd_num.specs.PrintedDecimals.{head_quantity, pressure_quantity, flow_quantity}
 use Rattle.hyd_net.specs.ListView.{ListView}
 use Rattle.hyd_net.specs.Curves.{value_at}
-use Rattle.hyd_spec.specs.Types.{Project, Junction, Reservoir, Tank, Link, LinkKind, PipeLink, CheckPipe, PumpLink}
-use Rattle.hyd_spec.specs.Types.{CurvePump, Tcv, Fcv, Gpv, HeadPoint, OpenValve, LinkState, Open, Closed, Speed}
-use Rattle.hyd_spec.specs.Types.{Throttle, Limit, Control, AtLevel}
+use Rattle.hyd_spec.specs.ProgramTypes.{Project, Junction, Reservoir, Tank, Link, LinkKind, PipeLink, CheckPipe}
+use Rattle.hyd_spec.specs.ProgramTypes.{PumpLink}
+use Rattle.hyd_spec.specs.ProgramTypes.{CurvePump, Tcv, Fcv, Gpv, HeadPoint, OpenValve, LinkState, Open, Closed, Speed}
+use Rattle.hyd_spec.specs.ProgramTypes.{Throttle, Limit, Control, AtLevel}
 use Rattle.hyd_spec.specs.declared.TankState.{TankState}
 use Rattle.hyd_spec.specs.declared.TankState.TheVariants.{Full, Empty}
 use Rattle.hyd_spec.specs.declared.Change.{Change}
@@ -23,9 +24,9 @@ use Rattle.hyd_spec.specs.Law.{flow_at_least}
 use Rattle.hyd_spec.specs.LinkLaw.{valve_law}
 use Rattle.hyd_spec.specs.Assignment.{node_heads, head_at, flow_at}
 use Rattle.hyd_spec.specs.Tank.{tank_inflow, reaches}
-use Rattle.hyd_spec.specs.Start.{acts_at}
+use Rattle.hyd_spec.specs.PeriodStart.{acts_at}
 use Rattle.hyd_spec.specs.Rules.{rule_changes}
-use Rattle.hyd_spec.specs.Length.{Period, level_at_start, watched_after, values_at}
+use Rattle.hyd_spec.specs.PeriodLength.{Period, level_at_start, watched_after, values_at}
 use Rattle.hyd_spec_reports.specs.Report.{start_changes}
 use Rattle.hyd_spec_reports.specs.ReportLine.{ReportLine, ControlLine, TimeLine, JunctionLine, ReservoirLine, TankLine}
 use Rattle.hyd_spec_reports.specs.ReportLine.{LinkLine, FilledLine, EmptiedLine, ReachedLine, RuleLine}

@@ -8,9 +8,10 @@ use Rattle.hyd_num.specs.Rational.{Rational, floor, ceiling}
 use Rattle.hyd_num.specs.PrintedDecimals.{head_quantity, pressure_quantity, flow_quantity, IsRoundedDown, IsRoundedUp}
 use Rattle.hyd_net.specs.ListView.{ListView}
 use Rattle.hyd_net.specs.Curves.{Knot, value_at}
-use Rattle.hyd_spec.specs.Types.{Project, Link, LinkKind, PipeLink, CheckPipe, PumpLink, CurvePump, Tcv, Fcv, Gpv}
-use Rattle.hyd_spec.specs.Types.{HeadPoint, LinkState, Open, Closed, Speed, Throttle, Limit, Tank, Control, When}
-use Rattle.hyd_spec.specs.Types.{AtLevel}
+use Rattle.hyd_spec.specs.ProgramTypes.{Project, Link, LinkKind, PipeLink, CheckPipe, PumpLink, CurvePump, Tcv, Fcv}
+use Rattle.hyd_spec.specs.ProgramTypes.{Gpv}
+use Rattle.hyd_spec.specs.ProgramTypes.{HeadPoint, LinkState, Open, Closed, Speed, Throttle, Limit, Tank, Control, When}
+use Rattle.hyd_spec.specs.ProgramTypes.{AtLevel}
 use Rattle.hyd_spec.specs.declared.TankState.{TankState}
 use Rattle.hyd_spec.specs.declared.Change.{Change}
 use Rattle.hyd_spec.specs.declared.Source.{Source}
@@ -27,9 +28,9 @@ use Rattle.hyd_spec_certificates.specs.Interval.{Interval, exactly, shifted}
 use Rattle.hyd_spec.specs.Quantity.{is_us, lift_of, points_of, pump_knots}
 use Rattle.hyd_spec.specs.Assignment.{head_at}
 use Rattle.hyd_spec.specs.LinkLaw.{valve_law, is_full, is_empty}
-use Rattle.hyd_spec.specs.Start.{patterned, control_acts}
+use Rattle.hyd_spec.specs.PeriodStart.{patterned, control_acts}
 use Rattle.hyd_spec.specs.Rules.{is_same_state, state_of_link}
-use Rattle.hyd_spec_certificates.specs.Enclosing.{low, high}
+use Rattle.hyd_spec_certificates.specs.EnclosingFunctions.{low, high}
 use Rattle.hyd_spec_certificates.specs.Grid.{Grid, GridLink, GridJunction}
 use Rattle.hyd_spec_certificates.specs.Boxes.{difference, out_box}
 use Rattle.hyd_spec_certificates.specs.Record.{Record, Standing}

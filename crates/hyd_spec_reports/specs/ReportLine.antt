@@ -5,7 +5,7 @@
 use Rattle.std.specs.Prelude.{ℕ, ◌+◌, ◌/◌, ◌%◌, List, [], ◌∷◌, ◌++◌, map, codes, slice_index_or, unsigned_abs}
 use Rattle.std.specs.Fmt.{decimal, signed_decimal}
 use Rattle.hyd_num.specs.PrintedDecimals.{decimal_text, setting_text, last_digits}
-use Rattle.hyd_spec.specs.Types.{Project, LinkState, Open, Closed, Speed, Throttle, Limit}
+use Rattle.hyd_spec.specs.ProgramTypes.{Project, LinkState, Open, Closed, Speed, Throttle, Limit}
 use Rattle.hyd_spec.specs.declared.TankState.{TankState}
 use Rattle.hyd_spec.specs.declared.TankState.TheVariants.{Full, Between, Empty}
 use Rattle.hyd_spec_certificates.specs.declared.Problem.{Problem}
@@ -24,7 +24,7 @@ use Rattle.hyd_spec_reports.specs.declared.CertRefused.TheVariants.{Place, Deman
 use Rattle.hyd_spec_reports.specs.declared.CertRefused.TheVariants.{After}
 use Rattle.hyd_spec.specs.Lists.{joined}
 use Rattle.hyd_spec_certificates.specs.Interval.{Interval}
-use Rattle.hyd_spec.specs.Network.{tank_node, junction_count}
+use Rattle.hyd_spec.specs.NodeNumbers.{tank_node, junction_count}
 use Rattle.hyd_spec_reports.specs.CertificateText.{line}
 use Rattle.hyd_spec_reports.specs.Stops.{period_of}
 

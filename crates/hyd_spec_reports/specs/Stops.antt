@@ -2,7 +2,7 @@
 -- Source: this program's.
 use Rattle.std.specs.Prelude.{◌≡◌, ℕ, ◌+◌, ◌*◌, ◌<◌, ◌≤◌, ℤ, pos, neg_ℤ, Bool, List, Some, None, length, replicate}
 use Rattle.std.specs.Prelude.{slice_get, slice_index_or, unsigned_abs, position, is_none, false}
-use Rattle.hyd_spec.specs.Types.{Project, Junction, LinkState, Control, When, AtLevel}
+use Rattle.hyd_spec.specs.ProgramTypes.{Project, Junction, LinkState, Control, When, AtLevel}
 use Rattle.hyd_spec_certificates.specs.declared.Problem.{Problem}
 use Rattle.hyd_spec_certificates.specs.declared.Problem.TheVariants.{Main, Pinned}
 use Rattle.hyd_spec_certificates.specs.declared.Side.{Side}
@@ -13,7 +13,7 @@ use Rattle.hyd_spec_reports.specs.declared.StopCause.TheVariants.{RoundsSpent, R
 use Rattle.hyd_spec_reports.specs.declared.StopCause.TheVariants.{ControlOpen}
 use Rattle.hyd_spec.specs.Lists.{map_from}
 use Rattle.hyd_spec_certificates.specs.Interval.{Interval}
-use Rattle.hyd_spec.specs.Network.{junction_count}
+use Rattle.hyd_spec.specs.NodeNumbers.{junction_count}
 use Rattle.hyd_spec.specs.Quantity.{demand_of}
 use Rattle.hyd_spec_certificates.specs.Grid.{Grid}
 use Rattle.hyd_spec_certificates.specs.Certificate.{box_limit, IsCertificate, AreRounds, IsTight}

@@ -9,7 +9,7 @@ ghost use Rattle.hyd_spec_certificates.specs.Record.{Standing};
 ghost use Rattle.hyd_spec_reports.specs.CertificateText.{end_line};
 ghost use Rattle.hyd_spec_reports.specs.Headline.{EndsSo, last_line, is_finished};
 ghost use Rattle.hyd_spec_summary.specs.Summary.{summary_line};
-ghost use Rattle.hyd_spec.specs.Network.{junction_count};
+ghost use Rattle.hyd_spec.specs.NodeNumbers.{junction_count};
 ghost use Rattle.hyd_sim.specs.View.{standing_of};
 ghost use Rattle.hyd_run.specs.Pens.{Moment, told, moment, AreOpen, PutsIn};
 ghost use Rattle.hyd_run.specs.Runs.{fresh, outcome_of, sharpness_of};

@@ -6,8 +6,8 @@ ghost use Rattle.hyd_summarised_run.specs.SummarisedRuns.{aside, StepSums, Steps
 
 use crate::pens::put_row;
 use hyd_cert::Record;
+use hyd_finders::Finder;
 use hyd_io::{Desk, OutFault, Pen};
-use hyd_newton::Finder;
 use hyd_run::RunEnd;
 use hyd_sim::{Sim, Step};
 

@@ -12,8 +12,8 @@ ghost use Rattle.hyd_summarised_run.specs.SummarisedRuns.{IsSummed, IsSumBrokenO
 use crate::ending::put_ending;
 use crate::pens::put_header;
 use crate::steps::put_steps;
+use hyd_finders::Finder;
 use hyd_io::{Desk, OutFault, Pen};
-use hyd_newton::Finder;
 use hyd_run::RunEnd;
 use hyd_sim::Sim;
 

@@ -13,12 +13,12 @@ use Rattle.hyd_spec_certificates.specs.declared.HeldJunction.{HeldJunction}
 use Rattle.hyd_spec_certificates.specs.Grid.{Grid, GridJunction}
 use Rattle.hyd_spec_certificates.specs.Certificate.{Passes, IsBeyond, IsCertificateHolding}
 use Rattle.hyd_spec_certificates.specs.SearchSteps.{IsStart, IsLeap, Fails}
-use Rattle.hyd_theorems_on_periods.specs.Laws.{IsSteady}
-use Rattle.hyd_theorems_on_periods.specs.Sides.{along}
+use Rattle.hyd_theorems_on_definitions.specs.Laws.{IsSteady}
+use Rattle.hyd_theorems_on_definitions.specs.Sides.{along}
 use Rattle.hyd_theorems_on_raises.proofs.Leading.{beyond-is, lead, IsLeading, passes-leading, fails-leading}
 use Rattle.hyd_theorems_on_raises.proofs.Raising.{beyond-self, by-beyond, set-here, set-there}
 use Rattle.hyd_theorems_on_raises.proofs.Sweeping.{one-vector, vector-self, vector-trans}
-use Rattle.hyd_check.proofs.Lookups.{junction-there}
+use Rattle.hyd_vector_check.proofs.Lookups.{junction-there}
 use Rattle.hyd_sweep.specs.Leaps.{nearer, IsTurn, IsLeapInTurn, LeadsOn}
 
 pub along-nearer : (side : Side) (h : ℤ) → along side (nearer side h) ≡ along side h -ℤ pos 1

@@ -13,10 +13,10 @@ use Rattle.hyd_spec.specs.Assignment.{head_at}
 use Rattle.hyd_spec.specs.Lists.{Each}
 use Rattle.hyd_spec_certificates.specs.Grid.{Grid, GridJunction}
 use Rattle.hyd_spec_certificates.specs.Certificate.{IsInBox, Suits, IsCertificateHolding, IsTightHolding}
-use Rattle.hyd_theorems_on_periods.specs.Laws.{IsSteady}
+use Rattle.hyd_theorems_on_definitions.specs.Laws.{IsSteady}
 use Rattle.hyd_spec_certificates.specs.SearchSteps.{IsStart, Climbs, done, raised, HasRounds, HasParts, LiesBeyond}
-use Rattle.hyd_theorems_on_periods.specs.Sides.{along}
-use Rattle.hyd_check.proofs.Lookups.{junction-there}
+use Rattle.hyd_theorems_on_definitions.specs.Sides.{along}
+use Rattle.hyd_vector_check.proofs.Lookups.{junction-there}
 use Rattle.hyd_theorems_on_raises.proofs.Leading.{beyond-is}
 use Rattle.hyd_theorems_on_raises.proofs.Raising.{set-in-box, set-here, along-one, no-value, start-tight, inside-of}
 use Rattle.hyd_theorems_on_raises.proofs.Sweeping.{vector-self, climb-on, climb-start, climb-so-far, so-far-begins}

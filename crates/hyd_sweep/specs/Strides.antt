@@ -7,7 +7,7 @@ use Rattle.hyd_spec_certificates.specs.declared.Problem.{Problem}
 use Rattle.hyd_spec_certificates.specs.declared.Side.{Side}
 use Rattle.hyd_spec_certificates.specs.declared.HeldJunction.{HeldJunction}
 use Rattle.hyd_spec_certificates.specs.Grid.{Grid}
-use Rattle.hyd_theorems_on_periods.specs.Sides.{along}
+use Rattle.hyd_theorems_on_definitions.specs.Sides.{along}
 use Rattle.hyd_sweep.specs.declared.strides.Stride.{Stride}
 use Rattle.hyd_sweep.specs.declared.answers.Swept.{Swept}
 use Rattle.hyd_sweep.specs.declared.answers.Swept.TheVariants.{Least, NoCertificate, RoundsSpent}

@@ -4,7 +4,7 @@
 mod answers;
 mod beginning;
 mod leaps;
-mod next_trial;
+mod next_head;
 mod raises_in_order;
 mod raising;
 mod rounds;

@@ -4,13 +4,13 @@
 ghost use Rattle.std.specs.Prelude.{◌≡◌, ◌<◌, length, All, None};
 ghost use Rattle.hyd_spec_certificates.specs.declared.Side.TheVariants.{Upper, Lower};
 ghost use Rattle.hyd_spec_certificates.specs.Certificate.{IsInBox};
-ghost use Rattle.hyd_graph.specs.GridOf.{grid_of};
-ghost use Rattle.hyd_graph.specs.Nets.{HasProblem};
+ghost use Rattle.hyd_period_network.specs.GridOf.{grid_of};
+ghost use Rattle.hyd_period_network.specs.Nets.{HasProblem};
 ghost use Rattle.hyd_sweep.specs.Sweeps.{FollowGives, FollowLeads, HoldsInBox};
 
 use crate::answers::Raised;
 use crate::raising::raise;
-use hyd_graph::Net;
+use hyd_period_network::Net;
 use hyd_spec_certificates::{HeldJunction, Problem, Side};
 
 // Raises the junctions of an order.

@@ -6,19 +6,19 @@ ghost use Rattle.std.specs.Prelude.{None};
 ghost use Rattle.hyd_spec.specs.Assignment.{head_at};
 ghost use Rattle.hyd_spec_certificates.specs.declared.Side.TheVariants.{Upper, Lower};
 ghost use Rattle.hyd_spec_certificates.specs.Certificate.{box_limit, IsInBox};
-ghost use Rattle.hyd_theorems_on_periods.specs.Laws.{IsSteady};
-ghost use Rattle.hyd_theorems_on_periods.specs.Sides.{along};
-ghost use Rattle.hyd_graph.specs.GridOf.{grid_of};
-ghost use Rattle.hyd_graph.specs.Nets.{HasProblem};
-ghost use Rattle.hyd_check.specs.Sides.{PassesWith};
+ghost use Rattle.hyd_theorems_on_definitions.specs.Laws.{IsSteady};
+ghost use Rattle.hyd_theorems_on_definitions.specs.Sides.{along};
+ghost use Rattle.hyd_period_network.specs.GridOf.{grid_of};
+ghost use Rattle.hyd_period_network.specs.Nets.{HasProblem};
+ghost use Rattle.hyd_vector_check.specs.Sides.{PassesWith};
 ghost use Rattle.hyd_sweep.specs.Sweeps.{IsFree, IsHeldAt, further, RaisesTo, HasNoValue, RaiseGives, HoldsInBox};
 
 use crate::answers::Raised;
-use crate::next_trial::Aim;
+use crate::next_head::Aim;
 use crate::ticks::{further, is_beyond, room};
-use hyd_check::{head_of, surplus};
-use hyd_graph::Net;
+use hyd_period_network::Net;
 use hyd_spec_certificates::{HeldJunction, Problem, Side};
+use hyd_vector_check::{head_of, surplus};
 
 fn is_enough(surplus: i128) -> bool
     ensures { IsTrue result ↔ pos 0 ≤ℤ surplus }

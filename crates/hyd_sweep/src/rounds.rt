@@ -5,16 +5,16 @@ ghost use Rattle.std.specs.Prelude.{◌≡◌, ◌<◌, ◌↔◌, length, All, 
 ghost use Rattle.hyd_spec.specs.Lists.{Each};
 ghost use Rattle.hyd_spec_certificates.specs.Certificate.{IsInBox, Suits};
 ghost use Rattle.hyd_spec_certificates.specs.SearchSteps.{IsStart};
-ghost use Rattle.hyd_graph.specs.GridOf.{grid_of};
-ghost use Rattle.hyd_graph.specs.Nets.{HasProblem};
+ghost use Rattle.hyd_period_network.specs.GridOf.{grid_of};
+ghost use Rattle.hyd_period_network.specs.Nets.{HasProblem};
 ghost use Rattle.hyd_sweep.specs.Sweeps.{SuitsAt, RoundGives, SweepGives, RoundsGo, EndsWhereApart, HoldsInBox};
 
 use crate::answers::{Raised, Swept};
 use crate::raising::{held_head, raise};
 use crate::ticks::is_same;
-use hyd_check::{head_of, passes};
-use hyd_graph::Net;
+use hyd_period_network::Net;
 use hyd_spec_certificates::{HeldJunction, Problem, Side};
+use hyd_vector_check::{head_of, passes};
 
 /// Raises every junction in file order, each from what the ones before it left: the junction without a value, if there
 /// is one.

@@ -5,17 +5,17 @@ ghost use Rattle.std.specs.Prelude.{◌≡◌, ◌<◌, ◌≤◌, ◌+◌, ◌-
 ghost use Rattle.std.specs.Prelude.{All, if◌then◌else◌};
 ghost use Rattle.hyd_spec.specs.Assignment.{head_at};
 ghost use Rattle.hyd_spec_certificates.specs.Certificate.{IsInBox};
-ghost use Rattle.hyd_theorems_on_periods.specs.Sides.{along};
-ghost use Rattle.hyd_graph.specs.GridOf.{grid_of};
-ghost use Rattle.hyd_graph.specs.Nets.{HasProblem};
+ghost use Rattle.hyd_theorems_on_definitions.specs.Sides.{along};
+ghost use Rattle.hyd_period_network.specs.GridOf.{grid_of};
+ghost use Rattle.hyd_period_network.specs.Nets.{HasProblem};
 ghost use Rattle.hyd_sweep.specs.Sweeps.{HoldsInBox};
 ghost use Rattle.hyd_sweep.specs.Leaps.{LeadsOn};
 ghost use Rattle.hyd_sweep.specs.Strides.{IsStride, reach, LiesWithin};
 
 use crate::leaps::leap;
-use hyd_check::head_of;
-use hyd_graph::Net;
+use hyd_period_network::Net;
 use hyd_spec_certificates::{HeldJunction, Problem, Side};
+use hyd_vector_check::head_of;
 
 // More tries aren't made after a round: 18 longer strides, as many shorter ones, and three below 1.
 const TRIES: u32 = 40;

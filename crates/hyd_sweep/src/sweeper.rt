@@ -4,15 +4,15 @@
 ghost use Rattle.std.specs.Prelude.{◌≡◌, length, None, IfOk};
 ghost use Rattle.hyd_spec_certificates.specs.declared.Side.TheVariants.{Upper, Lower};
 ghost use Rattle.hyd_spec_certificates.specs.SearchSteps.{IsStart};
-ghost use Rattle.hyd_graph.specs.GridOf.{grid_of};
-ghost use Rattle.hyd_graph.specs.Nets.{HasProblem};
+ghost use Rattle.hyd_period_network.specs.GridOf.{grid_of};
+ghost use Rattle.hyd_period_network.specs.Nets.{HasProblem};
 ghost use Rattle.hyd_sweep.specs.Sweeps.{SweepGives, EndsWhereApart, HoldsInBox};
 ghost use Rattle.hyd_sweep.specs.Strides.{SweepGoes};
 
 use crate::answers::Swept;
 use crate::rounds::{round, suits_everywhere};
 use crate::strides::{leap_on, put_ways};
-use hyd_graph::Net;
+use hyd_period_network::Net;
 use hyd_spec_certificates::{HeldJunction, Problem, Side};
 use std::alloc::{AllocError as OutOfMemory, Global};
 use std::marker::Model;

@@ -3,7 +3,7 @@
 
 ghost use Rattle.std.specs.Prelude.{◌≡◌, ◌≤◌, ◌-ℤ◌, ◌≤ℤ◌, ◌↔◌, pos, IsTrue};
 ghost use Rattle.hyd_spec_certificates.specs.Certificate.{box_limit, IsInBox, IsBeyond};
-ghost use Rattle.hyd_theorems_on_periods.specs.Sides.{along};
+ghost use Rattle.hyd_theorems_on_definitions.specs.Sides.{along};
 ghost use Rattle.hyd_sweep.specs.Sweeps.{further};
 ghost use Rattle.hyd_sweep.specs.Leaps.{nearer};
 

@@ -7,22 +7,22 @@ use Rattle.std.proofs.Math.IntN.{*ℤ_comm}
 use Rattle.std.proofs.lemmas.Int.{ints, clamps, by_lt_z}
 use Rattle.hyd_spec.specs.Scale.{is_same_number}
 use Rattle.hyd_lemmas.proofs.Trials.{or-left, or-right}
-use Rattle.hyd_theorems_on_periods.proofs.RisingLines.{value-den}
+use Rattle.hyd_theorems_on_definitions.proofs.RisingLines.{value-den}
 use Rattle.hyd_num.proofs.Integers.{times_plus, times_neg, times_rises, times_one}
 use Rattle.hyd_num.specs.Rational.{Rational, floor, ceiling, is_at_most}
 use Rattle.hyd_net.specs.Curves.{value_at, volume_at, volume_knots}
-use Rattle.hyd_spec.specs.Types.{Tank, VolumePoint}
+use Rattle.hyd_spec.specs.ProgramTypes.{Tank, VolumePoint}
 use Rattle.hyd_spec.specs.Tank.{Stock, Curve, Bounds, level_bounds, content_bounds, exact_content, level_on_curve}
 use Rattle.hyd_spec.specs.Tank.{level_at_volume, carried_level, reaches, has_reached}
 use Rattle.hyd_lemmas.proofs.Integers.{exchanged, floor_low, floor_greatest, ceiling_high, ceiling_least}
-use Rattle.hyd_theorems_on_periods.specs.Laws.{IsVessel, in_parts}
-use Rattle.hyd_theorems_on_periods.proofs.Leading.{one_times, one-within}
-use Rattle.hyd_theorems_on_periods.proofs.Levelling.{level-fits-at, carried-some, curve-some}
-use Rattle.hyd_theorems_on_periods.proofs.Outflows.{le-yes}
-use Rattle.hyd_theorems_on_periods.proofs.Placing.{le-from, above-yes, above-from, below-yes, below-from, placed-is}
-use Rattle.hyd_theorems_on_periods.proofs.Placing.{placed-most}
-use Rattle.hyd_theorems_on_periods.proofs.Placing.{placed-least}
-use Rattle.hyd_theorems_on_periods.proofs.Targets.{falling_target, at_maximum, risen_to}
+use Rattle.hyd_theorems_on_definitions.specs.Laws.{IsVessel, in_parts}
+use Rattle.hyd_theorems_on_definitions.proofs.Leading.{one_times, one-within}
+use Rattle.hyd_theorems_on_definitions.proofs.Levelling.{level-fits-at, carried-some, curve-some}
+use Rattle.hyd_theorems_on_definitions.proofs.Outflows.{le-yes}
+use Rattle.hyd_theorems_on_definitions.proofs.Placing.{le-from, above-yes, above-from, below-yes, below-from, placed-is}
+use Rattle.hyd_theorems_on_definitions.proofs.Placing.{placed-most}
+use Rattle.hyd_theorems_on_definitions.proofs.Placing.{placed-least}
+use Rattle.hyd_theorems_on_definitions.proofs.Targets.{falling_target, at_maximum, risen_to}
 use Rattle.hyd_spec_certificates.specs.FirstSeconds.{IsFirstSecond}
 use Rattle.hyd_tank.specs.declared.content.Bounds.{Bounds as Limits}
 use Rattle.hyd_tank.specs.declared.volume_curve.Mixed.{Mixed}

@@ -7,14 +7,14 @@ use Rattle.std.proofs.lemmas.Int.{ints, clamps}
 use Rattle.hyd_num.proofs.Integers.{times_rises, times_reflects}
 use Rattle.hyd_num.specs.Rational.{Rational, floor, ceiling, whole}
 use Rattle.hyd_net.specs.Curves.{value_at, volume_at, volume_knots}
-use Rattle.hyd_net.specs.Ranges.{Lies}
-use Rattle.hyd_spec.specs.Types.{Tank, VolumePoint}
+use Rattle.hyd_net.specs.NumberRanges.{Lies}
+use Rattle.hyd_spec.specs.ProgramTypes.{Tank, VolumePoint}
 use Rattle.hyd_spec.specs.Tank.{Curve, Bounds, placed, level_bounds, content_bounds, level_knots, level_on_curve}
 use Rattle.hyd_spec.specs.Tank.{level_at}
 use Rattle.hyd_spec_certificates.specs.Stocks.{end_of}
 use Rattle.hyd_lemmas.proofs.Integers.{floor_low, floor_greatest, ceiling_high, ceiling_least}
-use Rattle.hyd_theorems_on_periods.proofs.Leading.{one_times, one-within}
-use Rattle.hyd_theorems_on_periods.proofs.Placing.{placed-is}
+use Rattle.hyd_theorems_on_definitions.proofs.Leading.{one_times, one-within}
+use Rattle.hyd_theorems_on_definitions.proofs.Placing.{placed-is}
 use Rattle.hyd_tank.specs.declared.content.Bounds.{Bounds as Limits}
 use Rattle.hyd_tank.specs.declared.volume_curve.Known.TheVariants.{Level, Volume}
 use Rattle.hyd_tank.specs.declared.volume_curve.Mixed.{Mixed}

@@ -10,9 +10,9 @@ use Rattle.hyd_num.specs.Rational.{Rational, floor, ceiling}
 use Rattle.hyd_spec.specs.Tank.{Bounds, is_at_maximum, is_at_minimum}
 use Rattle.hyd_spec_certificates.specs.Stocks.{end_of}
 use Rattle.hyd_lemmas.proofs.Integers.{floor_low, floor_greatest, ceiling_high, ceiling_least}
-use Rattle.hyd_theorems_on_periods.proofs.Leading.{one-within}
-use Rattle.hyd_theorems_on_periods.proofs.Placing.{above-yes, above-no, below-yes, below-no}
-use Rattle.hyd_net.specs.Ranges.{Lies}
+use Rattle.hyd_theorems_on_definitions.proofs.Leading.{one-within}
+use Rattle.hyd_theorems_on_definitions.proofs.Placing.{above-yes, above-no, below-yes, below-no}
+use Rattle.hyd_net.specs.NumberRanges.{Lies}
 use Rattle.hyd_tank.specs.Contents.{bounds_of, in_ticks, held_in, IsBetween}
 use Rattle.hyd_tank.specs.declared.content.Bounds.{Bounds as Limits}
 

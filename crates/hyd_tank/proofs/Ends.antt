@@ -5,7 +5,7 @@ use Rattle.std.specs.Int.{int_max, int_min, w128}
 use Rattle.std.proofs.lemmas.Int.{ints, to_z-of_z}
 use Rattle.hyd_num.specs.Rational.{Rational, floor, ceiling}
 use Rattle.hyd_spec.specs.Tank.{Bounds, Cylinder, Curve, level_bounds, content_bounds, exact_content, level_at}
-use Rattle.hyd_spec.specs.Types.{Tank, VolumePoint}
+use Rattle.hyd_spec.specs.ProgramTypes.{Tank, VolumePoint}
 use Rattle.hyd_spec_certificates.specs.Interval.{Interval}
 use Rattle.hyd_spec_certificates.specs.Stocks.{Stocks, end_of, lower_end, upper_end, lower_level, upper_level}
 use Rattle.hyd_tank.specs.declared.content.Bounds.{Bounds as Limits}

@@ -2,14 +2,14 @@
 use Rattle.std.proofs.Common.{◌≡◌, ℤ, pos, ◌+ℤ◌, ◌-ℤ◌, ◌*ℤ◌, ◌≤ℤ◌, ◌<ℤ◌, Bool, false, refl, ap, ◌∙◌, arith, Some, None}
 use Rattle.std.specs.Prelude.{int_le, if◌then◌else◌}
 use Rattle.std.proofs.lemmas.Int.{ints}
-use Rattle.hyd_spec.specs.Types.{Tank}
+use Rattle.hyd_spec.specs.ProgramTypes.{Tank}
 use Rattle.hyd_spec.specs.Scale.{at_scale}
 use Rattle.hyd_spec.specs.Tank.{tank_state, state_band}
 use Rattle.hyd_spec.specs.declared.TankState.{TankState}
 use Rattle.hyd_spec.specs.declared.TankState.TheVariants.{Full, Between, Empty}
 use Rattle.hyd_spec_certificates.specs.Stocks.{shared_state}
-use Rattle.hyd_theorems_on_periods.proofs.Leading.{one_times}
-use Rattle.hyd_theorems_on_periods.proofs.Placing.{le-from}
+use Rattle.hyd_theorems_on_definitions.proofs.Leading.{one_times}
+use Rattle.hyd_theorems_on_definitions.proofs.Placing.{le-from}
 
 not-le : (a b : ℤ) → b <ℤ a → int_le a b ≡ false
 not-le a b h = grind (arith, ints)

@@ -4,15 +4,15 @@ use Rattle.std.specs.Prelude.{map}
 use Rattle.std.proofs.lemmas.Int.{ints}
 use Rattle.hyd_num.specs.Rational.{floor}
 use Rattle.hyd_net.specs.Curves.{Knot, AreRising, value_at, volume_at, volume_knots}
-use Rattle.hyd_net.specs.Ranges.{Lies}
-use Rattle.hyd_spec.specs.Types.{Tank, VolumePoint}
+use Rattle.hyd_net.specs.NumberRanges.{Lies}
+use Rattle.hyd_spec.specs.ProgramTypes.{Tank, VolumePoint}
 use Rattle.hyd_spec.specs.Tank.{Walls, Cylinder, Curve, level_bounds}
 use Rattle.hyd_spec_certificates.specs.Interval.{exactly}
 use Rattle.hyd_lemmas.proofs.Integers.{floor_low, floor_greatest}
-use Rattle.hyd_theorems_on_periods.specs.Laws.{IsVessel, IsWithin, HoldWater}
-use Rattle.hyd_theorems_on_periods.proofs.Leading.{one_times, above-too}
-use Rattle.hyd_theorems_on_periods.proofs.Levelling.{pairs-tail}
-use Rattle.hyd_theorems_on_periods.proofs.RisingLines.{AreClimbing, from-rises, some-den}
+use Rattle.hyd_theorems_on_definitions.specs.Laws.{IsVessel, IsWithin, HoldWater}
+use Rattle.hyd_theorems_on_definitions.proofs.Leading.{one_times, above-too}
+use Rattle.hyd_theorems_on_definitions.proofs.Levelling.{pairs-tail}
+use Rattle.hyd_theorems_on_definitions.proofs.RisingLines.{AreClimbing, from-rises, some-den}
 use Rattle.hyd_tank.specs.Spans.{initial_stocks, AreHeld}
 
 climbing : (p : VolumePoint) (points : List VolumePoint) → AreRising (map (λ (q : VolumePoint). q.level) (p ∷ points))

@@ -2,20 +2,21 @@
 use Rattle.std.proofs.Common.{◌≡◌, ℕ, ◌<◌, ◌≤◌, ℤ, pos, ◌*ℤ◌, ◌≤ℤ◌, Bool, true, false, List, arith}
 use Rattle.std.proofs.lemmas.Int.{ints}
 use Rattle.hyd_num.specs.Rational.{Rational}
-use Rattle.hyd_spec.specs.Types.{Tank, VolumePoint}
+use Rattle.hyd_spec.specs.ProgramTypes.{Tank, VolumePoint}
 use Rattle.hyd_spec.specs.Tank.{Walls, Cylinder, Curve, Bounds, content_bounds}
 use Rattle.hyd_spec_certificates.specs.Interval.{Interval}
 use Rattle.hyd_spec_certificates.specs.Stocks.{Stocks, least_stock, greatest_stock, exact_least, exact_greatest}
 use Rattle.hyd_spec_certificates.specs.Stocks.{contents_after, carried_stocks, may_reach, must_reach}
 use Rattle.hyd_spec_certificates.specs.FirstSeconds.{IsFirstSecond}
 use Rattle.hyd_spec_certificates.specs.declared.LevelSpan.{LevelSpan}
-use Rattle.hyd_theorems_on_periods.specs.Laws.{LiesIn, StockLies, IsVessel, IsInside, AreInside, IsWithin, HasStock}
-use Rattle.hyd_theorems_on_periods.proofs.Placing.{Fits, lower-least, lower-most, upper-least, upper-most, ends-ordered}
-use Rattle.hyd_theorems_on_periods.proofs.Placing.{lower-rises}
-use Rattle.hyd_theorems_on_periods.proofs.Levelling.{exact-some, content-leads, content-up, carried_within}
-use Rattle.hyd_theorems_on_periods.proofs.Levelling.{carried_inside}
-use Rattle.hyd_theorems_on_periods.proofs.Levelling.{carried_ordered, contents_inside}
-use Rattle.hyd_theorems_on_periods.proofs.Deciding.{seconds_hold}
+use Rattle.hyd_theorems_on_definitions.specs.Laws.{LiesIn, StockLies, IsVessel, IsInside, AreInside, IsWithin, HasStock}
+use Rattle.hyd_theorems_on_definitions.proofs.Placing.{Fits, lower-least, lower-most, upper-least, upper-most}
+use Rattle.hyd_theorems_on_definitions.proofs.Placing.{ends-ordered}
+use Rattle.hyd_theorems_on_definitions.proofs.Placing.{lower-rises}
+use Rattle.hyd_theorems_on_definitions.proofs.Levelling.{exact-some, content-leads, content-up, carried_within}
+use Rattle.hyd_theorems_on_definitions.proofs.Levelling.{carried_inside}
+use Rattle.hyd_theorems_on_definitions.proofs.Levelling.{carried_ordered, contents_inside}
+use Rattle.hyd_theorems_on_definitions.proofs.Deciding.{seconds_hold}
 use Rattle.hyd_tank.specs.Spans.{levels_of, stocks_at, with_levels, level_stock, AreHeld}
 
 -- ---- levels of a tank without a volume curve

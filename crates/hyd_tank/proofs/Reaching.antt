@@ -5,14 +5,14 @@ use Rattle.std.specs.Int.{saturate_signed, w128}
 use Rattle.std.proofs.Math.IntN.{*ℤ_comm}
 use Rattle.std.proofs.lemmas.Int.{ints, to_z-of_z}
 use Rattle.hyd_num.proofs.Integers.{times_minus, times_neg, times_rises, times_times}
-use Rattle.hyd_spec.specs.Types.{Tank}
+use Rattle.hyd_spec.specs.ProgramTypes.{Tank}
 use Rattle.hyd_spec.specs.Tank.{Walls, Cylinder, exact_content, has_reached}
 use Rattle.hyd_spec_certificates.specs.FirstSeconds.{IsFirstSecond, IsEarliestSecond, IsLatestSecond}
 use Rattle.hyd_spec_certificates.specs.Interval.{Interval}
 use Rattle.hyd_spec_certificates.specs.Stocks.{Stocks, least_stock, greatest_stock}
-use Rattle.hyd_net.specs.Ranges.{LiesWithin}
-use Rattle.hyd_theorems_on_periods.proofs.Leading.{one-within}
-use Rattle.hyd_theorems_on_periods.proofs.Placing.{above-yes, above-from, below-yes, below-from}
+use Rattle.hyd_net.specs.NumberRanges.{LiesWithin}
+use Rattle.hyd_theorems_on_definitions.proofs.Leading.{one-within}
+use Rattle.hyd_theorems_on_definitions.proofs.Placing.{above-yes, above-from, below-yes, below-from}
 use Rattle.hyd_tank.specs.Contents.{IsFirstMeeting}
 use Rattle.hyd_tank.specs.Spans.{level_stock}
 use Rattle.hyd_tank.proofs.Contents.{IsNearest, itself, above, below, nearest}

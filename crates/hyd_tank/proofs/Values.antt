@@ -9,7 +9,7 @@ use Rattle.std.proofs.Math.Nat.{mul_comm, mul-le-mul, mul-le-mul_left, mul-le-mu
 use Rattle.hyd_num.proofs.Integers.{times_plus, times_minus, times_one, times_rises}
 use Rattle.hyd_num.specs.Rational.{Rational, floor, ceiling}
 use Rattle.hyd_net.specs.Curves.{Knot as Place}
-use Rattle.hyd_net.specs.Ranges.{Lies}
+use Rattle.hyd_net.specs.NumberRanges.{Lies}
 use Rattle.hyd_lemmas.proofs.Integers.{exchanged, floor_low, floor_greatest, ceiling_high, ceiling_least}
 use Rattle.hyd_tank.specs.declared.volume_curve.Mixed.{Mixed}
 use Rattle.hyd_tank.specs.Curve.{value_of, times_value, line_in, AreNeighbours, IsMixed, IsAtLeast, IsAtMost}

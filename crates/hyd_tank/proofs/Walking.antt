@@ -11,7 +11,7 @@ use Rattle.std.proofs.lemmas.Bool.{cases_lt}
 use Rattle.hyd_num.proofs.Integers.{times_rises}
 use Rattle.hyd_num.specs.Rational.{Rational}
 use Rattle.hyd_net.specs.Curves.{Knot, on_line, between, value_from, value_at, IsVolumeCurve}
-use Rattle.hyd_spec.specs.Types.{VolumePoint}
+use Rattle.hyd_spec.specs.ProgramTypes.{VolumePoint}
 use Rattle.hyd_tank.specs.declared.volume_curve.Known.{Known}
 use Rattle.hyd_tank.specs.declared.volume_curve.Mixed.{Mixed}
 use Rattle.hyd_tank.specs.declared.volume_curve.Known.TheVariants.{Level, Volume}

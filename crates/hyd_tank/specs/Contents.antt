@@ -2,9 +2,9 @@
 use Rattle.std.specs.Prelude.{ℕ, ◌*◌, ◌^◌, ◌≤◌, ◌⊎◌, ◌≡◌, ℤ, pos, ◌+ℤ◌, ◌*ℤ◌, ◌<ℤ◌, ◌≤ℤ◌, unsigned_abs}
 use Rattle.std.specs.Int.{int_max, int_min}
 use Rattle.hyd_num.specs.Rational.{Rational}
-use Rattle.hyd_net.specs.Ranges.{Lies}
+use Rattle.hyd_net.specs.NumberRanges.{Lies}
 use Rattle.hyd_spec.specs.Tank.{Bounds}
-use Rattle.hyd_spec.specs.Length.{IsLeast}
+use Rattle.hyd_spec.specs.PeriodLength.{IsLeast}
 use Rattle.hyd_tank.specs.declared.content.Bounds.{Bounds as Limits}
 use Rattle.hyd_tank.specs.declared.content.Motion.{Motion}
 

@@ -4,7 +4,7 @@ use Rattle.std.specs.Prelude.{length}
 use Rattle.std.specs.List.{HoldsAt}
 use Rattle.hyd_num.specs.Rational.{Rational}
 use Rattle.hyd_net.specs.Curves.{Knot as Place, on_line, value_at}
-use Rattle.hyd_spec.specs.Types.{VolumePoint}
+use Rattle.hyd_spec.specs.ProgramTypes.{VolumePoint}
 use Rattle.hyd_tank.specs.declared.volume_curve.Known.{Known}
 use Rattle.hyd_tank.specs.declared.volume_curve.Known.TheVariants.{Level, Volume}
 use Rattle.hyd_tank.specs.declared.volume_curve.Knot.{Knot}

@@ -2,13 +2,13 @@
 use Rattle.std.specs.Prelude.{◌≡◌, ◌*◌, ◌^◌, ◌≤◌, ℤ, pos, ◌<ℤ◌, ◌≤ℤ◌, unsigned_abs, None, List, ◌<◌, length}
 use Rattle.std.specs.Prelude.{MatchOption}
 use Rattle.hyd_num.specs.declared.decimals.Span.{Span}
-use Rattle.hyd_net.specs.Ranges.{Lies}
+use Rattle.hyd_net.specs.NumberRanges.{Lies}
 use Rattle.hyd_net.specs.NetworkRanges.{IsShapeOf}
-use Rattle.hyd_spec.specs.Types.{Project, Tank, VolumePoint}
+use Rattle.hyd_spec.specs.ProgramTypes.{Project, Tank, VolumePoint}
 use Rattle.hyd_spec.specs.Tank.{Stock as OneStock, Walls, Cylinder, Bounds, level_bounds, kept_volume, shape_points}
 use Rattle.hyd_spec_certificates.specs.Interval.{Interval, exactly}
 use Rattle.hyd_spec_certificates.specs.Stocks.{Stocks}
-use Rattle.hyd_theorems_on_periods.specs.Laws.{IsWithin}
+use Rattle.hyd_theorems_on_definitions.specs.Laws.{IsWithin}
 use Rattle.hyd_spec_certificates.specs.declared.LevelSpan.{LevelSpan}
 use Rattle.hyd_tank.specs.declared.spans.VolumeSpan.{VolumeSpan}
 use Rattle.hyd_tank.specs.declared.spans.Stock.{Stock}

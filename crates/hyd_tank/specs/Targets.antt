@@ -2,9 +2,9 @@
 use Rattle.std.specs.Prelude.{◌≡◌, ◌⊎◌, ℕ, ◌^◌, ◌≤◌, ℤ, pos, ◌+ℤ◌, ◌*ℤ◌, ◌≤ℤ◌, Bool, true, false, IsTrue, ◌↔◌}
 use Rattle.std.specs.Prelude.{unsigned_abs, ⊤, List, length, ◌-◌}
 use Rattle.std.specs.List.{HoldsAt}
-use Rattle.hyd_spec.specs.Types.{Tank, VolumePoint}
+use Rattle.hyd_spec.specs.ProgramTypes.{Tank, VolumePoint}
 use Rattle.hyd_spec.specs.Tank.{Stock, Curve, content_bounds, has_reached}
-use Rattle.hyd_spec.specs.Length.{IsLeast}
+use Rattle.hyd_spec.specs.PeriodLength.{IsLeast}
 use Rattle.hyd_tank.specs.declared.content.Bounds.{Bounds as Limits}
 use Rattle.hyd_tank.specs.Contents.{bounds_of, AreBounds}
 use Rattle.hyd_tank.specs.declared.seconds.Target.{Target}

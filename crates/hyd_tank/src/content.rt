@@ -5,7 +5,7 @@
 ghost use Rattle.std.specs.Prelude.{◌≡◌, ◌*◌, ◌^◌, ◌≤◌, pos, ◌+ℤ◌, ◌-ℤ◌, ◌*ℤ◌, ◌≤ℤ◌, unsigned_abs, None, IfSome, ℤ};
 ghost use Rattle.std.specs.Int.{int_max, int_min};
 ghost use Rattle.hyd_num.specs.Rational.{floor, ceiling};
-ghost use Rattle.hyd_net.specs.Ranges.{Lies};
+ghost use Rattle.hyd_net.specs.NumberRanges.{Lies};
 ghost use Rattle.hyd_spec_certificates.specs.Stocks.{end_of, lower_end, upper_end};
 ghost use Rattle.hyd_tank.specs.Contents.{bounds_of, AreBounds, IsMotion, in_ticks, moved, held_in, IsBetween};
 

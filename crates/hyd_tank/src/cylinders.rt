@@ -2,12 +2,12 @@
 #![tactic(auto)]
 
 ghost use Rattle.std.specs.Prelude.{◌≡◌, ◌*◌, ◌^◌, ◌<◌, ◌≤◌, ◌≤ℤ◌, pos, unsigned_abs, ℕ, ℤ, Bool};
-ghost use Rattle.hyd_net.specs.Ranges.{Lies};
+ghost use Rattle.hyd_net.specs.NumberRanges.{Lies};
 ghost use Rattle.hyd_spec.specs.Tank.{level_bounds, has_reached, carried_level, IsNextStock};
 ghost use Rattle.hyd_spec_certificates.specs.Interval.{Interval};
 ghost use Rattle.hyd_spec_certificates.specs.Stocks.{contents_after, next_stocks, carried_levels};
 ghost use Rattle.hyd_spec_certificates.specs.FirstSeconds.{IsFirstSecond, IsEarliestSecond, IsLatestSecond};
-ghost use Rattle.hyd_theorems_on_periods.specs.Laws.{LiesIn, LiesAround, IsInside, IsWithin};
+ghost use Rattle.hyd_theorems_on_definitions.specs.Laws.{LiesIn, LiesAround, IsInside, IsWithin};
 ghost use Rattle.hyd_tank.specs.Contents.{bounds_of, AreBounds, IsMotion};
 ghost use Rattle.hyd_tank.specs.Spans.{levels_of, inflows_of, stocks_at, with_levels, level_stock, cylinder, IsInflow};
 ghost use Rattle.hyd_tank.specs.Spans.{IsTankOfRange, IsCylinder};

@@ -3,15 +3,15 @@
 #![tactic(auto)]
 
 ghost use Rattle.std.specs.Prelude.{◌≡◌, ◌*◌, ◌^◌, ◌<◌, ◌≤◌, unsigned_abs, ℕ, ℤ, length, slice_get, Some};
-ghost use Rattle.hyd_net.specs.Ranges.{Lies};
+ghost use Rattle.hyd_net.specs.NumberRanges.{Lies};
 ghost use Rattle.hyd_net.specs.Sound.{Sound};
-ghost use Rattle.hyd_spec.specs.Types.{Tank};
+ghost use Rattle.hyd_spec.specs.ProgramTypes.{Tank};
 ghost use Rattle.hyd_spec.specs.Tank.{Stock as OneStock, shape_points, walls_of, has_reached, carried_level};
 ghost use Rattle.hyd_spec.specs.Tank.{IsNextStock};
 ghost use Rattle.hyd_spec_certificates.specs.Interval.{Interval};
 ghost use Rattle.hyd_spec_certificates.specs.Stocks.{Stocks, next_stocks, carried_stocks, may_reach, must_reach};
 ghost use Rattle.hyd_spec_certificates.specs.FirstSeconds.{IsFirstSecond, IsEarliestSecond, IsLatestSecond};
-ghost use Rattle.hyd_theorems_on_periods.specs.Laws.{LiesIn, LiesAround, StockLies, IsInside, AreInside, HasStock};
+ghost use Rattle.hyd_theorems_on_definitions.specs.Laws.{LiesIn, LiesAround, StockLies, IsInside, AreInside, HasStock};
 ghost use Rattle.hyd_tank.specs.Spans.{initial_stocks, inflows_of, levels_of, stocks_of, IsInflow, AreHeld, IsTankOf};
 
 use crate::cylinders::{first_second, level_at, next_level};

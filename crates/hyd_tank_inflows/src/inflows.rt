@@ -4,24 +4,24 @@
 ghost use Rattle.std.specs.Prelude.{◌≡◌, ◌<◌, ◌≤◌, ◌+◌, ◌++◌, ◌∷◌, [], length, map, All};
 ghost use Rattle.hyd_net.specs.Sound.{Sound};
 ghost use Rattle.hyd_spec.specs.Lists.{map_from};
-ghost use Rattle.hyd_spec.specs.Network.{tank_count};
+ghost use Rattle.hyd_spec.specs.NodeNumbers.{tank_count};
 ghost use Rattle.hyd_spec_certificates.specs.declared.Problem.TheVariants.{Pinned};
 ghost use Rattle.hyd_spec_certificates.specs.declared.Side.TheVariants.{Upper, Lower};
 ghost use Rattle.hyd_spec_certificates.specs.Boxes.{inflow_box};
 ghost use Rattle.hyd_spec_certificates.specs.Record.{vector_of};
 ghost use Rattle.hyd_spec_certificates.specs.Decided.{inflow_of_tank};
 ghost use Rattle.hyd_cert.specs.RecordView.{row_of};
-ghost use Rattle.hyd_graph.specs.GridOf.{grid_of};
-ghost use Rattle.hyd_graph.specs.Periods.{IsNetOf};
+ghost use Rattle.hyd_period_network.specs.GridOf.{grid_of};
+ghost use Rattle.hyd_period_network.specs.Periods.{IsNetOf};
 ghost use Rattle.hyd_bounds.specs.Bounds.{IsSpan, TanksInOrder, tank_node_of};
 ghost use Rattle.hyd_tank.specs.Spans.{inflows_of, IsInflow};
 ghost use Rattle.hyd_tank_inflows.specs.Inflows.{ArePinned};
 
 use hyd_bounds::{pinned_in_order, tank_inflow};
 use hyd_cert::Record;
-use hyd_graph::Net;
 use hyd_net::{List, Project};
 use hyd_num::Span;
+use hyd_period_network::Net;
 use hyd_spec_certificates::{Problem, Side};
 
 // What flows into one tank, by the vectors that pin it.

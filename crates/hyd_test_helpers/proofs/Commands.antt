@@ -5,11 +5,12 @@ use Rattle.std.proofs.lemmas.List.{get_or-map, get_or-set_same, get_or-set_other
 use Rattle.std.proofs.lemmas.List.Elements.{All-map, All-set}
 use Rattle.hyd_net.specs.Sound.{Sound}
 use Rattle.hyd_net.specs.States.{CanHave}
-use Rattle.hyd_net.specs.Made.{IsStateMade}
-use Rattle.hyd_spec.specs.Types.{Project, Link, LinkKind, PipeLink, CheckPipe, PumpLink, CurvePump, Tcv, Fcv, Gpv}
-use Rattle.hyd_spec.specs.Types.{LinkState, Closed}
-use Rattle.hyd_graph.specs.Settings.{AreStates}
-use Rattle.hyd_graph.proofs.SettingOne.{same_or, any_default}
+use Rattle.hyd_net.specs.RoundedFileNumbers.{IsStateMade}
+use Rattle.hyd_spec.specs.ProgramTypes.{Project, Link, LinkKind, PipeLink, CheckPipe, PumpLink, CurvePump, Tcv, Fcv}
+use Rattle.hyd_spec.specs.ProgramTypes.{Gpv}
+use Rattle.hyd_spec.specs.ProgramTypes.{LinkState, Closed}
+use Rattle.hyd_period_network.specs.Settings.{AreStates}
+use Rattle.hyd_period_network.proofs.SettingOne.{same_or, any_default}
 
 abbrev pub start_of : Link → LinkState
 start_of link = link.start

@@ -3,15 +3,15 @@
 
 ghost use Rattle.std.specs.Prelude.{IfOk, IfSome, IsTrue, OnOk};
 ghost use Rattle.hyd_net.specs.Sound.{Sound};
-ghost use Rattle.hyd_graph.specs.GridOf.{grid_of};
-ghost use Rattle.hyd_graph.specs.Nets.{HasProblem};
-ghost use Rattle.hyd_graph.specs.Periods.{AreLevels, IsNetOf, IsSpanOf};
-ghost use Rattle.hyd_graph.specs.Settings.{AreStates};
+ghost use Rattle.hyd_period_network.specs.GridOf.{grid_of};
+ghost use Rattle.hyd_period_network.specs.Nets.{HasProblem};
+ghost use Rattle.hyd_period_network.specs.Periods.{AreLevels, IsNetOf, IsSpanOf};
+ghost use Rattle.hyd_period_network.specs.Settings.{AreStates};
 ghost use Rattle.hyd_bounds.specs.Bounds.{TanksInOrder};
 
 use crate::states::starts;
-use hyd_graph::{Net, PeriodDemand};
 use hyd_net::{LinkState, OutOfMemory, Project, Tank};
+use hyd_period_network::{Net, PeriodDemand};
 use hyd_spec::TankState;
 use hyd_spec_certificates::{LevelSpan, Problem};
 use std::alloc::Global;

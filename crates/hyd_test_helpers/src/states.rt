@@ -3,10 +3,10 @@
 
 ghost use Rattle.std.specs.Prelude.{IfOk, IfSome};
 ghost use Rattle.hyd_num.specs.declared.flow_units.FlowUnit.{FlowUnit};
-ghost use Rattle.hyd_net.specs.Made.{IsStateMade};
+ghost use Rattle.hyd_net.specs.RoundedFileNumbers.{IsStateMade};
 ghost use Rattle.hyd_net.specs.Sound.{Sound};
 ghost use Rattle.hyd_net.specs.States.{CanHave};
-ghost use Rattle.hyd_graph.specs.Settings.{AreStates};
+ghost use Rattle.hyd_period_network.specs.Settings.{AreStates};
 
 use hyd_net::{LinkKind, LinkState, OutOfMemory, Project};
 use std::alloc::Global;

@@ -2,7 +2,7 @@
 #![tactic(auto)]
 
 ghost use Rattle.hyd_net.specs.Sound.{Sound};
-ghost use Rattle.hyd_graph.specs.GridOf.{grid_of};
+ghost use Rattle.hyd_period_network.specs.GridOf.{grid_of};
 ghost use Rattle.hyd_bounds.specs.Bounds.{TanksInOrder};
 
 use crate::boxes::are_bounds;
@@ -10,9 +10,9 @@ use crate::given::read;
 use crate::networks::{Network, generated, networks, two_junctions, without_source};
 use crate::tight::{are_found, are_proposed, are_spent, are_starts};
 use hyd_gen::generate;
-use hyd_graph::Net;
 use hyd_inp::read_project;
 use hyd_net::{OutOfMemory, Project};
+use hyd_period_network::Net;
 use hyd_test_helpers::put_at;
 use std::alloc::Global;
 use std::test::Fail;

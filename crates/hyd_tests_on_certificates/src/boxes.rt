@@ -4,16 +4,16 @@
 ghost use Rattle.std.specs.Prelude.{◌≡◌, length, IsTrue};
 ghost use Rattle.hyd_spec_certificates.specs.declared.Side.TheVariants.{Upper, Lower};
 ghost use Rattle.hyd_spec_certificates.specs.Certificate.{IsCertificate};
-ghost use Rattle.hyd_graph.specs.GridOf.{grid_of};
-ghost use Rattle.hyd_graph.specs.Nets.{HasProblem};
+ghost use Rattle.hyd_period_network.specs.GridOf.{grid_of};
+ghost use Rattle.hyd_period_network.specs.Nets.{HasProblem};
 ghost use Rattle.hyd_bounds.specs.Bounds.{IsVector, TanksInOrder};
 
 use crate::networks::{Flow, Network, Row};
 use hyd_bounds::{flow_box, out_box, pinned_in_order, status_of, tank_inflow};
-use hyd_check::{check_sub, check_super, is_in_box};
-use hyd_graph::Net;
+use hyd_period_network::Net;
 use hyd_spec_certificates::Problem;
 use hyd_spec_reports::StatusWord;
+use hyd_vector_check::{check_sub, check_super, is_in_box};
 
 // The vector of a row.
 fn vector(rows: &'static [Row], number: usize) -> &'static [i64] {

@@ -3,16 +3,16 @@
 #![tactic(auto)]
 
 ghost use Rattle.std.specs.Prelude.{◌≡◌, ◌<◌, length, IfOk};
-ghost use Rattle.hyd_graph.specs.Nets.{HasProblem};
+ghost use Rattle.hyd_period_network.specs.Nets.{HasProblem};
 
 use crate::networks::Row;
-use hyd_check::{Fails, check};
-use hyd_graph::Net;
+use hyd_finders::{Finder, Gradient};
 use hyd_net::OutOfMemory;
-use hyd_newton::{Finder, Gradient};
+use hyd_period_network::Net;
 use hyd_spec_certificates::{Problem, Side};
 use hyd_sweep::{Sweeper, Swept, begin};
 use hyd_test_helpers::is_problem;
+use hyd_vector_check::{Fails, check};
 use std::alloc::Global;
 
 // So many rounds at most toward a tight vector, from where sweeps begin: what they found, and the heads.

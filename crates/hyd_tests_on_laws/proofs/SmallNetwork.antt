@@ -14,8 +14,8 @@ use Rattle.hyd_net.specs.Sound.{HasIds, HasEnds, IsPattern, IsWithinLimits, AreT
 use Rattle.hyd_net.specs.NetworkRanges.{IsJunction, IsDemand, IsReservoir, IsTank, HasSizes, HasQuantities}
 use Rattle.hyd_net.specs.States.{CanHave}
 use Rattle.hyd_net.specs.ControlsAndRules.{node_count, IsControl, IsRule}
-use Rattle.hyd_net.specs.Made.{IsAreaMade, IsKindMade, IsStateMade, IsRuleMade, IsAllMade}
-use Rattle.hyd_net.specs.Ranges.{LiesWithin}
+use Rattle.hyd_net.specs.RoundedFileNumbers.{IsAreaMade, IsKindMade, IsStateMade, IsRuleMade, IsAllMade}
+use Rattle.hyd_net.specs.NumberRanges.{LiesWithin}
 use Rattle.hyd_net.specs.declared.curves.HeadPoint.{HeadPoint}
 use Rattle.hyd_net.specs.declared.curves.VolumePoint.{VolumePoint}
 use Rattle.hyd_net.specs.declared.nodes.Demand.{Demand}

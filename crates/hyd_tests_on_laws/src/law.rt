@@ -4,15 +4,15 @@
 ghost use Rattle.std.specs.Prelude.{◌≡◌, ◌≤◌, ◌*◌, ◌^◌, ℤ, ◌≤ℤ◌, unsigned_abs, IfOk};
 ghost use Rattle.hyd_law.specs.Curves.{IsCurve};
 ghost use Rattle.hyd_law.specs.LinkLaws.{IsSoundLink, LinkAccepts};
-ghost use Rattle.hyd_law.specs.OutLaws.{IsSoundOut, OutAccepts};
-ghost use Rattle.hyd_theorems_on_periods.specs.Laws.{IsSoundCapacity};
+ghost use Rattle.hyd_law.specs.DemandLaws.{IsSoundOut, OutAccepts};
+ghost use Rattle.hyd_theorems_on_definitions.specs.Laws.{IsSoundCapacity};
 
+use hyd_capacities::pda_capacity;
 use hyd_law::{
     Bent, Capped, Fixed, Held, Knot, Law, Lifted, Linear, LinkLaw, OneWay, OutLaw, Pda, Quad, Shut,
 };
 use hyd_net::{List, OutOfMemory, ShutoffHead};
 use hyd_num::{Capacity, Decimal, Span};
-use hyd_resist::pda_capacity;
 use std::alloc::Global;
 use std::test::Fail;
 

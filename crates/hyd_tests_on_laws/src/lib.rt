@@ -7,7 +7,7 @@ mod demand;
 #[cfg(test)]
 mod law;
 #[cfg(test)]
-mod network;
+mod lists_and_projects;
 #[cfg(test)]
 mod periods;
 #[cfg(test)]

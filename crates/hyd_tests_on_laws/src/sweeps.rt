@@ -1,9 +1,9 @@
 //! Where sweeps begin, and the room that they take.
 #![tactic(auto)]
 
-use hyd_check::{head_of, is_in_box};
 use hyd_spec_certificates::Side;
 use hyd_sweep::{Sweeper, begin};
+use hyd_vector_check::{head_of, is_in_box};
 use std::test::Fail;
 
 #[test]

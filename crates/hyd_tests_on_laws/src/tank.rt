@@ -2,7 +2,7 @@
 #![tactic(auto)]
 
 ghost use Rattle.std.specs.Prelude.{◌≡◌, ◌^◌, ◌*◌, ◌≤◌, pos, unsigned_abs};
-ghost use Rattle.hyd_net.specs.Ranges.{Lies};
+ghost use Rattle.hyd_net.specs.NumberRanges.{Lies};
 ghost use Rattle.hyd_tank.specs.Spans.{IsCylinder};
 
 use hyd_net::Tank;

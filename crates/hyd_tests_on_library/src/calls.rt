@@ -1,16 +1,10 @@
 //! Each call once on a network that was read, to the byte.
 
-ghost use Rattle.std.specs.Prelude.{◌≡◌, None};
-ghost use Rattle.hyd_net.specs.Sound.{Sound};
-ghost use Rattle.hyd_spec_certificates.specs.Record.{initial_standing};
-ghost use Rattle.hyd_sim.specs.View.{standing_of};
-
 use crate::printed::Paper;
+use crate::trials::{Trial, passes};
 use hyd_as_library::{CERTIFICATE, check_at, print_due_period, run_at};
 use hyd_cert_check::CheckEnd;
-use hyd_inp::read_project;
 use hyd_io::MemDesk;
-use hyd_net::Project;
 use hyd_run::RunEnd;
 use hyd_sim::{Settings, Sim};
 use std::alloc::Global;
@@ -52,40 +46,47 @@ enum Call {
     CheckAt,
 }
 
-/// Whether a call with a run at its start ends well: the period is printed, the run finishes, the check accepts.
-fn ends_well(alloc: Global, sim: &mut Sim, call: Call, paper: &Paper, desk: &mut MemDesk) -> bool
-    requires start { standing_of sim.old ≡ initial_standing sim.old.project }
-    requires running { sim.old.stopped ≡ None }
-{
-    match call {
-        Call::PrintDuePeriod => print_due_period(alloc, paper, sim).is_ok(),
-        Call::RunAt => matches!(run_at(alloc, sim, desk), Ok(RunEnd::Finished)),
-        Call::CheckAt => matches!(check_at(alloc, sim, desk), Ok(CheckEnd::Accepted)),
-    }
-}
-
-/// Whether a call for a network ends well.
-fn ends_well_in(
+/// A call, and where it prints and writes.
+#[derive(Drop)]
+struct Example {
     alloc: Global,
-    project: Project,
     call: Call,
-    paper: &Paper,
-    desk: &mut MemDesk,
-) -> bool
-    requires { Sound project }
-{
-    match Sim::open(alloc, project, TIGHT) {
-        Ok(mut sim) => ends_well(alloc, &mut sim, call, paper, desk),
-        Err(_) => false,
+    paper: Paper,
+    desk: MemDesk,
+}
+
+impl Example {
+    /// Nothing was called yet.
+    fn new(alloc: Global, call: Call) -> Example {
+        Example {
+            alloc,
+            call,
+            paper: Paper::new(alloc),
+            desk: MemDesk::new(alloc),
+        }
     }
 }
 
-/// Whether a call for the text's network ends well.
-fn does(alloc: Global, call: Call, paper: &Paper, desk: &mut MemDesk) -> bool {
-    match read_project(alloc, VALVE.as_bytes()) {
-        Ok(project) => ends_well_in(alloc, project, call, paper, desk),
-        Err(_) => false,
+impl Trial for Example {
+    /// Whether the call ends well: the period is printed, the run finishes, the check accepts.
+    fn passes(&mut self, sim: &mut Sim) -> bool {
+        match self.call {
+            Call::PrintDuePeriod => print_due_period(self.alloc, &self.paper, sim).is_ok(),
+            Call::RunAt => matches!(
+                run_at(self.alloc, sim, &mut self.desk),
+                Ok(RunEnd::Finished)
+            ),
+            Call::CheckAt => matches!(
+                check_at(self.alloc, sim, &mut self.desk),
+                Ok(CheckEnd::Accepted)
+            ),
+        }
     }
+}
+
+/// Whether the call for the text's network ends well.
+fn does(alloc: Global, example: &mut Example) -> bool {
+    passes(alloc, VALVE, TIGHT, example)
 }
 
 /// Whether the certificate at the desk is this text.
@@ -106,22 +107,21 @@ fn is_printed_behind(desk: &MemDesk, first: &str, text: &str) -> bool {
 
 #[test]
 fn the_first_period_prints_its_heads(rt: HostRuntime) -> Result<(), Fail> {
-    let paper = Paper::new(rt.alloc());
-    let mut desk = MemDesk::new(rt.alloc());
-    assert!(rt; does(rt.alloc(), Call::PrintDuePeriod, &paper, &mut desk));
-    let text = paper.into_text();
+    let mut example = Example::new(rt.alloc(), Call::PrintDuePeriod);
+    assert!(rt; does(rt.alloc(), &mut example));
+    let text = example.paper.into_text();
     assert_eq!(rt; text.as_str(), HEADS);
     Ok(())
 }
 
 #[test]
 fn a_run_at_a_desk_is_put_out_and_accepted(rt: HostRuntime) -> Result<(), Fail> {
-    let paper = Paper::new(rt.alloc());
-    let mut desk = MemDesk::new(rt.alloc());
-    assert!(rt; does(rt.alloc(), Call::RunAt, &paper, &mut desk));
-    assert!(rt; is_certificate(&desk, WRITTEN));
-    assert!(rt; desk.printed() == PRINTED.as_bytes());
-    assert!(rt; does(rt.alloc(), Call::CheckAt, &paper, &mut desk));
-    assert!(rt; is_printed_behind(&desk, PRINTED, PRINTED));
+    let mut example = Example::new(rt.alloc(), Call::RunAt);
+    assert!(rt; does(rt.alloc(), &mut example));
+    assert!(rt; is_certificate(&example.desk, WRITTEN));
+    assert!(rt; example.desk.printed() == PRINTED.as_bytes());
+    example.call = Call::CheckAt;
+    assert!(rt; does(rt.alloc(), &mut example));
+    assert!(rt; is_printed_behind(&example.desk, PRINTED, PRINTED));
     Ok(())
 }

@@ -3,17 +3,17 @@
 
 ghost use Rattle.std.specs.Prelude.{IfSome};
 ghost use Rattle.std.specs.Option.{option_copied};
-ghost use Rattle.hyd_theorems_on_periods.specs.Laws.{IsSoundCapacity};
+ghost use Rattle.hyd_theorems_on_definitions.specs.Laws.{IsSoundCapacity};
 ghost use Rattle.hyd_net.specs.Sound.{Sound};
-ghost use Rattle.hyd_graph.specs.GridOf.{capacity_of};
-ghost use Rattle.hyd_graph.specs.Periods.{IsNetOf};
-ghost use Rattle.hyd_graph.specs.Settings.{AreStates};
+ghost use Rattle.hyd_period_network.specs.GridOf.{capacity_of};
+ghost use Rattle.hyd_period_network.specs.Periods.{IsNetOf};
+ghost use Rattle.hyd_period_network.specs.Settings.{AreStates};
 
 use crate::four_periods::{Part, Row, TEXT, emitters, parts};
 use crate::given::read;
-use hyd_graph::{Net, PeriodDemand};
 use hyd_law::{Law, Quad};
 use hyd_net::{LinkState, OutOfMemory, Project};
+use hyd_period_network::{Net, PeriodDemand};
 use hyd_spec_certificates::{Problem, Side};
 use hyd_test_helpers::{Order, command, is_problem, set, span, starts};
 use std::alloc::Global;

@@ -3,12 +3,12 @@
 #![tactic(auto)]
 
 ghost use Rattle.std.specs.Prelude.{◌≡◌, ◌<◌, ◌*◌, ◌^◌, pos, ◌≤ℤ◌, ◌<ℤ◌, IsTrue};
-ghost use Rattle.hyd_resist.specs.Ranges.{IsPositiveUpTo, IsMinorCoefficient, IsCurveFlow, ArePressures};
+ghost use Rattle.hyd_capacities.specs.Ranges.{IsPositiveUpTo, IsMinorCoefficient, IsCurveFlow, ArePressures};
 
-use hyd_num::{Capacity, Decimal, FlowUnit};
-use hyd_resist::{
+use hyd_capacities::{
     CapRange, emitter_capacity, pda_capacity, pipe_capacity, pump_capacity, valve_capacity,
 };
+use hyd_num::{Capacity, Decimal, FlowUnit};
 
 // The mantissas and exponents of the lower and the upper end.
 type Ends = (u64, i32, u64, i32);

@@ -58,6 +58,20 @@ fn put_pieces(desk: &mut MemDesk, to: Channel, bytes: &[u8]) -> Result<(), OutFa
     pen.flush(desk)
 }
 
+/// Where the copy ends when a call fails.
+fn copy_failing(alloc: Global, call: u32) -> Result<End, AllocError> {
+    let mut desk = desk_with_file(alloc)?;
+    desk.fail(call)?;
+    Ok(copy(alloc, &mut desk))
+}
+
+/// Where the copy ends when a call takes nothing.
+fn copy_starving(alloc: Global, call: u32) -> Result<End, AllocError> {
+    let mut desk = desk_with_file(alloc)?;
+    desk.starve(call)?;
+    Ok(copy(alloc, &mut desk))
+}
+
 #[test]
 fn each_call_fails_or_starves_in_turn(rt: HostRuntime) -> Result<(), Fail> {
     let rows = [
@@ -78,18 +92,42 @@ fn each_call_fails_or_starves_in_turn(rt: HostRuntime) -> Result<(), Fail> {
         (7, End::Done, End::Done),
     ];
     for (call, failed, starved) in rows {
-        let mut desk = desk_with_file(rt.alloc())?;
-        desk.fail(call)?;
-        assert_eq!(rt; copy(rt.alloc(), &mut desk), failed, "call {call} fails");
-        let mut desk = desk_with_file(rt.alloc())?;
-        desk.starve(call)?;
         assert_eq!(rt;
-            copy(rt.alloc(), &mut desk),
+            copy_failing(rt.alloc(), call)?,
+            failed,
+            "call {call} fails"
+        );
+        assert_eq!(rt;
+            copy_starving(rt.alloc(), call)?,
             starved,
             "call {call} takes nothing"
         );
     }
     Ok(())
+}
+
+/// How often the desk is called when the bytes are put into a file and out, if they are found there.
+fn calls_on(desk: &mut MemDesk, bytes: &[u8]) -> Option<(u64, u64)> {
+    if desk.create("out").is_err() {
+        return None;
+    }
+    if put_pieces(desk, Channel::Cert, bytes).is_err() {
+        return None;
+    }
+    if put_pieces(desk, Channel::Report, bytes).is_err() {
+        return None;
+    }
+    if desk.file("out") != Some(bytes) || desk.printed().len() != bytes.len() {
+        return None;
+    }
+    Some((desk.writes(), desk.prints()))
+}
+
+/// How often a new desk is called for so many bytes.
+fn calls_for(alloc: Global, length: usize) -> Result<Option<(u64, u64)>, AllocError> {
+    let bytes = vec![in alloc; 7u8; length]?;
+    let mut desk = MemDesk::new(alloc);
+    Ok(calls_on(&mut desk, bytes.as_slice()))
 }
 
 #[test]
@@ -104,15 +142,8 @@ fn pens_call_seldom(rt: HostRuntime) -> Result<(), Fail> {
         (20000, 3),
     ];
     for (length, calls) in rows {
-        let bytes = vec![in rt.alloc(); 7u8; length]?;
-        let mut desk = MemDesk::new(rt.alloc());
-        desk.create("out")?;
-        put_pieces(&mut desk, Channel::Cert, bytes.as_slice())?;
-        put_pieces(&mut desk, Channel::Report, bytes.as_slice())?;
-        assert_eq!(rt; desk.writes(), calls, "writes of {length} bytes");
-        assert_eq!(rt; desk.prints(), calls, "prints of {length} bytes");
-        assert_eq!(rt; desk.file("out"), Some(bytes.as_slice()));
-        assert_eq!(rt; desk.printed().len(), length);
+        let expected = Some((calls, calls));
+        assert_eq!(rt; calls_for(rt.alloc(), length)?, expected, "{length} bytes");
     }
     Ok(())
 }

@@ -3,10 +3,10 @@
 
 ghost use Rattle.std.specs.Prelude.{◌≤◌, ◌^◌, unsigned_abs, All, IfSome};
 ghost use Rattle.hyd_net.specs.Sound.{Sound};
-ghost use Rattle.hyd_ctrl.specs.Instants.{IsBounded};
+ghost use Rattle.hyd_controls_and_rules.specs.Instants.{IsBounded};
 
 use crate::given::{levels, starts};
-use hyd_ctrl::decide;
+use hyd_controls_and_rules::decide;
 use hyd_net::{LinkState, OutOfMemory, Project};
 use hyd_num::Span;
 use hyd_spec_certificates::Truth;

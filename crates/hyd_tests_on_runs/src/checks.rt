@@ -3,8 +3,8 @@
 use crate::expected_checks::{ACCEPTED, COUNTS, Check, IDLE, LINES, RECORDS};
 use crate::expected_runs::{CONTROLS, LEVELS, OPTIONS, RULES, Run, STOPS};
 use crate::expected_texts::{OTHERS, PIPES, REFUSALS, Row, VALVES};
-use crate::given::{owned, status_on};
 use crate::runs::are;
+use crate::words_and_desks::{owned, status_on};
 use hyd_cli::Status;
 use hyd_io::{MemDesk, Openings};
 use std::alloc::{AllocError, Global};
@@ -253,24 +253,37 @@ fn holds_both(desk: &MemDesk) -> bool {
         && desk.openings() == both
 }
 
-#[test]
-fn a_check_changes_no_file(rt: HostRuntime) -> Result<(), Fail> {
-    let alloc = rt.alloc();
+/// Whether a check is done and changes no file.
+fn keeps_both(alloc: Global) -> Result<bool, AllocError> {
     let words = owned(alloc, &CHECK)?;
     let mut desk = desk_with(alloc, IDLE, IDLE_CERTIFICATE.as_bytes())?;
-    assert_eq!(rt; status_on(alloc, &words, &mut desk), Status::Done);
-    assert!(rt; holds_both(&desk));
+    let status = status_on(alloc, &words, &mut desk);
+    Ok(status == Status::Done && holds_both(&desk))
+}
+
+#[test]
+fn a_check_changes_no_file(rt: HostRuntime) -> Result<(), Fail> {
+    assert!(rt; keeps_both(rt.alloc())?);
     Ok(())
+}
+
+/// Whether a check on the desk ends by a fault of reading and prints nothing.
+fn reads_in_vain(alloc: Global, desk: &mut MemDesk) -> Result<bool, AllocError> {
+    let words = owned(alloc, &CHECK)?;
+    let status = status_on(alloc, &words, desk);
+    Ok(status == Status::ReadFault && desk.printed().is_empty())
+}
+
+/// Whether a check does so without a file, and without a certificate.
+fn reads_both_in_vain(alloc: Global) -> Result<(bool, bool), AllocError> {
+    let mut desk = MemDesk::new(alloc);
+    let without_both = reads_in_vain(alloc, &mut desk)?;
+    desk.add("n.inp", IDLE.as_bytes())?;
+    Ok((without_both, reads_in_vain(alloc, &mut desk)?))
 }
 
 #[test]
 fn a_check_without_its_files_is_a_fault_of_reading(rt: HostRuntime) -> Result<(), Fail> {
-    let alloc = rt.alloc();
-    let words = owned(alloc, &CHECK)?;
-    let mut desk = MemDesk::new(alloc);
-    assert_eq!(rt; status_on(alloc, &words, &mut desk), Status::ReadFault);
-    desk.add("n.inp", IDLE.as_bytes())?;
-    assert_eq!(rt; status_on(alloc, &words, &mut desk), Status::ReadFault);
-    assert!(rt; desk.printed().is_empty());
+    assert_eq!(rt; reads_both_in_vain(rt.alloc())?, (true, true));
     Ok(())
 }

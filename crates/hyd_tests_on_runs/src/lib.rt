@@ -4,6 +4,8 @@
 #[cfg(test)]
 mod checks;
 #[cfg(test)]
+mod command_words;
+#[cfg(test)]
 mod expected_checks;
 #[cfg(test)]
 mod expected_runs;
@@ -14,12 +16,10 @@ mod faults;
 #[cfg(test)]
 mod generated;
 #[cfg(test)]
-mod given;
-#[cfg(test)]
 mod limits;
-#[cfg(test)]
-mod orders;
 #[cfg(test)]
 mod runs;
 #[cfg(test)]
 mod texts;
+#[cfg(test)]
+mod words_and_desks;

@@ -1,7 +1,7 @@
 //! Texts at a limit and one beyond it, and what their runs print.
 
 use crate::expected_texts::VALVES;
-use crate::given::{WORDS, owned, status_on};
+use crate::words_and_desks::{WORDS, owned, status_on};
 use hyd_cli::Status;
 use hyd_io::MemDesk;
 use std::alloc::Global;
@@ -50,14 +50,20 @@ fn networks_of_ten_thousand_junctions_and_one_more(rt: HostRuntime) -> Result<()
     Ok(())
 }
 
+/// Whether a text runs as the first one does.
+fn runs_as_first(alloc: Global, text: &str) -> Result<bool, Fail> {
+    let words = owned(alloc, &WORDS)?;
+    let mut desk = MemDesk::new(alloc);
+    desk.add("n.inp", text.as_bytes())?;
+    let status = status_on(alloc, &words, &mut desk);
+    Ok(status == Status::Done && desk.printed() == VALVES[0].printed.as_bytes())
+}
+
 #[test]
 fn lines_of_1024_bytes_and_one_more(rt: HostRuntime) -> Result<(), Fail> {
     let alloc = rt.alloc();
-    let mut desk = MemDesk::new(alloc);
-    desk.add("n.inp", behind_comment(alloc, 1_024)?.as_bytes())?;
-    let status = status_on(alloc, &owned(alloc, &WORDS)?, &mut desk);
-    assert_eq!(rt; status, Status::Done);
-    assert_eq!(rt; desk.printed(), VALVES[0].printed.as_bytes());
+    let most = behind_comment(alloc, 1_024)?;
+    assert!(rt; runs_as_first(alloc, &most)?);
     let more = behind_comment(alloc, 1_025)?;
     assert!(rt; is_refused(alloc, &more, "REFUSED line 1 cause 7 detail 2\n")?);
     Ok(())

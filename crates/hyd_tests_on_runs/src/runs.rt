@@ -1,7 +1,7 @@
 //! The top call on a desk in memory: what it answers, prints and writes for runs over time, to the byte.
 
 use crate::expected_runs::{Bytes, CONTROLS, LEVELS, OPTIONS, RULES, Run, STOPS};
-use crate::given::{WORDS, owned, status_on};
+use crate::words_and_desks::{WORDS, owned, status_on};
 use hyd_cli::Status;
 use hyd_io::MemDesk;
 use std::alloc::{AllocError, Global};
@@ -91,35 +91,47 @@ fn other_rounds_and_widths(rt: HostRuntime) -> Result<(), Fail> {
     Ok(())
 }
 
+/// How the day of minutes ends on a desk, and what was written and printed.
+fn run_day(alloc: Global, desk: &mut MemDesk) -> Result<Status, AllocError> {
+    let words = owned(alloc, &WORDS)?;
+    desk.add("n.inp", MINUTES.as_bytes())?;
+    Ok(status_on(alloc, &words, desk))
+}
+
+/// Whether a desk has the report and the certificate of the day. As many writes are made as blocks of 8,192 bytes hold
+/// the 1,441 records.
+fn has_day(desk: &MemDesk) -> bool {
+    are(desk.printed(), Bytes::Sum(4_456, 0x59a3_83fa_cfd9_00ee))
+        && has_written(desk, Bytes::Sum(83_753, 0xc348_dcdd_92de_3bdc))
+        && desk.writes() == 11
+        && desk.prints() == 1
+}
+
+/// Whether the day is run so.
+fn runs_day(alloc: Global) -> Result<bool, AllocError> {
+    let mut desk = MemDesk::new(alloc);
+    let status = run_day(alloc, &mut desk)?;
+    Ok(status == Status::Done && has_day(&desk))
+}
+
 #[test]
 fn a_day_of_minutes_is_written_in_few_calls(rt: HostRuntime) -> Result<(), Fail> {
-    let alloc = rt.alloc();
-    let mut desk = MemDesk::new(alloc);
-    desk.add("n.inp", MINUTES.as_bytes())?;
-    assert_eq!(rt;
-        status_on(alloc, &owned(alloc, &WORDS)?, &mut desk),
-        Status::Done
-    );
-    assert!(rt; are(desk.printed(), Bytes::Sum(4_456, 0x59a3_83fa_cfd9_00ee)));
-    assert!(rt; has_written(&desk, Bytes::Sum(83_753, 0xc348_dcdd_92de_3bdc)));
-    // As many as blocks of 8,192 bytes hold the 1,441 records.
-    assert_eq!(rt; desk.writes(), 11);
-    assert_eq!(rt; desk.prints(), 1);
+    assert!(rt; runs_day(rt.alloc())?);
     Ok(())
+}
+
+/// Whether a write of the day that fails in the middle leaves a beginning. The calls before the first write are open,
+/// two reads and create.
+fn leaves_beginning(alloc: Global) -> Result<bool, AllocError> {
+    let mut desk = MemDesk::new(alloc);
+    desk.fail(9)?;
+    let status = run_day(alloc, &mut desk)?;
+    let front = Bytes::Sum(32_768, 0xd9b0_7383_2420_82a0);
+    Ok(status == Status::WriteFault && desk.printed().is_empty() && has_written(&desk, front))
 }
 
 #[test]
 fn a_write_that_fails_in_the_middle_leaves_a_beginning(rt: HostRuntime) -> Result<(), Fail> {
-    let alloc = rt.alloc();
-    let mut desk = MemDesk::new(alloc);
-    desk.add("n.inp", MINUTES.as_bytes())?;
-    // The calls before the first write are open, two reads and create.
-    desk.fail(9)?;
-    assert_eq!(rt;
-        status_on(alloc, &owned(alloc, &WORDS)?, &mut desk),
-        Status::WriteFault
-    );
-    assert!(rt; desk.printed().is_empty());
-    assert!(rt; has_written(&desk, Bytes::Sum(32_768, 0xd9b0_7383_2420_82a0)));
+    assert!(rt; leaves_beginning(rt.alloc())?);
     Ok(())
 }

@@ -1,7 +1,7 @@
 //! The top call on a desk in memory: what it answers, prints and writes for whole texts, to the byte.
 
 use crate::expected_texts::{OTHERS, PIPES, REFUSALS, Row, VALVES};
-use crate::given::{WORDS, owned, status_on};
+use crate::words_and_desks::{WORDS, owned, status_on};
 use hyd_io::MemDesk;
 use std::alloc::{AllocError, Global};
 use std::test::Fail;

@@ -3,11 +3,11 @@ use Rattle.std.proofs.Common.{◌≡◌, ℕ, ℤ, pos, refl, ap, ◌∙◌, ari
 use Rattle.std.specs.Prelude.{Option, Some, slice_get, unsigned_abs}
 use Rattle.std.specs.Option.{option_map_or}
 use Rattle.std.proofs.lemmas.Int.{ints}
-use Rattle.hyd_spec.specs.Types.{Project, Tank}
+use Rattle.hyd_spec.specs.ProgramTypes.{Project, Tank}
 use Rattle.hyd_spec.specs.Tank.{Walls, Cylinder, Curve, shape_points, walls_of, kept_volume}
 use Rattle.hyd_net.specs.Curves.{volume_at}
 use Rattle.hyd_spec_certificates.specs.Stocks.{Stocks}
-use Rattle.hyd_theorems_on_periods.specs.Laws.{IsWithin}
+use Rattle.hyd_theorems_on_definitions.specs.Laws.{IsWithin}
 use Rattle.hyd_tank.specs.Spans.{AreHeld}
 use Rattle.hyd_tests_on_tanks.specs.Basins.{knees, HasBasin}
 

@@ -1,7 +1,7 @@
 -- The tank with a volume curve that the tests fill and empty.
 use Rattle.std.specs.Prelude.{◌≡◌, pos, List, [], ◌∷◌, Some, slice_get}
 use Rattle.hyd_net.specs.declared.curves.VolumePoint.{VolumePoint}
-use Rattle.hyd_spec.specs.Types.{Project, Tank}
+use Rattle.hyd_spec.specs.ProgramTypes.{Project, Tank}
 use Rattle.hyd_spec.specs.Tank.{shape_points}
 
 -- its curve: levels in head ticks, volumes in volume ticks

@@ -3,9 +3,9 @@
 
 ghost use Rattle.std.specs.Prelude.{◌≡◌, pos, slice_get, Some, IfSome, IsTrue};
 ghost use Rattle.hyd_net.specs.Sound.{Sound};
-ghost use Rattle.hyd_spec.specs.Types.{Tank};
+ghost use Rattle.hyd_spec.specs.ProgramTypes.{Tank};
 ghost use Rattle.hyd_spec.specs.Tank.{walls_of};
-ghost use Rattle.hyd_theorems_on_periods.specs.Laws.{IsWithin};
+ghost use Rattle.hyd_theorems_on_definitions.specs.Laws.{IsWithin};
 ghost use Rattle.hyd_tank.specs.Spans.{AreHeld, IsInflow, stocks_of};
 ghost use Rattle.hyd_tests_on_tanks.specs.Basins.{knees, IsBasin, HasBasin};
 

@@ -1,7 +1,8 @@
 //! Texts of certificates: what a reader answers of each, and what is put out and read back.
 #![tactic(auto)]
 
-ghost use Rattle.std.specs.Prelude.{◌≤◌};
+ghost use Rattle.std.specs.Prelude.{◌≡◌, ◌≤◌};
+ghost use Rattle.hyd_cert.specs.RecordView.{header_of};
 
 use hyd_cert::*;
 use hyd_io::{Channel, Desk, MemDesk, OutFault, Pen};
@@ -271,9 +272,9 @@ fn text_of(alloc: Global, row: &str) -> Result<String, Fail> {
 }
 
 /// A desk on which a file with the text is open.
-fn desk_with(alloc: Global, text: &str) -> Result<MemDesk, Fail> {
+fn desk_with(alloc: Global, text: &[u8]) -> Result<MemDesk, Fail> {
     let mut desk = MemDesk::new(alloc);
-    desk.add("c", text.as_bytes())?;
+    desk.add("c", text)?;
     if desk.open("c").is_err() {
         return Err(Fail::new("the file is there"));
     }
@@ -309,43 +310,99 @@ fn answers(alloc: Global, desk: &mut MemDesk, row: &mut Record) -> Result<String
     Ok(out)
 }
 
+/// Whether a reader answers so of a text.
+fn is_answered(alloc: Global, text: &[u8], answer: &str, row: &mut Record) -> Result<bool, Fail> {
+    let mut desk = desk_with(alloc, text)?;
+    let found = answers(alloc, &mut desk, row)?;
+    Ok(found.as_str() == answer)
+}
+
+/// Whether a reader answers so of the text of a row.
+fn row_is_answered(
+    alloc: Global,
+    text: &str,
+    answer: &str,
+    row: &mut Record,
+) -> Result<bool, Fail> {
+    let text = text_of(alloc, text)?;
+    is_answered(alloc, text.as_bytes(), answer, row)
+}
+
+/// The first row of which a reader answers something else.
+fn first_other(
+    alloc: Global,
+    rows: &[(&'static str, &'static str)],
+    row: &mut Record,
+) -> Result<&'static str, Fail> {
+    for (text, answer) in rows {
+        if !row_is_answered(alloc, text, answer, row)? {
+            return Ok(text);
+        }
+    }
+    Ok("none")
+}
+
+/// The first row of the first version of which a reader answers something else.
+fn first_other_of_first(alloc: Global) -> Result<&'static str, Fail> {
+    let mut row = Record::open(alloc, 1, 1, 0)?;
+    first_other(alloc, &FIRST_VERSION, &mut row)
+}
+
+/// The first row of the second version of which a reader answers something else.
+fn first_other_of_second(alloc: Global) -> Result<&'static str, Fail> {
+    let mut row = Record::open(alloc, 2, 1, 1)?;
+    first_other(alloc, &SECOND_VERSION, &mut row)
+}
+
 #[test]
 fn texts_are_read(rt: HostRuntime) -> Result<(), Fail> {
-    let alloc = rt.alloc();
-    let mut row = Record::open(alloc, 1, 1, 0)?;
-    for (text, answer) in FIRST_VERSION {
-        let mut desk = desk_with(alloc, text_of(alloc, text)?.as_str())?;
-        assert_eq!(rt; answers(alloc, &mut desk, &mut row)?.as_str(), answer);
-    }
-    let mut other = Record::open(alloc, 2, 1, 1)?;
-    for (text, answer) in SECOND_VERSION {
-        let mut desk = desk_with(alloc, text_of(alloc, text)?.as_str())?;
-        assert_eq!(rt; answers(alloc, &mut desk, &mut other)?.as_str(), answer);
-    }
+    assert_eq!(rt; first_other_of_first(rt.alloc())?, "none");
+    assert_eq!(rt; first_other_of_second(rt.alloc())?, "none");
     Ok(())
+}
+
+/// What a reader answers of a text that ends in this line.
+fn cut_in(alloc: Global, line: u64) -> Result<String, Fail> {
+    let mut answer = String::new(alloc);
+    if line == 7 {
+        write!(answer, "7 60 3600: 5 3 2 -1; ")?;
+    }
+    write!(answer, "Grammar {line}")?;
+    Ok(answer)
+}
+
+/// Whether a reader answers so of a text that ends in a line.
+fn is_answered_in(alloc: Global, text: &[u8], line: u64, row: &mut Record) -> Result<bool, Fail> {
+    let answer = cut_in(alloc, line)?;
+    is_answered(alloc, text, answer.as_str(), row)
+}
+
+/// The first length to which a text can be cut so that a reader answers something else, or the text's.
+fn first_other_length(alloc: Global, text: &[u8], row: &mut Record) -> Result<usize, Fail> {
+    let mut line = 1u64;
+    for length in 0..text.len() {
+        if !is_answered_in(alloc, &text[..length], line, row)? {
+            return Ok(length);
+        }
+        if text[length] == b'\n' {
+            line = line.saturating_add(1);
+        }
+    }
+    Ok(text.len())
+}
+
+/// That length for the whole text, and its own.
+fn lengths(alloc: Global, text: &[u8]) -> Result<(usize, usize), Fail> {
+    let mut row = Record::open(alloc, 2, 1, 1)?;
+    Ok((first_other_length(alloc, text, &mut row)?, text.len()))
 }
 
 // A text that is cut off is at fault in the line that is cut, or that isn't there.
 #[test]
 fn a_cut_text_is_at_fault(rt: HostRuntime) -> Result<(), Fail> {
-    let alloc = rt.alloc();
-    let text = text_of(alloc, WHOLE)?;
-    let mut row = Record::open(alloc, 2, 1, 1)?;
-    let mut line = 1u64;
-    let mut cut = String::new(alloc);
-    for byte in text.as_bytes() {
-        let mut desk = desk_with(alloc, cut.as_str())?;
-        let mut expected = String::new(alloc);
-        if line == 7 {
-            write!(expected, "7 60 3600: 5 3 2 -1; ")?;
-        }
-        write!(expected, "Grammar {line}")?;
-        assert_eq!(rt; answers(alloc, &mut desk, &mut row)?, expected);
-        cut.push(*byte as char)?;
-        if *byte == b'\n' {
-            line = line.saturating_add(1);
-        }
-    }
+    let text = text_of(rt.alloc(), WHOLE)?;
+    let (other, whole) = lengths(rt.alloc(), text.as_bytes())?;
+    assert_eq!(rt; other, whole);
     Ok(())
 }
 
@@ -362,21 +419,44 @@ fn long_text(alloc: Global, junctions: u32) -> Result<String, Fail> {
     Ok(text)
 }
 
+/// Whether what a reader answers ends so, where a call on the desk fails.
+fn ends_so(
+    alloc: Global,
+    text: &[u8],
+    call: u32,
+    end: &str,
+    row: &mut Record,
+) -> Result<bool, Fail> {
+    let mut desk = desk_with(alloc, text)?;
+    desk.fail(call)?;
+    let answer = answers(alloc, &mut desk, row)?;
+    Ok(answer.ends_with(end))
+}
+
+/// The first call whose failure is answered by something else. Opening is the first, three reads give the text, and a
+/// fourth nothing.
+fn first_other_call(alloc: Global, text: &[u8], row: &mut Record) -> Result<u32, Fail> {
+    for call in 2..=5 {
+        if !ends_so(alloc, text, call, "Read", row)? {
+            return Ok(call);
+        }
+    }
+    if ends_so(alloc, text, 6, "; End 1 true", row)? {
+        return Ok(0);
+    }
+    Ok(6)
+}
+
+/// That call in the reading of a text of 500 junctions.
+fn first_other_of_long_text(alloc: Global, text: &[u8]) -> Result<u32, Fail> {
+    let mut row = Record::open(alloc, 1, 500, 0)?;
+    first_other_call(alloc, text, &mut row)
+}
+
 #[test]
 fn a_failed_read_is_answered_from_then_on(rt: HostRuntime) -> Result<(), Fail> {
-    let alloc = rt.alloc();
-    let text = long_text(alloc, 500)?;
-    let mut row = Record::open(alloc, 1, 500, 0)?;
-    // Opening is the first call, three reads give the text, and a fourth nothing.
-    for call in 2..=5 {
-        let mut desk = desk_with(alloc, text.as_str())?;
-        desk.fail(call)?;
-        let answer = answers(alloc, &mut desk, &mut row)?;
-        assert!(rt; answer.ends_with("Read"));
-    }
-    let mut desk = desk_with(alloc, text.as_str())?;
-    desk.fail(6)?;
-    assert!(rt; answers(alloc, &mut desk, &mut row)?.ends_with("; End 1 true"));
+    let text = long_text(rt.alloc(), 500)?;
+    assert_eq!(rt; first_other_of_long_text(rt.alloc(), text.as_bytes())?, 0);
     Ok(())
 }
 
@@ -389,10 +469,10 @@ fn print_all(row: &Record, desk: &mut MemDesk) -> Result<(), OutFault> {
     pen.flush(desk)
 }
 
-#[test]
-fn records_are_written_and_put(rt: HostRuntime) -> Result<(), Fail> {
-    let alloc = rt.alloc();
-    let mut row = Record::open(alloc, 2, 1, 1)?;
+/// Puts the numbers and the heads of the text into a record, and tells whether they are found there.
+fn is_written(row: &mut Record) -> bool
+    requires { header_of row.old ≡ record { version = 2; junctions = 1; tanks = 1 } }
+{
     row.number = 7;
     row.time = 60;
     row.length = 3600;
@@ -400,11 +480,25 @@ fn records_are_written_and_put(rt: HostRuntime) -> Result<(), Fail> {
     row.set_vector(Problem::Main, Side::Lower, &[3]);
     row.set_vector(Problem::Pinned(0), Side::Upper, &[2]);
     row.set_vector(Problem::Pinned(0), Side::Lower, &[-1]);
-    assert_eq!(rt; row.vector(Problem::Pinned(0), Side::Upper), [2].as_slice());
-    assert_eq!(rt; row.start_of(Problem::Pinned(0), Side::Lower), 3);
+    row.vector(Problem::Pinned(0), Side::Upper) == [2].as_slice()
+        && row.start_of(Problem::Pinned(0), Side::Lower) == 3
+}
 
+/// Whether what is printed of a record is the text.
+fn prints(alloc: Global, row: &Record, text: &str) -> bool {
     let mut desk = MemDesk::new(alloc);
-    assert_eq!(rt; print_all(&row, &mut desk), Ok(()));
-    assert_eq!(rt; desk.printed(), text_of(alloc, WHOLE)?.as_bytes());
+    print_all(row, &mut desk).is_ok() && desk.printed() == text.as_bytes()
+}
+
+/// Whether a record is written, and its text printed.
+fn is_written_and_printed(alloc: Global, text: &str) -> Result<bool, Fail> {
+    let mut row = Record::open(alloc, 2, 1, 1)?;
+    Ok(is_written(&mut row) && prints(alloc, &row, text))
+}
+
+#[test]
+fn records_are_written_and_put(rt: HostRuntime) -> Result<(), Fail> {
+    let text = text_of(rt.alloc(), WHOLE)?;
+    assert!(rt; is_written_and_printed(rt.alloc(), text.as_str())?);
     Ok(())
 }

@@ -12,4 +12,4 @@ mod lines;
 #[cfg(test)]
 mod network_rows;
 #[cfg(test)]
-mod rows;
+mod option_and_rule_lines;

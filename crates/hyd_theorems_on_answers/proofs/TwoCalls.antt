@@ -3,12 +3,12 @@
 use Rattle.std.proofs.Common.{◌≡◌, ◌≢◌, ℕ, List, Option, Some, None, sym, subst, ◌∙◌, refl, arith}
 use Rattle.hyd_spec_lines.specs.Lines.{items_of, rows_in}
 use Rattle.hyd_spec_input.specs.Project.{IsProject}
-use Rattle.hyd_spec.specs.Types.{Project}
+use Rattle.hyd_spec.specs.ProgramTypes.{Project}
 use Rattle.hyd_spec_reports.specs.declared.StopCause.TheVariants.{Demand as DemandOutOfRange, NoCertificate}
 use Rattle.hyd_spec_reports.specs.declared.StopCause.TheVariants.{RoundsSpent as SpentRounds, RuleOpen, EventOpen}
 use Rattle.hyd_spec_reports.specs.declared.StopCause.TheVariants.{TankOpen, ControlOpen}
 use Rattle.hyd_spec_reports.specs.Headline.{Outcome, Finished, Stopped, RunWrites, outcome_number}
-use Rattle.hyd_io.specs.Told.{Files, where_told, append_known}
+use Rattle.hyd_io.specs.ToldBytes.{Files, where_told, append_known}
 use Rattle.hyd_run.specs.Runs.{sharpness_of}
 use Rattle.hyd_sim.specs.declared.settings.Settings.{Settings}
 use Rattle.hyd_cert_check.specs.declared.outcome.CheckEnd.TheVariants.{Accepted}
@@ -20,7 +20,8 @@ use Rattle.hyd_cli.specs.declared.status.Status.{Status}
 use Rattle.hyd_cli.specs.declared.status.Status.TheVariants.{Done, OutOfMemory, Usage, ReadFault, WriteFault}
 use Rattle.hyd_cli.specs.declared.status.Status.TheVariants.{InputRefused, Undecided, RoundsSpent, Demand}
 use Rattle.hyd_cli.specs.declared.status.Status.TheVariants.{CertificateRefused, Stalled}
-use Rattle.hyd_cli.specs.Answers.{Seen, Delivered, AnswersText}
+use Rattle.hyd_cli.specs.DeskContents.{Seen}
+use Rattle.hyd_cli.specs.RunAnswers.{Delivered, AnswersText}
 use Rattle.hyd_cli.specs.CheckAnswers.{AnswersCheck}
 use Rattle.hyd_theorems_on_answers.specs.Written.{HasWritten}
 

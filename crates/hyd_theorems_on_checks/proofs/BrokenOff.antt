@@ -3,9 +3,9 @@ use Rattle.std.proofs.Common.{◌≡◌, ℕ, ◌⊎◌, inl, inr, List, [], ◌
 use Rattle.std.proofs.Common.{append-nil, Bool, codes}
 use Rattle.std.specs.Fmt.{decimal}
 use Rattle.hyd_net.specs.Sound.{Sound}
-use Rattle.hyd_spec.specs.Types.{Project}
+use Rattle.hyd_spec.specs.ProgramTypes.{Project}
 use Rattle.hyd_spec.specs.Lists.{joined}
-use Rattle.hyd_spec.specs.Network.{junction_count, tank_count}
+use Rattle.hyd_spec.specs.NodeNumbers.{junction_count, tank_count}
 use Rattle.hyd_spec_certificates.specs.Record.{Record, Standing, initial_standing}
 use Rattle.hyd_spec_reports.specs.CertificateText.{line, version_of}
 use Rattle.hyd_spec_reports.specs.CertificateText.{IsCertificateText}

@@ -1,14 +1,14 @@
 -- The END line of the certificate of a run is the right one, and its report is one.
 use Rattle.std.proofs.Common.{◌≡◌, ℕ, Bool, List, length, sym, ap, ap₂, ◌∙◌}
-use Rattle.hyd_spec.specs.Types.{Project}
-use Rattle.hyd_spec.specs.Network.{junction_count, tank_count}
+use Rattle.hyd_spec.specs.ProgramTypes.{Project}
+use Rattle.hyd_spec.specs.NodeNumbers.{junction_count, tank_count}
 use Rattle.hyd_spec_certificates.specs.Record.{Standing, initial_standing}
 use Rattle.hyd_spec_reports.specs.CertificateText.{IsCertificateText, version_of}
 use Rattle.hyd_spec_reports.specs.ReportLine.{report_text}
 use Rattle.hyd_spec_reports.specs.Headline.{Found, IsRun, rows_of, lines_of, accepted_line}
 use Rattle.hyd_spec_reports.specs.Headline.{CheckAccepts, CheckRefusesEnd}
-use Rattle.hyd_theorems_on_periods.proofs.CertificateLines.{contents-same}
-use Rattle.hyd_theorems_on_periods.proofs.OneRun.{one_left}
+use Rattle.hyd_theorems_on_definitions.proofs.CertificateLines.{contents-same}
+use Rattle.hyd_theorems_on_definitions.proofs.OneRun.{one_left}
 use Rattle.hyd_theorems_on_checks.specs.CertificateOfRun.{IsCertificateOfRun}
 use Rattle.hyd_theorems_on_checks.proofs.RunsByRecords.{one_by_records}
 

@@ -8,10 +8,10 @@ use Rattle.hyd_spec.specs.Lists.{joined}
 use Rattle.hyd_spec_certificates.specs.Record.{Record, Vectors}
 use Rattle.hyd_spec_reports.specs.CertificateText.{words, line, header_line, period_line, head_lines, vectors_text}
 use Rattle.hyd_spec_reports.specs.CertificateText.{record_text, end_line, IsRow, IsCertificateText}
-use Rattle.hyd_theorems_on_periods.proofs.CertificateLines.{contents-same}
-use Rattle.hyd_cert.specs.Cutting.{HasNo}
+use Rattle.hyd_theorems_on_definitions.proofs.CertificateLines.{contents-same}
+use Rattle.hyd_cert.specs.TextsWithoutLine.{HasNo}
 use Rattle.hyd_cert.specs.Lines.{Header, header_words, header_text}
-use Rattle.hyd_cert.specs.Places.{Place, First, Between, Head, Over, CanStand, front_of, Goes, ends, goes}
+use Rattle.hyd_cert.specs.PlacesOfLines.{Place, First, Between, Head, Over, CanStand, front_of, Goes, ends, goes}
 use Rattle.hyd_cert.specs.FaultyLine.{IsCertificate, IsLines}
 use Rattle.hyd_cert.proofs.GoesLemmas.{opened, stands_alone, goes_behind}
 use Rattle.hyd_cert.proofs.ReadingLemmas.{certificate_goes, goes_certificate, whole_reading}

@@ -1,6 +1,6 @@
 -- A check never refuses the certificate of a run: where it ends, it accepts it, and prints its report.
 use Rattle.std.proofs.Common.{◌≡◌, ℕ, List, length, refl}
-use Rattle.hyd_spec.specs.Types.{Project}
+use Rattle.hyd_spec.specs.ProgramTypes.{Project}
 use Rattle.hyd_spec_reports.specs.ReportLine.{report_text}
 use Rattle.hyd_spec_reports.specs.Headline.{rows_of, lines_of, accepted_line}
 use Rattle.hyd_cert.specs.FaultyLine.{IsCertificate}

@@ -1,8 +1,8 @@
 -- What a run writes, and what a check accepts, is the certificate of a run.
 use Rattle.std.proofs.Common.{ℕ, List}
-use Rattle.hyd_spec.specs.Types.{Project}
+use Rattle.hyd_spec.specs.ProgramTypes.{Project}
 use Rattle.hyd_spec_reports.specs.Headline.{Sharpness, Outcome, RunWrites, CheckAccepts}
-use Rattle.hyd_theorems_on_periods.proofs.RunRecords.{accepts}
+use Rattle.hyd_theorems_on_definitions.proofs.RunRecords.{accepts}
 use Rattle.hyd_theorems_on_checks.specs.CertificateOfRun.{IsCertificateOfRun}
 
 pub accepted_is : (network : Project) (text printed : List ℕ) → CheckAccepts network text printed

@@ -3,9 +3,9 @@ use Rattle.std.proofs.Common.{◌≡◌, ℕ, ◌⊎◌, inl, inr, List, [], ◌
 use Rattle.std.proofs.Common.{subst, ◌∙◌, append_assoc, append-nil}
 use Rattle.std.proofs.lemmas.List.Elements.{All-head, All-tail}
 use Rattle.hyd_net.specs.Sound.{Sound}
-use Rattle.hyd_spec.specs.Types.{Project}
+use Rattle.hyd_spec.specs.ProgramTypes.{Project}
 use Rattle.hyd_spec.specs.Lists.{joined}
-use Rattle.hyd_spec.specs.Network.{junction_count, tank_count}
+use Rattle.hyd_spec.specs.NodeNumbers.{junction_count, tank_count}
 use Rattle.hyd_spec_certificates.specs.Record.{Record, Standing, initial_standing}
 use Rattle.hyd_spec_reports.specs.CertificateText.{IsRow, version_of, line_feeds, header_line}
 use Rattle.hyd_spec_reports.specs.CertificateText.{record_text}
@@ -14,9 +14,9 @@ use Rattle.hyd_spec_reports.specs.declared.CertRefused.{CertRefused}
 use Rattle.hyd_spec_reports.specs.Refusals.{IsRefused}
 use Rattle.hyd_spec_reports.specs.Headline.{Found, IsRun, rows_of, lines_of, CheckAccepts, CheckRefuses}
 use Rattle.hyd_spec_reports.specs.Headline.{CheckRefusesEnd}
-use Rattle.hyd_theorems_on_periods.proofs.CertificateLines.{contents-same}
-use Rattle.hyd_theorems_on_periods.proofs.OneRefusal.{refused_invalid, one_refusal}
-use Rattle.hyd_theorems_on_periods.proofs.OneRun.{one_left}
+use Rattle.hyd_theorems_on_definitions.proofs.CertificateLines.{contents-same}
+use Rattle.hyd_theorems_on_definitions.proofs.OneRefusal.{refused_invalid, one_refusal}
+use Rattle.hyd_theorems_on_definitions.proofs.OneRun.{one_left}
 use Rattle.hyd_cert.specs.FaultyLine.{IsCertificate}
 use Rattle.hyd_cert.proofs.SentenceLemmas.{fault_no_certificate, no_certificate_of_others, one_fault, fault_or_header}
 use Rattle.hyd_sim.specs.View.{header_for}
@@ -25,7 +25,7 @@ use Rattle.hyd_cert_check.specs.Checks.{CheckRefusesCounts, CheckRefusal, CheckE
 use Rattle.hyd_cert_check.specs.Checks.{grammar, counts, record_refused, other_end}
 use Rattle.hyd_cert_check.specs.declared.outcome.CheckEnd.{CheckEnd}
 use Rattle.hyd_cert_check.specs.declared.outcome.CheckEnd.TheVariants.{Accepted, Refused}
-use Rattle.hyd_theorems_on_checks.specs.Reasons.{HaveOneReason}
+use Rattle.hyd_theorems_on_checks.specs.SameEnding.{HaveOneReason}
 use Rattle.hyd_theorems_on_checks.proofs.ByEnd.{one_report}
 use Rattle.hyd_theorems_on_checks.proofs.Compared.{AreRows, BeginsWith, compared, other_header}
 use Rattle.hyd_theorems_on_checks.proofs.FirstRecords.{first_rows, both_rows}

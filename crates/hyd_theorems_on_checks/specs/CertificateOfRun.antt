@@ -1,8 +1,8 @@
 -- The certificates that hold: those of runs.
 -- Source: this program's.
 use Rattle.std.specs.Prelude.{◌≡◌, ℕ, List, length}
-use Rattle.hyd_spec.specs.Types.{Project}
-use Rattle.hyd_spec.specs.Network.{junction_count, tank_count}
+use Rattle.hyd_spec.specs.ProgramTypes.{Project}
+use Rattle.hyd_spec.specs.NodeNumbers.{junction_count, tank_count}
 use Rattle.hyd_spec_certificates.specs.Record.{Record, Standing}
 use Rattle.hyd_spec_reports.specs.CertificateText.{IsCertificateText, version_of}
 use Rattle.hyd_spec_reports.specs.Headline.{Found, IsRun, rows_of}

@@ -1,2 +1,2 @@
 pub mod CertificateOfRun
-pub mod Reasons
+pub mod SameEnding

@@ -5,9 +5,9 @@
 
 ghost use Rattle.std.specs.Prelude.{◌≡◌, ℕ, Bool, List, ◌∷◌, ◌++◌, length, map, All};
 ghost use Rattle.hyd_net.specs.Sound.{Sound};
-ghost use Rattle.hyd_spec.specs.Types.{Project};
+ghost use Rattle.hyd_spec.specs.ProgramTypes.{Project};
 ghost use Rattle.hyd_spec.specs.Lists.{joined};
-ghost use Rattle.hyd_spec.specs.Network.{junction_count, tank_count};
+ghost use Rattle.hyd_spec.specs.NodeNumbers.{junction_count, tank_count};
 ghost use Rattle.hyd_spec_certificates.specs.Grid.{Grid};
 ghost use Rattle.hyd_spec_certificates.specs.Record.{Record, Standing};
 ghost use Rattle.hyd_spec_certificates.specs.Valid.{IsValid, AreValid};
@@ -21,7 +21,7 @@ ghost use Rattle.hyd_cert_check.specs.Checks.{CheckRefusal, CheckEnds, CheckBrea
 ghost use Rattle.hyd_cert_check.specs.declared.outcome.CheckEnd.{CheckEnd};
 ghost use Rattle.hyd_cert_check.specs.declared.outcome.CheckEnd.TheVariants.{Accepted};
 ghost use Rattle.hyd_theorems_on_checks.specs.CertificateOfRun.{IsCertificateOfRun, IsRunOf};
-ghost use Rattle.hyd_theorems_on_checks.specs.Reasons.{HaveOneReason};
+ghost use Rattle.hyd_theorems_on_checks.specs.SameEnding.{HaveOneReason};
 
 /// The records with which the text of a certificate begins, behind its header line, are the first of its records,
 /// whatever is behind them.

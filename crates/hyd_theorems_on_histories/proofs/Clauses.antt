@@ -7,17 +7,18 @@ use Rattle.std.proofs.lemmas.Int.{ints}
 use Rattle.hyd_num.proofs.Integers.{times_plus, times_minus, times_times}
 use Rattle.hyd_num.specs.Rational.{Rational, whole, total_of}
 use Rattle.hyd_net.specs.ControlsAndRules.{Compares}
-use Rattle.hyd_spec.specs.Types.{Project, LinkState, Clause, What, Head, Pressure, Level, Flow, Setting, Status, Time}
-use Rattle.hyd_spec.specs.Types.{Clock, Relation, Less, NotMore, More, NotLess, Equal, Unequal, Value}
+use Rattle.hyd_spec.specs.ProgramTypes.{Project, LinkState, Clause, What, Head, Pressure, Level, Flow, Setting, Status}
+use Rattle.hyd_spec.specs.ProgramTypes.{Time}
+use Rattle.hyd_spec.specs.ProgramTypes.{Clock, Relation, Less, NotMore, More, NotLess, Equal, Unequal, Value}
 use Rattle.hyd_spec.specs.Scale.{at_scale}
-use Rattle.hyd_spec.specs.Network.{nodes_before_tanks, is_tank, tank_number}
+use Rattle.hyd_spec.specs.NodeNumbers.{nodes_before_tanks, is_tank, tank_number}
 use Rattle.hyd_spec.specs.Assignment.{head_at}
 use Rattle.hyd_spec.specs.Rules.{Readings, in_ticks, level_of, head_of, pressure_of, elevation_of, bottom_of, amount}
 use Rattle.hyd_spec.specs.Rules.{compares, holds_on, clause_holds, setting_of, state_of_link, status_holds, state_word}
 use Rattle.hyd_spec_certificates.specs.Verdict.{at_both_ends}
-use Rattle.hyd_theorems_on_periods.specs.Laws.{IsAtMost, IsOneWay, Tells}
-use Rattle.hyd_theorems_on_periods.proofs.Deciding.{compare_tells}
-use Rattle.hyd_theorems_on_periods.proofs.Leading.{one_times}
+use Rattle.hyd_theorems_on_definitions.specs.Laws.{IsAtMost, IsOneWay, Tells}
+use Rattle.hyd_theorems_on_definitions.proofs.Deciding.{compare_tells}
+use Rattle.hyd_theorems_on_definitions.proofs.Leading.{one_times}
 use Rattle.hyd_theorems_on_histories.specs.Agreement.{IsValueBetween, AreBetween}
 
 -- ---- values

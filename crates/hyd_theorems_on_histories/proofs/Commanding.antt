@@ -7,25 +7,26 @@ use Rattle.std.specs.List.{AllByRecursion, AllZip}
 use Rattle.std.specs.Option.{option_map_or, option_and_then}
 use Rattle.std.proofs.lemmas.Bool.{cond_both, eqb-true}
 use Rattle.std.proofs.lemmas.Option.{get_or_from_slice_get}
-use Rattle.hyd_net.specs.Ranges.{IsUpTo}
+use Rattle.hyd_net.specs.NumberRanges.{IsUpTo}
 use Rattle.hyd_net.specs.NetworkRanges.{HasPattern, HasSizes}
 use Rattle.hyd_net.specs.States.{IsSpeed, CanHave, CanBeSet}
 use Rattle.hyd_net.specs.ControlsAndRules.{CanCommand, IsControl, IsRule}
-use Rattle.hyd_net.specs.Made.{IsStateMade, IsRuleMade}
+use Rattle.hyd_net.specs.RoundedFileNumbers.{IsStateMade, IsRuleMade}
 use Rattle.hyd_net.specs.Sound.{Sound}
-use Rattle.hyd_spec.specs.Types.{Project, Link, LinkKind, PipeLink, CheckPipe, PumpLink, CurvePump, Tcv, Fcv, Gpv}
-use Rattle.hyd_spec.specs.Types.{LinkState, Closed, Speed, Control, Rule, Action, Pattern}
+use Rattle.hyd_spec.specs.ProgramTypes.{Project, Link, LinkKind, PipeLink, CheckPipe, PumpLink, CurvePump, Tcv, Fcv}
+use Rattle.hyd_spec.specs.ProgramTypes.{Gpv}
+use Rattle.hyd_spec.specs.ProgramTypes.{LinkState, Closed, Speed, Control, Rule, Action, Pattern}
 use Rattle.hyd_spec.specs.declared.Change.{Change}
 use Rattle.hyd_spec.specs.declared.Source.TheVariants.{Rule as ByRule}
 use Rattle.hyd_spec.specs.Lists.{map_from}
 use Rattle.hyd_spec.specs.Quantity.{multipliers_of, multiplier_at}
-use Rattle.hyd_spec.specs.Start.{speed_state, is_pattern_boundary, patterned_state, after_patterns, patterned}
-use Rattle.hyd_spec.specs.Start.{control_acts, started}
+use Rattle.hyd_spec.specs.PeriodStart.{speed_state, is_pattern_boundary, patterned_state, after_patterns, patterned}
+use Rattle.hyd_spec.specs.PeriodStart.{control_acts, started}
 use Rattle.hyd_spec.specs.Rules.{Offer, offer_of, offers_of, offers_from, is_above, higher, best_offer, change_by}
 use Rattle.hyd_spec.specs.Rules.{change_of, acted, is_same_state}
 use Rattle.hyd_spec.specs.History.{initial_links}
 use Rattle.std.proofs.lemmas.Int.{ints}
-use Rattle.hyd_theorems_on_periods.proofs.Outflows.{le-no}
+use Rattle.hyd_theorems_on_definitions.proofs.Outflows.{le-no}
 use Rattle.hyd_theorems_on_histories.specs.Agreement.{IsOwnState}
 use Rattle.hyd_theorems_on_histories.proofs.Places.{same_item}
 use Rattle.hyd_theorems_on_histories.proofs.Judging.{each_of}

@@ -6,13 +6,13 @@ use Rattle.std.specs.List.{list_any}
 use Rattle.std.specs.Option.{option_map_or}
 use Rattle.std.proofs.lemmas.Bool.{cases_Bool, eqb-true, eq-eqb}
 use Rattle.hyd_net.specs.Sound.{Sound}
-use Rattle.hyd_spec.specs.Types.{Project, LinkState}
+use Rattle.hyd_spec.specs.ProgramTypes.{Project, LinkState}
 use Rattle.hyd_spec.specs.Lists.{map_from, present}
 use Rattle.hyd_spec.specs.declared.Change.{Change}
 use Rattle.hyd_spec.specs.Rules.{change_of, rule_changes, acted}
-use Rattle.hyd_spec.specs.Length.{Period, IsLeast, EndsByClock, step, duration, pattern, report, control_time}
-use Rattle.hyd_spec.specs.Length.{control_clock, EndsByRules, MayEnd, by_clock, by_level, by_rules, HasItsLength}
-use Rattle.hyd_spec.specs.Length.{at_end, before_end, values_at}
+use Rattle.hyd_spec.specs.PeriodLength.{Period, IsLeast, EndsByClock, step, duration, pattern, report, control_time}
+use Rattle.hyd_spec.specs.PeriodLength.{control_clock, EndsByRules, MayEnd, by_clock, by_level, by_rules, HasItsLength}
+use Rattle.hyd_spec.specs.PeriodLength.{at_end, before_end, values_at}
 use Rattle.hyd_spec.specs.History.{commanded_after}
 use Rattle.hyd_spec_certificates.specs.Verdict.{is_yes, is_unknown}
 use Rattle.hyd_spec_certificates.specs.Grid.{Grid}

@@ -11,10 +11,10 @@ use Rattle.hyd_num.proofs.Integers.{times_plus, times_minus}
 use Rattle.hyd_num.specs.Rational.{whole}
 use Rattle.hyd_num.specs.PrintedDecimals.{head_quantity, flow_quantity}
 use Rattle.hyd_net.specs.NetworkRanges.{HasSizes}
-use Rattle.hyd_net.specs.Made.{IsKindMade}
+use Rattle.hyd_net.specs.RoundedFileNumbers.{IsKindMade}
 use Rattle.hyd_net.specs.ControlsAndRules.{IsControl, IsMoment}
 use Rattle.hyd_net.specs.Sound.{Sound}
-use Rattle.hyd_spec.specs.Types.{Project, Tank, Link, LinkState, Closed, Control, When, AtLevel, AtTime, AtClock}
+use Rattle.hyd_spec.specs.ProgramTypes.{Project, Tank, Link, LinkState, Closed, Control, When, AtLevel, AtTime, AtClock}
 use Rattle.hyd_spec.specs.declared.TankState.{TankState}
 use Rattle.hyd_spec_certificates.specs.declared.Problem.TheVariants.{Main}
 use Rattle.hyd_spec_certificates.specs.declared.Side.TheVariants.{Upper, Lower}
@@ -25,7 +25,7 @@ use Rattle.hyd_spec.specs.Quantity.{is_us}
 use Rattle.hyd_spec.specs.LinkLaw.{law_of, is_full, is_empty}
 use Rattle.hyd_spec.specs.Assignment.{head_at, node_heads}
 use Rattle.hyd_spec.specs.Tank.{walls_of, reaches, tank_inflow}
-use Rattle.hyd_spec.specs.Start.{acts_at, control_acts, patterned}
+use Rattle.hyd_spec.specs.PeriodStart.{acts_at, control_acts, patterned}
 use Rattle.std.specs.Option.{option_and_then}
 use Rattle.hyd_spec.specs.declared.Change.{Change}
 use Rattle.hyd_spec.specs.declared.Source.{Source}
@@ -35,7 +35,7 @@ use Rattle.hyd_spec_reports.specs.declared.EventKind.TheVariants.{Full as Become
 use Rattle.hyd_spec_reports.specs.declared.EventKind.TheVariants.{Control as ReachesLevel}
 use Rattle.hyd_spec.specs.Rules.{Offer, is_same_state, state_of_link, best_offer, offers_from, change_by, change_of}
 use Rattle.hyd_spec.specs.Rules.{rule_changes}
-use Rattle.hyd_spec.specs.Length.{Period, level_at_start, stock_at_start, watched_after, values_at}
+use Rattle.hyd_spec.specs.PeriodLength.{Period, level_at_start, stock_at_start, watched_after, values_at}
 use Rattle.hyd_spec_certificates.specs.Stocks.{carried_levels}
 use Rattle.hyd_spec_certificates.specs.Verdict.{at_both_ends, is_yes}
 use Rattle.hyd_spec_certificates.specs.Grid.{Grid, GridLink, grid_links}
@@ -51,12 +51,12 @@ use Rattle.hyd_spec_reports.specs.Report.{change_line, control_lines, tank_event
 use Rattle.hyd_spec_reports.specs.Report.{event_line, status_of, EndBrings, at_end as brings_last}
 use Rattle.hyd_spec_reports.specs.Report.{by_rules as brings_by_rules, by_clock as brings_by_clock, AreEndLines}
 use Rattle.hyd_spec_reports.specs.Claims.{LineHolds, ReachesControl, ReachesAtEnd, StatusHolds, difference_along}
-use Rattle.hyd_theorems_on_periods.specs.Laws.{LiesIn}
-use Rattle.hyd_theorems_on_periods.proofs.Boxed.{heads_between}
-use Rattle.hyd_theorems_on_periods.proofs.Deciding.{control_tells}
-use Rattle.hyd_theorems_on_periods.proofs.Placing.{le-from}
-use Rattle.hyd_theorems_on_periods.proofs.Leading.{one_times}
-use Rattle.hyd_theorems_on_periods.proofs.Outflows.{le-yes}
+use Rattle.hyd_theorems_on_definitions.specs.Laws.{LiesIn}
+use Rattle.hyd_theorems_on_definitions.proofs.Boxed.{heads_between}
+use Rattle.hyd_theorems_on_definitions.proofs.Deciding.{control_tells}
+use Rattle.hyd_theorems_on_definitions.proofs.Placing.{le-from}
+use Rattle.hyd_theorems_on_definitions.proofs.Leading.{one_times}
+use Rattle.hyd_theorems_on_definitions.proofs.Outflows.{le-yes}
 use Rattle.hyd_theorems_on_histories.specs.Agreement.{IsUnder, IsOwnState, IsKept}
 use Rattle.hyd_theorems_on_histories.proofs.Places.{same_item, numbered_from_start}
 use Rattle.hyd_theorems_on_histories.proofs.Reaching.{watched_above, watched_below}
@@ -65,10 +65,10 @@ use Rattle.hyd_theorems_on_histories.proofs.Judging.{changes_are}
 use Rattle.hyd_theorems_on_histories.proofs.Watching.{contains-here, contains-later, contains-cons, contains-none}
 use Rattle.hyd_theorems_on_histories.proofs.Watching.{known-no}
 use Rattle.hyd_theorems_on_histories.proofs.Watching.{isnt-full, isnt-empty}
-use Rattle.hyd_theorems_on_periods.proofs.Vessels.{sound_tank}
+use Rattle.hyd_theorems_on_definitions.proofs.Vessels.{sound_tank}
 use Rattle.hyd_theorems_on_histories.proofs.PrintedValues.{prints_hold, head_proportional, flow_proportional}
 use Rattle.hyd_theorems_on_histories.proofs.LinesHold.{IsCovered, all_after, flow_holds}
-use Rattle.hyd_theorems_on_periods.proofs.StatusWords.{status_holds}
+use Rattle.hyd_theorems_on_definitions.proofs.StatusWords.{status_holds}
 
 -- ---- lists
 

@@ -8,30 +8,30 @@ use Rattle.std.proofs.lemmas.Bool.{cond_both}
 use Rattle.std.proofs.lemmas.Option.{slice_get-get_or, slice_get_within}
 use Rattle.hyd_num.proofs.Integers.{times_neg, times_rises, times_times}
 use Rattle.hyd_num.specs.Rational.{Rational, whole}
-use Rattle.hyd_spec.specs.Types.{Project, Link, LinkState, Tank}
+use Rattle.hyd_spec.specs.ProgramTypes.{Project, Link, LinkState, Tank}
 use Rattle.hyd_spec.specs.declared.TankState.{TankState}
 use Rattle.hyd_spec_certificates.specs.declared.Problem.TheVariants.{Main, Pinned}
 use Rattle.hyd_spec_certificates.specs.declared.Side.TheVariants.{Upper, Lower}
 use Rattle.hyd_spec.specs.Lists.{map_from}
 use Rattle.hyd_spec_certificates.specs.Interval.{Interval}
-use Rattle.hyd_spec.specs.Network.{tank_node, tank_count}
+use Rattle.hyd_spec.specs.NodeNumbers.{tank_node, tank_count}
 use Rattle.hyd_spec.specs.Assignment.{flow_at, LinksFollow, more}
 use Rattle.hyd_spec.specs.Tank.{walls_of, tank_inflow, carried_level}
 use Rattle.hyd_spec_certificates.specs.Stocks.{carried_levels}
-use Rattle.hyd_spec.specs.Length.{Period, level_at_start, stock_at_start, readings_after}
+use Rattle.hyd_spec.specs.PeriodLength.{Period, level_at_start, stock_at_start, readings_after}
 use Rattle.hyd_spec_certificates.specs.Grid.{Grid, GridLink, grid_links}
 use Rattle.hyd_spec_certificates.specs.Boxes.{flow_box, inflow_box}
 use Rattle.hyd_spec_certificates.specs.Record.{Record, Standing, Vectors, no_vectors}
 use Rattle.hyd_spec_certificates.specs.Decided.{level_of_tank, stocks_of_tank, inflow_of_tank, nowhere, least_magnitude}
 use Rattle.hyd_spec_certificates.specs.Decided.{greatest_magnitude, readings_below, readings_above, heads_below}
 use Rattle.hyd_spec_certificates.specs.Decided.{heads_above}
-use Rattle.hyd_theorems_on_periods.specs.Laws.{LiesIn, LiesAround, StockLies}
+use Rattle.hyd_theorems_on_definitions.specs.Laws.{LiesIn, LiesAround, StockLies}
 use Rattle.hyd_lemmas.proofs.Integers.{max_left, max_right}
-use Rattle.hyd_theorems_on_periods.proofs.Outflows.{le-yes}
-use Rattle.hyd_theorems_on_periods.proofs.Leading.{one_times}
-use Rattle.hyd_theorems_on_periods.proofs.Boxed.{heads_between, flow_lies}
-use Rattle.hyd_theorems_on_periods.proofs.Pinning.{inflow_lies}
-use Rattle.hyd_theorems_on_periods.proofs.Levelling.{carried_lies}
+use Rattle.hyd_theorems_on_definitions.proofs.Outflows.{le-yes}
+use Rattle.hyd_theorems_on_definitions.proofs.Leading.{one_times}
+use Rattle.hyd_theorems_on_definitions.proofs.Boxed.{heads_between, flow_lies}
+use Rattle.hyd_theorems_on_definitions.proofs.Pinning.{inflow_lies}
+use Rattle.hyd_theorems_on_definitions.proofs.Levelling.{carried_lies}
 use Rattle.hyd_theorems_on_histories.specs.Agreement.{IsValueBetween, AreBetween, IsUnder}
 use Rattle.hyd_theorems_on_histories.proofs.Places.{numbered_from_start, lies_at}
 

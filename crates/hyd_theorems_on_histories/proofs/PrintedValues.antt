@@ -4,15 +4,15 @@ use Rattle.std.proofs.Math.IntN.{*ℤ_comm}
 use Rattle.std.proofs.lemmas.Int.{ints}
 use Rattle.hyd_num.proofs.Integers.{times_rises, times_times}
 use Rattle.hyd_num.specs.Rational.{Rational}
-use Rattle.hyd_num.specs.Quantity.{flow_factor}
+use Rattle.hyd_num.specs.FileQuantity.{flow_factor}
 use Rattle.hyd_num.specs.PrintedDecimals.{head_quantity, pressure_quantity, flow_quantity}
 use Rattle.hyd_num.specs.declared.flow_units.FlowUnit.{FlowUnit}
 use Rattle.hyd_spec_certificates.specs.Interval.{Interval}
 use Rattle.hyd_spec_reports.specs.Report.{Prints}
 use Rattle.hyd_spec_reports.specs.Claims.{LiesBetween, at_part}
-use Rattle.hyd_theorems_on_periods.specs.Laws.{LiesIn}
-use Rattle.hyd_theorems_on_periods.proofs.Leading.{one_times}
-use Rattle.hyd_theorems_on_periods.proofs.Placing.{le-from}
+use Rattle.hyd_theorems_on_definitions.specs.Laws.{LiesIn}
+use Rattle.hyd_theorems_on_definitions.proofs.Leading.{one_times}
+use Rattle.hyd_theorems_on_definitions.proofs.Placing.{le-from}
 
 -- ---- products of two scales
 

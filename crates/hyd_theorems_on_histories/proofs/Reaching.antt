@@ -6,18 +6,18 @@ use Rattle.std.proofs.lemmas.Int.{ints}
 use Rattle.hyd_num.proofs.Integers.{times_rises}
 use Rattle.hyd_num.specs.Rational.{Rational, floor, ceiling}
 use Rattle.hyd_net.specs.Curves.{volume_at}
-use Rattle.hyd_spec.specs.Types.{Tank}
+use Rattle.hyd_spec.specs.ProgramTypes.{Tank}
 use Rattle.hyd_spec.specs.Scale.{is_same_number}
 use Rattle.hyd_spec.specs.Tank.{Walls, Cylinder, Curve, Stock, level_bounds, content_bounds, exact_content}
 use Rattle.hyd_spec.specs.Tank.{is_at_maximum, is_at_minimum, reaches, watched_level, carried_level, has_reached}
 use Rattle.hyd_spec_certificates.specs.Interval.{Interval}
 use Rattle.hyd_spec_certificates.specs.Stocks.{Stocks, least_stock, greatest_stock, carried_levels, must_reach}
-use Rattle.hyd_theorems_on_periods.specs.Laws.{LiesIn, StockLies, IsVessel}
+use Rattle.hyd_theorems_on_definitions.specs.Laws.{LiesIn, StockLies, IsVessel}
 use Rattle.hyd_lemmas.proofs.Integers.{floor_low, ceiling_high, max_is, min_is}
-use Rattle.hyd_theorems_on_periods.proofs.Placing.{le-from, above-from, below-from, lower-is, upper-is}
-use Rattle.hyd_theorems_on_periods.proofs.Leading.{one_times}
-use Rattle.hyd_theorems_on_periods.proofs.Levelling.{exact-some, carried_lies}
-use Rattle.hyd_theorems_on_periods.proofs.Deciding.{must_reached}
+use Rattle.hyd_theorems_on_definitions.proofs.Placing.{le-from, above-from, below-from, lower-is, upper-is}
+use Rattle.hyd_theorems_on_definitions.proofs.Leading.{one_times}
+use Rattle.hyd_theorems_on_definitions.proofs.Levelling.{exact-some, carried_lies}
+use Rattle.hyd_theorems_on_definitions.proofs.Deciding.{must_reached}
 
 -- ---- bounds
 

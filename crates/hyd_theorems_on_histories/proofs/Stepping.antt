@@ -4,13 +4,13 @@ use Rattle.std.proofs.Common.{◌≡◌, ℕ, zero, suc, ◌+◌, ◌<◌, ℤ, 
 use Rattle.std.proofs.Common.{length, map}
 use Rattle.std.specs.Prelude.{Some, slice_get, slice_index_or, All}
 use Rattle.std.specs.List.{AllZip}
-use Rattle.hyd_net.specs.Made.{IsStateMade}
+use Rattle.hyd_net.specs.RoundedFileNumbers.{IsStateMade}
 use Rattle.hyd_net.specs.Sound.{Sound}
-use Rattle.hyd_spec.specs.Types.{Project, Tank, Link, LinkState}
+use Rattle.hyd_spec.specs.ProgramTypes.{Project, Tank, Link, LinkState}
 use Rattle.hyd_spec.specs.Lists.{Each, map_from}
 use Rattle.hyd_spec_certificates.specs.Interval.{Interval, exactly}
 use Rattle.hyd_spec.specs.Tank.{Stock, walls_of, level_bounds, tank_inflow, IsNextStock}
-use Rattle.hyd_spec.specs.Length.{Period, stock_at_start}
+use Rattle.hyd_spec.specs.PeriodLength.{Period, stock_at_start}
 use Rattle.hyd_spec.specs.History.{Begins, IsPeriod, AreNextStocks, commanded_after}
 use Rattle.hyd_spec_certificates.specs.Grid.{Grid, IsGrid}
 use Rattle.hyd_spec_certificates.specs.Verdict.{is_yes}
@@ -18,16 +18,16 @@ use Rattle.hyd_spec_certificates.specs.Record.{Record, Standing, initial_standin
 use Rattle.hyd_spec_certificates.specs.Decided.{links_at, acts_on, level_of_tank, stocks_of_tank, inflow_of_tank}
 use Rattle.hyd_spec_certificates.specs.Decided.{nowhere, rule_truths}
 use Rattle.hyd_spec_certificates.specs.Valid.{IsValid, Continues, LeavesLinks, by_rules, by_clock, stocks_next}
-use Rattle.hyd_theorems_on_periods.specs.Laws.{LiesIn, LevelsLie, StockLies, IsWithin, IsSoundGrid}
-use Rattle.hyd_theorems_on_periods.proofs.Grids.{IsSoundGrid-made}
-use Rattle.hyd_theorems_on_periods.proofs.Levelling.{next_lies, next_within}
+use Rattle.hyd_theorems_on_definitions.specs.Laws.{LiesIn, LevelsLie, StockLies, IsWithin, IsSoundGrid}
+use Rattle.hyd_theorems_on_definitions.proofs.Grids.{IsSoundGrid-made}
+use Rattle.hyd_theorems_on_definitions.proofs.Levelling.{next_lies, next_within}
 use Rattle.hyd_theorems_on_histories.specs.Agreement.{IsUnder, VolumesLie, AgreesWith, IsOwnState, IsKept}
 use Rattle.hyd_theorems_on_histories.proofs.Places.{same_item, lies_at, numbered_from_start}
 use Rattle.hyd_theorems_on_histories.proofs.Looks.{stock_lies, inflow_within}
 use Rattle.hyd_theorems_on_histories.proofs.Lasting.{length_and_links}
 use Rattle.hyd_theorems_on_histories.proofs.Beginning.{same_links, states_agree, decided_at_start}
 use Rattle.hyd_theorems_on_histories.proofs.Commanding.{started_own, acted_own, initial_own}
-use Rattle.hyd_theorems_on_periods.proofs.Vessels.{vessels, sound_tank}
+use Rattle.hyd_theorems_on_definitions.proofs.Vessels.{vessels, sound_tank}
 
 -- ---- the grid's capacities
 

@@ -4,7 +4,7 @@ use Rattle.std.proofs.Common.{List, [], ◌∷◌, ◌++◌, length, map, ◌⊎
 use Rattle.std.specs.Prelude.{Option, Some, None, slice_get, slice_index_or, Contains, if◌then◌else◌}
 use Rattle.std.proofs.lemmas.Option.{slice_get_within, slice_get-get_or}
 use Rattle.hyd_num.specs.Rational.{whole}
-use Rattle.hyd_spec.specs.Types.{Project, Tank, Control, When, AtLevel, AtTime, AtClock}
+use Rattle.hyd_spec.specs.ProgramTypes.{Project, Tank, Control, When, AtLevel, AtTime, AtClock}
 use Rattle.hyd_spec.specs.declared.TankState.{TankState}
 use Rattle.hyd_spec.specs.declared.TankState.TheVariants.{Full, Between, Empty}
 use Rattle.hyd_spec.specs.Lists.{present}
@@ -12,16 +12,16 @@ use Rattle.hyd_spec_certificates.specs.Interval.{Interval}
 use Rattle.hyd_spec.specs.LinkLaw.{is_full, is_empty}
 use Rattle.hyd_spec.specs.Tank.{walls_of, reaches, tank_inflow}
 use Rattle.hyd_spec_certificates.specs.Stocks.{may_reach, must_reach}
-use Rattle.hyd_spec.specs.Length.{Period, EndsByLevel, full, empty, control as at_control, level_at_start}
-use Rattle.hyd_spec.specs.Length.{stock_at_start, reached_after}
+use Rattle.hyd_spec.specs.PeriodLength.{Period, EndsByLevel, full, empty, control as at_control, level_at_start}
+use Rattle.hyd_spec.specs.PeriodLength.{stock_at_start, reached_after}
 use Rattle.hyd_spec_certificates.specs.Verdict.{Verdict, Yes, No, Unknown, is_yes, is_unknown}
 use Rattle.hyd_spec_certificates.specs.Grid.{Grid}
 use Rattle.hyd_spec_certificates.specs.Record.{Record, Standing}
 use Rattle.hyd_spec_certificates.specs.Decided.{Watch, tank_watches, watch_of, watches, acts_on, control_truth}
 use Rattle.hyd_spec_certificates.specs.Decided.{level_of_tank, stocks_of_tank, inflow_of_tank, SomeMayReach}
 use Rattle.hyd_spec_certificates.specs.Decided.{SomeMustReach}
-use Rattle.hyd_theorems_on_periods.specs.Laws.{Tells}
-use Rattle.hyd_theorems_on_periods.proofs.Deciding.{control_tells, reached_may, must_reached}
+use Rattle.hyd_theorems_on_definitions.specs.Laws.{Tells}
+use Rattle.hyd_theorems_on_definitions.proofs.Deciding.{control_tells, reached_may, must_reached}
 use Rattle.hyd_theorems_on_histories.specs.Agreement.{IsUnder}
 use Rattle.hyd_theorems_on_histories.proofs.Places.{same_item}
 use Rattle.hyd_theorems_on_histories.proofs.Looks.{level_lies, stock_lies, inflow_within}

@@ -3,22 +3,22 @@
 use Rattle.std.specs.Prelude.{◌≡◌, ℕ, ◌<◌, ◌≤◌, ◌*◌, ℤ, pos, ◌*ℤ◌, ◌≤ℤ◌, slice_index_or, List}
 use Rattle.std.specs.List.{AllZip}
 use Rattle.hyd_num.specs.Rational.{Rational}
-use Rattle.hyd_net.specs.Made.{IsStateMade}
+use Rattle.hyd_net.specs.RoundedFileNumbers.{IsStateMade}
 use Rattle.hyd_net.specs.States.{CanHave}
-use Rattle.hyd_spec.specs.Types.{Project, Tank, Link, LinkState}
+use Rattle.hyd_spec.specs.ProgramTypes.{Project, Tank, Link, LinkState}
 use Rattle.hyd_spec.specs.Lists.{Each}
-use Rattle.hyd_spec.specs.Network.{nodes_before_tanks}
+use Rattle.hyd_spec.specs.NodeNumbers.{nodes_before_tanks}
 use Rattle.hyd_spec.specs.Assignment.{head_at}
 use Rattle.hyd_spec.specs.Tank.{walls_of, level_bounds}
 use Rattle.hyd_spec.specs.Rules.{Readings, level_of}
-use Rattle.hyd_spec.specs.Length.{Period}
+use Rattle.hyd_spec.specs.PeriodLength.{Period}
 use Rattle.hyd_spec.specs.History.{tank_states}
 use Rattle.hyd_spec_certificates.specs.Interval.{Interval}
 use Rattle.hyd_spec_certificates.specs.Grid.{Grid}
 use Rattle.hyd_spec_certificates.specs.Record.{Record, Standing}
 use Rattle.hyd_spec_certificates.specs.Decided.{links_at, level_of_tank}
 use Rattle.hyd_spec_certificates.specs.Valid.{AreCertificates, ControlsAreDecided}
-use Rattle.hyd_theorems_on_periods.specs.Laws.{LiesIn, LevelsLie, IsCompared, IsVessel, IsWithin}
+use Rattle.hyd_theorems_on_definitions.specs.Laws.{LiesIn, LevelsLie, IsCompared, IsVessel, IsWithin}
 
 -- ---- what rules look at
 

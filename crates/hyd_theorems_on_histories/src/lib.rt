@@ -9,10 +9,10 @@ ghost use Rattle.hyd_num.specs.PrintedDecimals.{head_quantity, pressure_quantity
 ghost use Rattle.hyd_num.specs.declared.flow_units.FlowUnit.{FlowUnit};
 ghost use Rattle.hyd_net.specs.Sound.{Sound};
 ghost use Rattle.hyd_net.specs.ControlsAndRules.{Compares};
-ghost use Rattle.hyd_spec.specs.Types.{Project, Clause, LinkState};
-ghost use Rattle.hyd_spec.specs.Start.{started};
+ghost use Rattle.hyd_spec.specs.ProgramTypes.{Project, Clause, LinkState};
+ghost use Rattle.hyd_spec.specs.PeriodStart.{started};
 ghost use Rattle.hyd_spec.specs.Rules.{Readings, clause_holds, rule_changes, acted};
-ghost use Rattle.hyd_spec.specs.Length.{Period, readings_after, values_at, EndsByLevel, HasItsLength};
+ghost use Rattle.hyd_spec.specs.PeriodLength.{Period, readings_after, values_at, EndsByLevel, HasItsLength};
 ghost use Rattle.hyd_spec.specs.History.{commanded_after, initial_levels, initial_volumes, initial_links, Begins};
 ghost use Rattle.hyd_spec.specs.History.{IsPeriod, AreNextStocks};
 ghost use Rattle.hyd_spec_certificates.specs.Interval.{Interval};
@@ -26,7 +26,7 @@ ghost use Rattle.hyd_spec_reports.specs.ReportLine.{ReportLine};
 ghost use Rattle.hyd_spec_reports.specs.Report.{Prints, AreEndLines};
 ghost use Rattle.hyd_spec_reports.specs.Claims.{LiesBetween, at_part, LineHolds};
 ghost use Rattle.hyd_spec_reports.specs.Headline.{Found, IsRun, EveryHistoryAgrees};
-ghost use Rattle.hyd_theorems_on_periods.specs.Laws.{LiesIn, Tells};
+ghost use Rattle.hyd_theorems_on_definitions.specs.Laws.{LiesIn, Tells};
 ghost use Rattle.hyd_theorems_on_histories.specs.Agreement.{AreBetween, IsUnder, AgreesWith, IsOwnState, IsKept};
 
 // ---- printed values

@@ -7,7 +7,7 @@ use Rattle.std.proofs.lemmas.List.{length-map}
 use Rattle.hyd_spec_lines.specs.Lines.{Row}
 use Rattle.hyd_spec_lines.specs.Bytes.{is_keyword}
 use Rattle.hyd_spec_lines.specs.declared.section.Section.TheVariants.{Pipes, Pumps, Tanks, Controls as ControlsSection}
-use Rattle.hyd_net.specs.Ranges.{IsHead}
+use Rattle.hyd_net.specs.NumberRanges.{IsHead}
 use Rattle.hyd_net.specs.States.{CanHave, CanBeSet}
 use Rattle.hyd_net.specs.ControlsAndRules as commands
 use Rattle.hyd_net.specs.ControlsAndRules.{CanCommand, IsMoment}
@@ -24,9 +24,9 @@ use Rattle.hyd_spec_input.specs.Keywords.{link_word}
 use Rattle.hyd_spec_input.specs.Moments.{time, clock}
 use Rattle.hyd_spec_input.specs.ControlRows as alone
 use Rattle.hyd_spec_input.specs.Tables.{is_of, rows_of, own_id, words_of, words_of_row}
-use Rattle.hyd_spec_input.specs.RowMeanings.{tank_ids, number_in}
-use Rattle.hyd_spec_input.specs.WithOthers as others
-use Rattle.hyd_spec_input.specs.WithOthers.{head, is_check_valve, control_tank}
+use Rattle.hyd_spec_input.specs.MeaningsAcrossRows.{tank_ids, number_in}
+use Rattle.hyd_spec_input.specs.RowsTogether as others
+use Rattle.hyd_spec_input.specs.RowsTogether.{head, is_check_valve, control_tank}
 use Rattle.hyd_spec_input.specs.Project as project
 use Rattle.hyd_spec_input.specs.Project.{IsProject, IsTank, IsKind, IsWhen}
 use Rattle.hyd_theorems_on_input.proofs.Places.{match_all, match_length, kept_stands, kept_passes, source}

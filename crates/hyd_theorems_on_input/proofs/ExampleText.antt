@@ -15,13 +15,13 @@ use Rattle.hyd_spec_lines.specs.Lines.{Row, items_of, rows_in, fault_in, kind_of
 use Rattle.hyd_spec_lines.specs.declared.section.Section.TheVariants.{Junctions, Reservoirs, Tanks, Pumps, Valves}
 use Rattle.hyd_spec_lines.specs.declared.section.Section.TheVariants.{Demands, Curves, Patterns, Status, Controls}
 use Rattle.hyd_spec_lines.specs.declared.section.Section.TheVariants.{Rules, Options, Times}
-use Rattle.hyd_net.specs.declared.cause.Cause.{Cause}
+use Rattle.hyd_net.specs.declared.refusal_cause.Cause.{Cause}
 use Rattle.hyd_spec_input.specs.Keywords.{flow_unit, option_word, time_word, link_word, node_word, object_word}
 use Rattle.hyd_spec_input.specs.Keywords.{attribute_word, relation_word, rule_word}
 use Rattle.hyd_spec_input.specs.Moments.{unit_seconds}
-use Rattle.hyd_spec_input.specs.ByItself as itself
-use Rattle.hyd_spec_input.specs.ByItself.{IsWrongByItself}
-use Rattle.hyd_spec_input.specs.WithOthers as others
+use Rattle.hyd_spec_input.specs.SingleRows as itself
+use Rattle.hyd_spec_input.specs.SingleRows.{IsWrongByItself}
+use Rattle.hyd_spec_input.specs.RowsTogether as others
 use Rattle.hyd_spec_input.specs.Capacities.{IsRefusedIn, IsRefusedRow}
 use Rattle.hyd_spec_input.specs.Faults.{IsWrongWithOthers, NoneIs, HasNoFault, lack}
 use Rattle.hyd_spec_input.specs.Project.{IsProject}

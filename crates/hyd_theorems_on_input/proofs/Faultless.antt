@@ -14,13 +14,13 @@ use Rattle.hyd_spec_lines.specs.declared.section.Section.{Section}
 use Rattle.hyd_spec_lines.specs.declared.section.Section.TheVariants.{Junctions, Reservoirs, Tanks, Pipes, Pumps}
 use Rattle.hyd_spec_lines.specs.declared.section.Section.TheVariants.{Valves, Demands, Emitters, Curves, Patterns}
 use Rattle.hyd_spec_lines.specs.declared.section.Section.TheVariants.{Status, Controls, Rules, Options, Times}
-use Rattle.hyd_net.specs.Ranges.{Lies}
-use Rattle.hyd_net.specs.declared.cause.Cause.{Cause}
+use Rattle.hyd_net.specs.NumberRanges.{Lies}
+use Rattle.hyd_net.specs.declared.refusal_cause.Cause.{Cause}
 use Rattle.hyd_spec_input.specs.Columns.{Column, or_else, first, unless, of_needed, needed, of_word, optional, or_empty}
 use Rattle.hyd_spec_input.specs.Columns.{word, number, number_where, number_within, nano_or, amount_or}
 use Rattle.hyd_spec_input.specs.Tables.{place, is_of, words_of}
-use Rattle.hyd_spec_input.specs.ByItself as itself
-use Rattle.hyd_spec_input.specs.WithOthers as others
+use Rattle.hyd_spec_input.specs.SingleRows as itself
+use Rattle.hyd_spec_input.specs.RowsTogether as others
 use Rattle.hyd_spec_input.specs.Faults.{HasNoFault}
 use Rattle.hyd_theorems_on_input.proofs.Places.{all_at}
 

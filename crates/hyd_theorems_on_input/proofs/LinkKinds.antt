@@ -9,22 +9,22 @@ use Rattle.std.proofs.lemmas.Bool.{cases_Bool, and_parts, not-true, leb-true, le
 use Rattle.std.proofs.lemmas.Int.{ints}
 use Rattle.std.proofs.lemmas.List.{length-map}
 use lib.Signed.{le_z, lt_z}
-use Rattle.hyd_num.specs.Quantity.{is_us_unit, head_ticks, flow_ticks}
+use Rattle.hyd_num.specs.FileQuantity.{is_us_unit, head_ticks, flow_ticks}
 use Rattle.hyd_num.specs.declared.flow_units.FlowUnit.{FlowUnit}
 use Rattle.hyd_num.specs.declared.decimals.Decimal.{Decimal}
-use Rattle.hyd_num.specs.declared.capacities.Capacity.{Capacity}
-use Rattle.hyd_num.specs.declared.capacities.Origin.{Origin}
-use Rattle.hyd_num.specs.declared.capacities.Origin.TheVariants.{Pump as PumpOrigin}
+use Rattle.hyd_num.specs.declared.link_capacities.Capacity.{Capacity}
+use Rattle.hyd_num.specs.declared.link_capacities.Origin.{Origin}
+use Rattle.hyd_num.specs.declared.link_capacities.Origin.TheVariants.{Pump as PumpOrigin}
 use Rattle.hyd_spec_lines.specs.Lines.{Row}
 use Rattle.hyd_spec_lines.specs.declared.section.Section.{Section}
 use Rattle.hyd_spec_lines.specs.declared.section.Section.TheVariants.{Pipes, Pumps, Valves}
-use Rattle.hyd_net.specs.Ranges.{Lies, IsUpTo}
+use Rattle.hyd_net.specs.NumberRanges.{Lies, IsUpTo}
 use Rattle.hyd_net.specs.NetworkRanges.{HasSizes, IsPipe, IsValve, IsValveOrigin, IsPumpOrigin}
 use Rattle.hyd_net.specs.Sound as sound
 use Rattle.hyd_net.specs.Curves.{IsPumpCurve, IsLossCurve}
-use Rattle.hyd_net.specs.Made.{IsKindMade, IsValveMade}
+use Rattle.hyd_net.specs.RoundedFileNumbers.{IsKindMade, IsValveMade}
 use Rattle.hyd_net.specs.ControlsAndRules.{node_count}
-use Rattle.hyd_net.specs.declared.cause.Cause.TheVariants.{Syntax, Range, Unsupported}
+use Rattle.hyd_net.specs.declared.refusal_cause.Cause.TheVariants.{Syntax, Range, Unsupported}
 use Rattle.hyd_net.specs.declared.links.Link.{Link}
 use Rattle.hyd_net.specs.declared.links.LinkKind.{LinkKind}
 use Rattle.hyd_net.specs.declared.links.LinkKind.TheVariants.{Pipe, CheckPipe, Pump, CurvePump, Tcv, Fcv, Gpv}
@@ -40,9 +40,9 @@ use Rattle.hyd_spec_input.specs.Tables.{Point, place, is_of, is_link, curve_name
 use Rattle.hyd_spec_input.specs.InForce.{unit}
 use Rattle.hyd_spec_input.specs.Curves.{drop_of, is_bent, is_within, is_flow, is_pump_curve, square, are_flows}
 use Rattle.hyd_spec_input.specs.Curves.{has_shutoff, is_pump_bend, head_point, head_points, begins_at_0, is_valve_bend}
-use Rattle.hyd_spec_input.specs.RowMeanings.{node_ids}
-use Rattle.hyd_spec_input.specs.WithOthers as others
-use Rattle.hyd_spec_input.specs.WithOthers.{us, is_speed, multipliers_of}
+use Rattle.hyd_spec_input.specs.MeaningsAcrossRows.{node_ids}
+use Rattle.hyd_spec_input.specs.RowsTogether as others
+use Rattle.hyd_spec_input.specs.RowsTogether.{us, is_speed, multipliers_of}
 use Rattle.hyd_spec_input.specs.Project as project
 use Rattle.hyd_spec_input.specs.Project.{Where, IsProject, IsLink, IsKind, IsPipeKind, IsPumpKind, IsValveKind}
 use Rattle.hyd_spec_input.specs.Project.{IsOpenValve, IsShutoffOf, pump_points, bend_points, numbered_links}

@@ -10,18 +10,19 @@ use Rattle.std.proofs.lemmas.Int.{ints}
 use Rattle.std.specs.Option.{option_map}
 use Rattle.std.proofs.lemmas.Option.{slice_get-map}
 use lib.Signed.{le_z}
-use Rattle.hyd_num.specs.Quantity.{flow_ticks}
+use Rattle.hyd_num.specs.FileQuantity.{flow_ticks}
 use Rattle.hyd_num.specs.Numeral.{nano_of}
 use Rattle.hyd_num.specs.declared.flow_units.FlowUnit.{FlowUnit}
-use Rattle.hyd_num.specs.declared.capacities.Origin.{Origin}
+use Rattle.hyd_num.specs.declared.link_capacities.Origin.{Origin}
 use Rattle.hyd_spec_lines.specs.Lines.{Row}
 use Rattle.hyd_spec_lines.specs.Bytes.{is_keyword}
 use Rattle.hyd_spec_lines.specs.declared.section.Section.TheVariants.{Pipes, Pumps, Valves, Status as StatusSection}
-use Rattle.hyd_net.specs.Ranges.{Lies, IsUpTo}
+use Rattle.hyd_net.specs.NumberRanges.{Lies, IsUpTo}
 use Rattle.hyd_net.specs.States.{IsSpeed, IsFlowSetting, CanHave}
-use Rattle.hyd_net.specs.Made.{IsStateMade, HasLaw, HasCoefficient, IsLawAcross, IsOriginAcross, IsStateAcross}
-use Rattle.hyd_net.specs.declared.cause.Cause.{Cause}
-use Rattle.hyd_net.specs.declared.cause.Cause.TheVariants.{Syntax, Range, Unsupported}
+use Rattle.hyd_net.specs.RoundedFileNumbers.{IsStateMade, HasLaw, HasCoefficient, IsLawAcross, IsOriginAcross}
+use Rattle.hyd_net.specs.RoundedFileNumbers.{IsStateAcross}
+use Rattle.hyd_net.specs.declared.refusal_cause.Cause.{Cause}
+use Rattle.hyd_net.specs.declared.refusal_cause.Cause.TheVariants.{Syntax, Range, Unsupported}
 use Rattle.hyd_net.specs.declared.links.Link.{Link}
 use Rattle.hyd_net.specs.declared.links.LinkKind.{LinkKind}
 use Rattle.hyd_net.specs.declared.links.LinkKind.TheVariants.{Pipe, CheckPipe, Pump, CurvePump, Tcv, Fcv, Gpv}
@@ -38,10 +39,10 @@ use Rattle.hyd_spec_input.specs.NetworkRows.{and_key}
 use Rattle.hyd_spec_input.specs.declared.EarlierKeys.{EarlierKeys}
 use Rattle.hyd_spec_input.specs.Tables.{is_of, is_link, own_id, link_rows, row_with, link_named}
 use Rattle.hyd_spec_input.specs.InForce.{unit}
-use Rattle.hyd_spec_input.specs.RowMeanings.{link_ids, number_in, status_of}
-use Rattle.hyd_spec_input.specs.WithOthers as others
-use Rattle.hyd_spec_input.specs.WithOthers.{us, flow, is_speed, state_range, is_status, takes_number, is_check_valve}
-use Rattle.hyd_spec_input.specs.WithOthers.{set_link}
+use Rattle.hyd_spec_input.specs.MeaningsAcrossRows.{link_ids, number_in, status_of}
+use Rattle.hyd_spec_input.specs.RowsTogether as others
+use Rattle.hyd_spec_input.specs.RowsTogether.{us, flow, is_speed, state_range, is_status, takes_number, is_check_valve}
+use Rattle.hyd_spec_input.specs.RowsTogether.{set_link}
 use Rattle.hyd_spec_input.specs.Project.{Where, IsProject, IsLink, IsKind, IsPipeKind, IsPumpKind, IsValveKind}
 use Rattle.hyd_spec_input.specs.Project.{IsOpenValve, IsLaw, IsThrottle, IsNumberState, IsState, IsStateOf, IsOwnState}
 use Rattle.hyd_spec_input.specs.Project.{IsStart, speed_state, open_state, numbered_links}

@@ -18,9 +18,9 @@ use Rattle.hyd_spec_input.specs.Columns.{needed, id}
 use Rattle.hyd_spec_input.specs.NetworkRows as alone
 use Rattle.hyd_spec_input.specs.Tables.{is_of, rows_of, words_of_row, own_id, is_node, is_link, node_rows, link_rows}
 use Rattle.hyd_spec_input.specs.Tables.{row_with, has_id, place}
-use Rattle.hyd_spec_input.specs.RowMeanings.{first_word, node_ids, tank_ids, link_ids}
-use Rattle.hyd_spec_input.specs.WithOthers as others
-use Rattle.hyd_spec_input.specs.WithOthers.{passes, new_in}
+use Rattle.hyd_spec_input.specs.MeaningsAcrossRows.{first_word, node_ids, tank_ids, link_ids}
+use Rattle.hyd_spec_input.specs.RowsTogether as others
+use Rattle.hyd_spec_input.specs.RowsTogether.{passes, new_in}
 use Rattle.hyd_spec_input.specs.Project.{IsProject, IsJunction, IsReservoir, IsTank, IsLink, numbered_links}
 use Rattle.hyd_theorems_on_input.proofs.Places.{all_from, all_at, Stands, item_at, kept_stands, kept_passes, of_either}
 use Rattle.hyd_theorems_on_input.proofs.Places.{kept_more, kept_same, split_at, match_length, source}

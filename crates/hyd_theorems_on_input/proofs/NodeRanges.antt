@@ -9,14 +9,14 @@ use Rattle.std.proofs.lemmas.Bool.{and_parts, or_left, or_right}
 use Rattle.std.proofs.lemmas.Int.{ints}
 use Rattle.std.proofs.lemmas.List.Elements.{All-nil, All-cons, All-filter, All-map}
 use lib.Signed.{le_z}
-use Rattle.hyd_num.specs.Quantity.{head_ticks, flow_ticks}
+use Rattle.hyd_num.specs.FileQuantity.{head_ticks, flow_ticks}
 use Rattle.hyd_num.specs.declared.flow_units.FlowUnit.{FlowUnit}
-use Rattle.hyd_num.specs.declared.capacities.Capacity.{Capacity}
-use Rattle.hyd_num.specs.declared.capacities.Origin.{Origin}
+use Rattle.hyd_num.specs.declared.link_capacities.Capacity.{Capacity}
+use Rattle.hyd_num.specs.declared.link_capacities.Origin.{Origin}
 use Rattle.hyd_spec_lines.specs.Lines.{Row}
 use Rattle.hyd_spec_lines.specs.declared.section.Section.{Section}
 use Rattle.hyd_spec_lines.specs.declared.section.Section.TheVariants.{Junctions, Reservoirs, Tanks, Demands, Emitters}
-use Rattle.hyd_net.specs.Ranges.{Lies, LiesWithin, IsHead, IsFlow, IsUpTo, Numbers}
+use Rattle.hyd_net.specs.NumberRanges.{Lies, LiesWithin, IsHead, IsFlow, IsUpTo, Numbers}
 use Rattle.hyd_net.specs.NetworkRanges as size
 use Rattle.hyd_net.specs.NetworkRanges.{HasPattern, IsDemand, IsShapeOf}
 use Rattle.hyd_net.specs.ListView.{ListView}
@@ -31,10 +31,12 @@ use Rattle.hyd_spec_input.specs.Columns.{amount_or, units}
 use Rattle.hyd_spec_input.specs.NetworkRows as alone
 use Rattle.hyd_spec_input.specs.Tables.{is_of, rows_of, rows_with, own_id}
 use Rattle.hyd_spec_input.specs.InForce.{unit}
-use Rattle.hyd_spec_input.specs.RowMeanings.{number_in, pattern_number, shape_names, as_list, is_among, demand_of_row}
-use Rattle.hyd_spec_input.specs.RowMeanings.{own_demand, or_own, demands_of, coefficient, last_naming, emitter_of}
-use Rattle.hyd_spec_input.specs.WithOthers as others
-use Rattle.hyd_spec_input.specs.WithOthers.{us, head, flow, multipliers_of, is_head_times}
+use Rattle.hyd_spec_input.specs.MeaningsAcrossRows.{number_in, pattern_number, shape_names, as_list, is_among}
+use Rattle.hyd_spec_input.specs.MeaningsAcrossRows.{demand_of_row}
+use Rattle.hyd_spec_input.specs.MeaningsAcrossRows.{own_demand, or_own, demands_of, coefficient, last_naming}
+use Rattle.hyd_spec_input.specs.MeaningsAcrossRows.{emitter_of}
+use Rattle.hyd_spec_input.specs.RowsTogether as others
+use Rattle.hyd_spec_input.specs.RowsTogether.{us, head, flow, multipliers_of, is_head_times}
 use Rattle.hyd_spec_input.specs.Project as project
 use Rattle.hyd_spec_input.specs.Project.{IsProject, shape_number, shape_points}
 use Rattle.hyd_lemmas.proofs.Each.{all_by}

@@ -3,15 +3,15 @@ use Rattle.std.proofs.Common.{◌≡◌, ℕ, ◌<◌, List, length, Option, Som
 use Rattle.std.specs.Prelude.{slice_get, All, ℤ}
 use Rattle.std.proofs.lemmas.Option.{slice_get_within, get_or_from_slice_get}
 use Rattle.hyd_spec_lines.specs.Lines.{Row}
-use Rattle.hyd_net.specs.Ranges.{Numbers}
+use Rattle.hyd_net.specs.NumberRanges.{Numbers}
 use Rattle.hyd_net.specs.NetworkRanges.{HasPattern, HasBend}
 use Rattle.hyd_net.specs.ListView.{ListView}
 use Rattle.hyd_net.specs.declared.curves.HeadPoint.{HeadPoint}
 use Rattle.hyd_net.specs.declared.patterns.Pattern.{Pattern}
 use Rattle.hyd_net.specs.declared.project.Project.{Project}
 use Rattle.hyd_spec_input.specs.Tables.{pattern_named}
-use Rattle.hyd_spec_input.specs.RowMeanings.{number_in, pattern_ids, pattern_number, bend_names}
-use Rattle.hyd_spec_input.specs.WithOthers.{multipliers_of}
+use Rattle.hyd_spec_input.specs.MeaningsAcrossRows.{number_in, pattern_ids, pattern_number, bend_names}
+use Rattle.hyd_spec_input.specs.RowsTogether.{multipliers_of}
 use Rattle.hyd_spec_input.specs.Project.{Match, IsPattern, IsProject, bend_points}
 use Rattle.hyd_theorems_on_input.proofs.Places.{partner, match_length, item_at}
 use Rattle.hyd_theorems_on_input.proofs.Occurs.{number_inside, number_names}

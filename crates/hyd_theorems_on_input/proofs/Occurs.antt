@@ -11,7 +11,7 @@ use Rattle.std.proofs.lemmas.List.Quantifiers.{position-Some}
 use Rattle.std.proofs.lemmas.Option.{slice_get-get_or}
 use Rattle.std.proofs.lemmas.Slice.Eq.{bytes_eq-Decides}
 use Rattle.hyd_net.specs.Ids.{AreDistinct}
-use Rattle.hyd_spec_input.specs.RowMeanings.{is_among, new_names, number_in}
+use Rattle.hyd_spec_input.specs.MeaningsAcrossRows.{is_among, new_names, number_in}
 
 -- ---- equal names
 

@@ -6,13 +6,13 @@ use Rattle.std.proofs.Math.Nat.{pow-le-pow_right, two-pow-succ, eq_of_mul-eq-mul
 use Rattle.std.proofs.lemmas.Bool.{cases_lt}
 use borrow.Author.Differences.{up, down}
 use Rattle.hyd_num.specs.declared.binary.Scaled.{Scaled}
-use Rattle.hyd_num.specs.declared.capacities.Capacity.{Capacity}
-use Rattle.hyd_num.specs.declared.capacities.Origin.{Origin}
+use Rattle.hyd_num.specs.declared.link_capacities.Capacity.{Capacity}
+use Rattle.hyd_num.specs.declared.link_capacities.Origin.{Origin}
 use Rattle.hyd_num.specs.Fraction.{AtMost}
-use Rattle.hyd_num.specs.Scaled.{numerator, denominator, as_fraction}
+use Rattle.hyd_num.specs.BinaryNumbers.{numerator, denominator, as_fraction}
 use Rattle.hyd_num.specs.CapacityPairs.{IsMade, StandsFor}
 use Rattle.hyd_net.proofs.Equal.{Scaled-equal, plain_capacity-equal}
-use Rattle.hyd_net.specs.Views.{plain_capacity}
+use Rattle.hyd_net.specs.ProjectAsCompared.{plain_capacity}
 use Rattle.hyd_lemmas.proofs.OnePair.{StandsFor-below}
 
 -- ---- binary numbers of one value

@@ -4,10 +4,10 @@ use Rattle.std.proofs.Common.{inl, inr}
 use Rattle.std.specs.Prelude.{slice_get, Result}
 use Rattle.hyd_spec_lines.specs.Lines.{Row, items_of, rows_in, fault_in}
 use Rattle.hyd_spec_lines.specs.declared.fault.LexFault.{LexFault}
-use Rattle.hyd_net.specs.declared.cause.Cause.{Cause}
-use Rattle.hyd_spec_input.specs.ByItself as itself
-use Rattle.hyd_spec_input.specs.ByItself.{IsWrongByItself}
-use Rattle.hyd_spec_input.specs.WithOthers as others
+use Rattle.hyd_net.specs.declared.refusal_cause.Cause.{Cause}
+use Rattle.hyd_spec_input.specs.SingleRows as itself
+use Rattle.hyd_spec_input.specs.SingleRows.{IsWrongByItself}
+use Rattle.hyd_spec_input.specs.RowsTogether as others
 use Rattle.hyd_spec_input.specs.Faults.{IsWrongWithOthers, NoneIs, IsFirst, line_cause, IsLineFault, lack, IsLater}
 use Rattle.hyd_spec_input.specs.Faults.{IsFaultOf, IsFault, HasNoFault}
 

@@ -10,21 +10,23 @@ use Rattle.std.proofs.lemmas.List.{map-id}
 use Rattle.hyd_num.specs.declared.decimals.Decimal.{Decimal}
 use Rattle.hyd_num.specs.declared.decimals.Span.{Span}
 use Rattle.hyd_num.specs.declared.flow_units.FlowUnit.{FlowUnit}
-use Rattle.hyd_num.specs.declared.capacities.Capacity.{Capacity}
-use Rattle.hyd_num.specs.declared.capacities.Origin.TheVariants.{Pipe as PipeOrigin, Valve as ValveOrigin}
-use Rattle.hyd_num.specs.declared.capacities.Origin.TheVariants.{Pump as PumpOrigin, Emitter as EmitterOrigin}
+use Rattle.hyd_num.specs.declared.link_capacities.Capacity.{Capacity}
+use Rattle.hyd_num.specs.declared.link_capacities.Origin.TheVariants.{Pipe as PipeOrigin, Valve as ValveOrigin}
+use Rattle.hyd_num.specs.declared.link_capacities.Origin.TheVariants.{Pump as PumpOrigin, Emitter as EmitterOrigin}
 use Rattle.hyd_num.specs.Numeral.{nano_of}
 use Rattle.hyd_num.specs.Roots.{IsFloor, IsCeiling}
-use Rattle.hyd_num.specs.Quantity.{is_us_unit, head_ticks, flow_ticks}
+use Rattle.hyd_num.specs.FileQuantity.{is_us_unit, head_ticks, flow_ticks}
 use Rattle.hyd_spec_lines.specs.Bytes.{is_keyword}
 use Rattle.hyd_spec_lines.specs.Lines.{Row}
 use Rattle.hyd_spec_lines.specs.declared.section.Section.TheVariants.{Junctions, Reservoirs, Tanks, Pipes, Pumps}
 use Rattle.hyd_spec_lines.specs.declared.section.Section.TheVariants.{Controls, Rules}
 use Rattle.hyd_net.proofs.Equal.{Decimal-equal, Span-equal}
-use Rattle.hyd_net.specs.Made.{IsRounded, IsExactly, IsSeconds, IsAmount, IsAreaMade, IsShutoffMade}
-use Rattle.hyd_net.specs.Views.{no_number, no_head, bare_list, plain_capacity, plain_valve, plain_kind, plain_state}
-use Rattle.hyd_net.specs.Views.{plain_link, plain_junction, plain_tank, plain_pattern, plain_control, plain_value}
-use Rattle.hyd_net.specs.Views.{plain_rule_clause, plain_action, plain_rule, plain_project}
+use Rattle.hyd_net.specs.RoundedFileNumbers.{IsRounded, IsExactly, IsSeconds, IsAmount, IsAreaMade, IsShutoffMade}
+use Rattle.hyd_net.specs.ProjectAsCompared.{no_number, no_head, bare_list, plain_capacity, plain_valve, plain_kind}
+use Rattle.hyd_net.specs.ProjectAsCompared.{plain_state}
+use Rattle.hyd_net.specs.ProjectAsCompared.{plain_link, plain_junction, plain_tank, plain_pattern, plain_control}
+use Rattle.hyd_net.specs.ProjectAsCompared.{plain_value}
+use Rattle.hyd_net.specs.ProjectAsCompared.{plain_rule_clause, plain_action, plain_rule, plain_project}
 use Rattle.hyd_net.specs.declared.options.Options.{Options}
 use Rattle.hyd_net.specs.declared.options.Times.{Times}
 use Rattle.hyd_net.specs.declared.nodes.Junction.{Junction}
@@ -57,9 +59,9 @@ use Rattle.hyd_spec_input.specs.NetworkRows.{valve_minor}
 use Rattle.hyd_spec_input.specs.Tables.{Point, is_of, rows_of, words_of, link_named}
 use Rattle.hyd_spec_input.specs.InForce.{unit}
 use Rattle.hyd_spec_input.specs.Curves.{Drop, drop_of}
-use Rattle.hyd_spec_input.specs.RowMeanings.{emitter_of, status_of, pattern_ids, shape_names, bend_names}
-use Rattle.hyd_spec_input.specs.RowMeanings.{rule_groups, clause_lines, then_lines, else_lines}
-use Rattle.hyd_spec_input.specs.WithOthers.{us}
+use Rattle.hyd_spec_input.specs.MeaningsAcrossRows.{emitter_of, status_of, pattern_ids, shape_names, bend_names}
+use Rattle.hyd_spec_input.specs.MeaningsAcrossRows.{rule_groups, clause_lines, then_lines, else_lines}
+use Rattle.hyd_spec_input.specs.RowsTogether.{us}
 use Rattle.hyd_spec_input.specs.Project as project
 use Rattle.hyd_spec_input.specs.Project.{Match, Where, IsOptions, IsTimes, IsEmitter, IsEmitterOf, IsPipeOf}
 use Rattle.hyd_spec_input.specs.Project.{IsPipeKind, IsPumpOf, IsShutoffOf, pump_points, IsPumpKind, IsValveOf}

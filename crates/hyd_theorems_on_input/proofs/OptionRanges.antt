@@ -5,14 +5,14 @@ use Rattle.std.specs.Prelude.{slice_get, ◌==◌, codes, ℤ, pos, ◌+ℤ◌, 
 use Rattle.std.proofs.lemmas.Bool.{and_parts, eq-eqb, cases_lt}
 use Rattle.std.proofs.lemmas.Int.{ints}
 use lib.Signed.{le_z}
-use Rattle.hyd_num.specs.Quantity.{pressure_numerator, pressure_denominator}
+use Rattle.hyd_num.specs.FileQuantity.{pressure_numerator, pressure_denominator}
 use Rattle.hyd_num.specs.declared.decimals.Decimal.{Decimal}
 use Rattle.hyd_spec_lines.specs.Lines.{Row}
 use Rattle.hyd_spec_lines.specs.Bytes.{is_keyword}
 use Rattle.hyd_spec_lines.specs.Headings.{is_one_of}
 use Rattle.hyd_spec_lines.specs.declared.section.Section.TheVariants.{Options as OptionsSection}
-use Rattle.hyd_net.specs.Ranges.{IsUpTo}
-use Rattle.hyd_net.specs.declared.cause.Cause.TheVariants.{Range}
+use Rattle.hyd_net.specs.NumberRanges.{IsUpTo}
+use Rattle.hyd_net.specs.declared.refusal_cause.Cause.TheVariants.{Range}
 use Rattle.hyd_net.specs.NetworkRanges.{IsPressure, HasOptions}
 use Rattle.hyd_net.specs.declared.options.Options.{Options}
 use Rattle.hyd_net.specs.declared.project.Project.{Project}
@@ -26,7 +26,7 @@ use Rattle.hyd_spec_input.specs.OptionRows.{demand_words, demand_value, demand_l
 use Rattle.hyd_spec_input.specs.InForce.{begins, begins_both, option_row, option_row_of, depends_on_pressure}
 use Rattle.hyd_spec_input.specs.InForce.{demand_multiplier, minimum_pressure, required_pressure, default_pattern}
 use Rattle.hyd_spec_input.specs.InForce.{pressure_line}
-use Rattle.hyd_spec_input.specs.WithOthers.{us, pressure, pressures_apart}
+use Rattle.hyd_spec_input.specs.RowsTogether.{us, pressure, pressures_apart}
 use Rattle.hyd_spec_input.specs.Tables.{pattern_named}
 use Rattle.hyd_spec_input.specs.Project.{IsOptions, IsProject}
 use Rattle.hyd_theorems_on_input.proofs.Places.{all_from}

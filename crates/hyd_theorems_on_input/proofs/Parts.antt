@@ -5,7 +5,7 @@ use Rattle.hyd_spec_lines.specs.Lines.{items_of, rows_in}
 use Rattle.hyd_net.specs.NetworkRanges.{HasOptions, IsJunction, IsReservoir, IsTank, HasSizes}
 use Rattle.hyd_net.specs.States.{CanHave}
 use Rattle.hyd_net.specs.Sound.{HasIds, IsWithinLimits, AreTimes, HasEnds, IsPattern, Sound}
-use Rattle.hyd_net.specs.Made.{IsAllMade}
+use Rattle.hyd_net.specs.RoundedFileNumbers.{IsAllMade}
 use Rattle.hyd_net.specs.ControlsAndRules.{node_count, IsControl, IsRule}
 use Rattle.hyd_net.specs.declared.project.Project.{Project}
 use Rattle.hyd_spec_input.specs.Faults.{HasNoFault}

@@ -11,15 +11,15 @@ use Rattle.std.proofs.lemmas.Option.{slice_get_within}
 use Rattle.hyd_num.specs.Numeral.{nano_of}
 use Rattle.hyd_spec_lines.specs.Lines.{Row}
 use Rattle.hyd_spec_lines.specs.declared.section.Section.TheVariants.{Patterns}
-use Rattle.hyd_net.specs.Ranges.{LiesWithin}
+use Rattle.hyd_net.specs.NumberRanges.{LiesWithin}
 use Rattle.hyd_net.specs.Sound as sound
 use Rattle.hyd_net.specs.declared.patterns.Pattern.{Pattern}
 use Rattle.hyd_net.specs.declared.project.Project.{Project}
 use Rattle.hyd_spec_input.specs.Columns as column
 use Rattle.hyd_spec_input.specs.Columns.{Column, first, needed, id, any, units, word}
-use Rattle.hyd_spec_input.specs.BelongingRows.{each, multipliers}
+use Rattle.hyd_spec_input.specs.DemandCurveAndStatusRows.{each, multipliers}
 use Rattle.hyd_spec_input.specs.Tables.{rows_of, rows_with, own_id, row_multipliers, pattern_named}
-use Rattle.hyd_spec_input.specs.RowMeanings.{is_among, pattern_ids}
+use Rattle.hyd_spec_input.specs.MeaningsAcrossRows.{is_among, pattern_ids}
 use Rattle.hyd_spec_input.specs.Project as project
 use Rattle.hyd_spec_input.specs.Project.{IsProject}
 use Rattle.hyd_theorems_on_input.proofs.Places.{match_all}

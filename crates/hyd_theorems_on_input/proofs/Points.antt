@@ -9,11 +9,11 @@ use Rattle.std.proofs.lemmas.Bool.Decides.{Decides-int_eq}
 use Rattle.std.proofs.lemmas.Int.{ints}
 use Rattle.std.proofs.lemmas.List.Elements.{All-nil, All-cons, All-weaker}
 use lib.Signed.{le_z, lt_z}
-use Rattle.hyd_num.specs.Quantity.{head_ticks, flow_ticks}
+use Rattle.hyd_num.specs.FileQuantity.{head_ticks, flow_ticks}
 use Rattle.hyd_num.specs.Rational.{whole, is_at_most}
 use Rattle.hyd_num.specs.declared.flow_units.FlowUnit.{FlowUnit}
 use Rattle.hyd_num.specs.declared.flow_units.FlowUnit.TheVariants.{Cfs, Gpm, Mgd, Imgd, Afd, Lps, Lpm, Mld, Cmh, Cmd}
-use Rattle.hyd_net.specs.Ranges.{IsHead, IsFlow}
+use Rattle.hyd_net.specs.NumberRanges.{IsHead, IsFlow}
 use Rattle.hyd_net.specs.Curves.{AreRising, AreFalling, IsVolumeCurve, IsPumpCurve, IsLossCurve, value_at, head_knots}
 use Rattle.hyd_net.specs.Curves.{volume_at}
 use Rattle.hyd_net.specs.declared.curves.VolumePoint.{VolumePoint}

@@ -5,10 +5,11 @@ use Rattle.std.specs.Prelude.{slice_get, All, IfSome, ℤ}
 use Rattle.std.proofs.lemmas.Option.{get_or_from_slice_get}
 use Rattle.hyd_num.specs.CapacityPairs.{IsMade}
 use Rattle.hyd_num.specs.declared.flow_units.FlowUnit.{FlowUnit}
-use Rattle.hyd_num.specs.declared.capacities.Capacity.{Capacity}
+use Rattle.hyd_num.specs.declared.link_capacities.Capacity.{Capacity}
 use Rattle.hyd_spec_lines.specs.Lines.{Row}
 use Rattle.hyd_spec_lines.specs.declared.section.Section.TheVariants.{Junctions, Tanks, Pipes, Pumps}
-use Rattle.hyd_net.specs.Made.{IsAreaMade, IsStateMade, IsRuleMade, IsKindAcross, IsStateAcross, IsAcross, IsAllMade}
+use Rattle.hyd_net.specs.RoundedFileNumbers.{IsAreaMade, IsStateMade, IsRuleMade, IsKindAcross, IsStateAcross, IsAcross}
+use Rattle.hyd_net.specs.RoundedFileNumbers.{IsAllMade}
 use Rattle.hyd_net.specs.declared.controls.Control.{Control}
 use Rattle.hyd_net.specs.declared.links.Link.{Link}
 use Rattle.hyd_net.specs.declared.links.LinkKind.{LinkKind}
@@ -19,8 +20,8 @@ use Rattle.hyd_spec_input.specs.Columns.{amount}
 use Rattle.hyd_spec_input.specs.NetworkRows.{valve_minor}
 use Rattle.hyd_spec_input.specs.Tables.{rows_of, is_of}
 use Rattle.hyd_spec_input.specs.InForce.{unit}
-use Rattle.hyd_spec_input.specs.RowMeanings.{emitter_of, status_of}
-use Rattle.hyd_spec_input.specs.WithOthers.{us}
+use Rattle.hyd_spec_input.specs.MeaningsAcrossRows.{emitter_of, status_of}
+use Rattle.hyd_spec_input.specs.RowsTogether.{us}
 use Rattle.hyd_spec_input.specs.Project as project
 use Rattle.hyd_spec_input.specs.Project.{Where, IsProject, IsLink, IsKind, IsValveKind, numbered_links}
 use Rattle.hyd_theorems_on_input.proofs.Places.{match_all, item_at, partner}

@@ -8,7 +8,7 @@ use Rattle.std.proofs.lemmas.List.{take_at, take-map}
 use Rattle.std.proofs.lemmas.List.Sums.{fold-append}
 use Rattle.hyd_spec_lines.specs.Lines.{Row}
 use Rattle.hyd_spec_lines.specs.declared.section.Section.TheVariants.{Rules as RulesSection}
-use Rattle.hyd_net.specs.declared.cause.Cause.TheVariants.{Syntax}
+use Rattle.hyd_net.specs.declared.refusal_cause.Cause.TheVariants.{Syntax}
 use Rattle.hyd_spec_input.specs.Columns.{first, unless, needed, ends, id}
 use Rattle.hyd_spec_input.specs.declared.RuleWord.{RuleWord}
 use Rattle.hyd_spec_input.specs.declared.RuleWord.TheVariants.{Rule, If, And, Or, Then, Else, Priority}
@@ -18,9 +18,9 @@ use Rattle.hyd_spec_input.specs.RuleRows as alone
 use Rattle.hyd_spec_input.specs.RuleRows.{stage_by, begins_with, stage_after, is_acting, line_words, words_about}
 use Rattle.hyd_spec_input.specs.RuleRows.{in_order, is_rule, until_rule, gets_then}
 use Rattle.hyd_spec_input.specs.Tables.{is_of, rows_of, words_of, words_of_row}
-use Rattle.hyd_spec_input.specs.RowMeanings.{rule_groups, lines_at, is_asking, is_doing, is_otherwise}
-use Rattle.hyd_spec_input.specs.WithOthers as others
-use Rattle.hyd_spec_input.specs.WithOthers.{passes, is_part_word, is_action_word}
+use Rattle.hyd_spec_input.specs.MeaningsAcrossRows.{rule_groups, lines_at, is_asking, is_doing, is_otherwise}
+use Rattle.hyd_spec_input.specs.RowsTogether as others
+use Rattle.hyd_spec_input.specs.RowsTogether.{passes, is_part_word, is_action_word}
 use Rattle.hyd_theorems_on_input.proofs.Places.{source}
 use Rattle.hyd_theorems_on_input.proofs.Faultless.{AreRight, right_alone, right_among, all_none}
 

@@ -17,11 +17,11 @@ use Rattle.hyd_spec_lines.specs.Headings.{is_one_of}
 use Rattle.hyd_spec_lines.specs.declared.section.Section.TheVariants.{Junctions, Reservoirs, Tanks, Pumps, Valves}
 use Rattle.hyd_spec_lines.specs.declared.section.Section.TheVariants.{Rules as RulesSection}
 use Rattle.hyd_net.specs.Ids.{IsId}
-use Rattle.hyd_net.specs.Ranges.{LiesWithin, Numbers}
-use Rattle.hyd_net.specs.Made.{IsValueMade}
+use Rattle.hyd_net.specs.NumberRanges.{LiesWithin, Numbers}
+use Rattle.hyd_net.specs.RoundedFileNumbers.{IsValueMade}
 use Rattle.hyd_net.specs.ControlsAndRules as commands
 use Rattle.hyd_net.specs.ControlsAndRules.{node_count, HasPressure, HasSetting, SpeaksOf, Compares, IsComparedWith}
-use Rattle.hyd_net.specs.declared.cause.Cause.TheVariants.{Syntax, Unsupported}
+use Rattle.hyd_net.specs.declared.refusal_cause.Cause.TheVariants.{Syntax, Unsupported}
 use Rattle.hyd_net.specs.declared.links.Link.{Link}
 use Rattle.hyd_net.specs.declared.links.LinkKind.{LinkKind}
 use Rattle.hyd_net.specs.declared.links.LinkKind.TheVariants.{Pipe, CheckPipe, Pump, CurvePump, Tcv, Fcv, Gpv}
@@ -54,10 +54,12 @@ use Rattle.hyd_spec_input.specs.RuleRows.{attribute_place}
 use Rattle.hyd_spec_input.specs.Tables.{is_of, is_node, is_link, rows_of, words_of, own_id, node_rows, link_rows}
 use Rattle.hyd_spec_input.specs.Tables.{row_with, node_named, link_named, allows_node, allows_link}
 use Rattle.hyd_spec_input.specs.InForce.{unit}
-use Rattle.hyd_spec_input.specs.RowMeanings.{node_ids, link_ids, number_in, rule_groups, clause_lines, then_lines}
-use Rattle.hyd_spec_input.specs.RowMeanings.{else_lines, rule_id, is_priority, first_amount, priority_of, is_asking}
-use Rattle.hyd_spec_input.specs.RowMeanings.{is_doing, is_otherwise}
-use Rattle.hyd_spec_input.specs.WithOthers.{known_as, link_by_word, can_show, object_known, set_link}
+use Rattle.hyd_spec_input.specs.MeaningsAcrossRows.{node_ids, link_ids, number_in, rule_groups, clause_lines}
+use Rattle.hyd_spec_input.specs.MeaningsAcrossRows.{then_lines}
+use Rattle.hyd_spec_input.specs.MeaningsAcrossRows.{else_lines, rule_id, is_priority, first_amount, priority_of}
+use Rattle.hyd_spec_input.specs.MeaningsAcrossRows.{is_asking}
+use Rattle.hyd_spec_input.specs.MeaningsAcrossRows.{is_doing, is_otherwise}
+use Rattle.hyd_spec_input.specs.RowsTogether.{known_as, link_by_word, can_show, object_known, set_link}
 use Rattle.hyd_spec_input.specs.Project as project
 use Rattle.hyd_spec_input.specs.Project.{IsProject, IsLink, IsPumpKind, IsValveKind, IsWhat, compared}
 use Rattle.hyd_spec_input.specs.Project.{status_value, IsValue, place_of, IsClauseAt, numbered_links}

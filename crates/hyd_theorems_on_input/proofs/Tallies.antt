@@ -23,7 +23,7 @@ use Rattle.hyd_net.specs.declared.patterns.Pattern.{Pattern}
 use Rattle.hyd_net.specs.declared.rules.Rule.{Rule as RuleItem}
 use Rattle.hyd_net.specs.declared.project.Project.{Project}
 use Rattle.hyd_spec_input.specs.Columns.{first, or_empty}
-use Rattle.hyd_spec_input.specs.BelongingRows.{multipliers}
+use Rattle.hyd_spec_input.specs.DemandCurveAndStatusRows.{multipliers}
 use Rattle.hyd_spec_input.specs.NetworkRows.{tank_curve, pump_curve, valve_curve}
 use Rattle.hyd_spec_input.specs.declared.RuleWord.{RuleWord}
 use Rattle.hyd_spec_input.specs.declared.RuleWord.TheVariants.{Rule, If, And, Or, Then, Else, Priority}
@@ -34,14 +34,14 @@ use Rattle.hyd_spec_input.specs.Tables.{point_of, is_of, is_link, rows_of, words
 use Rattle.hyd_spec_input.specs.Tables.{has_id, rows_with, distinct_after, distinct, row_multipliers, curve_named}
 use Rattle.hyd_spec_input.specs.InForce.{unit}
 use Rattle.hyd_spec_input.specs.Curves.{is_bent, head_point, volume_point}
-use Rattle.hyd_spec_input.specs.RowMeanings.{is_among, new_names, pattern_ids, as_list, shape_names, bent_name}
-use Rattle.hyd_spec_input.specs.RowMeanings.{bend_names}
-use Rattle.hyd_spec_input.specs.RowMeanings.{demand_of_row, own_demand, or_own, rule_groups, lines_at, is_asking}
-use Rattle.hyd_spec_input.specs.RowMeanings.{is_doing}
-use Rattle.hyd_spec_input.specs.RowMeanings.{is_otherwise}
-use Rattle.hyd_spec_input.specs.WithOthers as others
-use Rattle.hyd_spec_input.specs.WithOthers.{us, passes, known_curve, multiplier_count, names_rule, is_part_word}
-use Rattle.hyd_spec_input.specs.WithOthers.{is_part, rules_in, parts_in}
+use Rattle.hyd_spec_input.specs.MeaningsAcrossRows.{is_among, new_names, pattern_ids, as_list, shape_names, bent_name}
+use Rattle.hyd_spec_input.specs.MeaningsAcrossRows.{bend_names}
+use Rattle.hyd_spec_input.specs.MeaningsAcrossRows.{demand_of_row, own_demand, or_own, rule_groups, lines_at, is_asking}
+use Rattle.hyd_spec_input.specs.MeaningsAcrossRows.{is_doing}
+use Rattle.hyd_spec_input.specs.MeaningsAcrossRows.{is_otherwise}
+use Rattle.hyd_spec_input.specs.RowsTogether as others
+use Rattle.hyd_spec_input.specs.RowsTogether.{us, passes, known_curve, multiplier_count, names_rule, is_part_word}
+use Rattle.hyd_spec_input.specs.RowsTogether.{is_part, rules_in, parts_in}
 use Rattle.hyd_spec_input.specs.Project as project
 use Rattle.hyd_spec_input.specs.Project.{Match, IsProject, IsLink, IsPattern, shape_points, bend_points, numbered_links}
 use Rattle.hyd_theorems_on_input.proofs.Places.{item_at, match_length, kept_more, kept_same}

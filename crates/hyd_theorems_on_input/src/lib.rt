@@ -5,14 +5,14 @@
 
 ghost use Rattle.std.specs.Prelude.{◌≡◌, ℕ, List, All};
 ghost use Rattle.hyd_spec_lines.specs.Lines.{Row, items_of, rows_in};
-ghost use Rattle.hyd_net.specs.declared.cause.Cause.{Cause};
+ghost use Rattle.hyd_net.specs.declared.refusal_cause.Cause.{Cause};
 ghost use Rattle.hyd_net.specs.declared.project.Project.{Project};
 ghost use Rattle.hyd_net.specs.ControlsAndRules.{node_count, IsControl, IsRule};
 ghost use Rattle.hyd_net.specs.NetworkRanges.{HasOptions, HasSizes, IsJunction, IsReservoir, IsTank};
 ghost use Rattle.hyd_net.specs.States.{CanHave};
-ghost use Rattle.hyd_net.specs.Views.{plain_project};
+ghost use Rattle.hyd_net.specs.ProjectAsCompared.{plain_project};
 ghost use Rattle.hyd_net.specs.Sound.{HasIds, IsWithinLimits, HasEnds, AreTimes, IsPattern, Sound};
-ghost use Rattle.hyd_net.specs.Made.{IsAllMade};
+ghost use Rattle.hyd_net.specs.RoundedFileNumbers.{IsAllMade};
 ghost use Rattle.hyd_spec_input.specs.Faults.{IsFault, HasNoFault};
 ghost use Rattle.hyd_spec_input.specs.Project.{IsProject};
 ghost use Rattle.hyd_theorems_on_input.specs.Example.{text, network};

@@ -6,14 +6,14 @@ use Rattle.std.specs.List.{AllByRecursion}
 use Rattle.std.proofs.lemmas.Int.{ints}
 use Rattle.std.proofs.lemmas.Bool.{eqb-true, eq-eqb}
 use Rattle.std.proofs.lemmas.Option.{slice_get_within, slice_get-get_or}
-use Rattle.hyd_spec.specs.Types.{Project, Tank, Reservoir}
+use Rattle.hyd_spec.specs.ProgramTypes.{Project, Tank, Reservoir}
 use Rattle.hyd_spec_certificates.specs.declared.Side.{Side}
 use Rattle.hyd_spec_certificates.specs.declared.Side.TheVariants.{Upper, Lower}
 use Rattle.hyd_spec_certificates.specs.declared.Problem.{Problem}
 use Rattle.hyd_spec_certificates.specs.declared.Problem.TheVariants.{Main, Pinned}
 use Rattle.hyd_spec.specs.Lists.{map_from}
 use Rattle.hyd_spec_certificates.specs.Interval.{Interval, shifted}
-use Rattle.hyd_spec.specs.Network.{tank_node, tank_count, junction_count, reservoir_count}
+use Rattle.hyd_spec.specs.NodeNumbers.{tank_node, tank_count, junction_count, reservoir_count}
 use Rattle.hyd_spec.specs.Quantity.{reservoir_head}
 use Rattle.hyd_spec.specs.Assignment.{head_at}
 use Rattle.hyd_spec_certificates.specs.Grid.{Grid, GridLink, IsJunctionOf, all_heads, fixed_heads, end_on, opposite}
@@ -23,16 +23,16 @@ use Rattle.hyd_spec_certificates.specs.Certificate.{IsCertificate}
 use Rattle.hyd_spec_certificates.specs.Record.{Record, Standing, Vectors, no_vectors, vector_of}
 use Rattle.hyd_spec_certificates.specs.Decided.{level_of_tank, inflow_of_tank, heads_below, heads_above, nowhere}
 use Rattle.hyd_spec_certificates.specs.Valid.{IsProblem}
-use Rattle.hyd_theorems_on_periods.specs.Laws.{IsSoundLaw, IsInside}
-use Rattle.hyd_theorems_on_periods.proofs.EachLaw.{IsLaw-each}
-use Rattle.hyd_theorems_on_periods.proofs.Leading.{one_times}
-use Rattle.hyd_theorems_on_periods.proofs.Nodes.{excess}
-use Rattle.hyd_theorems_on_periods.proofs.Comparison.{place_long}
+use Rattle.hyd_theorems_on_definitions.specs.Laws.{IsSoundLaw, IsInside}
+use Rattle.hyd_theorems_on_definitions.proofs.EachLaw.{IsLaw-each}
+use Rattle.hyd_theorems_on_definitions.proofs.Leading.{one_times}
+use Rattle.hyd_theorems_on_definitions.proofs.Nodes.{excess}
+use Rattle.hyd_theorems_on_definitions.proofs.Comparison.{place_long}
 use Rattle.hyd_theorems_on_nesting.specs.Nesting.{IsOrdered, AreNested}
 use Rattle.hyd_theorems_on_histories.proofs.Places.{same_item, numbered_from_start}
 use Rattle.hyd_theorems_on_nesting.proofs.TwoSides.{heads_below_plus}
-use Rattle.hyd_theorems_on_periods.proofs.NetRising.{low-rises, high-rises, net-rises, net-ordered, item-at}
-use Rattle.hyd_spec_certificates.specs.Enclosing.{low, high}
+use Rattle.hyd_theorems_on_definitions.proofs.NetRising.{low-rises, high-rises, net-rises, net-ordered, item-at}
+use Rattle.hyd_spec_certificates.specs.EnclosingFunctions.{low, high}
 
 -- ---- fixed heads
 

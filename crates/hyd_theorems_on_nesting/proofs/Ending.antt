@@ -4,7 +4,7 @@ use Rattle.std.proofs.Common.{List, [], ◌∷◌, map, ◌⊎◌, inl, inr}
 use Rattle.std.specs.List.{AllByRecursion, list_any}
 use Rattle.std.proofs.lemmas.Bool.{cases_Bool, cases_lt, cases_eq}
 use Rattle.hyd_num.specs.Rational.{floor, ceiling}
-use Rattle.hyd_spec.specs.Types.{Project, Rule, RuleClause, Clause}
+use Rattle.hyd_spec.specs.ProgramTypes.{Project, Rule, RuleClause, Clause}
 use Rattle.hyd_spec.specs.declared.Change.{Change}
 use Rattle.hyd_spec.specs.Rules.{groups_of, measured}
 use Rattle.hyd_spec_certificates.specs.Grid.{Grid}

@@ -5,7 +5,7 @@ use Rattle.std.specs.Prelude.{Option, Some, slice_get, slice_index_or, is_none, 
 use Rattle.std.proofs.lemmas.List.Quantifiers.{position-Some}
 use Rattle.std.proofs.lemmas.Option.{slice_get_within, get_or_from_slice_get}
 use Rattle.hyd_net.specs.Sound.{Sound}
-use Rattle.hyd_spec.specs.Types.{Project, Junction, Tank, LinkState, Control}
+use Rattle.hyd_spec.specs.ProgramTypes.{Project, Junction, Tank, LinkState, Control}
 use Rattle.hyd_spec.specs.declared.TankState.{TankState}
 use Rattle.hyd_spec_certificates.specs.declared.Problem.{Problem}
 use Rattle.hyd_spec_certificates.specs.declared.Side.{Side}
@@ -22,7 +22,7 @@ use Rattle.hyd_spec_certificates.specs.Decided.{rule_is_open, by_clock as decide
 use Rattle.hyd_spec_certificates.specs.Valid.{IsGridAt, IsValid, Continues, continues, finishes, LeadsOn, LeavesLinks}
 use Rattle.hyd_spec_certificates.specs.Valid.{by_rules as left_by_rules, by_clock as left_by_clock, AreStates}
 use Rattle.hyd_spec_certificates.specs.Valid.{ControlsAreDecided, levels_next, volumes_next, demand_limit}
-use Rattle.hyd_theorems_on_periods.proofs.OneAnswer.{one_end}
+use Rattle.hyd_theorems_on_definitions.proofs.OneAnswer.{one_end}
 use Rattle.hyd_spec_reports.specs.declared.StopCause.{StopCause}
 use Rattle.hyd_spec_reports.specs.declared.StopCause.TheVariants.{Demand as DemandOutOfRange, NoCertificate}
 use Rattle.hyd_spec_reports.specs.declared.StopCause.TheVariants.{RoundsSpent, RuleOpen, EventOpen, TankOpen}
@@ -31,7 +31,7 @@ use Rattle.hyd_spec_reports.specs.Stops.{IsFirstDemand, HasNoCertificate, IsTigh
 use Rattle.hyd_spec_reports.specs.Stops.{EndsAtLevels, open_states, LeavesTankOpen, is_open_control, LeavesControlOpen}
 use Rattle.hyd_spec_reports.specs.Stops.{Stops}
 use Rattle.hyd_spec_certificates.specs.Certificate.{IsCertificate}
-use Rattle.hyd_theorems_on_periods.proofs.OneRun.{one_grid}
+use Rattle.hyd_theorems_on_definitions.proofs.OneRun.{one_grid}
 use Rattle.hyd_theorems_on_histories.specs.Agreement.{IsKept}
 use Rattle.hyd_theorems_on_nesting.specs.Nesting.{AreNested, IsTidy, IsTightened, IsReason}
 use Rattle.hyd_theorems_on_nesting.proofs.Existing.{earliest_is}

@@ -1,11 +1,11 @@
 -- Every standing that a run leaves keeps what standings keep, and a run that isn't finished goes on or stops.
 use Rattle.std.proofs.Common.{◌≡◌, ℕ, refl, sym, subst, false, List, ◌⊎◌, inl, inr}
 use Rattle.hyd_net.specs.Sound.{Sound}
-use Rattle.hyd_spec.specs.Types.{Project}
+use Rattle.hyd_spec.specs.ProgramTypes.{Project}
 use Rattle.hyd_spec_certificates.specs.Record.{Standing, initial_standing}
 use Rattle.hyd_spec_certificates.specs.Valid.{LeadsOn, continues, finishes, Finishes}
 use Rattle.hyd_spec_reports.specs.Headline.{Found, IsFound, IsRunFrom, none, more, IsRun}
-use Rattle.hyd_theorems_on_periods.proofs.Appending.{run_more}
+use Rattle.hyd_theorems_on_definitions.proofs.Appending.{run_more}
 use Rattle.hyd_theorems_on_histories.specs.Agreement.{IsKept}
 use Rattle.hyd_theorems_on_histories.proofs.Stepping.{kept_at_start, kept_next}
 use Rattle.hyd_theorems_on_nesting.specs.Nesting.{IsTidy, LeadsSomewhere, IsStopped, IsLonger}

@@ -7,10 +7,10 @@ use Rattle.std.proofs.lemmas.List.Elements.{All-from_recursion}
 use Rattle.std.proofs.lemmas.Option.{slice_get_within, get_or_from_slice_get}
 use Rattle.hyd_net.specs.ControlsAndRules.{IsControl, IsMoment}
 use Rattle.hyd_net.specs.Sound.{Sound}
-use Rattle.hyd_spec.specs.Types.{Project, Junction, Tank, LinkState, Control, When, AtLevel, AtTime, AtClock}
+use Rattle.hyd_spec.specs.ProgramTypes.{Project, Junction, Tank, LinkState, Control, When, AtLevel, AtTime, AtClock}
 use Rattle.hyd_spec.specs.declared.TankState.{TankState}
 use Rattle.hyd_spec.specs.Lists.{map_from}
-use Rattle.hyd_spec.specs.Network.{tank_count, junction_count}
+use Rattle.hyd_spec.specs.NodeNumbers.{tank_count, junction_count}
 use Rattle.hyd_spec.specs.Quantity.{demand_of}
 use Rattle.hyd_spec.specs.Rules.{acted}
 use Rattle.hyd_spec_certificates.specs.declared.Problem.{Problem}
@@ -33,10 +33,10 @@ use Rattle.hyd_spec_reports.specs.declared.StopCause.TheVariants.{Demand as Dema
 use Rattle.hyd_spec_reports.specs.declared.StopCause.TheVariants.{EventOpen, TankOpen, ControlOpen}
 use Rattle.hyd_spec_reports.specs.Stops.{EarlierHaveCertificates, beginning, IsTightRow, open_states, is_open_control}
 use Rattle.hyd_spec_reports.specs.Stops.{Stops}
-use Rattle.hyd_theorems_on_periods.specs.Laws.{IsSteady}
-use Rattle.hyd_theorems_on_periods.proofs.Comparison.{place_long}
-use Rattle.hyd_theorems_on_periods.proofs.OneLength.{ends_again}
-use Rattle.hyd_theorems_on_periods.proofs.OneStanding.{there}
+use Rattle.hyd_theorems_on_definitions.specs.Laws.{IsSteady}
+use Rattle.hyd_theorems_on_definitions.proofs.Comparison.{place_long}
+use Rattle.hyd_theorems_on_definitions.proofs.OneLength.{ends_again}
+use Rattle.hyd_theorems_on_definitions.proofs.OneStanding.{there}
 use Rattle.hyd_theorems_on_raises.proofs.Beginnings.{start-end}
 use Rattle.hyd_theorems_on_raises.proofs.Raising.{tight-or-none}
 use Rattle.hyd_theorems_on_histories.specs.Agreement.{IsKept}

@@ -6,19 +6,19 @@ use Rattle.std.specs.List.{AllByRecursion, AllZip}
 use Rattle.std.proofs.lemmas.Int.{ints}
 use Rattle.std.proofs.lemmas.List.Elements.{recursion_from_All}
 use borrow.Author.Differences.{up}
-use Rattle.hyd_num.specs.Quantity.{pressure_fraction, pressure_numerator, pressure_denominator}
+use Rattle.hyd_num.specs.FileQuantity.{pressure_fraction, pressure_numerator, pressure_denominator}
 use Rattle.hyd_num.specs.Fraction.{AtMost, whole}
 use Rattle.hyd_net.specs.Sound.{Sound}
 use Rattle.hyd_lemmas.proofs.PressurePairs.{IsInReach, pressure_capacity_of}
-use Rattle.hyd_spec.specs.Types.{Project, Junction}
+use Rattle.hyd_spec.specs.ProgramTypes.{Project, Junction}
 use Rattle.hyd_spec.specs.Quantity.{is_us, demand_of, reservoir_head, minimum_pressure, required_pressure}
-use Rattle.hyd_spec_certificates.specs.Enclosing.{DemandLaw, Fixed, Driven}
+use Rattle.hyd_spec_certificates.specs.EnclosingFunctions.{DemandLaw, Fixed, Driven}
 use Rattle.hyd_spec_certificates.specs.Grid.{Grid, GridJunction, IsJunctionOf, IsDemandLaw, IsDriven, grid_links}
 use Rattle.hyd_spec_certificates.specs.Grid.{tank_intervals}
 use Rattle.hyd_spec_certificates.specs.Record.{Standing}
 use Rattle.hyd_spec_certificates.specs.Decided.{links_at}
 use Rattle.hyd_spec_certificates.specs.Valid.{IsGridAt, DemandsAreInRange, demand_limit}
-use Rattle.hyd_theorems_on_periods.proofs.Outflows.{le-no}
+use Rattle.hyd_theorems_on_definitions.proofs.Outflows.{le-no}
 
 up-is : (z : ℤ) → pos 0 ≤ℤ z → pos (up z) ≡ z
 up-is (pos n) above = refl

@@ -8,7 +8,7 @@ use Rattle.std.proofs.lemmas.Bool.{cases_Bool, cond_both}
 use Rattle.hyd_num.specs.Rational.{whole}
 use Rattle.hyd_net.specs.ControlsAndRules.{Compares, IsRule}
 use Rattle.hyd_net.specs.Sound.{Sound}
-use Rattle.hyd_spec.specs.Types.{Project, Tank, Rule, RuleClause, Clause, LinkState}
+use Rattle.hyd_spec.specs.ProgramTypes.{Project, Tank, Rule, RuleClause, Clause, LinkState}
 use Rattle.hyd_spec.specs.Lists.{map_from}
 use Rattle.hyd_spec_certificates.specs.Interval.{Interval}
 use Rattle.hyd_spec.specs.Tank.{walls_of}
@@ -27,12 +27,12 @@ use Rattle.hyd_spec_certificates.specs.Decided.{EndsBy, ByRules, WithoutRules, b
 use Rattle.hyd_spec_certificates.specs.Decided.{by_clock as decided_by_clock}
 use Rattle.hyd_spec_certificates.specs.Valid.{LeavesLinks, by_rules as left_by_rules, by_clock as left_by_clock}
 use Rattle.hyd_spec_certificates.specs.Valid.{stocks_next}
-use Rattle.hyd_theorems_on_periods.specs.Laws.{LiesIn, IsInside, AreInside, HasStock, Tells}
+use Rattle.hyd_theorems_on_definitions.specs.Laws.{LiesIn, IsInside, AreInside, HasStock, Tells}
 use Rattle.hyd_lemmas.proofs.Integers.{max_is}
-use Rattle.hyd_theorems_on_periods.proofs.Outflows.{le-no}
-use Rattle.hyd_theorems_on_periods.proofs.Leading.{one_times}
-use Rattle.hyd_theorems_on_periods.proofs.Levelling.{carried_inside, carried_ordered, next_inside, next_has}
-use Rattle.hyd_theorems_on_periods.proofs.Deciding.{may_nests, must_nests, must_may}
+use Rattle.hyd_theorems_on_definitions.proofs.Outflows.{le-no}
+use Rattle.hyd_theorems_on_definitions.proofs.Leading.{one_times}
+use Rattle.hyd_theorems_on_definitions.proofs.Levelling.{carried_inside, carried_ordered, next_inside, next_has}
+use Rattle.hyd_theorems_on_definitions.proofs.Deciding.{may_nests, must_nests, must_may}
 use Rattle.hyd_theorems_on_histories.specs.Agreement.{IsValueBetween, AreBetween}
 use Rattle.hyd_theorems_on_nesting.specs.Nesting.{IsOrdered, AreNested}
 use Rattle.hyd_theorems_on_histories.proofs.Clauses.{clause_tells, whole-between}

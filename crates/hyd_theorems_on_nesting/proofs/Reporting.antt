@@ -12,7 +12,7 @@ use Rattle.hyd_num.specs.declared.flow_units.FlowUnit.{FlowUnit}
 use Rattle.hyd_num.specs.declared.flow_units.FlowUnit.TheVariants.{Cfs, Gpm, Mgd, Imgd, Afd, Lps, Lpm, Mld, Cmh, Cmd}
 use Rattle.hyd_num.proofs.Floors.{floor_is, ceiling_is}
 use Rattle.hyd_net.specs.Sound.{Sound}
-use Rattle.hyd_spec.specs.Types.{Project, Tank, Link, LinkState}
+use Rattle.hyd_spec.specs.ProgramTypes.{Project, Tank, Link, LinkState}
 use Rattle.hyd_spec.specs.declared.TankState.{TankState}
 use Rattle.hyd_spec.specs.Quantity.{is_us}
 use Rattle.hyd_spec.specs.Assignment.{head_at}
@@ -30,7 +30,7 @@ use Rattle.hyd_spec_reports.specs.ReportLine.{ReportLine}
 use Rattle.hyd_spec_reports.specs.Report.{Prints, is_report_time, LineEach, IsJunctionLine, IsReservoirLine, IsTankLine}
 use Rattle.hyd_spec_reports.specs.Report.{IsLinkLine, AreStateLines, events_of, EndBrings, at_end, by_rules, by_clock}
 use Rattle.hyd_spec_reports.specs.Report.{IsReport}
-use Rattle.hyd_theorems_on_periods.proofs.OneStanding.{there}
+use Rattle.hyd_theorems_on_definitions.proofs.OneStanding.{there}
 use Rattle.hyd_theorems_on_histories.specs.Agreement.{IsOwnState, IsKept}
 use Rattle.hyd_theorems_on_histories.proofs.Commanding.{started_own}
 use Rattle.hyd_theorems_on_nesting.specs.Nesting.{IsTidy}

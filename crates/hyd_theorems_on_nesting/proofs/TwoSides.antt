@@ -4,15 +4,15 @@ use Rattle.std.proofs.lemmas.Int.{ints, by_lt_z}
 use Rattle.hyd_spec_certificates.specs.declared.Side.TheVariants.{Upper, Lower}
 use Rattle.hyd_spec_certificates.specs.declared.Problem.{Problem}
 use Rattle.hyd_spec.specs.Assignment.{head_at}
-use Rattle.hyd_spec_certificates.specs.Enclosing.{low, high}
+use Rattle.hyd_spec_certificates.specs.EnclosingFunctions.{low, high}
 use Rattle.hyd_spec_certificates.specs.Grid.{Grid, all_heads, fixed_heads}
 use Rattle.hyd_spec_certificates.specs.Certificate.{IsCertificate}
-use Rattle.hyd_theorems_on_periods.specs.Laws.{IsSteady}
-use Rattle.hyd_theorems_on_periods.proofs.NetRising.{low-rises, high-rises, IsTop, net-rises, net-ordered}
-use Rattle.hyd_theorems_on_periods.proofs.NetRising.{outflow-rises}
-use Rattle.hyd_theorems_on_periods.proofs.NetRising.{demand-at, item-at}
-use Rattle.hyd_theorems_on_periods.proofs.Leading.{one_times}
-use Rattle.hyd_theorems_on_periods.proofs.Nodes.{excess, excess_after, head_front, IsGreatestBelow, greatest_below}
+use Rattle.hyd_theorems_on_definitions.specs.Laws.{IsSteady}
+use Rattle.hyd_theorems_on_definitions.proofs.NetRising.{low-rises, high-rises, IsTop, net-rises, net-ordered}
+use Rattle.hyd_theorems_on_definitions.proofs.NetRising.{outflow-rises}
+use Rattle.hyd_theorems_on_definitions.proofs.NetRising.{demand-at, item-at}
+use Rattle.hyd_theorems_on_definitions.proofs.Leading.{one_times}
+use Rattle.hyd_theorems_on_definitions.proofs.Nodes.{excess, excess_after, head_front, IsGreatestBelow, greatest_below}
 
 -- ---- the comparison
 

@@ -4,9 +4,9 @@
 use Rattle.std.specs.Prelude.{◌≡◌, ℕ, ◌≤◌, ℤ, ◌≤ℤ◌, List, [], ◌∷◌, ◌++◌, ⊤, length, ◌⊎◌, Bool, false, IsTrue, Contains}
 use Rattle.std.specs.Prelude.{slice_get}
 use Rattle.std.specs.Option.{option_map_or}
-use Rattle.hyd_spec.specs.Types.{Project, Tank}
+use Rattle.hyd_spec.specs.ProgramTypes.{Project, Tank}
 use Rattle.hyd_spec.specs.Lists.{Each}
-use Rattle.hyd_spec.specs.Network.{tank_count}
+use Rattle.hyd_spec.specs.NodeNumbers.{tank_count}
 use Rattle.hyd_spec.specs.Assignment.{head_at}
 use Rattle.hyd_spec.specs.Tank.{Walls, walls_of}
 use Rattle.hyd_spec_certificates.specs.declared.Problem.{Problem}
@@ -25,7 +25,7 @@ use Rattle.hyd_spec_reports.specs.declared.StopCause.TheVariants.{RoundsSpent, R
 use Rattle.hyd_spec_reports.specs.declared.StopCause.TheVariants.{ControlOpen}
 use Rattle.hyd_spec_reports.specs.Stops.{Stops}
 use Rattle.hyd_spec_reports.specs.Headline.{Found, IsRun}
-use Rattle.hyd_theorems_on_periods.specs.Laws.{HasStock, IsVessel, IsSteady}
+use Rattle.hyd_theorems_on_definitions.specs.Laws.{HasStock, IsVessel, IsSteady}
 
 -- ---- records
 

@@ -14,18 +14,18 @@ use Rattle.hyd_spec.specs.Lists.{map_from}
 use Rattle.hyd_spec_certificates.specs.Interval.{Interval}
 use Rattle.hyd_spec.specs.Assignment.{head_at}
 use Rattle.hyd_spec_certificates.specs.Grid.{Grid, GridJunction, all_heads, fixed_heads, opposite, end_on, tank_side}
-use Rattle.hyd_spec_certificates.specs.Enclosing.{low, high}
+use Rattle.hyd_spec_certificates.specs.EnclosingFunctions.{low, high}
 use Rattle.hyd_spec_reports.specs.Stops.{beginning}
 use Rattle.hyd_spec_certificates.specs.declared.HeldJunction.{HeldJunction}
 use Rattle.hyd_spec_certificates.specs.Certificate.{box_limit, IsInBox, Passes, Suits, IsBeyond, IsCertificate}
 use Rattle.hyd_spec_certificates.specs.Certificate.{IsCertificateHolding}
-use Rattle.hyd_theorems_on_periods.proofs.Nodes.{head_front, IsGreatestBelow, greatest_below}
-use Rattle.hyd_theorems_on_periods.specs.Laws.{IsSteady}
-use Rattle.hyd_theorems_on_periods.proofs.NetRising.{item-at, IsTop, net-rises, low-rises, high-rises, net-ordered}
-use Rattle.hyd_theorems_on_periods.proofs.NetRising.{outflow-rises}
-use Rattle.hyd_theorems_on_periods.proofs.NetRising.{demand-at}
+use Rattle.hyd_theorems_on_definitions.proofs.Nodes.{head_front, IsGreatestBelow, greatest_below}
+use Rattle.hyd_theorems_on_definitions.specs.Laws.{IsSteady}
+use Rattle.hyd_theorems_on_definitions.proofs.NetRising.{item-at, IsTop, net-rises, low-rises, high-rises, net-ordered}
+use Rattle.hyd_theorems_on_definitions.proofs.NetRising.{outflow-rises}
+use Rattle.hyd_theorems_on_definitions.proofs.NetRising.{demand-at}
 use Rattle.hyd_spec_certificates.specs.SearchSteps.{LiesBeyond, IsStart, IsOrderedHolding}
-use Rattle.hyd_theorems_on_periods.specs.Sides.{along}
+use Rattle.hyd_theorems_on_definitions.specs.Sides.{along}
 use Rattle.hyd_theorems_on_raises.proofs.Leading.{beyond-is, is-beyond, lead, suits-nearer}
 use Rattle.hyd_theorems_on_raises.proofs.Raising.{beyond-self, by-beyond, set-here, set-there, set-one, set-in-box}
 use Rattle.hyd_theorems_on_raises.proofs.Raising.{along-floor}

@@ -16,9 +16,9 @@ use Rattle.hyd_spec_certificates.specs.NetOutflow.{net_low, net_high, margin}
 use Rattle.hyd_spec_certificates.specs.declared.HeldJunction.{HeldJunction}
 use Rattle.hyd_spec_certificates.specs.Certificate.{box_limit, IsInBox, Passes, Suits, IsBeyond, IsCertificateHolding}
 use Rattle.hyd_spec_certificates.specs.Certificate.{IsCandidateHolding, IsRaisedHolding, IsTightHolding}
-use Rattle.hyd_theorems_on_periods.specs.Laws.{IsSteady}
+use Rattle.hyd_theorems_on_definitions.specs.Laws.{IsSteady}
 use Rattle.hyd_spec_certificates.specs.SearchSteps.{LiesBeyond, IsStart}
-use Rattle.hyd_theorems_on_periods.specs.Sides.{along}
+use Rattle.hyd_theorems_on_definitions.specs.Sides.{along}
 use Rattle.hyd_theorems_on_raises.proofs.Leading.{beyond-is, is-beyond, suits-nearer}
 use Rattle.hyd_theorems_on_raises.proofs.Searching.{first-below, each-or-lacks}
 

@@ -11,12 +11,12 @@ use Rattle.hyd_spec_certificates.specs.Grid.{Grid, GridJunction}
 use Rattle.hyd_spec_certificates.specs.declared.HeldJunction.{HeldJunction}
 use Rattle.hyd_spec_certificates.specs.Certificate.{IsInBox, IsBeyond, IsCertificateHolding, IsRaisedHolding}
 use Rattle.hyd_spec_certificates.specs.Certificate.{IsRoundHolding, AreRoundsHolding, none, more}
-use Rattle.hyd_theorems_on_periods.proofs.Nodes.{greatest_below}
-use Rattle.hyd_theorems_on_periods.specs.Laws.{IsSteady}
+use Rattle.hyd_theorems_on_definitions.proofs.Nodes.{greatest_below}
+use Rattle.hyd_theorems_on_definitions.specs.Laws.{IsSteady}
 use Rattle.hyd_spec_certificates.specs.SearchSteps.{LiesBeyond, IsStart, IsLeap, Climbs, done, raised, leapt, HasParts}
 use Rattle.hyd_spec_certificates.specs.SearchSteps.{no_more, part, HasRounds}
-use Rattle.hyd_theorems_on_periods.proofs.NetRising.{item-at}
-use Rattle.hyd_theorems_on_periods.specs.Sides.{along}
+use Rattle.hyd_theorems_on_definitions.proofs.NetRising.{item-at}
+use Rattle.hyd_theorems_on_definitions.specs.Sides.{along}
 use Rattle.hyd_theorems_on_raises.proofs.Leading.{beyond-is, lead, fails-leading, suits-nearer}
 use Rattle.hyd_theorems_on_raises.proofs.Searching.{choose}
 use Rattle.hyd_theorems_on_raises.proofs.Raising.{beyond-trans, beyond-self, along-one, by-beyond, set-here, set-on}

@@ -18,7 +18,7 @@ ghost use Rattle.hyd_spec_certificates.specs.Certificate.{IsTightHolding, IsRoun
 ghost use Rattle.hyd_spec_certificates.specs.SearchSteps.{LiesBeyond, IsStart, IsLeap, Climbs, HasParts, HasRounds};
 ghost use Rattle.hyd_spec_certificates.specs.SearchSteps.{IsOrderedHolding, JoinsNone};
 ghost use Rattle.hyd_spec_reports.specs.Stops.{beginning};
-ghost use Rattle.hyd_theorems_on_periods.specs.Laws.{IsSteady};
+ghost use Rattle.hyd_theorems_on_definitions.specs.Laws.{IsSteady};
 
 /// A vector with a head for each junction is a certificate, or fails first at a junction; not both, and at one
 /// junction.

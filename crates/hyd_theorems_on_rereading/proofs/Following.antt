@@ -4,7 +4,7 @@ use Rattle.std.proofs.Common.{Some, None, MatchOption, refl, ap, subst, ◌∙�
 use Rattle.std.specs.Prelude.{◌-ℤ◌, slice_get}
 use Rattle.std.specs.List.{AllZip}
 use Rattle.hyd_num.specs.Rational.{is_at_most}
-use Rattle.hyd_spec.specs.Types.{Project, Junction, Reservoir, Link, LinkState, Capacity}
+use Rattle.hyd_spec.specs.ProgramTypes.{Project, Junction, Reservoir, Link, LinkState, Capacity}
 use Rattle.hyd_spec.specs.declared.TankState.{TankState}
 use Rattle.hyd_spec.specs.Scale.{at_scale}
 use Rattle.hyd_spec.specs.Quantity.{demand_of, reservoir_head, minimum_pressure, required_pressure}

@@ -3,12 +3,12 @@ use Rattle.std.proofs.Common.{◌≡◌, ℕ, zero, suc, ◌<◌, ◌≤◌, ℤ
 use Rattle.std.proofs.Common.{ap, subst, ◌∙◌, arith}
 use Rattle.std.specs.Prelude.{slice_index_or, unsigned_abs}
 use Rattle.std.specs.List.{AllZip}
-use Rattle.hyd_spec.specs.Types.{Project, Junction, LinkState}
+use Rattle.hyd_spec.specs.ProgramTypes.{Project, Junction, LinkState}
 use Rattle.hyd_spec.specs.Quantity.{demand_of, reservoir_head}
 use Rattle.hyd_spec.specs.Outflow.{is_pressure_driven}
 use Rattle.hyd_spec_certificates.specs.declared.Problem.{Problem}
 use Rattle.hyd_spec_certificates.specs.declared.Problem.TheVariants.{Main, Pinned}
-use Rattle.hyd_spec_certificates.specs.Enclosing.{DemandLaw, Fixed}
+use Rattle.hyd_spec_certificates.specs.EnclosingFunctions.{DemandLaw, Fixed}
 use Rattle.hyd_spec_certificates.specs.Grid.{Grid, GridJunction, IsDriven, IsDemandLaw, IsJunctionOf, grid_links}
 use Rattle.hyd_spec_certificates.specs.Record.{Record, Standing}
 use Rattle.hyd_spec_certificates.specs.Decided.{links_at}

@@ -2,10 +2,10 @@
 -- what the comparison of projects looks at.
 use Rattle.std.proofs.Common.{◌≡◌, ℕ, Bool, List, [], ◌∷◌, map, sym, ap, ap₂, refl, ◌∙◌, subst}
 use Rattle.std.proofs.lemmas.List.{length-map}
-use Rattle.hyd_net.specs.Views.{plain_junction, plain_rule, plain_project}
-use Rattle.hyd_net.specs.Views.{plain_pattern, bare_list}
-use Rattle.hyd_spec.specs.Types.{Project}
-use Rattle.hyd_spec.specs.Network.{junction_count, tank_count}
+use Rattle.hyd_net.specs.ProjectAsCompared.{plain_junction, plain_rule, plain_project}
+use Rattle.hyd_net.specs.ProjectAsCompared.{plain_pattern, bare_list}
+use Rattle.hyd_spec.specs.ProgramTypes.{Project}
+use Rattle.hyd_spec.specs.NodeNumbers.{junction_count, tank_count}
 use Rattle.hyd_spec_certificates.specs.Record.{Record}
 use Rattle.hyd_spec_reports.specs.CertificateText.{IsCertificateText, version_of}
 use Rattle.hyd_theorems_on_rereading.specs.WithoutSpare.{bare_junction, bare_rule, bare_project}

@@ -4,15 +4,16 @@ use Rattle.std.proofs.Common.{◌∙◌, ◌&&◌, ◌||◌}
 use Rattle.std.specs.Prelude.{neg_ℤ, unsigned_abs}
 use Rattle.std.specs.List.{list_any, list_all}
 use Rattle.hyd_num.specs.Rational.{Rational}
-use Rattle.hyd_spec.specs.Types.{Project, Tank, Rule, Clause}
+use Rattle.hyd_spec.specs.ProgramTypes.{Project, Tank, Rule, Clause}
 use Rattle.hyd_spec.specs.declared.Change.{Change}
 use Rattle.hyd_spec.specs.Assignment.{net_outflow}
 use Rattle.hyd_spec.specs.Tank.{Walls, walls_of, content_bounds, exact_content, carried_level, has_reached}
 use Rattle.hyd_spec.specs.Tank.{is_at_maximum, is_at_minimum, tank_inflow}
 use Rattle.hyd_spec.specs.Rules.{Readings, clause_holds, groups_of, rule_holds, rule_values, rule_changes, acted}
-use Rattle.hyd_spec.specs.Length.{Period, stock_at_start, carried_after}
-use Rattle.hyd_spec.specs.Length.{EndsByLevel, full, empty, control, readings_after, values_at}
-use Rattle.hyd_spec.specs.Length.{EndsByRules, MayEnd, by_clock, by_level, by_rules, HasItsLength, at_end, before_end}
+use Rattle.hyd_spec.specs.PeriodLength.{Period, stock_at_start, carried_after}
+use Rattle.hyd_spec.specs.PeriodLength.{EndsByLevel, full, empty, control, readings_after, values_at}
+use Rattle.hyd_spec.specs.PeriodLength.{EndsByRules, MayEnd, by_clock, by_level, by_rules, HasItsLength, at_end}
+use Rattle.hyd_spec.specs.PeriodLength.{before_end}
 use Rattle.hyd_theorems_on_rereading.proofs.Inner.{Inner, with_inner, IsLikeRule, AreAlike, turned}
 use Rattle.hyd_theorems_on_rereading.proofs.Quantities.{same_node, same_walls}
 use Rattle.hyd_theorems_on_rereading.proofs.Ruling.{same_groups, same_clause, same_changes, same_acted}

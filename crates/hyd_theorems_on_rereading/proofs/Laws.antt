@@ -2,8 +2,8 @@
 use Rattle.std.proofs.Common.{◌≡◌, ℕ, pos, Bool, List, [], ◌∷◌, length, refl, ap, ap₂}
 use Rattle.std.specs.Prelude.{neg_ℤ}
 use Rattle.hyd_net.specs.ListView.{ListView}
-use Rattle.hyd_spec.specs.Types.{Project, Link, HeadPoint, LinkKind, PipeLink, CheckPipe, PumpLink, CurvePump}
-use Rattle.hyd_spec.specs.Types.{Tcv, Fcv, Gpv, LinkState, Open, Closed, Speed, Throttle, Limit}
+use Rattle.hyd_spec.specs.ProgramTypes.{Project, Link, HeadPoint, LinkKind, PipeLink, CheckPipe, PumpLink, CurvePump}
+use Rattle.hyd_spec.specs.ProgramTypes.{Tcv, Fcv, Gpv, LinkState, Open, Closed, Speed, Throttle, Limit}
 use Rattle.hyd_spec.specs.declared.TankState.{TankState}
 use Rattle.hyd_spec.specs.Quantity.{points_of, pump_knots, valve_knots, is_us}
 use Rattle.hyd_spec.specs.Law.{Law, Held, Bent}

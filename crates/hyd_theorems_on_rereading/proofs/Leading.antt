@@ -1,6 +1,6 @@
 -- Valid records are valid of alike parts, and lead on to the same standings.
 use Rattle.std.proofs.Common.{◌≡◌, ℕ, List, sym, ap, subst, ◌∙◌}
-use Rattle.hyd_spec.specs.Types.{Project, Tank, LinkState}
+use Rattle.hyd_spec.specs.ProgramTypes.{Project, Tank, LinkState}
 use Rattle.hyd_spec.specs.Tank.{Walls, kept_volume, walls_of}
 use Rattle.hyd_spec_certificates.specs.Interval.{Interval, exactly}
 use Rattle.hyd_spec_certificates.specs.Grid.{Grid}

@@ -3,9 +3,9 @@ use Rattle.std.proofs.Common.{◌≡◌, ℕ, suc, ◌+◌, List, [], ◌∷◌,
 use Rattle.std.specs.Prelude.{slice_index_or}
 use Rattle.std.specs.List.{AllZip}
 use Rattle.hyd_num.specs.Rational.{whole}
-use Rattle.hyd_spec.specs.Types.{Project, Tank, Rule, LinkState}
+use Rattle.hyd_spec.specs.ProgramTypes.{Project, Tank, Rule, LinkState}
 use Rattle.hyd_spec.specs.Lists.{map_from}
-use Rattle.hyd_spec.specs.Network.{tank_node}
+use Rattle.hyd_spec.specs.NodeNumbers.{tank_node}
 use Rattle.hyd_spec.specs.Tank.{Walls, walls_of}
 use Rattle.hyd_spec.specs.Rules.{Readings, rule_changes, acted}
 use Rattle.hyd_spec_certificates.specs.Interval.{Interval}

@@ -8,19 +8,19 @@ use Rattle.std.proofs.lemmas.List.{map-id}
 use Rattle.hyd_num.specs.declared.decimals.Decimal.{Decimal}
 use Rattle.hyd_num.specs.declared.decimals.Span.{Span}
 use Rattle.hyd_num.specs.declared.flow_units.FlowUnit.{FlowUnit}
-use Rattle.hyd_num.specs.declared.capacities.Capacity.{Capacity}
-use Rattle.hyd_num.specs.declared.capacities.Origin.TheVariants.{Pipe as PipeOrigin, Valve as ValveOrigin}
-use Rattle.hyd_num.specs.declared.capacities.Origin.TheVariants.{Pump as PumpOrigin, Emitter as EmitterOrigin}
+use Rattle.hyd_num.specs.declared.link_capacities.Capacity.{Capacity}
+use Rattle.hyd_num.specs.declared.link_capacities.Origin.TheVariants.{Pipe as PipeOrigin, Valve as ValveOrigin}
+use Rattle.hyd_num.specs.declared.link_capacities.Origin.TheVariants.{Pump as PumpOrigin, Emitter as EmitterOrigin}
 use Rattle.hyd_num.specs.Numeral.{nano_of}
 use Rattle.hyd_num.specs.Roots.{IsFloor, IsCeiling}
-use Rattle.hyd_num.specs.Quantity.{is_us_unit, head_ticks, flow_ticks}
+use Rattle.hyd_num.specs.FileQuantity.{is_us_unit, head_ticks, flow_ticks}
 use Rattle.hyd_spec_lines.specs.Bytes.{is_keyword}
 use Rattle.hyd_spec_lines.specs.Lines.{Row}
 use Rattle.hyd_spec_lines.specs.declared.section.Section.TheVariants.{Junctions, Reservoirs, Tanks, Pipes, Pumps}
 use Rattle.hyd_spec_lines.specs.declared.section.Section.TheVariants.{Controls, Rules}
 use Rattle.hyd_net.proofs.Equal.{Decimal-equal, Span-equal}
-use Rattle.hyd_net.specs.Made.{IsRounded, IsExactly, IsSeconds, IsAmount, IsAreaMade, IsShutoffMade}
-use Rattle.hyd_net.specs.Views.{bare_list, plain_pattern}
+use Rattle.hyd_net.specs.RoundedFileNumbers.{IsRounded, IsExactly, IsSeconds, IsAmount, IsAreaMade, IsShutoffMade}
+use Rattle.hyd_net.specs.ProjectAsCompared.{bare_list, plain_pattern}
 use Rattle.hyd_net.specs.declared.options.Options.{Options}
 use Rattle.hyd_net.specs.declared.options.Times.{Times}
 use Rattle.hyd_net.specs.declared.nodes.Junction.{Junction}
@@ -53,9 +53,9 @@ use Rattle.hyd_spec_input.specs.NetworkRows.{valve_minor}
 use Rattle.hyd_spec_input.specs.Tables.{Point, is_of, rows_of, words_of, link_named}
 use Rattle.hyd_spec_input.specs.InForce.{unit}
 use Rattle.hyd_spec_input.specs.Curves.{Drop, drop_of}
-use Rattle.hyd_spec_input.specs.RowMeanings.{emitter_of, status_of, pattern_ids, shape_names, bend_names}
-use Rattle.hyd_spec_input.specs.RowMeanings.{rule_groups, clause_lines, then_lines, else_lines}
-use Rattle.hyd_spec_input.specs.WithOthers.{us}
+use Rattle.hyd_spec_input.specs.MeaningsAcrossRows.{emitter_of, status_of, pattern_ids, shape_names, bend_names}
+use Rattle.hyd_spec_input.specs.MeaningsAcrossRows.{rule_groups, clause_lines, then_lines, else_lines}
+use Rattle.hyd_spec_input.specs.RowsTogether.{us}
 use Rattle.hyd_spec_input.specs.Project as project
 use Rattle.hyd_spec_input.specs.Project.{Match, Where, IsOptions, IsTimes, IsEmitter, IsEmitterOf, IsPipeOf}
 use Rattle.hyd_spec_input.specs.Project.{IsPipeKind, IsPumpOf, IsShutoffOf, pump_points, IsPumpKind, IsValveOf}
@@ -65,7 +65,7 @@ use Rattle.hyd_spec_input.specs.Project.{IsWhat, IsValue, IsClauseAt}
 use Rattle.hyd_spec_input.specs.Project.{IsClause, IsAction, numbered_links, shape_points, bend_points, IsProject}
 use Rattle.hyd_spec_input.specs.declared.Attribute.{Attribute}
 use Rattle.hyd_spec_input.specs.declared.Attribute.TheVariants as attribute
-use Rattle.hyd_theorems_on_periods.proofs.OneCapacity.{one_capacity}
+use Rattle.hyd_theorems_on_definitions.proofs.OneCapacity.{one_capacity}
 use Rattle.hyd_theorems_on_rereading.specs.WithoutSpare.{bare_junction, bare_rule, bare_project}
 use Rattle.hyd_theorems_on_input.proofs.ControlLines.{word_apart, at_not_if}
 

@@ -4,9 +4,9 @@ use Rattle.std.proofs.Common.{refl, ap, ap₂, ◌∙◌}
 use Rattle.std.specs.Prelude.{◌/◌, ◌*ℤ◌, slice_get, slice_index_or, unsigned_abs}
 use Rattle.std.specs.Option.{option_map_or, option_or}
 use Rattle.std.specs.List.{AllZip}
-use Rattle.hyd_spec.specs.Types.{Project, Junction, Demand, Reservoir, Tank}
+use Rattle.hyd_spec.specs.ProgramTypes.{Project, Junction, Demand, Reservoir, Tank}
 use Rattle.hyd_spec.specs.Scale.{cut, total}
-use Rattle.hyd_spec.specs.Network.{junction_count, nodes_before_tanks, tank_node}
+use Rattle.hyd_spec.specs.NodeNumbers.{junction_count, nodes_before_tanks, tank_node}
 use Rattle.hyd_spec.specs.Quantity.{multiplier_at, category_demand, demand_of, reservoir_head}
 use Rattle.hyd_spec.specs.Tank.{Walls, Cylinder, Curve, shape_points, walls_of}
 use Rattle.hyd_spec.specs.Rules.{elevation_of}

@@ -6,13 +6,14 @@ use Rattle.std.specs.Prelude.{if◌then◌else◌, slice_set, slice_index_or, co
 use Rattle.std.specs.Fmt.{decimal}
 use Rattle.hyd_num.specs.PrintedDecimals.{flow_quantity}
 use Rattle.hyd_net.specs.ListView.{ListView}
-use Rattle.hyd_spec.specs.Types.{Project, Link, HeadPoint, LinkKind, PipeLink, CheckPipe, PumpLink, CurvePump}
-use Rattle.hyd_spec.specs.Types.{Tcv, Fcv, Gpv, LinkState, Open, Closed, Speed, Throttle, Limit, Tank, Control, Rule}
+use Rattle.hyd_spec.specs.ProgramTypes.{Project, Link, HeadPoint, LinkKind, PipeLink, CheckPipe, PumpLink, CurvePump}
+use Rattle.hyd_spec.specs.ProgramTypes.{Tcv, Fcv, Gpv, LinkState, Open, Closed, Speed, Throttle, Limit, Tank, Control}
+use Rattle.hyd_spec.specs.ProgramTypes.{Rule}
 use Rattle.hyd_spec.specs.declared.Change.{Change}
 use Rattle.hyd_spec.specs.declared.Source.TheVariants.{Control as ByControl}
 use Rattle.hyd_spec.specs.Lists.{map_from, joined, present}
 use Rattle.hyd_spec.specs.Quantity.{is_us, points_of, pump_knots}
-use Rattle.hyd_spec.specs.Start.{patterned, control_acts}
+use Rattle.hyd_spec.specs.PeriodStart.{patterned, control_acts}
 use Rattle.hyd_spec.specs.Rules.{is_same_state, state_of_link}
 use Rattle.hyd_spec_certificates.specs.Interval.{Interval}
 use Rattle.hyd_spec_certificates.specs.Grid.{Grid, GridJunction}

@@ -4,8 +4,9 @@ use Rattle.std.proofs.Common.{ap, ap₂, ◌∙◌}
 use Rattle.std.specs.Option.{option_and_then, option_map_or}
 use Rattle.std.specs.List.{AllZip}
 use Rattle.hyd_num.specs.Rational.{Rational}
-use Rattle.hyd_spec.specs.Types.{Project, Rule, Clause, RuleClause, What, Head, Pressure, Level, Flow, Setting, Status}
-use Rattle.hyd_spec.specs.Types.{Time, Clock, Relation, Value, Action, LinkState}
+use Rattle.hyd_spec.specs.ProgramTypes.{Project, Rule, Clause, RuleClause, What, Head, Pressure, Level, Flow, Setting}
+use Rattle.hyd_spec.specs.ProgramTypes.{Status}
+use Rattle.hyd_spec.specs.ProgramTypes.{Time, Clock, Relation, Value, Action, LinkState}
 use Rattle.hyd_spec.specs.declared.Change.{Change}
 use Rattle.hyd_spec.specs.Lists.{map_from, present}
 use Rattle.hyd_spec.specs.Rules.{Readings, measured, amount, compares, holds_on, clause_holds, parts_of, groups_in}

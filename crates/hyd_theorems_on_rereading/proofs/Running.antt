@@ -1,6 +1,6 @@
 -- A run is a run of each project that differs in spares alone, with the same report.
 use Rattle.std.proofs.Common.{◌≡◌, ℕ, List, sym, ap, subst, ◌∙◌}
-use Rattle.hyd_spec.specs.Types.{Project}
+use Rattle.hyd_spec.specs.ProgramTypes.{Project}
 use Rattle.hyd_spec_certificates.specs.Record.{Standing, initial_standing}
 use Rattle.hyd_spec_reports.specs.ReportLine.{ReportLine, report_text}
 use Rattle.hyd_spec_reports.specs.Headline.{Found, IsFound, IsRunFrom, IsRun, none, more}

@@ -1,10 +1,11 @@
 -- The link states at the start of a period are the same of alike parts.
 use Rattle.std.proofs.Common.{◌≡◌, ℕ, ℤ, Bool, List, [], ◌∷◌, Some, None, refl, ap, ap₂}
 use Rattle.std.specs.Prelude.{if◌then◌else◌}
-use Rattle.hyd_spec.specs.Types.{Project, Link, LinkKind, PipeLink, CheckPipe, PumpLink, CurvePump, Tcv, Fcv, Gpv}
-use Rattle.hyd_spec.specs.Types.{LinkState}
-use Rattle.hyd_spec.specs.Start.{speed_state, is_pattern_boundary, patterned_state, after_patterns, patterned}
-use Rattle.hyd_spec.specs.Start.{controlled, started}
+use Rattle.hyd_spec.specs.ProgramTypes.{Project, Link, LinkKind, PipeLink, CheckPipe, PumpLink, CurvePump, Tcv, Fcv}
+use Rattle.hyd_spec.specs.ProgramTypes.{Gpv}
+use Rattle.hyd_spec.specs.ProgramTypes.{LinkState}
+use Rattle.hyd_spec.specs.PeriodStart.{speed_state, is_pattern_boundary, patterned_state, after_patterns, patterned}
+use Rattle.hyd_spec.specs.PeriodStart.{controlled, started}
 use Rattle.hyd_spec_certificates.specs.Record.{Standing}
 use Rattle.hyd_spec_certificates.specs.Decided.{acts_on, links_at}
 use Rattle.hyd_theorems_on_rereading.proofs.Inner.{Inner, with_inner, AreAlike}

@@ -1,7 +1,7 @@
 -- A project without the spare of its lists. Two readings of one text differ in nothing else.
 -- Source: this program's.
-use Rattle.hyd_net.specs.Views.{bare_list, plain_list, plain_pattern}
-use Rattle.hyd_spec.specs.Types.{Project, Junction, Rule}
+use Rattle.hyd_net.specs.ProjectAsCompared.{bare_list, plain_list, plain_pattern}
+use Rattle.hyd_spec.specs.ProgramTypes.{Project, Junction, Rule}
 
 -- a junction whose list of demands has no spare
 abbrev pub bare_junction : Junction → Junction

@@ -5,10 +5,10 @@
 ghost use Rattle.std.specs.Prelude.{◌≡◌, ℕ, List};
 ghost use Rattle.hyd_spec_lines.specs.Lines.{Row};
 ghost use Rattle.hyd_spec_input.specs.Project.{IsProject};
-ghost use Rattle.hyd_net.specs.Views.{plain_project};
-ghost use Rattle.hyd_spec.specs.Types.{Project};
-ghost use Rattle.hyd_spec.specs.Network.{junction_count, tank_count};
-ghost use Rattle.hyd_spec.specs.Length.{Period};
+ghost use Rattle.hyd_net.specs.ProjectAsCompared.{plain_project};
+ghost use Rattle.hyd_spec.specs.ProgramTypes.{Project};
+ghost use Rattle.hyd_spec.specs.NodeNumbers.{junction_count, tank_count};
+ghost use Rattle.hyd_spec.specs.PeriodLength.{Period};
 ghost use Rattle.hyd_spec.specs.History.{IsHistory};
 ghost use Rattle.hyd_spec_certificates.specs.Record.{Record, Standing};
 ghost use Rattle.hyd_spec_certificates.specs.Valid.{AreValid};

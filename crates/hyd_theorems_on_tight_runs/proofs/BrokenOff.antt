@@ -3,7 +3,7 @@ use Rattle.std.proofs.Common.{◌≡◌, ℕ, true, List, [], ◌++◌, Option, 
 use Rattle.std.proofs.Common.{append_assoc, append-nil}
 use Rattle.std.specs.Prelude.{⊤}
 use Rattle.hyd_net.specs.Sound.{Sound}
-use Rattle.hyd_spec.specs.Types.{Project}
+use Rattle.hyd_spec.specs.ProgramTypes.{Project}
 use Rattle.hyd_spec_reports.specs.declared.StopCause.{StopCause}
 use Rattle.hyd_spec_reports.specs.Headline.{Found, Outcome, Finished, Stopped, EndsSo, certificate_so_far}
 use Rattle.hyd_spec_reports.specs.Headline.{report_so_far}

@@ -5,7 +5,7 @@
 
 ghost use Rattle.std.specs.Prelude.{◌≡◌, ◌⊎◌, ℕ, false, List, None};
 ghost use Rattle.hyd_net.specs.Sound.{Sound};
-ghost use Rattle.hyd_spec.specs.Types.{Project};
+ghost use Rattle.hyd_spec.specs.ProgramTypes.{Project};
 ghost use Rattle.hyd_spec_certificates.specs.Record.{Standing};
 ghost use Rattle.hyd_spec_reports.specs.declared.StopCause.{StopCause};
 ghost use Rattle.hyd_spec_reports.specs.Stops.{Stops};

@@ -1,6 +1,6 @@
 // From the numbers of a file to ticks.
-ghost use Rattle.hyd_num.specs.Quantity as quantity;
-ghost use Rattle.hyd_num.specs.Quantity.{pressure_denominator, pressure_numerator};
+ghost use Rattle.hyd_num.specs.FileQuantity as quantity;
+ghost use Rattle.hyd_num.specs.FileQuantity.{pressure_denominator, pressure_numerator};
 ghost use Rattle.hyd_num.specs.Roots.{IsCeiling, IsFloor};
 ghost use Rattle.std.specs.Prelude.{◌≡◌, pos};
 

@@ -3,7 +3,7 @@ use Rattle.std.proofs.Common.{◌≡◌, Bool, true, false, ℕ, zero, suc, ◌+
 use Rattle.std.proofs.Common.{take, refl, ap, sym, ◌∙◌, subst, arith, append_assoc, get_or}
 use Rattle.std.specs.Prelude.{Option, Some, None, map, slice_get, if◌then◌else◌}
 use Rattle.std.proofs.lemmas.List.{take_more, take_all, map_push}
-use Rattle.hyd_spec.specs.Types.{Project, Tank, Control}
+use Rattle.hyd_spec.specs.ProgramTypes.{Project, Tank, Control}
 use Rattle.hyd_spec.specs.declared.TankState.{TankState}
 use Rattle.hyd_spec.specs.LinkLaw.{is_full, is_empty}
 use Rattle.hyd_spec.specs.Lists.{present}
@@ -18,7 +18,7 @@ use Rattle.hyd_theorems_on_nesting.proofs.Watched.{none_watched, end_is}
 use Rattle.hyd_period_facts.specs.OfPeriod.{levels_of}
 use Rattle.hyd_period_facts.specs.declared.facts.Facts.{Facts}
 use Rattle.hyd_watched_levels.specs.declared.watch.Ends.{Ends}
-use Rattle.hyd_watched_levels.specs.Started.{AreStarted}
+use Rattle.hyd_watched_levels.specs.FactsAtStart.{AreStarted}
 use Rattle.hyd_watched_levels.specs.Watched.{IsReachedFirst, IsReachedAmong, AreEnds, most_of, least_of}
 use Rattle.hyd_watched_levels.proofs.Reaching.{one_behind}
 

@@ -3,7 +3,7 @@ use Rattle.std.proofs.Common.{◌≡◌, inl, inr, ℕ, zero, suc, ◌+◌, ◌<
 use Rattle.std.proofs.Common.{subst, arith}
 use Rattle.std.specs.Prelude.{Some, map, slice_get, slice_index_or, Contains}
 use Rattle.std.proofs.lemmas.List.Elements.{Contains-append_left, Contains-push, Contains-push_cases}
-use Rattle.hyd_spec.specs.Types.{Project, Tank}
+use Rattle.hyd_spec.specs.ProgramTypes.{Project, Tank}
 use Rattle.hyd_spec.specs.Lists.{map_from}
 use Rattle.hyd_spec.specs.Tank.{walls_of}
 use Rattle.hyd_spec_certificates.specs.Interval.{Interval}
@@ -16,7 +16,7 @@ use Rattle.hyd_theorems_on_nesting.specs.Nesting.{ReachTest, IsFirstAmong}
 use Rattle.hyd_theorems_on_nesting.proofs.Watched.{one_watched, one_more}
 use Rattle.hyd_theorems_on_histories.proofs.Watching.{contains-here, contains-later, contains-cons}
 use Rattle.hyd_period_facts.specs.declared.facts.Facts.{Facts}
-use Rattle.hyd_watched_levels.specs.Started.{AreStarted, stocks_in, inflow_in}
+use Rattle.hyd_watched_levels.specs.FactsAtStart.{AreStarted, stocks_in, inflow_in}
 use Rattle.hyd_watched_levels.specs.Watched.{IsReachedFirst, IsReachedAmong}
 
 -- ---- items of lists

@@ -1,7 +1,7 @@
 -- Watched levels of the program, and the ends that they bring.
 -- Source: EPANET 2.2 User Manual, chapter 3 (tanks, controls).
 use Rattle.std.specs.Prelude.{ℕ, ◌<◌, ◌≤◌, ◌*◌, ◌^◌, true, false, List, [], ◌∷◌, length, unsigned_abs, if◌then◌else◌}
-use Rattle.hyd_spec.specs.Types.{Project, Tank}
+use Rattle.hyd_spec.specs.ProgramTypes.{Project, Tank}
 use Rattle.hyd_spec.specs.declared.TankState.{TankState}
 use Rattle.hyd_spec.specs.LinkLaw.{is_full, is_empty}
 use Rattle.hyd_spec_certificates.specs.Grid.{Grid}
@@ -13,7 +13,7 @@ use Rattle.hyd_theorems_on_nesting.specs.Nesting.{ReachTest, watch_passes, IsFir
 use Rattle.hyd_period_facts.specs.declared.facts.Facts.{Facts}
 use Rattle.hyd_watched_levels.specs.declared.watch.Watch.{Watch as Here}
 use Rattle.hyd_watched_levels.specs.declared.watch.Ends.{Ends}
-use Rattle.hyd_watched_levels.specs.Started.{AreStarted}
+use Rattle.hyd_watched_levels.specs.FactsAtStart.{AreStarted}
 
 -- the watched level that one of the program stands for
 abbrev pub watch_for : Here → Watch

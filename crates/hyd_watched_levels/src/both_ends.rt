@@ -6,7 +6,7 @@ ghost use Rattle.hyd_net.specs.Sound.{Sound};
 ghost use Rattle.hyd_spec_certificates.specs.Grid.{Grid};
 ghost use Rattle.hyd_spec_certificates.specs.Record.{Record, Standing};
 ghost use Rattle.hyd_spec_certificates.specs.Decided.{IsClockLength, IsEarliestEnd, IsLatestEnd};
-ghost use Rattle.hyd_watched_levels.specs.Started.{HaveTanks, AreStarted};
+ghost use Rattle.hyd_watched_levels.specs.FactsAtStart.{HaveTanks, AreStarted};
 
 use crate::bounds::bound_ends;
 use crate::controls::with_controls;

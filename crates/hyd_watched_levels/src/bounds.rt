@@ -3,11 +3,11 @@
 
 ghost use Rattle.std.specs.Prelude.{◌≡◌, ◌<◌, ◌++◌, List, Some, length, slice_get};
 ghost use Rattle.hyd_net.specs.Sound.{Sound};
-ghost use Rattle.hyd_spec.specs.Types.{Tank};
+ghost use Rattle.hyd_spec.specs.ProgramTypes.{Tank};
 ghost use Rattle.hyd_spec.specs.declared.TankState.{TankState as State};
 ghost use Rattle.hyd_spec.specs.LinkLaw as states;
 ghost use Rattle.hyd_spec_certificates.specs.Decided.{Watch as Watched, tank_watches};
-ghost use Rattle.hyd_watched_levels.specs.Started.{HaveTanks};
+ghost use Rattle.hyd_watched_levels.specs.FactsAtStart.{HaveTanks};
 ghost use Rattle.hyd_watched_levels.specs.Watched.{AreEnds, most_of, least_of};
 
 use crate::watch::{Ends, Watch, with_watch};

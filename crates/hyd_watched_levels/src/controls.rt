@@ -9,10 +9,10 @@ ghost use Rattle.hyd_spec.specs.Lists.{present};
 ghost use Rattle.hyd_spec_certificates.specs.Verdict.{is_yes};
 ghost use Rattle.hyd_spec_certificates.specs.Decided as decided;
 ghost use Rattle.hyd_period_facts.specs.OfPeriod.{levels_of};
-ghost use Rattle.hyd_watched_levels.specs.Started.{HaveTanks};
+ghost use Rattle.hyd_watched_levels.specs.FactsAtStart.{HaveTanks};
 ghost use Rattle.hyd_watched_levels.specs.Watched.{IsWatch, AreEnds, watch_for};
 
-use crate::stocks::level_at;
+use crate::facts_of_tanks::level_at;
 use crate::watch::{Ends, Watch, with_watch};
 use hyd_net::{Control, Project, When};
 use hyd_period_facts::Facts;

@@ -4,9 +4,9 @@
 mod both_ends;
 mod bounds;
 mod controls;
-mod stocks;
+mod facts_of_tanks;
 mod watch;
 
 pub use both_ends::level_ends;
-pub use stocks::{inflow_at, stock_at};
+pub use facts_of_tanks::{inflow_at, stock_at};
 pub use watch::Ends;

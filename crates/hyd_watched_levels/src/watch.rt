@@ -5,10 +5,10 @@ ghost use Rattle.std.specs.Prelude.{◌<◌, ◌≤◌, ◌++◌, ◌∷◌, [],
 ghost use Rattle.hyd_net.specs.Sound.{Sound};
 ghost use Rattle.hyd_spec_certificates.specs.Stocks.{may_reach, must_reach};
 ghost use Rattle.hyd_spec_certificates.specs.Decided as decided;
-ghost use Rattle.hyd_watched_levels.specs.Started.{HaveTanks};
+ghost use Rattle.hyd_watched_levels.specs.FactsAtStart.{HaveTanks};
 ghost use Rattle.hyd_watched_levels.specs.Watched.{IsWatch, IsReachedFirst, AreEnds, watch_for};
 
-use crate::stocks::{inflow_at, stock_at};
+use crate::facts_of_tanks::{inflow_at, stock_at};
 use hyd_net::Project;
 use hyd_period_facts::Facts;
 use hyd_tank::first_stock;

@@ -1,4 +1,4 @@
-use Rattle.hyd_theorems_on_periods.proofs.Failing.{fails-no-certificate, one-failure}
+use Rattle.hyd_theorems_on_definitions.proofs.Failing.{fails-no-certificate, one-failure}
 use Rattle.hyd_theorems_on_raises.proofs.Judging.{certificate-or-fails}
 use Rattle.hyd_theorems_on_raises.proofs.failures.Goals as goal
 

@@ -1,12 +1,12 @@
 use Rattle.std.proofs.Common.{◌≡◌, Some, ap, ◌∙◌, subst, arith, w64, to_z, of_z}
 use Rattle.std.proofs.lemmas.Int.{ints}
 use Rattle.hyd_spec_lines.specs.Lines.{row_of}
-use Rattle.hyd_num.specs.Quantity.{is_us_unit, head_ticks}
+use Rattle.hyd_num.specs.FileQuantity.{is_us_unit, head_ticks}
 use Rattle.hyd_num.specs.declared.flow_units.FlowUnit.{FlowUnit}
-use Rattle.hyd_options_and_rules.specs.Meanings as meaning
-use Rattle.hyd_options_and_rules.specs.declared.controls.WhenLine.{WhenLine}
+use Rattle.hyd_option_and_rule_lines.specs.Meanings as meaning
+use Rattle.hyd_option_and_rule_lines.specs.declared.controls.WhenLine.{WhenLine}
 use Rattle.hyd_spec_input.specs.Columns.{word, amount}
-use Rattle.hyd_spec_input.specs.RowMeanings.{number_in, tank_ids}
+use Rattle.hyd_spec_input.specs.MeaningsAcrossRows.{number_in, tank_ids}
 use Rattle.hyd_build_controls.proofs.controls.when_of.Goals as goal
 
 pub number_of-requires : goal.number_of-requires

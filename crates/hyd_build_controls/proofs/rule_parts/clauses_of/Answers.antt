@@ -3,11 +3,11 @@ use Rattle.std.proofs.lemmas.List.{length-map}
 use Rattle.hyd_spec_lines.specs.Lines.{Row, row_of}
 use Rattle.hyd_spec_lines.specs.declared.line.Line.{Line}
 use Rattle.hyd_spec_lines.specs.declared.section.Section.TheVariants.{Junctions}
-use Rattle.hyd_spec_input.specs.RowMeanings.{is_asking}
+use Rattle.hyd_spec_input.specs.MeaningsAcrossRows.{is_asking}
 use Rattle.hyd_spec_input.specs.Project.{IsClause}
 use Rattle.hyd_spec_input.specs.RuleRows.{begins_with, is_rule, stage_by}
-use Rattle.hyd_row_tables.specs.Found.{rows_at}
-use Rattle.hyd_row_tables.proofs.FoundLemmas.{row_at}
+use Rattle.hyd_text_rows.specs.Found.{rows_at}
+use Rattle.hyd_text_rows.proofs.FoundLemmas.{row_at}
 use Rattle.hyd_build_controls.specs.Rules.{IsRightClause, stage_at}
 use Rattle.hyd_build_controls.proofs.RightParts.{right_clause}
 use Rattle.hyd_build_controls.proofs.RuleLists.{parts_skip, parts_less, parts_more, parts_before_rule, parts_at_end}

@@ -1,6 +1,6 @@
 use Rattle.hyd_spec_lines.specs.Lines.{row_of}
 use Rattle.hyd_spec_input.specs.Columns.{word}
-use Rattle.hyd_spec_input.specs.WithOthers as others
+use Rattle.hyd_spec_input.specs.RowsTogether as others
 use Rattle.hyd_theorems_on_input.proofs.Faultless.{all_none}
 use Rattle.hyd_theorems_on_input.proofs.Names.{ends_right}
 use Rattle.hyd_build_links.specs.CheckedRows.{rows_from}

@@ -1,8 +1,8 @@
 use Rattle.std.proofs.Common.{ap, ◌∙◌}
-use Rattle.hyd_num.specs.Quantity.{is_us_unit}
+use Rattle.hyd_num.specs.FileQuantity.{is_us_unit}
 use Rattle.hyd_spec_lines.specs.Lines.{row_of}
 use Rattle.hyd_build_links.specs.CheckedRows.{rows_from}
-use Rattle.hyd_link_states.proofs.RangeLemmas.{positive_up_to, minor_up_to}
+use Rattle.hyd_asked_link_states.proofs.RangeLemmas.{positive_up_to, minor_up_to}
 use Rattle.hyd_build_links.proofs.RowLemmas.{no_fault, pipe_facts}
 use Rattle.hyd_build_links.proofs.pipes.pipe_kind.Goals as goal
 

@@ -1,4 +1,4 @@
-use Rattle.hyd_link_states.proofs.RangeLemmas.{refused_pipe}
+use Rattle.hyd_asked_link_states.proofs.RangeLemmas.{refused_pipe}
 use Rattle.hyd_build_links.proofs.PipeLemmas.{pipe_made, checks, checks_not}
 use Rattle.hyd_build_links.proofs.pipes.pipe_of.Goals as goal
 

@@ -2,7 +2,7 @@ use Rattle.std.proofs.Common.{subst}
 use Rattle.hyd_spec_lines.specs.Lines.{row_of}
 use Rattle.hyd_network_rows.specs.Rows.{IsValveSetting}
 use Rattle.hyd_network_rows.specs.declared.valves.ValveSetting.{ValveSetting}
-use Rattle.hyd_link_states.proofs.RangeLemmas.{coefficient_up_to}
+use Rattle.hyd_asked_link_states.proofs.RangeLemmas.{coefficient_up_to}
 use Rattle.hyd_build_links.proofs.RowLemmas.{no_fault, valve_facts}
 use Rattle.hyd_build_links.proofs.StartLemmas.{flow_in_range, throttle_start}
 use Rattle.hyd_build_links.proofs.starts.valve_state.Goals as goal

@@ -5,7 +5,7 @@ use Rattle.hyd_network_rows.specs.declared.valves.ValveSetting.{ValveSetting}
 use Rattle.hyd_spec_input.specs.NetworkRows.{valve_curve}
 use Rattle.hyd_build_links.specs.CheckedRows.{rows_from}
 use Rattle.hyd_build_links.proofs.NumberLemmas.{valve_bend}
-use Rattle.hyd_link_states.proofs.RangeLemmas.{coefficient_up_to, throttle_alone}
+use Rattle.hyd_asked_link_states.proofs.RangeLemmas.{coefficient_up_to, throttle_alone}
 use Rattle.hyd_build_links.proofs.RowLemmas.{no_fault, valve_facts}
 use Rattle.hyd_build_links.proofs.valves.valve_kind.Goals as goal
 

@@ -1,4 +1,4 @@
-use Rattle.hyd_row_tables.specs.Found.{rows_at}
+use Rattle.hyd_text_rows.specs.Found.{rows_at}
 use Rattle.hyd_build_nodes.specs.Gathered.{AreDemands, each}
 use Rattle.hyd_build_nodes.proofs.demands.gather_demands.Given as goal
 

@@ -1,4 +1,4 @@
-use Rattle.hyd_row_tables.specs.Found.{rows_at}
+use Rattle.hyd_text_rows.specs.Found.{rows_at}
 use Rattle.hyd_build_nodes.specs.Gathered.{AreEmitters}
 use Rattle.hyd_build_nodes.proofs.emitters.gather_emitters.Given as goal
 

@@ -1,5 +1,5 @@
 use Rattle.std.proofs.Common.{take}
-use Rattle.hyd_cert.specs.Cutting.{HasNo}
+use Rattle.hyd_cert.specs.TextsWithoutLine.{HasNo}
 use Rattle.hyd_cert.proofs.line_reader.line_end.Given as goal
 
 -- no line feed so far

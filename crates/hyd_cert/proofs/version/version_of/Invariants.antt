@@ -1,6 +1,6 @@
 use Rattle.std.proofs.Common.{◌≡◌, false, take}
 use Rattle.std.specs.List.{All}
-use Rattle.hyd_spec.specs.Types.{Tank}
+use Rattle.hyd_spec.specs.ProgramTypes.{Tank}
 use Rattle.hyd_cert.proofs.VersionLemmas.{IsNew}
 use Rattle.hyd_cert.proofs.version.version_of.Given as goal
 

@@ -1,7 +1,7 @@
 -- The last line.
 use Rattle.std.proofs.Common.{◌∙◌, ℕ, ap, sym, subst}
 use Rattle.hyd_net.specs.Sound.{Sound}
-use Rattle.hyd_spec.specs.Types.{Project}
+use Rattle.hyd_spec.specs.ProgramTypes.{Project}
 use Rattle.hyd_sim.specs.View.{standing_of}
 use Rattle.hyd_cert_check.specs.RecordByRecord.{verdict_line}
 use Rattle.hyd_cert_check.specs.declared.outcome.CheckFault.TheVariants.{Output}

@@ -2,7 +2,8 @@
 use Rattle.std.proofs.Common.{◌≡◌, ◌⊎◌, rules}
 use Rattle.hyd_spec_input.specs.Faults.{IsFault}
 use Rattle.hyd_theorems_on_input.proofs.OneFault.{one_fault, no_fault_beside}
-use Rattle.hyd_cli.specs.Answers.{seen, AnswersRefused}
+use Rattle.hyd_cli.specs.DeskContents.{seen}
+use Rattle.hyd_cli.specs.Answers.{AnswersRefused}
 use Rattle.hyd_cli.specs.declared.status.Status.TheVariants.{ReadFault, OutOfMemory}
 use Rattle.hyd_cli.proofs.AnswerLemmas.{refused_since, same_refusal, refusal_never_usage}
 use Rattle.hyd_cli.proofs.CheckLemmas.{check_never_refused, ended_not_refused, prints_since, leaves_since}
@@ -15,19 +16,19 @@ use Rattle.hyd_cli.proofs.checking.check_files.Goals as goal
 
 pub returns-in-Ok-clause-only_prints : goal.returns-in-Ok-clause-only_prints
 returns-in-Ok-clause-only_prints g c =
-    prints_since _ _ _ c.read_network.ensures.untouched c.check_network.ensures.only_prints
+    prints_since _ _ _ c.read_network.ensures.untouched c.do_with_network.ensures.does.only_prints
 
 pub returns-in-Ok-clause-leaves : goal.returns-in-Ok-clause-leaves
 returns-in-Ok-clause-leaves g c files =
     let before = seen g.D.Desk.files g.D.Desk.written g.D.Desk.printed c.args.desk.now in
     let between = seen g.D.Desk.files g.D.Desk.written g.D.Desk.printed c.read_network.new.desk in
-    let now = seen g.D.Desk.files g.D.Desk.written g.D.Desk.printed c.check_network.new.desk in
-    leaves_since files c.check_network.result before between now c.read_network.ensures.untouched
-    (c.check_network.ensures.leaves files)
+    let now = seen g.D.Desk.files g.D.Desk.written g.D.Desk.printed c.do_with_network.new.desk in
+    leaves_since files c.do_with_network.result before between now c.read_network.ensures.untouched
+    c.do_with_network.ensures.does.leaves
 
 pub returns-in-Ok-clause-never_usage : goal.returns-in-Ok-clause-never_usage
 returns-in-Ok-clause-never_usage g c =
-    check_never_usage c.check_network.result _ _ c.check_network.ensures.opened
+    check_never_usage c.do_with_network.result _ _ c.do_with_network.ensures.does.reads
 
 pub returns-in-Ok-clause-refused : goal.returns-in-Ok-clause-refused
 returns-in-Ok-clause-refused g c text line cause told fault =
@@ -37,18 +38,18 @@ pub returns-in-Ok-clause-answers : goal.returns-in-Ok-clause-answers
 returns-in-Ok-clause-answers g c text certificate told none cert_told =
     let before = seen g.D.Desk.files g.D.Desk.written g.D.Desk.printed c.args.desk.now in
     let between = seen g.D.Desk.files g.D.Desk.written g.D.Desk.printed c.read_network.new.desk in
-    let now = seen g.D.Desk.files g.D.Desk.written g.D.Desk.printed c.check_network.new.desk in
-    answers_since text certificate c.in-Ok.project c.check_network.result before between now
+    let now = seen g.D.Desk.files g.D.Desk.written g.D.Desk.printed c.do_with_network.new.desk in
+    answers_since text certificate c.in-Ok.project c.do_with_network.result before between now
     c.read_network.ensures.untouched (c.in-Ok.ensures.project text told)
-    (c.check_network.ensures.answers certificate (search rules))
+    (c.do_with_network.ensures.does.answers certificate (search rules))
 
 pub returns-in-Ok-clause-not_refused : goal.returns-in-Ok-clause-not_refused
 returns-in-Ok-clause-not_refused g c text told none =
-    check_never_refused c.check_network.result _ _ c.check_network.ensures.opened
+    check_never_refused c.do_with_network.result _ _ c.do_with_network.ensures.does.reads
 
 pub returns-in-Ok-clause-once : goal.returns-in-Ok-clause-once
 returns-in-Ok-clause-once g c =
-    reads_both c.check_network.result _ _ _ c.read_network.ensures.opened c.check_network.ensures.opened
+    reads_both c.do_with_network.result _ _ _ c.read_network.ensures.opened c.do_with_network.ensures.does.reads
 
 -- ---- the text has a fault
 

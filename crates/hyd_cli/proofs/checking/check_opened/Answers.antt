@@ -1,11 +1,12 @@
 -- What a check prints and leaves, said of the moment before its file was opened.
 use Rattle.std.proofs.Common.{◌≡◌, ◌∙◌, Some, sym, subst, rules}
 use Rattle.hyd_io.specs.declared.desk.Faults.{Faults}
-use Rattle.hyd_io.specs.Told.{file_at}
+use Rattle.hyd_io.specs.ToldBytes.{file_at}
 use Rattle.hyd_cert_check.specs.Checks.{CheckEnds, CheckBreaksOff}
 use Rattle.hyd_cert_check.specs.Printing.{Rose}
-use Rattle.hyd_command_words.specs.Orders.{check}
-use Rattle.hyd_cli.specs.Answers.{seen, HasCause, Leaves}
+use Rattle.hyd_command_words.specs.CommandGrammar.{check}
+use Rattle.hyd_cli.specs.DeskContents.{seen}
+use Rattle.hyd_cli.specs.Answers.{HasCause, Leaves}
 use Rattle.hyd_cli.specs.CheckAnswers.{AnswersCert, ReadsCert}
 use Rattle.hyd_cli.specs.declared.status.Status.{Status}
 use Rattle.hyd_cli.proofs.CheckLemmas.{report_prints, printed_since, answers_end, leaves_end, cause_of_end}

@@ -1,11 +1,13 @@
 -- What a command does is what was asked for.
 use Rattle.std.proofs.Common.{◌≡◌, Option, Some, option_map, sym, ap, ◌∙◌, subst}
 use Rattle.hyd_sim.specs.declared.settings.Settings.{Settings}
-use Rattle.hyd_command_words.specs.Orders.{Order, RunOrder, GenOrder, TwoFiles, check, gen}
-use Rattle.hyd_command_words.specs.Seen.{order_seen, run_seen, gen_seen, files_seen}
+use Rattle.hyd_command_words.specs.CommandGrammar.{Order, RunOrder, GenOrder, TwoFiles, check, gen}
+use Rattle.hyd_command_words.specs.CommandView.{order_seen, run_seen, gen_seen, files_seen}
 use Rattle.hyd_command_words.specs.declared.command.Command.{Command}
 use Rattle.hyd_command_words.specs.declared.command.Command.TheVariants.{Run, Check, Gen}
-use Rattle.hyd_cli.specs.Answers.{seen, Leaves, AnswersText}
+use Rattle.hyd_cli.specs.DeskContents.{seen}
+use Rattle.hyd_cli.specs.Answers.{Leaves}
+use Rattle.hyd_cli.specs.RunAnswers.{AnswersText}
 use Rattle.hyd_cli.specs.Commands.{DoesRun, DoesCheck, DoesGen}
 use Rattle.hyd_cli.proofs.CommandLemmas.{same_run, same_check, same_gen_order}
 use Rattle.hyd_cli.proofs.command.carry_out.Goals as goal

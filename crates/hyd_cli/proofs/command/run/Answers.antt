@@ -1,9 +1,10 @@
 -- What the calls of a run leave, said of its start.
 use Rattle.std.proofs.Common.{Option, ap, ◌∙◌}
-use Rattle.hyd_io.specs.Told.{Files, file_at}
+use Rattle.hyd_io.specs.ToldBytes.{Files, file_at}
 use Rattle.hyd_spec_input.specs.Faults.{IsFault}
 use Rattle.hyd_theorems_on_input.proofs.OneFault.{one_fault, no_fault_beside}
-use Rattle.hyd_cli.specs.Answers.{seen, AnswersRefused}
+use Rattle.hyd_cli.specs.DeskContents.{seen}
+use Rattle.hyd_cli.specs.Answers.{AnswersRefused}
 use Rattle.hyd_cli.proofs.AnswerLemmas.{leaves_since, holds_since, run_since, refused_since, refused_leaves_since}
 use Rattle.hyd_cli.proofs.AnswerLemmas.{refused_holds_since, same_refusal, opens_once, run_never_usage}
 use Rattle.hyd_cli.proofs.AnswerLemmas.{refusal_never_usage}
@@ -15,14 +16,14 @@ pub returns-in-Ok-clause-leaves : goal.returns-in-Ok-clause-leaves
 returns-in-Ok-clause-leaves g c =
     let before = seen g.D.Desk.files g.D.Desk.written g.D.Desk.printed c.args.desk.now in
     let between = seen g.D.Desk.files g.D.Desk.written g.D.Desk.printed c.read_network.new.desk in
-    let now = seen g.D.Desk.files g.D.Desk.written g.D.Desk.printed c.run_network.new.desk in
-    leaves_since c.in-Ok.project c.args.settings c.args.cert.now c.run_network.result before between now
-    c.read_network.ensures.untouched c.run_network.ensures.answers
+    let now = seen g.D.Desk.files g.D.Desk.written g.D.Desk.printed c.do_with_network.new.desk in
+    leaves_since c.in-Ok.project c.args.settings c.args.cert.now c.do_with_network.result before between now
+    c.read_network.ensures.untouched c.do_with_network.ensures.does.answers
 
 pub returns-in-Ok-clause-never_usage : goal.returns-in-Ok-clause-never_usage
 returns-in-Ok-clause-never_usage g c =
-    run_never_usage c.in-Ok.project c.args.settings c.args.cert.now c.run_network.result _ _
-    c.run_network.ensures.answers
+    run_never_usage c.in-Ok.project c.args.settings c.args.cert.now c.do_with_network.result _ _
+    c.do_with_network.ensures.does.answers
 
 pub returns-in-Ok-clause-refused : goal.returns-in-Ok-clause-refused
 returns-in-Ok-clause-refused g c text line cause told fault =
@@ -32,27 +33,28 @@ pub returns-in-Ok-clause-run : goal.returns-in-Ok-clause-run
 returns-in-Ok-clause-run g c text told none =
     let before = seen g.D.Desk.files g.D.Desk.written g.D.Desk.printed c.args.desk.now in
     let between = seen g.D.Desk.files g.D.Desk.written g.D.Desk.printed c.read_network.new.desk in
-    let now = seen g.D.Desk.files g.D.Desk.written g.D.Desk.printed c.run_network.new.desk in
-    run_since text c.in-Ok.project c.args.settings c.args.cert.now c.run_network.result before between now
-    c.read_network.ensures.untouched (c.in-Ok.ensures.project text told) c.run_network.ensures.answers
+    let now = seen g.D.Desk.files g.D.Desk.written g.D.Desk.printed c.do_with_network.new.desk in
+    run_since text c.in-Ok.project c.args.settings c.args.cert.now c.do_with_network.result before between now
+    c.read_network.ensures.untouched (c.in-Ok.ensures.project text told) c.do_with_network.ensures.does.answers
 
 pub returns-in-Ok-clause-holds : goal.returns-in-Ok-clause-holds
 returns-in-Ok-clause-holds g c =
     let before = seen g.D.Desk.files g.D.Desk.written g.D.Desk.printed c.args.desk.now in
     let between = seen g.D.Desk.files g.D.Desk.written g.D.Desk.printed c.read_network.new.desk in
-    let now = seen g.D.Desk.files g.D.Desk.written g.D.Desk.printed c.run_network.new.desk in
-    holds_since c.in-Ok.project c.args.settings c.args.cert.now c.run_network.result before between now
-    c.read_network.ensures.untouched c.run_network.ensures.answers
+    let now = seen g.D.Desk.files g.D.Desk.written g.D.Desk.printed c.do_with_network.new.desk in
+    holds_since c.in-Ok.project c.args.settings c.args.cert.now c.do_with_network.result before between now
+    c.read_network.ensures.untouched c.do_with_network.ensures.does.answers
 
 pub returns-in-Ok-clause-others : goal.returns-in-Ok-clause-others
 returns-in-Ok-clause-others g c other differs =
-    c.run_network.ensures.others other differs
+    c.do_with_network.ensures.does.others other differs
     ∙ ap (λ (files : Option Files). file_at files other) c.read_network.ensures.untouched.files
 
 pub returns-in-Ok-clause-once : goal.returns-in-Ok-clause-once
 returns-in-Ok-clause-once g c =
-    opens_once c.run_network.result (g.D.Desk.openings c.args.desk.now) (g.D.Desk.openings c.read_network.new.desk)
-    (g.D.Desk.openings c.run_network.new.desk) c.read_network.ensures.opened c.run_network.ensures.opens
+    opens_once c.do_with_network.result (g.D.Desk.openings c.args.desk.now) (g.D.Desk.openings c.read_network.new.desk)
+    (g.D.Desk.openings c.do_with_network.new.desk) c.read_network.ensures.opened
+    c.do_with_network.ensures.does.opens_cert
 
 -- ---- the text has a fault
 

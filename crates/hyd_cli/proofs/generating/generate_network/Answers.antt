@@ -1,8 +1,8 @@
 -- The text that was made is the one that is run.
 use Rattle.std.proofs.Common.{◌≡◌, ◌∙◌, ℕ, List, sym, subst}
 use Rattle.hyd_spec_input.specs.Faults.{IsFault, HasNoFault}
-use Rattle.hyd_command_words.specs.Seen.{gen_seen, files_seen}
-use Rattle.hyd_cli.specs.Answers.{seen}
+use Rattle.hyd_command_words.specs.CommandView.{gen_seen, files_seen}
+use Rattle.hyd_cli.specs.DeskContents.{seen}
 use Rattle.hyd_cli.specs.GenAnswers.{text_of, AnswersGen, KeepsCert}
 use Rattle.hyd_cli.proofs.generating.generate_network.Goals as goal
 

@@ -5,8 +5,8 @@ use Rattle.hyd_io.specs.declared.desk.Openings.{Openings}
 use Rattle.hyd_io.specs.Counts.{with_created}
 use Rattle.hyd_run.specs.Pens.{told}
 use Rattle.hyd_run.specs.Runs.{outcome_of}
-use Rattle.hyd_command_words.specs.Seen.{files_seen}
-use Rattle.hyd_cli.specs.Answers.{seen}
+use Rattle.hyd_command_words.specs.CommandView.{files_seen}
+use Rattle.hyd_cli.specs.DeskContents.{seen}
 use Rattle.hyd_cli.proofs.GenLemmas.{Created, text_breaks_off, text_alone, text_stays, generated}
 use Rattle.hyd_cli.proofs.GenLemmas.{generated_short}
 use Rattle.hyd_cli.proofs.generating.put_generated.Goals as goal

@@ -1,8 +1,9 @@
 -- The status says how it ended.
 use Rattle.std.proofs.Common.{sym, subst}
 use Rattle.hyd_run.specs.Runs.{outcome_of}
-use Rattle.hyd_command_words.specs.Seen.{files_seen}
-use Rattle.hyd_cli.specs.Answers.{seen, HasCause}
+use Rattle.hyd_command_words.specs.CommandView.{files_seen}
+use Rattle.hyd_cli.specs.DeskContents.{seen}
+use Rattle.hyd_cli.specs.Answers.{HasCause}
 use Rattle.hyd_cli.specs.GenAnswers.{AnswersGenerated, CreatesBoth}
 use Rattle.hyd_cli.specs.declared.status.Status.{Status}
 use Rattle.hyd_cli.proofs.AnswerLemmas.{cause_of_end, cause_of_fault}

@@ -2,8 +2,9 @@
 use Rattle.std.proofs.Common.{inl}
 use Rattle.hyd_spec_input.specs.Faults.{IsFault}
 use Rattle.hyd_theorems_on_input.proofs.OneFault.{one_fault, no_fault_beside}
-use Rattle.hyd_command_words.specs.Seen.{files_seen}
-use Rattle.hyd_cli.specs.Answers.{seen, AnswersRefused}
+use Rattle.hyd_command_words.specs.CommandView.{files_seen}
+use Rattle.hyd_cli.specs.DeskContents.{seen}
+use Rattle.hyd_cli.specs.Answers.{AnswersRefused}
 use Rattle.hyd_cli.proofs.AnswerLemmas.{same_refusal, refusal_never_usage}
 use Rattle.hyd_cli.proofs.GenLemmas.{generated_leaves, generated_never_usage, generated_answers, gen_refusal_leaves}
 use Rattle.hyd_cli.proofs.GenLemmas.{refusal_creates}
@@ -13,13 +14,13 @@ use Rattle.hyd_cli.proofs.generating.run_text.Goals as goal
 
 pub returns-in-Ok-clause-leaves : goal.returns-in-Ok-clause-leaves
 returns-in-Ok-clause-leaves g c order =
-    generated_leaves c.in-Ok.project c.args.text.now (files_seen c.args.files) c.run_project.result _ _ _ _ _
-    c.run_project.ensures.answers
+    generated_leaves c.in-Ok.project c.args.text.now (files_seen c.args.files) c.do_with_network.result _ _ _ _ _
+    c.do_with_network.ensures.does.answers
 
 pub returns-in-Ok-clause-never_usage : goal.returns-in-Ok-clause-never_usage
 returns-in-Ok-clause-never_usage g c =
-    generated_never_usage c.in-Ok.project c.args.text.now (files_seen c.args.files) c.run_project.result _ _ _ _ _
-    c.run_project.ensures.answers
+    generated_never_usage c.in-Ok.project c.args.text.now (files_seen c.args.files) c.do_with_network.result _ _ _ _ _
+    c.do_with_network.ensures.does.answers
 
 pub returns-in-Ok-clause-refused : goal.returns-in-Ok-clause-refused
 returns-in-Ok-clause-refused g c line cause fault =
@@ -27,8 +28,8 @@ returns-in-Ok-clause-refused g c line cause fault =
 
 pub returns-in-Ok-clause-answers : goal.returns-in-Ok-clause-answers
 returns-in-Ok-clause-answers g c none =
-    generated_answers c.args.text.now c.in-Ok.project (files_seen c.args.files) c.run_project.result _ _ _ _ _
-    c.in-Ok.ensures.project c.run_project.ensures.answers
+    generated_answers c.args.text.now c.in-Ok.project (files_seen c.args.files) c.do_with_network.result _ _ _ _ _
+    c.in-Ok.ensures.project c.do_with_network.ensures.does.answers
 
 -- ---- it has a fault
 

@@ -1,7 +1,7 @@
 -- The words that are collected are those behind the program's name.
 use Rattle.std.proofs.Common.{◌∙◌, ap, map}
 use Rattle.std.specs.Prelude.{string_bytes}
-use Rattle.hyd_command_words.specs.Orders.{order_of}
+use Rattle.hyd_command_words.specs.CommandGrammar.{order_of}
 use Rattle.hyd_cli.proofs.program.start.Goals as goal
 
 pub returns-in-Ok-clause-runs : goal.returns-in-Ok-clause-runs

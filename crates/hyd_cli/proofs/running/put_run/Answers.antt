@@ -3,7 +3,9 @@ use Rattle.std.proofs.Common.{◌≡◌, ◌∙◌, sym, subst, rules}
 use Rattle.hyd_io.specs.declared.desk.Faults.{Faults}
 use Rattle.hyd_run.specs.Pens.{told, OneRose}
 use Rattle.hyd_run.specs.Runs.{outcome_of}
-use Rattle.hyd_cli.specs.Answers.{seen, AnswersRun, HasCause, OpensCert}
+use Rattle.hyd_cli.specs.DeskContents.{seen}
+use Rattle.hyd_cli.specs.Answers.{HasCause}
+use Rattle.hyd_cli.specs.RunAnswers.{AnswersRun, OpensCert}
 use Rattle.hyd_cli.specs.declared.status.Status.{Status}
 use Rattle.hyd_cli.proofs.AnswerLemmas.{delivered, cut_short, cause_of_end, cause_of_fault, opens_of_end}
 use Rattle.hyd_cli.proofs.AnswerLemmas.{opens_of_fault, other_target}

@@ -2,7 +2,7 @@ use Rattle.std.proofs.Common.{◌∙◌, ap}
 use Rattle.clap.specs.Matches.{found_of}
 use Rattle.clap.specs.Walk.{rows_of}
 use Rattle.hyd_command_words.specs.Parser.{said_of}
-use Rattle.hyd_command_words.specs.Orders.{order_named}
+use Rattle.hyd_command_words.specs.CommandGrammar.{order_named}
 use Rattle.hyd_command_words.proofs.ReadLaw.{none_found, some_found}
 use Rattle.hyd_command_words.proofs.reader.read_words.Goals as goal
 

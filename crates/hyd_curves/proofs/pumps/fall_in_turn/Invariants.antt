@@ -1,6 +1,6 @@
 use Rattle.std.proofs.Common.{◌≡◌, length}
 use Rattle.hyd_spec_input.specs.Curves.{has_flow, is_slower, head_points}
-use Rattle.hyd_num.specs.Quantity.{is_us_unit}
+use Rattle.hyd_num.specs.FileQuantity.{is_us_unit}
 use Rattle.hyd_curves.specs.Points.{points_in}
 use Rattle.hyd_curves.specs.EachWithNext.{all_in_turn}
 use Rattle.hyd_curves.proofs.pumps.fall_in_turn.Given as goal

@@ -1,5 +1,5 @@
 use Rattle.std.proofs.Common.{◌∙◌}
-use Rattle.hyd_num.specs.Quantity.{is_us_unit}
+use Rattle.hyd_num.specs.FileQuantity.{is_us_unit}
 use Rattle.hyd_spec_input.specs.Curves.{head_point}
 use Rattle.hyd_curves.specs.Points.{point_in}
 use Rattle.hyd_curves.proofs.BendLemmas.{AreTicks, bend, Begins, two_begin}

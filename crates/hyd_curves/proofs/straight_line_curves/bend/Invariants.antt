@@ -1,5 +1,5 @@
 use Rattle.std.proofs.Common.{◌≡◌, take}
-use Rattle.hyd_num.specs.Quantity.{is_us_unit}
+use Rattle.hyd_num.specs.FileQuantity.{is_us_unit}
 use Rattle.hyd_spec_input.specs.Curves as curve
 use Rattle.hyd_curves.specs.Points.{points_in}
 use Rattle.hyd_curves.proofs.straight_line_curves.bend.Given as goal

@@ -1,5 +1,5 @@
-use Rattle.hyd_row_tables.specs.Found.{rows_at}
-use Rattle.hyd_curves.specs.NamedBends.{AreOfPumps}
+use Rattle.hyd_text_rows.specs.Found.{rows_at}
+use Rattle.hyd_curves.specs.NamedStraightLineCurves.{AreOfPumps}
 use Rattle.hyd_curves.proofs.straight_line_curves.pump_bends.Given as goal
 
 abbrev pub invariant-loop-place : goal.invariant-loop-place

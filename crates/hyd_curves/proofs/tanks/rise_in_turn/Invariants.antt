@@ -1,7 +1,7 @@
 use Rattle.std.proofs.Common.{◌≡◌, length}
 use Rattle.hyd_spec_input.specs.Curves.{is_fuller, volume_points}
 use Rattle.hyd_curves.specs.Points.{points_in}
-use Rattle.hyd_curves.specs.Shapes.{level_passes}
+use Rattle.hyd_curves.specs.TankCurveTests.{level_passes}
 use Rattle.hyd_curves.specs.EachWithNext.{all_in_turn}
 use Rattle.hyd_curves.proofs.tanks.rise_in_turn.Given as goal
 

@@ -1,6 +1,6 @@
-use Rattle.hyd_num.specs.Quantity.{is_us_unit}
+use Rattle.hyd_num.specs.FileQuantity.{is_us_unit}
 use Rattle.hyd_spec_input.specs.Curves.{is_faster, head_point}
-use Rattle.hyd_curves.specs.Bends.{loss_passes}
+use Rattle.hyd_curves.specs.PumpAndValveCurveTests.{loss_passes}
 use Rattle.hyd_curves.proofs.TurnLemmas.{turned, stopped}
 use Rattle.hyd_curves.proofs.valves.rise_in_turn.Goals as goal
 

@@ -1,7 +1,7 @@
 use Rattle.std.proofs.Common.{◌≡◌, length}
 use Rattle.hyd_spec_input.specs.Curves.{is_faster, head_points}
-use Rattle.hyd_curves.specs.Bends.{loss_passes}
-use Rattle.hyd_num.specs.Quantity.{is_us_unit}
+use Rattle.hyd_curves.specs.PumpAndValveCurveTests.{loss_passes}
+use Rattle.hyd_num.specs.FileQuantity.{is_us_unit}
 use Rattle.hyd_curves.specs.Points.{points_in}
 use Rattle.hyd_curves.specs.EachWithNext.{all_in_turn}
 use Rattle.hyd_curves.proofs.valves.rise_in_turn.Given as goal

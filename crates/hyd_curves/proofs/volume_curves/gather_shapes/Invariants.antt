@@ -1,5 +1,5 @@
-use Rattle.hyd_row_tables.specs.Found.{rows_at}
-use Rattle.hyd_curves.specs.Named.{AreShapesAt}
+use Rattle.hyd_text_rows.specs.Found.{rows_at}
+use Rattle.hyd_curves.specs.NamedVolumeCurves.{AreShapesAt}
 use Rattle.hyd_curves.proofs.volume_curves.gather_shapes.Given as goal
 
 abbrev pub invariant-loop-place : goal.invariant-loop-place

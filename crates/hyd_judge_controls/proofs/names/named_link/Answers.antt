@@ -1,7 +1,7 @@
 use Rattle.std.proofs.Common.{◌≡◌, Some, refl, sym, ◌∙◌}
 use Rattle.hyd_spec_lines.specs.Lines.{row_of}
 use Rattle.hyd_spec_input.specs.Tables.{link_rows, row_with}
-use Rattle.hyd_link_states.proofs.RightLinks.{right_link}
+use Rattle.hyd_asked_link_states.proofs.RightLinks.{right_link}
 use Rattle.hyd_judge_controls.proofs.names.named_link.Goals as goal
 
 pub returns-then-allows_link : goal.returns-then-allows_link

@@ -5,10 +5,10 @@ use Rattle.hyd_spec_lines.specs.declared.section.Section.TheVariants.{Junctions}
 use Rattle.hyd_spec_input.specs.Capacities.{IsRefusedSetting}
 use Rattle.hyd_spec_input.specs.Columns.{asked, needed, word}
 use Rattle.hyd_spec_input.specs.Tables.{link_named}
-use Rattle.hyd_spec_input.specs.WithOthers as others
-use Rattle.hyd_row_tables.specs.Found.{rows_at}
-use Rattle.hyd_row_tables.specs.Sections.{IsFaultThen}
-use Rattle.hyd_row_tables.proofs.FoundLemmas.{row_at}
+use Rattle.hyd_spec_input.specs.RowsTogether as others
+use Rattle.hyd_text_rows.specs.Found.{rows_at}
+use Rattle.hyd_text_rows.specs.WrongInSection.{IsFaultThen}
+use Rattle.hyd_text_rows.proofs.FoundLemmas.{row_at}
 use Rattle.hyd_judge_controls.proofs.PartLemmas.{action_asks, action_unknown, action_known}
 use Rattle.hyd_judge_controls.proofs.rule_parts.action_fault.Goals as goal
 

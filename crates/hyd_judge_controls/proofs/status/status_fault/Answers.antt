@@ -3,10 +3,10 @@ use Rattle.hyd_spec_lines.specs.Lines.{row_of}
 use Rattle.hyd_spec_lines.specs.declared.line.Line.{Line}
 use Rattle.hyd_spec_lines.specs.declared.section.Section.TheVariants.{Junctions, Status}
 use Rattle.hyd_spec_input.specs.Columns.{word}
-use Rattle.hyd_spec_input.specs.BelongingRows as row_form
+use Rattle.hyd_spec_input.specs.DemandCurveAndStatusRows as row_form
 use Rattle.hyd_spec_input.specs.declared.LinkWord.TheVariants.{Link}
-use Rattle.hyd_row_tables.specs.Found.{rows_at}
-use Rattle.hyd_row_tables.proofs.FoundLemmas.{row_at}
+use Rattle.hyd_text_rows.specs.Found.{rows_at}
+use Rattle.hyd_text_rows.proofs.FoundLemmas.{row_at}
 use Rattle.hyd_judge_controls.proofs.CommandLemmas.{command_unknown, command_known, none_elsewhere}
 use Rattle.hyd_judge_controls.proofs.StatusLemmas.{status_is_right, status_verdict}
 use Rattle.hyd_judge_controls.proofs.status.status_fault.Goals as goal

@@ -1,5 +1,5 @@
-use Rattle.hyd_row_tables.specs.Found.{rows_at}
-use Rattle.hyd_judge_links.specs.Judged.{AreLinks}
+use Rattle.hyd_text_rows.specs.Found.{rows_at}
+use Rattle.hyd_judge_links.specs.LinksSoFar.{AreLinks}
 use Rattle.hyd_judge_links.proofs.links.judge_links.Given as goal
 
 abbrev pub invariant-loop-place : goal.invariant-loop-place

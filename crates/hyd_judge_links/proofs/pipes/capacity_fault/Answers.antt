@@ -1,4 +1,4 @@
-use Rattle.hyd_link_states.proofs.RangeLemmas.{refused_pipe_numbers}
+use Rattle.hyd_asked_link_states.proofs.RangeLemmas.{refused_pipe_numbers}
 use Rattle.hyd_judge_links.proofs.pipes.capacity_fault.Goals as goal
 
 pub returns-in-Ok : goal.returns-in-Ok

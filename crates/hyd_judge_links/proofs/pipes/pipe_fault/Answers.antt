@@ -1,5 +1,5 @@
 use Rattle.hyd_theorems_on_input.proofs.LinkKinds.{pipe_numbers}
-use Rattle.hyd_link_states.proofs.RangeLemmas.{minor_up_to}
+use Rattle.hyd_asked_link_states.proofs.RangeLemmas.{minor_up_to}
 use Rattle.hyd_judge_links.proofs.pipes.pipe_fault.Goals as goal
 
 pub capacity_fault-requires-clause-minor : goal.capacity_fault-requires-clause-minor

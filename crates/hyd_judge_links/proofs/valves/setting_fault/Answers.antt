@@ -1,10 +1,10 @@
 use Rattle.std.proofs.Common.{subst}
-use Rattle.hyd_num.specs.Quantity.{is_us_unit}
-use Rattle.hyd_options_and_rules.specs.Judged.{words_at}
+use Rattle.hyd_num.specs.FileQuantity.{is_us_unit}
+use Rattle.hyd_option_and_rule_lines.specs.FaultOrValue.{words_at}
 use Rattle.hyd_network_rows.specs.Rows.{IsValveSetting}
 use Rattle.hyd_network_rows.specs.declared.valves.ValveSetting.{ValveSetting}
 use Rattle.hyd_theorems_on_input.proofs.LinkKinds.{valve_numbers}
-use Rattle.hyd_link_states.proofs.RangeLemmas.{coefficient_up_to, coefficient_right, throttle_alone}
+use Rattle.hyd_asked_link_states.proofs.RangeLemmas.{coefficient_up_to, coefficient_right, throttle_alone}
 use Rattle.hyd_judge_links.proofs.ValveLemmas.{throttle_verdict, flow_verdict}
 use Rattle.hyd_judge_links.proofs.valves.setting_fault.Goals as goal
 

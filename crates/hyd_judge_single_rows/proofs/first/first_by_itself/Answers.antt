@@ -1,10 +1,10 @@
 use Rattle.std.proofs.Common.{◌∙◌, None, length}
 use Rattle.hyd_spec_lines.specs.declared.line.Line.{Line}
 use Rattle.hyd_spec_lines.specs.declared.section.Section.TheVariants.{Junctions}
-use Rattle.hyd_spec_input.specs.ByItself.{IsWrongByItself}
-use Rattle.hyd_row_tables.specs.Found.{rows_at}
-use Rattle.hyd_row_tables.proofs.FoundLemmas.{row_at}
-use Rattle.hyd_row_tables.proofs.SectionLemmas.{found_fewer}
+use Rattle.hyd_spec_input.specs.SingleRows.{IsWrongByItself}
+use Rattle.hyd_text_rows.specs.Found.{rows_at}
+use Rattle.hyd_text_rows.proofs.FoundLemmas.{row_at}
+use Rattle.hyd_text_rows.proofs.SectionLemmas.{found_fewer}
 use Rattle.hyd_judge_single_rows.proofs.StageLemmas.{next_stage, row_fault_is, none_further, wrong_here}
 use Rattle.hyd_judge_single_rows.proofs.first.first_by_itself.Goals as goal
 

@@ -1,9 +1,9 @@
 use Rattle.std.proofs.Common.{◌≡◌, None, take}
 use Rattle.hyd_spec_lines.specs.declared.section.Section.TheVariants.{Rules}
-use Rattle.hyd_spec_input.specs.ByItself.{IsWrongByItself}
+use Rattle.hyd_spec_input.specs.SingleRows.{IsWrongByItself}
 use Rattle.hyd_spec_input.specs.RuleRows.{stage_after}
 use Rattle.hyd_spec_input.specs.Tables.{words_of}
-use Rattle.hyd_row_tables.specs.Found.{HasFound, rows_at}
+use Rattle.hyd_text_rows.specs.Found.{HasFound, rows_at}
 use Rattle.hyd_judge_single_rows.proofs.first.first_by_itself.Given as goal
 
 abbrev pub invariant-loop-place : goal.invariant-loop-place

@@ -1,5 +1,5 @@
 use Rattle.std.proofs.Common.{arith, ◌≡◌, ap, inl}
-use Rattle.hyd_num.specs.Scaled.{reach}
+use Rattle.hyd_num.specs.BinaryNumbers.{reach}
 use Rattle.hyd_num.proofs.hundredth_roots.own_power.Goals as goal
 
 pub pow-requires-clause-near : goal.pow-requires-clause-near

@@ -1,7 +1,7 @@
 use Rattle.std.proofs.Common.{◌+◌, ◌*◌, ◌^◌, ◌<◌, FitsSigned, to_z, of_z, w32, arith, le_of_eq, le_refl, le_of_lt, lit<}
 use Rattle.std.proofs.lemmas.Int.{ints}
 use borrow.Author.Differences.{up, down}
-use Rattle.hyd_num.specs.Scaled.{numerator, denominator}
+use Rattle.hyd_num.specs.BinaryNumbers.{numerator, denominator}
 use Rattle.hyd_num.proofs.RootSearch.{two_below, bound_from, bound_to, none_above, none_from, greatest_found}
 use Rattle.hyd_num.proofs.RootSearch.{first_power, end_power}
 use Rattle.hyd_num.proofs.hundredth_roots.root_down.Goals as goal

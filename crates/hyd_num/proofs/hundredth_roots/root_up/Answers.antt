@@ -2,7 +2,7 @@ use Rattle.std.proofs.Common.{◌≡◌, ◌+◌, ◌*◌, ◌^◌, ◌≤◌, p
 use Rattle.std.proofs.Common.{le_of_eq, le_refl, le_of_lt, lit≤}
 use Rattle.std.proofs.lemmas.Int.{ints}
 use borrow.Author.Differences.{up, down}
-use Rattle.hyd_num.specs.Scaled.{numerator, denominator}
+use Rattle.hyd_num.specs.BinaryNumbers.{numerator, denominator}
 use Rattle.hyd_num.proofs.RootSearch.{two_above, bound_from, bound_to, none_below, none_up_to, least_found}
 use Rattle.hyd_num.proofs.RootSearch.{power_behind, start_power, end_power}
 use Rattle.hyd_num.proofs.hundredth_roots.root_up.Goals as goal

@@ -1,5 +1,5 @@
 use Rattle.std.proofs.Common.{◌*◌}
-use Rattle.hyd_num.specs.Scaled.{numerator, denominator}
+use Rattle.hyd_num.specs.BinaryNumbers.{numerator, denominator}
 use Rattle.hyd_num.proofs.RoundingLemmas.{IsDown-from_cut}
 use Rattle.hyd_num.proofs.operations.product_down.Goals as goal
 

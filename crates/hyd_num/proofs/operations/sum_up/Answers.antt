@@ -1,5 +1,5 @@
 use Rattle.std.proofs.Common.{◌*◌, ◌+◌, mul-pos}
-use Rattle.hyd_num.specs.Scaled.{numerator, denominator}
+use Rattle.hyd_num.specs.BinaryNumbers.{numerator, denominator}
 use Rattle.hyd_num.proofs.Ends.{denominator_positive}
 use Rattle.hyd_num.proofs.operations.sum_up.Goals as goal
 

@@ -1,5 +1,5 @@
 use Rattle.std.proofs.Common.{◌*◌}
-use Rattle.hyd_num.specs.Scaled.{numerator, denominator}
+use Rattle.hyd_num.specs.BinaryNumbers.{numerator, denominator}
 use Rattle.hyd_num.proofs.CapacityRoots.{root_of_raised}
 use Rattle.hyd_num.proofs.scaled_roots.sqrt_up.Goals as goal
 

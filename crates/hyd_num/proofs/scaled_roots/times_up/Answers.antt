@@ -1,7 +1,7 @@
 use Rattle.std.proofs.Common.{◌≡◌, ◌+◌, ◌*◌, ◌^◌, ◌<◌, arith, pow_pos}
 use Rattle.std.proofs.lemmas.Int.{ints}
 use borrow.Author.Differences.{up, down}
-use Rattle.hyd_num.specs.Scaled.{numerator, denominator}
+use Rattle.hyd_num.specs.BinaryNumbers.{numerator, denominator}
 use Rattle.hyd_num.proofs.CapacityRoots.{high_exponent, low_exponent, places_above, places_below, whole_product}
 use Rattle.hyd_num.proofs.CapacityRoots.{whole_product_fits}
 use Rattle.hyd_num.proofs.scaled_roots.times_up.Goals as goal

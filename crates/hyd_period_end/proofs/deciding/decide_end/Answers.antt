@@ -1,5 +1,5 @@
 use Rattle.std.proofs.Common.{◌≡◌, ◌++◌, ℕ, length, take, drop, ◌∙◌}
-use Rattle.hyd_graph.proofs.Refilling.{refilled}
+use Rattle.hyd_period_network.proofs.Refilling.{refilled}
 use Rattle.hyd_period_length.specs.Endings.{ForPeriod}
 use Rattle.hyd_period_end.specs.EndOfPeriod.{Decides}
 use Rattle.hyd_period_end.proofs.Finishing.{if-ok, read-at}

@@ -2,7 +2,7 @@ use Rattle.std.proofs.Common.{◌≡◌, ◌∙◌, ℕ, ◌+◌, ◌%◌, ◌<�
 use Rattle.std.proofs.Math.Nat.{mod-lt}
 use Rattle.hyd_spec_certificates.specs.Decided.{RulesMatter}
 use Rattle.hyd_period_facts.specs.declared.facts.Facts.{Facts}
-use Rattle.hyd_watched_levels.specs.Started.{HaveTanks}
+use Rattle.hyd_watched_levels.specs.FactsAtStart.{HaveTanks}
 use Rattle.hyd_period_length.specs.Endings.{ForPeriod, IsBrought}
 use Rattle.hyd_period_length.proofs.Trying.{keeps_all, decided_so, unless_so}
 use Rattle.hyd_period_length.proofs.Walking.{first_multiple, next_multiple, walk_starts, walk_goes_on, walk_ends}

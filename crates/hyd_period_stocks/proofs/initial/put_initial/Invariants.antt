@@ -1,6 +1,6 @@
 use Rattle.std.proofs.Common.{◌≡◌, ℕ, ◌+◌, ◌<◌, ◌≤◌, length, take}
 use Rattle.std.specs.Prelude.{Some, map, slice_get}
-use Rattle.hyd_spec.specs.Types.{Tank}
+use Rattle.hyd_spec.specs.ProgramTypes.{Tank}
 use Rattle.hyd_spec.specs.Tank.{walls_of, kept_volume}
 use Rattle.hyd_spec_certificates.specs.Interval.{exactly}
 use Rattle.hyd_tank.specs.Spans.{initial_stocks, AreHeld}

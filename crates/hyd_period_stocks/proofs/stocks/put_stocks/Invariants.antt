@@ -1,6 +1,6 @@
 use Rattle.std.proofs.Common.{◌≡◌, ℕ, ◌+◌, ◌<◌, ◌≤◌, length, take}
 use Rattle.std.specs.Prelude.{Some, map, slice_get}
-use Rattle.hyd_spec.specs.Types.{Tank}
+use Rattle.hyd_spec.specs.ProgramTypes.{Tank}
 use Rattle.hyd_spec.specs.Tank.{walls_of}
 use Rattle.hyd_tank.specs.Spans.{AreHeld}
 use Rattle.hyd_period_facts.specs.OfPeriod.{levels_of, volumes_of}

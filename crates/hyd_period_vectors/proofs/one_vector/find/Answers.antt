@@ -1,4 +1,4 @@
-use Rattle.hyd_graph.specs.GridOf.{grid_of}
+use Rattle.hyd_period_network.specs.GridOf.{grid_of}
 use Rattle.hyd_spec_certificates.specs.Certificate.{IsTight}
 use Rattle.std.specs.Prelude.{length}
 use Rattle.std.proofs.Common.{ℕ, ◌≤◌}

@@ -7,7 +7,7 @@ use Rattle.hyd_spec_certificates.specs.Certificate.{IsCertificate}
 use Rattle.hyd_spec_certificates.specs.SearchSteps.{IsStart}
 use Rattle.hyd_spec_certificates.specs.Record.{vector_of}
 use Rattle.hyd_cert.specs.RecordView.{row_of}
-use Rattle.hyd_graph.specs.GridOf.{grid_of}
+use Rattle.hyd_period_network.specs.GridOf.{grid_of}
 use Rattle.hyd_period_vectors.proofs.Nearing.{start-across}
 use Rattle.hyd_period_vectors.proofs.starting.begin_near.Goals as goal
 

@@ -1,4 +1,4 @@
-use Rattle.hyd_graph.specs.GridOf.{grid_of}
+use Rattle.hyd_period_network.specs.GridOf.{grid_of}
 use Rattle.hyd_period_vectors.specs.JunctionTurns.{AreInTurn}
 use Rattle.hyd_period_vectors.proofs.starting.take_turns.Given as goal
 

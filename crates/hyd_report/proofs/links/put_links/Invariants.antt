@@ -1,7 +1,7 @@
 use Rattle.std.proofs.Common.{take}
 use Rattle.std.specs.Prelude.{Ok}
 use Rattle.hyd_spec.specs.Lists.{map_from}
-use Rattle.hyd_graph.specs.GridOf.{grid_of, states_of}
+use Rattle.hyd_period_network.specs.GridOf.{grid_of, states_of}
 use Rattle.hyd_spec_certificates.specs.Grid.{all_heads}
 use Rattle.hyd_spec_certificates.specs.declared.Problem.TheVariants.{Main}
 use Rattle.hyd_spec_certificates.specs.declared.Side.TheVariants.{Upper, Lower}

@@ -7,7 +7,7 @@ use Rattle.hyd_spec_certificates.specs.declared.Problem.TheVariants.{Main}
 use Rattle.hyd_spec_certificates.specs.declared.Side.TheVariants.{Upper, Lower}
 use Rattle.hyd_spec_reports.specs.ReportLine.{TimeLine}
 use Rattle.hyd_cert.specs.RecordView.{row_of}
-use Rattle.hyd_graph.specs.GridOf.{grid_of, states_of}
+use Rattle.hyd_period_network.specs.GridOf.{grid_of, states_of}
 use Rattle.hyd_bounds.specs.Bounds.{AreInOrder}
 use Rattle.hyd_report.specs.LinesOfParts.{texts, reservoir_line, tank_line, link_line}
 use Rattle.hyd_report.proofs.LineLemmas.{in_order, state_text}

@@ -4,10 +4,10 @@ use Rattle.hyd_spec.specs.Assignment.{head_at}
 use Rattle.hyd_spec_certificates.specs.Grid.{fixed_heads}
 use Rattle.hyd_spec_certificates.specs.declared.Problem.TheVariants.{Main}
 use Rattle.hyd_spec_certificates.specs.declared.Side.TheVariants.{Lower}
-use Rattle.hyd_graph.specs.GridOf.{grid_of}
+use Rattle.hyd_period_network.specs.GridOf.{grid_of}
 use Rattle.hyd_report.specs.Putting.{Puts}
 use Rattle.hyd_report.specs.Printing.{printed, quantity_in, ArePrinted}
-use Rattle.hyd_report.specs.declared.printed.Quantity.TheVariants.{Head}
+use Rattle.hyd_report.specs.declared.printed_intervals.Quantity.TheVariants.{Head}
 use Rattle.hyd_report.proofs.LineLemmas.{head_behind, head_before, heads_of, heads_of-length, reservoir_put}
 use Rattle.hyd_report.proofs.reservoirs.put_reservoir.Goals as goal
 

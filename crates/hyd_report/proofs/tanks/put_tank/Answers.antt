@@ -5,7 +5,7 @@ use Rattle.hyd_period_facts.specs.OfPeriod.{levels_of, flows_of}
 use Rattle.hyd_spec_certificates.specs.Interval.{shifted}
 use Rattle.hyd_report.specs.Putting.{Puts}
 use Rattle.hyd_report.specs.Printing.{printed, quantity_in, ArePrinted}
-use Rattle.hyd_report.specs.declared.printed.Quantity.TheVariants.{Head}
+use Rattle.hyd_report.specs.declared.printed_intervals.Quantity.TheVariants.{Head}
 use Rattle.hyd_report.proofs.LineLemmas.{tank_put}
 use Rattle.hyd_report.proofs.tanks.put_tank.Goals as goal
 

@@ -1,11 +1,11 @@
 use Rattle.std.proofs.Common.{◌≡◌, ℕ, sym, ap, subst, ◌∙◌}
 use Rattle.std.specs.Prelude.{length}
-use Rattle.hyd_spec.specs.Network.{tank_count}
+use Rattle.hyd_spec.specs.NodeNumbers.{tank_count}
 use Rattle.hyd_cert.specs.Lines.{Header}
 use Rattle.hyd_cert.specs.Vectors.{behind_two}
 use Rattle.hyd_cert.specs.RecordView.{row_of}
 use Rattle.hyd_cert.specs.declared.record.Record.{Record as Row}
-use Rattle.hyd_graph.specs.GridOf.{grid_of}
+use Rattle.hyd_period_network.specs.GridOf.{grid_of}
 use Rattle.hyd_period_end.specs.OpenMatters.{SharesVectors}
 use Rattle.hyd_period_vectors.specs.Vectors.{LacksFirst}
 use Rattle.hyd_sim.specs.Attempts.{AreSought}

@@ -5,7 +5,7 @@ use Rattle.std.proofs.lemmas.Int.{ints}
 use Rattle.std.proofs.lemmas.Bool.{cases_eq}
 use Rattle.std.proofs.lemmas.List.{length-set}
 use Rattle.hyd_spec.specs.Assignment.{head_at}
-use Rattle.hyd_theorems_on_periods.specs.Sides.{along}
+use Rattle.hyd_theorems_on_definitions.specs.Sides.{along}
 use Rattle.hyd_theorems_on_raises.proofs.Raising.{set-here, set-there}
 use Rattle.hyd_sweep.proofs.strides.propose.Goals as goal
 

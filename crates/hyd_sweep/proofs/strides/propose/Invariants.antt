@@ -1,6 +1,6 @@
 use Rattle.std.proofs.Common.{◌≡◌, ◌<◌, ◌*◌, ◌-ℤ◌, ◌≤ℤ◌, ℕ, pos, length, unsigned_abs}
 use Rattle.hyd_spec.specs.Assignment.{head_at}
-use Rattle.hyd_theorems_on_periods.specs.Sides.{along}
+use Rattle.hyd_theorems_on_definitions.specs.Sides.{along}
 use Rattle.hyd_sweep.proofs.strides.propose.Given as goal
 
 abbrev pub invariant-loop-i : goal.invariant-loop-i

@@ -1,5 +1,5 @@
 use Rattle.hyd_spec_certificates.specs.SearchSteps.{IsStart, HasRounds}
-use Rattle.hyd_graph.specs.GridOf.{grid_of}
+use Rattle.hyd_period_network.specs.GridOf.{grid_of}
 use Rattle.hyd_sweep.specs.Strides.{AreLeapingRounds}
 use Rattle.hyd_sweep.proofs.sweeper.tighten_by_leaps.Given as goal
 

@@ -1,6 +1,6 @@
 use Rattle.std.proofs.Common.{ℤ, List, sym, subst, w64}
 use Rattle.std.proofs.lemmas.Int.{to_z-of_z}
-use Rattle.hyd_spec.specs.Types.{VolumePoint}
+use Rattle.hyd_spec.specs.ProgramTypes.{VolumePoint}
 use Rattle.hyd_spec.specs.Tank.{Walls, Curve}
 use Rattle.hyd_spec_certificates.specs.FirstSeconds.{IsEarliestSecond, IsLatestSecond}
 use Rattle.hyd_tank.specs.Spans.{cylinder, stocks_at, stocks_of, inflows_of}

@@ -1,10 +1,10 @@
 use Rattle.std.proofs.Common.{ℤ, subst, w64}
 use Rattle.std.proofs.lemmas.Int.{to_z-of_z}
-use Rattle.hyd_spec.specs.Types.{Tank}
+use Rattle.hyd_spec.specs.ProgramTypes.{Tank}
 use Rattle.hyd_spec.specs.Tank.{walls_of}
 use Rattle.hyd_spec_certificates.specs.FirstSeconds.{IsEarliestSecond, IsLatestSecond}
-use Rattle.hyd_theorems_on_periods.proofs.Deciding.{seconds_hold, seconds_nest}
-use Rattle.hyd_theorems_on_periods.proofs.Vessels.{vessels}
+use Rattle.hyd_theorems_on_definitions.proofs.Deciding.{seconds_hold, seconds_nest}
+use Rattle.hyd_theorems_on_definitions.proofs.Vessels.{vessels}
 use Rattle.hyd_tank.specs.Spans.{stocks_of, inflows_of}
 use Rattle.hyd_tank.proofs.Keeping.{seconds_ordered}
 use Rattle.hyd_tank.proofs.Tanks.{tank_of, of_each}

@@ -1,6 +1,6 @@
 use Rattle.std.proofs.Common.{List, ◌++◌, map, sym, ap, ◌∙◌, arith}
 use Rattle.std.proofs.lemmas.List.{append-nil, drop_all}
-use Rattle.hyd_spec.specs.Types.{Link}
+use Rattle.hyd_spec.specs.ProgramTypes.{Link}
 use Rattle.hyd_test_helpers.proofs.Commands.{start_of, starts_stand}
 use Rattle.hyd_test_helpers.proofs.states.starts.Goals as goal
 

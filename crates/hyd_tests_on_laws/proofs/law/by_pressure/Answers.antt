@@ -1,6 +1,6 @@
 use Rattle.std.proofs.Common.{refl, arith}
 use Rattle.std.proofs.lemmas.Int.{ints}
-use Rattle.hyd_theorems_on_periods.proofs.EachLaw.{IsSoundCapacity-made}
+use Rattle.hyd_theorems_on_definitions.proofs.EachLaw.{IsSoundCapacity-made}
 use Rattle.hyd_tests_on_laws.proofs.law.by_pressure.Goals as goal
 
 pub returns-clause-sound : goal.returns-clause-sound

@@ -1,4 +1,4 @@
-use Rattle.hyd_theorems_on_periods.proofs.EachLaw.{IsSoundCapacity-made}
+use Rattle.hyd_theorems_on_definitions.proofs.EachLaw.{IsSoundCapacity-made}
 use Rattle.hyd_tests_on_laws.proofs.law.capacity.Goals as goal
 
 pub returns : goal.returns

@@ -1,6 +1,6 @@
 use Rattle.std.proofs.Common.{List, ◌++◌, sym, ap, ◌∙◌, subst, arith}
 use Rattle.std.proofs.lemmas.List.{append-nil, drop_all}
-use Rattle.hyd_law.specs.declared.kinds.Knot.{Knot}
+use Rattle.hyd_law.specs.declared.law_kinds.Knot.{Knot}
 use Rattle.hyd_law.specs.Curves.{IsCurve}
 use Rattle.hyd_tests_on_laws.proofs.law.listed.Goals as goal
 

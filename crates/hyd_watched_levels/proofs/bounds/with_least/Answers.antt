@@ -2,7 +2,7 @@ use Rattle.std.proofs.Common.{◌≡◌, ◌∙◌, ◌++◌, ◌∷◌, [], ℤ
 use Rattle.std.specs.Int.{w64}
 use Rattle.std.proofs.lemmas.Int.{ints}
 use Rattle.hyd_net.specs.NetworkRanges.{IsTank}
-use Rattle.hyd_spec.specs.Types.{Tank}
+use Rattle.hyd_spec.specs.ProgramTypes.{Tank}
 use Rattle.hyd_watched_levels.specs.Watched.{AreEnds}
 use Rattle.hyd_watched_levels.proofs.Reaching.{each_is, item_is}
 use Rattle.hyd_watched_levels.proofs.Adding.{no_least, least_so}

@@ -1,5 +1,5 @@
 use Rattle.std.proofs.Common.{ap, sym, ◌∙◌}
-use Rattle.hyd_cert.specs.Places.{First, Between}
+use Rattle.hyd_cert.specs.PlacesOfLines.{First, Between}
 use Rattle.hyd_cert.specs.ReaderView.{ReaderView, place_of, to_come}
 use Rattle.hyd_cert.specs.RecordView.{header_of}
 use Rattle.hyd_cert.proofs.HeadLemmas.{text_fault_moved}

@@ -1,11 +1,11 @@
 use Rattle.std.proofs.Common.{◌≡◌, ℕ, ◌++◌, ◌∷◌, [], List, length, All, slice_set, sym, ap, ◌∙◌, subst, arith}
 use Rattle.std.specs.Fmt.{signed_decimal}
-use Rattle.hyd_io.specs.Told.{prepend_known}
+use Rattle.hyd_io.specs.ToldBytes.{prepend_known}
 use Rattle.std.proofs.lemmas.List.{take_all}
 use Rattle.std.proofs.Math.ListN.{length-set}
 use Rattle.hyd_spec_certificates.specs.Certificate.{IsInBox}
 use Rattle.hyd_cert.specs.Lines.{IsHeadLine}
-use Rattle.hyd_cert.specs.Places.{front_at, heads_in}
+use Rattle.hyd_cert.specs.PlacesOfLines.{front_at, heads_in}
 use Rattle.hyd_cert.specs.Faults.{IsLineFault}
 use Rattle.hyd_cert.proofs.HeadLemmas.{stored, text_more, box_more, fault_more, fault_here}
 use Rattle.hyd_cert.proofs.reader.Lines.heads.Goals as goal

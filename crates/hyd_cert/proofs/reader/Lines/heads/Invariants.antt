@@ -1,8 +1,8 @@
 use Rattle.std.proofs.Common.{◌≡◌, ℕ, ◌+◌, All, take, length}
-use Rattle.hyd_io.specs.Told.{prepend_known}
+use Rattle.hyd_io.specs.ToldBytes.{prepend_known}
 use Rattle.hyd_spec_certificates.specs.Certificate.{IsInBox}
 use Rattle.hyd_cert.specs.Lines.{Header}
-use Rattle.hyd_cert.specs.Places.{IsFault, place_after, heads_in, head_text}
+use Rattle.hyd_cert.specs.PlacesOfLines.{IsFault, place_after, heads_in, head_text}
 use Rattle.hyd_cert.specs.Faults.{lines_on}
 use Rattle.hyd_cert.proofs.reader.Lines.heads.Given as goal
 

@@ -1,14 +1,14 @@
 use Rattle.std.proofs.Common.{◌≡◌, Some, None, All, get_or, take, true, false, sym, ◌∙◌, subst, refl, append-nil}
-use Rattle.hyd_num.specs.Quantity.{is_us_unit}
+use Rattle.hyd_num.specs.FileQuantity.{is_us_unit}
 use Rattle.hyd_spec_lines.specs.Lines.{row_of}
 use Rattle.hyd_spec_lines.specs.declared.line.Line.{Line}
 use Rattle.hyd_spec_lines.specs.declared.section.Section.TheVariants.{Junctions}
 use Rattle.hyd_spec_input.specs.Curves.{head_points}
 use Rattle.hyd_spec_input.specs.Project.{bend_points}
 use Rattle.hyd_spec_input.specs.Tables.{curve_named}
-use Rattle.hyd_row_tables.specs.Found.{rows_at}
-use Rattle.hyd_row_tables.proofs.FoundLemmas.{row_at}
-use Rattle.hyd_curves.specs.NamedBends.{IsSmallHead, pump_names}
+use Rattle.hyd_text_rows.specs.Found.{rows_at}
+use Rattle.hyd_text_rows.proofs.FoundLemmas.{row_at}
+use Rattle.hyd_curves.specs.NamedStraightLineCurves.{IsSmallHead, pump_names}
 use Rattle.hyd_curves.specs.Points.{points_in}
 use Rattle.hyd_curves.proofs.BendRowLemmas.{other_pump, next_pump, as_before, with_one, pump_small, pump_is_right, many}
 use Rattle.hyd_curves.proofs.BendRowLemmas.{few}

@@ -3,10 +3,10 @@ use Rattle.hyd_spec_lines.specs.Lines.{Row, row_of}
 use Rattle.hyd_spec_lines.specs.declared.line.Line.{Line}
 use Rattle.hyd_spec_lines.specs.declared.section.Section.TheVariants.{Junctions}
 use Rattle.hyd_spec_input.specs.Columns.{word}
-use Rattle.hyd_spec_input.specs.WithOthers.{has_rule, rules_in}
+use Rattle.hyd_spec_input.specs.RowsTogether.{has_rule, rules_in}
 use Rattle.std.specs.Prelude.{take}
-use Rattle.hyd_row_tables.specs.Found.{rows_at}
-use Rattle.hyd_row_tables.proofs.FoundLemmas.{row_at}
+use Rattle.hyd_text_rows.specs.Found.{rows_at}
+use Rattle.hyd_text_rows.proofs.FoundLemmas.{row_at}
 use Rattle.hyd_judge_controls.specs.Rules.{IsPart, acting_at}
 use Rattle.hyd_judge_controls.specs.declared.rule_parts.Part.{Part}
 use Rattle.hyd_judge_controls.proofs.RuleCounting.{new_is, counted_rule, counted_part, counted_other}

@@ -1,6 +1,6 @@
 use Rattle.std.proofs.Common.{◌≡◌, false, subst}
 use Rattle.std.specs.Prelude.{IsOk}
-use Rattle.hyd_spec.specs.Network.{tank_count}
+use Rattle.hyd_spec.specs.NodeNumbers.{tank_count}
 use Rattle.hyd_spec_certificates.specs.Record.{Record as Row}
 use Rattle.hyd_cert.specs.RecordView.{row_of}
 use Rattle.hyd_period_vectors.specs.Vectors.{HaveSame}

@@ -1,0 +1,12 @@
+use Rattle.std.proofs.Common.{refl}
+use Rattle.hyd_num.specs.Numeral.{is_numeral, nano_of, magnitude_of}
+use Rattle.hyd_command_words.specs.SaidWords.{kind_of}
+use Rattle.hyd_cases_of_definitions.proofs.commands.runs.Goals as goal
+
+pub returns-clause-options : goal.returns-clause-options
+unfolding kind_of is_numeral nano_of magnitude_of
+returns-clause-options c = refl
+
+pub returns-clause-positions : goal.returns-clause-positions
+unfolding kind_of is_numeral nano_of magnitude_of
+returns-clause-positions c = refl

@@ -1,0 +1,46 @@
+use Rattle.std.proofs.Common.{refl}
+use Rattle.hyd_cases_of_definitions.proofs.links.throttle_valves.Goals as goal
+use Rattle.hyd_spec_certificates.specs.EnclosingFunctions.{root_up}
+use Rattle.hyd_theorems_on_definitions.proofs.Roots.{root_down-quick, quick_root}
+
+pub returns-clause-open_low : goal.returns-clause-open_low
+unfolding root_up quick_root
+returns-clause-open_low c = λ capacity ends. rw (
+  ends.low_mantissa_is,
+  ends.low_exponent_is,
+  ends.high_mantissa_is,
+  ends.high_exponent_is,
+) (rw root_down-quick refl)
+
+pub returns-clause-open_high : goal.returns-clause-open_high
+unfolding root_up quick_root
+returns-clause-open_high c = λ capacity ends. rw (
+  ends.low_mantissa_is,
+  ends.low_exponent_is,
+  ends.high_mantissa_is,
+  ends.high_exponent_is,
+) (rw root_down-quick refl)
+
+pub returns-clause-throttled_low : goal.returns-clause-throttled_low
+unfolding root_up quick_root
+returns-clause-throttled_low c = λ capacity ends. rw (
+  ends.low_mantissa_is,
+  ends.low_exponent_is,
+  ends.high_mantissa_is,
+  ends.high_exponent_is,
+) (rw root_down-quick refl)
+
+pub returns-clause-throttled_high : goal.returns-clause-throttled_high
+unfolding root_up quick_root
+returns-clause-throttled_high c = λ capacity ends. rw (
+  ends.low_mantissa_is,
+  ends.low_exponent_is,
+  ends.high_mantissa_is,
+  ends.high_exponent_is,
+) (rw root_down-quick refl)
+
+pub returns-clause-closed_low : goal.returns-clause-closed_low
+returns-clause-closed_low c = λ capacity. refl
+
+pub returns-clause-closed_high : goal.returns-clause-closed_high
+returns-clause-closed_high c = λ capacity. refl

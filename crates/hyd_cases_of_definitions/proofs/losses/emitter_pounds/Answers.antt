@@ -1,0 +1,9 @@
+use Rattle.std.proofs.Common.{refl}
+use Rattle.hyd_cases_of_definitions.proofs.losses.emitter_pounds.Goals as goal
+use Rattle.std.proofs.lemmas.Bool.{leb-true}
+
+pub returns-clause-below : goal.returns-clause-below
+returns-clause-below c = λ coefficient passed. rw passed (leb-true _ _ refl)
+
+pub returns-clause-above : goal.returns-clause-above
+returns-clause-above c = λ coefficient passed. rw passed (leb-true _ _ refl)

@@ -1,0 +1,8 @@
+use Rattle.std.proofs.Common.{refl}
+use Rattle.hyd_cases_of_definitions.proofs.stocks.levels.Goals as goal
+
+pub returns-clause-down : goal.returns-clause-down
+returns-clause-down c = λ diameter. refl
+
+pub returns-clause-up : goal.returns-clause-up
+returns-clause-up c = λ diameter. refl

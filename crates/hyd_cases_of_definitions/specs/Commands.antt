@@ -1,0 +1,30 @@
+-- Command lines as they are typed, and what they ask for.
+use Rattle.std.specs.Prelude.{ℕ, ◌==◌, Bool, List, Option, Some, is_none, ℤ}
+use Rattle.std.specs.List.{slice_split, list_all}
+use Rattle.hyd_command_words.specs.CommandGrammar.{Order, run, check, gen}
+
+-- the words of a line, parted by single spaces
+abbrev pub typed : List ℕ → List (List ℕ)
+typed line = slice_split (λ byte. byte == 32) line
+
+abbrev pub asks_run : (net cert : List ℕ) (rounds : ℕ) (width : ℤ) (tight : Bool) → Option Order
+asks_run net cert rounds width tight = Some (run (record {
+  files = record { net = net; cert = cert };
+  rounds = rounds;
+  width = width;
+  tight = tight;
+}))
+
+abbrev pub asks_check : (net cert : List ℕ) → Option Order
+asks_check net cert = Some (check (record { net = net; cert = cert }))
+
+abbrev pub asks_gen : (seed junctions : ℕ) (net cert : List ℕ) → Option Order
+asks_gen seed junctions net cert = Some (gen (record {
+  seed = seed;
+  junctions = junctions;
+  files = record { net = net; cert = cert };
+}))
+
+-- none of them is a command
+abbrev pub are_none : List (Option Order) → Bool
+are_none orders = list_all is_none orders

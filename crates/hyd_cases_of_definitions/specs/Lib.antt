@@ -1,0 +1,13 @@
+pub mod SmallGrid
+pub mod Record
+pub mod Capacities
+pub mod EachKindOfLink
+pub mod OneValve
+pub mod Input
+pub mod TextOfLinks
+pub mod CountLimits
+pub mod Tanks
+pub mod Curves
+pub mod Commands
+pub mod Cylinders
+pub mod Flask

@@ -1,0 +1,74 @@
+//! The words of the command line.
+#![tactic(auto)]
+
+ghost use Rattle.std.specs.Prelude.{◌≡◌, pos, true, false, [], ◌∷◌, map, codes};
+ghost use Rattle.hyd_command_words.specs.CommandGrammar.{order_of};
+ghost use Rattle.hyd_cases_of_definitions.specs.Commands.{typed, asks_run, asks_check, asks_gen, are_none};
+
+/// The words of `run`: its options in each form, and where they stand.
+pub fn runs()
+    ensures options { map order_of (map typed (
+        codes "run a b" ∷ codes "run a b --tight" ∷ codes "run --tight a b" ∷
+        codes "run --sweeps=5 a --width 0.5 b" ∷ codes "run a --sweeps 0 b" ∷ codes "run a b --sweeps=100000" ∷
+        codes "run a b --sweeps 000001" ∷ codes "run a b --width 1000" ∷ codes "run a b --width=1e-9" ∷
+        codes "run a b --width +.5" ∷ codes "run a b --width 1000.0000000004" ∷ []))
+        ≡
+        asks_run (codes "a") (codes "b") 200 (pos 100000000000) false ∷
+        asks_run (codes "a") (codes "b") 200 (pos 100000000000) true ∷
+        asks_run (codes "a") (codes "b") 200 (pos 100000000000) true ∷
+        asks_run (codes "a") (codes "b") 5 (pos 5000000000000) false ∷
+        asks_run (codes "a") (codes "b") 0 (pos 100000000000) false ∷
+        asks_run (codes "a") (codes "b") 100000 (pos 100000000000) false ∷
+        asks_run (codes "a") (codes "b") 1 (pos 100000000000) false ∷
+        asks_run (codes "a") (codes "b") 200 (pos 10000000000000000) false ∷
+        asks_run (codes "a") (codes "b") 200 (pos 10000) false ∷
+        asks_run (codes "a") (codes "b") 200 (pos 5000000000000) false ∷
+        asks_run (codes "a") (codes "b") 200 (pos 10000000000000000) false ∷ [] }
+    ensures positions { map order_of (map typed (
+        codes "run - b" ∷ codes "run -- -a b" ∷ codes "run -- -a -b" ∷ codes "run a -- --tight" ∷
+        codes "run a b --" ∷ codes "run a -- --" ∷ []))
+        ≡
+        asks_run (codes "-") (codes "b") 200 (pos 100000000000) false ∷
+        asks_run (codes "-a") (codes "b") 200 (pos 100000000000) false ∷
+        asks_run (codes "-a") (codes "-b") 200 (pos 100000000000) false ∷
+        asks_run (codes "a") (codes "--tight") 200 (pos 100000000000) false ∷
+        asks_run (codes "a") (codes "b") 200 (pos 100000000000) false ∷
+        asks_run (codes "a") (codes "--") 200 (pos 100000000000) false ∷ [] }
+{}
+
+/// The words of `check` and of `gen`.
+pub fn others()
+    ensures checks { map order_of (map typed (
+        codes "check a b" ∷ codes "check -- a b" ∷ []))
+        ≡
+        asks_check (codes "a") (codes "b") ∷ asks_check (codes "a") (codes "b") ∷ [] }
+    ensures gens { map order_of (map typed (
+        codes "gen 1 10 a b" ∷ codes "gen 0 1 a b" ∷ codes "gen 2147483647 10000 a b" ∷
+        codes "gen 0000000007 00001 a -- -b" ∷ []))
+        ≡
+        asks_gen 1 10 (codes "a") (codes "b") ∷ asks_gen 0 1 (codes "a") (codes "b") ∷
+        asks_gen 2147483647 10000 (codes "a") (codes "b") ∷ asks_gen 7 1 (codes "a") (codes "-b") ∷ [] }
+{}
+
+/// Words that are no command.
+pub fn refused()
+    ensures names { are_none (map order_of (map typed (
+        codes "run" ∷ codes "run a" ∷ codes "run a b c" ∷ codes "run a a" ∷ codes "RUN a b" ∷ codes "walk a b" ∷
+        codes "-- run a b" ∷ []))) ≡ true }
+    ensures rounds { are_none (map order_of (map typed (
+        codes "run a b --tight --tight" ∷ codes "run a b --tight=" ∷ codes "run a b --tight=1" ∷
+        codes "run a b -t" ∷ codes "run a b --sweeps" ∷ codes "run a b --sweeps -1" ∷ codes "run a b --sweeps=-1" ∷
+        codes "run a b --sweeps +1" ∷ codes "run a b --sweeps 100001" ∷ codes "run a b --sweeps 0000001" ∷
+        codes "run a b --sweeps=" ∷ codes "run a b --sweeps 1 --sweeps 1" ∷ codes "run a b --sweeps=1 --sweeps 2" ∷
+        codes "run a --sweeps -- b" ∷ []))) ≡ true }
+    ensures widths { are_none (map order_of (map typed (
+        codes "run a b --width 0" ∷ codes "run a b --width 1e-10" ∷ codes "run a b --width 1000.000000001" ∷
+        codes "run a b --width x" ∷ codes "run a b --width -5" ∷ codes "run a b --width=-5" ∷
+        codes "run a b --width 1 --width=1" ∷ codes "run a b --sweeps -" ∷ codes "run a b --Tight" ∷
+        codes "run a b --unknown" ∷ codes "run a b --help" ∷ codes "run a b --sweep 5" ∷ []))) ≡ true }
+    ensures others { are_none (map order_of (map typed (
+        codes "check a b --tight" ∷ codes "check a b --sweeps 5" ∷ codes "check a a" ∷ codes "check a" ∷
+        codes "gen 7 1 a" ∷ codes "gen 2147483648 1 a b" ∷ codes "gen 7 0 a b" ∷ codes "gen 7 10001 a b" ∷
+        codes "gen x 1 a b" ∷ codes "gen 00000000007 1 a b" ∷ codes "gen 7 000001 a b" ∷ codes "gen 7 1 a a" ∷
+        codes "gen 7 1 a b --tight" ∷ codes "gen -7 1 a b" ∷ codes "gen 7 1 a b c" ∷ []))) ≡ true }
+{}

@@ -1,0 +1,4 @@
+pub mod OneLink
+pub mod StatusWords
+pub mod Spurs
+pub mod Timed

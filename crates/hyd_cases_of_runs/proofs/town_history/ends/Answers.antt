@@ -1,0 +1,12 @@
+use Rattle.std.proofs.Common.{ap}
+use Rattle.hyd_cases_of_runs.proofs.town_history.ends.Goals as goal
+use Rattle.hyd_cases_of_runs.proofs.TownIs.{town_is}
+use Rattle.hyd_spec.specs.History.{commanded_after}
+use Rattle.hyd_cases_of_runs.specs.TownHistory.{period_at_two, period_when_full}
+
+pub returns-clause-at_two : goal.returns-clause-at_two
+returns-clause-at_two c = λ network town. ap (λ network. commanded_after network 1000 period_at_two) (town_is town)
+
+pub returns-clause-when_full : goal.returns-clause-when_full
+returns-clause-when_full c = λ network town. ap (λ network. commanded_after network 1000 period_when_full)
+    (town_is town)

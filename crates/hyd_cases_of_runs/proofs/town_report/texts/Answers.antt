@@ -1,0 +1,20 @@
+use Rattle.std.proofs.Common.{ap}
+use Rattle.hyd_cases_of_runs.proofs.town_report.texts.Goals as goal
+use Rattle.hyd_cases_of_runs.proofs.TownIs.{town_is}
+use Rattle.std.specs.Fmt.{digits}
+use Rattle.hyd_num.specs.PrintedDecimals.{fixed_point}
+use Rattle.std.specs.Prelude.{◌++◌, map}
+use Rattle.hyd_spec_reports.specs.Report.{control_lines, events_of, event_line}
+use Rattle.hyd_spec_reports.specs.ReportLine.{line_text, report_text, done_line}
+use Rattle.hyd_cases_of_runs.specs.TownPeriods.{standing_at_two, grid_at_two, row_at_two}
+use Rattle.hyd_cases_of_runs.specs.TownReport.{lines_at_two}
+
+pub returns-clause-text_state : goal.returns-clause-text_state
+unfolding digits fixed_point
+returns-clause-text_state c = λ network town. ap (λ network. map (line_text network) lines_at_two) (town_is town)
+
+pub returns-clause-text_report : goal.returns-clause-text_report
+unfolding digits fixed_point
+returns-clause-text_report c = λ network town. ap (λ network. report_text network
+    (control_lines network standing_at_two ++ (lines_at_two ++ map (event_line 7313)
+    (events_of network grid_at_two standing_at_two row_at_two))) (done_line 1)) (town_is town)

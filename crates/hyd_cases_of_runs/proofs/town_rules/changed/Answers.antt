@@ -1,0 +1,32 @@
+use Rattle.std.proofs.Common.{ap}
+use Rattle.hyd_cases_of_runs.proofs.town_rules.changed.Goals as goal
+use Rattle.hyd_cases_of_runs.proofs.TownIs.{town_is}
+use Rattle.std.specs.Prelude.{true, false, [], ◌∷◌, map}
+use Rattle.hyd_spec.specs.Rules.{state_of_link, change_of, rule_changes}
+use Rattle.hyd_spec_certificates.specs.Decided.{links_at}
+use Rattle.hyd_cases_of_runs.specs.Town.{numbers}
+use Rattle.hyd_cases_of_runs.specs.TownPeriods.{standing_when_full}
+
+pub returns-clause-three : goal.returns-clause-three
+returns-clause-three c = λ network town. ap (λ network. map (λ link. change_of network (true ∷ true ∷ false ∷ false
+    ∷ []) link (state_of_link (links_at network standing_when_full) link)) numbers) (town_is town)
+
+pub returns-clause-three_in_order : goal.returns-clause-three_in_order
+returns-clause-three_in_order c = λ network town. ap (λ network. rule_changes network (true ∷ true ∷ false ∷ false
+    ∷ []) (links_at network standing_when_full)) (town_is town)
+
+pub returns-clause-all : goal.returns-clause-all
+returns-clause-all c = λ network town. ap (λ network. map (λ link. change_of network (true ∷ true ∷ true ∷ true ∷ [])
+    link (state_of_link (links_at network standing_when_full) link)) numbers) (town_is town)
+
+pub returns-clause-all_in_order : goal.returns-clause-all_in_order
+returns-clause-all_in_order c = λ network town. ap (λ network. rule_changes network (true ∷ true ∷ true ∷ true ∷ [])
+    (links_at network standing_when_full)) (town_is town)
+
+pub returns-clause-none : goal.returns-clause-none
+returns-clause-none c = λ network town. ap (λ network. map (λ link. change_of network (false ∷ false ∷ false ∷ false
+    ∷ []) link (state_of_link (links_at network standing_when_full) link)) numbers) (town_is town)
+
+pub returns-clause-none_in_order : goal.returns-clause-none_in_order
+returns-clause-none_in_order c = λ network town. ap (λ network. rule_changes network (false ∷ false ∷ false ∷ false
+    ∷ []) (links_at network standing_when_full)) (town_is town)

@@ -1,0 +1,21 @@
+use Rattle.std.proofs.Common.{ap}
+use Rattle.hyd_cases_of_runs.proofs.town_rules.measures.Goals as goal
+use Rattle.hyd_cases_of_runs.proofs.TownIs.{town_is}
+use Rattle.std.specs.Prelude.{[], ◌∷◌, map}
+use Rattle.hyd_spec.specs.Rules.{head_of, pressure_of, state_of_link}
+use Rattle.hyd_spec_certificates.specs.Decided.{links_at}
+use Rattle.hyd_cases_of_runs.specs.Town.{numbers}
+use Rattle.hyd_cases_of_runs.specs.TownPeriods.{standing_when_full}
+use Rattle.hyd_cases_of_runs.specs.TownReadings.{readings_of_halves}
+
+pub returns-clause-heads : goal.returns-clause-heads
+returns-clause-heads c = λ network town. ap (λ network. map (head_of network 1 readings_of_halves) numbers)
+    (town_is town)
+
+pub returns-clause-pressures : goal.returns-clause-pressures
+returns-clause-pressures c = λ network town. ap (λ network. map (pressure_of network 1 readings_of_halves)
+    (0 ∷ 1 ∷ 3 ∷ 4 ∷ [])) (town_is town)
+
+pub returns-clause-states : goal.returns-clause-states
+returns-clause-states c = λ network town. ap (λ network. map (state_of_link (links_at network standing_when_full))
+    numbers) (town_is town)

@@ -1,0 +1,14 @@
+use Rattle.std.proofs.Common.{ap}
+use Rattle.hyd_cases_of_runs.proofs.town_starts.initial.Goals as goal
+use Rattle.hyd_cases_of_runs.proofs.TownIs.{town_is}
+use Rattle.hyd_spec.specs.History.{initial_links, initial_levels}
+use Rattle.hyd_spec_certificates.specs.Record.{initial_standing}
+
+pub returns-clause-standing : goal.returns-clause-standing
+returns-clause-standing c = λ network town. ap (λ network. initial_standing network) (town_is town)
+
+pub returns-clause-links : goal.returns-clause-links
+returns-clause-links c = λ network town. ap (λ network. initial_links network) (town_is town)
+
+pub returns-clause-levels : goal.returns-clause-levels
+returns-clause-levels c = λ network town. ap (λ network. initial_levels network 3) (town_is town)

@@ -1,7 +1,0 @@
-use Rattle.std.proofs.Common.{◌<◌, ℕ}
-use Rattle.hyd_graph.specs.GridOf.{grid_of}
-use Rattle.hyd_check.specs.Sides.{PassesAt}
-use Rattle.hyd_check.proofs.checks.first_failing.Given as goal
-
-abbrev pub invariant-loop-i : goal.invariant-loop-i
-invariant-loop-i l = (k : ℕ) → k < l.i → PassesAt (grid_of l.net) l.problem l.side l.u k

@@ -1,0 +1,106 @@
+-- What the answers of the command `run` mean.
+-- Source: this program's.
+use Rattle.std.specs.Prelude.{◌≡◌, ℕ, ◌⊎◌, List, ⊤}
+use Rattle.hyd_io.specs.declared.desk.Openings.{Openings}
+use Rattle.hyd_io.specs.Counts.{with_opened, with_created}
+use Rattle.hyd_io.specs.ToldBytes.{where_told, append_known, file_at}
+use Rattle.hyd_spec.specs.ProgramTypes.{Project}
+use Rattle.hyd_spec_reports.specs.Headline.{Outcome, RunWrites, RunBreaksOff, outcome_number}
+use Rattle.hyd_run.specs.Runs.{sharpness_of}
+use Rattle.hyd_sim.specs.declared.settings.Settings.{Settings}
+use Rattle.hyd_command_words.specs.CommandGrammar.{RunOrder}
+use Rattle.hyd_cli.specs.Statuses.{number_of}
+use Rattle.hyd_cli.specs.declared.status.Status.{Status}
+use Rattle.hyd_cli.specs.declared.status.Status.TheVariants.{Done, OutOfMemory, Usage, ReadFault, WriteFault}
+use Rattle.hyd_cli.specs.declared.status.Status.TheVariants.{InputRefused, Undecided, RoundsSpent, Demand}
+use Rattle.hyd_cli.specs.declared.status.Status.TheVariants.{CertificateRefused, Stalled}
+use Rattle.hyd_cli.specs.DeskContents.{Seen, IsUntouched, NothingPut}
+use Rattle.hyd_cli.specs.Answers.{OfNetwork}
+
+-- How often a run opens NET and creates CERT: each once at most, so what can be read only once is read whole. NET is
+-- opened but where memory ran out before, and CERT is created when all memory is taken that the run needs.
+abbrev pub OpensOnce : Status → Openings → Openings → Type 0
+OpensOnce Done before now = now ≡ with_created (with_opened before)
+OpensOnce OutOfMemory before now = (now ≡ before) ⊎ (now ≡ with_opened before)
+OpensOnce Usage before now = ⊥
+OpensOnce ReadFault before now = now ≡ with_opened before
+OpensOnce WriteFault before now = (now ≡ with_opened before) ⊎ (now ≡ with_created (with_opened before))
+OpensOnce InputRefused before now = now ≡ with_opened before
+OpensOnce Undecided before now = now ≡ with_created (with_opened before)
+OpensOnce RoundsSpent before now = now ≡ with_created (with_opened before)
+OpensOnce Demand before now = now ≡ with_created (with_opened before)
+OpensOnce CertificateRefused before now = ⊥
+OpensOnce Stalled before now = (now ≡ with_opened before) ⊎ (now ≡ with_created (with_opened before))
+
+-- Of these, what is opened and created once NET was read: CERT is created when all memory is taken that the run needs.
+abbrev pub OpensCert : Status → Openings → Openings → Type 0
+OpensCert Done before now = now ≡ with_created before
+OpensCert OutOfMemory before now = now ≡ before
+OpensCert Usage before now = ⊥
+OpensCert ReadFault before now = ⊥
+OpensCert WriteFault before now = (now ≡ before) ⊎ (now ≡ with_created before)
+OpensCert InputRefused before now = now ≡ before
+OpensCert Undecided before now = now ≡ with_created before
+OpensCert RoundsSpent before now = now ≡ with_created before
+OpensCert Demand before now = now ≡ with_created before
+OpensCert CertificateRefused before now = ⊥
+OpensCert Stalled before now = (now ≡ before) ⊎ (now ≡ with_created before)
+
+-- What an order asks a run for.
+abbrev pub settings_of : RunOrder → Settings
+settings_of order = record { rounds = order.rounds; width = order.width; tight = order.tight }
+
+-- The certificate of a run of the network was written to the file created in this call, where files are told, its
+-- report was printed, and every history agrees with them; the status says how the run ended. The file of the name
+-- CERT holds what was written.
+pub record Delivered (network : Project) (settings : Settings) (cert : List ℕ) (status : Status) (before now : Seen) :
+    Type 0 where
+  pub outcome : Outcome
+  pub certificate : List ℕ
+  pub report : List ℕ
+  pub run : RunWrites network settings.rounds (sharpness_of settings) outcome certificate report
+  pub status_is : number_of status ≡ outcome_number outcome
+  pub written : now.written ≡ where_told before.files certificate
+  pub printed : now.printed ≡ append_known before.printed report
+  pub held : file_at now.files cert ≡ now.written
+
+-- A fault broke a run of the network off: what was written to the file created in this call, where files are told, and
+-- what was printed are fronts of the certificate and of the report of the run as far as it went, and every history
+-- agrees with it. The file of the name CERT holds what was written.
+pub record CutShort (network : Project) (settings : Settings) (cert : List ℕ) (before now : Seen) : Type 0 where
+  pub certificate : List ℕ
+  pub report : List ℕ
+  pub run : RunBreaksOff network settings.rounds (sharpness_of settings) certificate report
+  pub written : now.written ≡ where_told before.files certificate
+  pub printed : now.printed ≡ append_known before.printed report
+  pub held : file_at now.files cert ≡ now.written
+
+-- What an answer says of a network that is run.
+abbrev pub AnswersRun : Project → Settings → List ℕ → Status → Seen → Seen → Type 0
+AnswersRun network settings cert Done before now = Delivered network settings cert Done before now
+AnswersRun network settings cert Undecided before now = Delivered network settings cert Undecided before now
+AnswersRun network settings cert RoundsSpent before now = Delivered network settings cert RoundsSpent before now
+AnswersRun network settings cert Demand before now = Delivered network settings cert Demand before now
+AnswersRun network settings cert OutOfMemory before now = IsUntouched before now
+AnswersRun network settings cert WriteFault before now = NothingPut before now ⊎ CutShort network settings cert before
+    now
+AnswersRun network settings cert Stalled before now = NothingPut before now ⊎ CutShort network settings cert before now
+AnswersRun network settings cert status before now = ⊥
+
+-- What an answer says of a text without a fault: want of memory and a fault of reading leave all untouched.
+abbrev pub AnswersText : List ℕ → Settings → List ℕ → Status → Seen → Seen → Type 0
+AnswersText text settings cert OutOfMemory before now = IsUntouched before now
+AnswersText text settings cert ReadFault before now = IsUntouched before now
+AnswersText text settings cert status before now = OfNetwork text (λ network. AnswersRun network settings cert status
+    before now)
+
+-- The file of the name CERT holds what was written, at the end of a run and, where something was written, after a
+-- fault.
+abbrev pub Holds : Status → List ℕ → Seen → Seen → Type 0
+Holds Done cert before now = file_at now.files cert ≡ now.written
+Holds Undecided cert before now = file_at now.files cert ≡ now.written
+Holds RoundsSpent cert before now = file_at now.files cert ≡ now.written
+Holds Demand cert before now = file_at now.files cert ≡ now.written
+Holds WriteFault cert before now = (now.written ≡ before.written) ⊎ (file_at now.files cert ≡ now.written)
+Holds Stalled cert before now = (now.written ≡ before.written) ⊎ (file_at now.files cert ≡ now.written)
+Holds status cert before now = ⊤

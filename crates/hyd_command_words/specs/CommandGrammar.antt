@@ -1,0 +1,139 @@
+-- The commands, and which words are one: the name of a command, then its options and names.
+use Rattle.std.specs.Prelude.{ℕ, ◌-◌, ◌^◌, nat_le, ◌==◌, Bool, not, ◌&&◌, List, [], ◌∷◌, length, Option, Some, None}
+use Rattle.std.specs.Prelude.{option_map, option_and_then, bytes_eq, codes, if◌then◌else◌, ℤ, pos, ◌*ℤ◌, int_lt, int_le}
+use Rattle.std.specs.List.{list_all}
+use Rattle.hyd_num.specs.Numeral.{is_digit, is_numeral, nano_of, number}
+use Rattle.hyd_command_words.specs.SaidWords.{Word, Said, said}
+
+-- the two files of a command: NET, the network, and CERT, its certificate
+pub record TwoFiles : Type 0 where
+  pub net : Word
+  pub cert : Word
+
+-- `run`: its files, the greatest number of rounds, the width in head ticks of 10^-13 m, and whether vectors are tight
+pub record RunOrder : Type 0 where
+  pub files : TwoFiles
+  pub rounds : ℕ
+  pub width : ℤ
+  pub tight : Bool
+
+-- `gen`: its seed, the number of junctions, and its files
+pub record GenOrder : Type 0 where
+  pub seed : ℕ
+  pub junctions : ℕ
+  pub files : TwoFiles
+
+-- a command with its options and names
+pub data Order : Type 0 where
+  run : RunOrder → Order
+  check : TwoFiles → Order
+  gen : GenOrder → Order
+
+-- ---- numbers
+
+-- one digit at least, at most this many, and nothing else
+abbrev pub is_short_number : ℕ → Word → Bool
+is_short_number most word = (list_all is_digit word && nat_le 1 (length word)) && nat_le (length word) most
+
+-- a number of at most this many digits, from the least to the greatest
+abbrev pub number_within : (most least greatest : ℕ) → Word → Option ℕ
+number_within most least greatest word =
+    if is_short_number most word && (nat_le least (number word) && nat_le (number word) greatest)
+    then Some (number word) else None
+
+-- the value of an option that stands once at most, by default this
+abbrev pub once : {X : Type 0} → X → (Word → Option X) → List Word → Option X
+once default read [] = Some default
+once default read (value ∷ []) = read value
+once default read values = None
+
+-- N: at most 100,000, by default 200
+abbrev pub rounds_of : List Word → Option ℕ
+rounds_of values = once 200 (number_within 6 0 100000) values
+
+-- A number of metres above 0 and at most 1,000, in head ticks; what stands behind its ninth decimal is cut off first.
+abbrev pub width_in_ticks : Word → Option ℤ
+width_in_ticks word =
+    if is_numeral word && (int_lt (pos 0) (nano_of word) && int_le (nano_of word) (pos (10 ^ 12)))
+    then Some (nano_of word *ℤ pos (10 ^ 4)) else None
+
+-- W: by default 0.01 m
+abbrev pub width_of : List Word → Option ℤ
+width_of values = once (pos (10 ^ 11)) width_in_ticks values
+
+-- SEED: below 2^31
+abbrev pub seed_of : Word → Option ℕ
+seed_of word = number_within 10 0 (2 ^ 31 - 1) word
+
+-- JUNCTIONS
+abbrev pub junctions_of : Word → Option ℕ
+junctions_of word = number_within 5 1 10000 word
+
+-- ---- names
+
+-- NET and CERT, which differ
+abbrev pub differing : Word → Word → Option TwoFiles
+differing net cert = if bytes_eq net cert then None else Some (record { net = net; cert = cert })
+
+-- two names and no more
+abbrev pub two_files : List Word → Option TwoFiles
+two_files (net ∷ cert ∷ []) = differing net cert
+two_files names = None
+
+-- SEED, JUNCTIONS, NET and CERT
+abbrev pub gen_of : (seed junctions net cert : Word) → Option GenOrder
+gen_of seed junctions net cert =
+    option_and_then (λ s. option_and_then (λ j. option_map (λ f. record { seed = s; junctions = j; files = f })
+    (differing net cert)) (junctions_of junctions)) (seed_of seed)
+
+-- four of them and no more
+abbrev pub gen_order : List Word → Option GenOrder
+gen_order (seed ∷ junctions ∷ net ∷ cert ∷ []) = gen_of seed junctions net cert
+gen_order names = None
+
+-- ---- commands
+
+-- nothing is wrong, and `--tight` stands once at most
+abbrev pub is_sound : Said → Bool
+is_sound s = not s.has_wrong && nat_le s.tight_count 1
+
+-- nothing is wrong, and no option stands
+abbrev pub has_names_alone : Said → Bool
+has_names_alone s =
+    not s.has_wrong && (s.tight_count == 0 && (length s.sweeps_values == 0 && length s.width_values == 0))
+
+-- `run NET CERT`, with `--sweeps N`, `--width W` and `--tight` once each at most
+abbrev pub run_order : Said → Option RunOrder
+run_order s =
+    if is_sound s
+    then option_and_then (λ n. option_and_then (λ w. option_map (λ f. record {
+      files = f;
+      rounds = n;
+      width = w;
+      tight = s.tight_count == 1;
+    }) (two_files s.names)) (width_of s.width_values)) (rounds_of s.sweeps_values)
+    else None
+
+abbrev pub run_command : Said → Option Order
+run_command s = option_map run (run_order s)
+
+-- `check NET CERT`
+abbrev pub check_command : Said → Option Order
+check_command s = if has_names_alone s then option_map check (two_files s.names) else None
+
+-- `gen SEED JUNCTIONS NET CERT`
+abbrev pub gen_command : Said → Option Order
+gen_command s = if has_names_alone s then option_map gen (gen_order s.names) else None
+
+-- the command of this name, if what is said behind it fits
+abbrev pub order_named : Word → Said → Option Order
+order_named word s =
+    if bytes_eq word (codes "run") then run_command s
+    else (if bytes_eq word (codes "check") then check_command s
+    else (if bytes_eq word (codes "gen") then gen_command s
+    else None))
+
+-- the command of the words, if they are one
+abbrev pub order_of : List Word → Option Order
+order_of [] = None
+order_of (word ∷ behind) = order_named word (said behind)

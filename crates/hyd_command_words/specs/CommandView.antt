@@ -1,0 +1,40 @@
+-- The commands that the reader hands out, and what it holds on its way, as the definitions see them.
+use Rattle.std.specs.Prelude.{false, List, map}
+use Rattle.std.specs.Borrow.{Bor}
+use Rattle.hyd_command_words.specs.SaidWords.{Word, Said}
+use Rattle.hyd_command_words.specs.declared.matched_words.Said.{Said as Read}
+use Rattle.hyd_command_words.specs.CommandGrammar.{Order, RunOrder, GenOrder, TwoFiles, run, check, gen}
+use Rattle.hyd_command_words.specs.declared.command.Command.{Command}
+use Rattle.hyd_command_words.specs.declared.command.Command.TheVariants as command
+use Rattle.hyd_command_words.specs.declared.command.Files.{Files}
+use Rattle.hyd_command_words.specs.declared.command.RunWords.{RunWords}
+use Rattle.hyd_command_words.specs.declared.command.GenWords.{GenWords}
+
+abbrev pub files_seen : Files → TwoFiles
+files_seen f = record { net = f.net.now; cert = f.cert.now }
+
+abbrev pub run_seen : RunWords → RunOrder
+run_seen r = record { files = files_seen r.files; rounds = r.rounds; width = r.width; tight = r.tight }
+
+abbrev pub gen_seen : GenWords → GenOrder
+gen_seen g = record { seed = g.seed; junctions = g.junctions; files = files_seen g.files }
+
+-- a command with its options and names
+abbrev pub order_seen : Command → Order
+order_seen (command.Run r) = run (run_seen r)
+order_seen (command.Check f) = check (files_seen f)
+order_seen (command.Gen g) = gen (gen_seen g)
+
+-- the words behind references
+abbrev pub texts_seen : List (Bor Word) → List Word
+texts_seen = map (λ text. text.now)
+
+-- what has been said, where nothing is wrong
+abbrev pub said_seen : Read → Said
+said_seen s = record {
+  sweeps_values = texts_seen s.sweeps_values.now;
+  width_values = texts_seen s.width_values.now;
+  tight_count = s.tight_count;
+  names = texts_seen s.names.now;
+  has_wrong = false;
+}

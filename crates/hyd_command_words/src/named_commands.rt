@@ -1,0 +1,111 @@
+//! The command of a name and what is said behind it.
+
+ghost use Rattle.std.specs.Prelude.{◌≡◌, ◌^◌, ◌-◌, option_map, not, ◌==◌, ◌||◌};
+ghost use Rattle.hyd_command_words.specs.CommandGrammar as orders;
+ghost use Rattle.hyd_command_words.specs.CommandView.{said_seen, texts_seen, order_seen, run_seen, gen_seen};
+ghost use Rattle.hyd_command_words.specs.CommandView.{files_seen};
+
+use crate::command::{Command, Files, GenWords, RunWords};
+use crate::matched_words::Said;
+use crate::numbers::{number_within, rounds_of, width_of};
+
+/// The command of this name, if what is said behind it fits.
+pub(crate) fn order_named<'a>(name: &str, said: Said<'_, 'a>) -> Option<Command<'a>>
+    ensures { option_map order_seen result ≡ orders.order_named name.now (said_seen said.entry) }
+{
+    if name == "run" {
+        return run_command(said);
+    }
+    if name == "check" {
+        return check_command(said);
+    }
+    if name == "gen" {
+        return gen_command(said);
+    }
+    None
+}
+
+fn run_command<'a>(said: Said<'_, 'a>) -> Option<Command<'a>>
+    ensures { option_map order_seen result ≡ orders.run_command (said_seen said.entry) }
+{
+    if said.tight_count > 1 {
+        return None;
+    }
+    let rounds = rounds_of(said.sweeps_values)?;
+    let width = width_of(said.width_values)?;
+    let files = two_files(said.names)?;
+    Some(Command::Run(RunWords {
+        files,
+        rounds,
+        width,
+        tight: said.tight_count == 1,
+    }))
+}
+
+fn check_command<'a>(said: Said<'_, 'a>) -> Option<Command<'a>>
+    ensures { option_map order_seen result ≡ orders.check_command (said_seen said.entry) }
+{
+    if has_options(said) {
+        return None;
+    }
+    let files = two_files(said.names)?;
+    Some(Command::Check(files))
+}
+
+fn gen_command<'a>(said: Said<'_, 'a>) -> Option<Command<'a>>
+    ensures { option_map order_seen result ≡ orders.gen_command (said_seen said.entry) }
+{
+    if has_options(said) {
+        return None;
+    }
+    let order = gen_words(said.names)?;
+    Some(Command::Gen(order))
+}
+
+// Whether an option stands.
+fn has_options(said: Said<'_, '_>) -> bool
+    ensures { result ≡ not (orders.has_names_alone (said_seen said.entry)) }
+{
+    said.tight_count > 0 || said.sweeps_values.len() > 0 || said.width_values.len() > 0
+}
+
+fn two_files<'a>(names: &[&'a str]) -> Option<Files<'a>>
+    ensures { option_map files_seen result ≡ orders.two_files (texts_seen names.now) }
+{
+    match names {
+        [net, cert] => differing(net, cert),
+        _ => None,
+    }
+}
+
+// The two files, if their names differ.
+fn differing<'a>(net: &'a str, cert: &'a str) -> Option<Files<'a>>
+    ensures { option_map files_seen result ≡ orders.differing net.now cert.now }
+{
+    if net == cert {
+        return None;
+    }
+    Some(Files { net, cert })
+}
+
+fn gen_words<'a>(names: &[&'a str]) -> Option<GenWords<'a>>
+    ensures { option_map gen_seen result ≡ orders.gen_order (texts_seen names.now) }
+{
+    match names {
+        [seed, junctions, net, cert] => gen_of(seed, junctions, net, cert),
+        _ => None,
+    }
+}
+
+fn gen_of<'a>(seed: &str, junctions: &str, net: &'a str, cert: &'a str) -> Option<GenWords<'a>>
+    ensures { option_map gen_seen result ≡ orders.gen_of seed.now junctions.now net.now cert.now }
+{
+    let seed = number_within(seed.as_bytes(), 10, 0, (1 << 31) - 1)?;
+    let junctions = number_within(junctions.as_bytes(), 5, 1, 10_000)?;
+    let files = differing(net, cert)?;
+    Some(GenWords {
+        seed,
+        junctions,
+        files,
+    })
+}

@@ -1,8 +1,0 @@
-use Rattle.std.proofs.Common.{◌≡◌, drop}
-use Rattle.hyd_ctrl.specs.Instants.{verdict_there}
-use Rattle.hyd_ctrl.specs.Premises.{rule_there, premise_of}
-use Rattle.hyd_ctrl.proofs.rules.rule_verdict.Given as goal
-
-abbrev pub invariant-loop-row : goal.invariant-loop-row
-invariant-loop-row l = premise_of (verdict_there l.instant) l.premise
-    (drop l.row-index l.clauses) ≡ rule_there l.instant l.rule

@@ -1,0 +1,150 @@
+//! What flows at given heads.
+#![tactic(auto)]
+
+ghost use Rattle.std.specs.Prelude.{◌≡◌, ◌<◌, ◌≤◌, ◌*◌, ◌^◌, length, unsigned_abs};
+
+use crate::number_lists::{add_at, number_at};
+use hyd_law::{Law, OutLaw};
+use hyd_period_network::{Ends, Net, Tie};
+use hyd_spec_certificates::Side;
+use hyd_vector_check::{is_in_box, outflow};
+
+/// The greatest head difference at which a law is asked, in head ticks.
+const WIDEST: i64 = 2_000_000_000_000_000_000;
+
+/// The greatest flow that is reckoned with, in flow ticks.
+const GREATEST_FLOW: i128 = 1_000_000_000_000_000_000;
+
+// The nearest head difference at which a law is asked.
+fn within_reach(difference: i64) -> i64
+    ensures { unsigned_abs result ≤ 2 * 10 ^ 18 }
+{
+    difference.clamp(-WIDEST, WIDEST)
+}
+
+// A flow in 64 bits.
+fn narrowed(flow: i128) -> i64 {
+    flow.clamp(-GREATEST_FLOW, GREATEST_FLOW) as i64
+}
+
+/// At most the flow of a link at a head difference.
+pub(crate) fn low_flow(net: &Net, link: u32, difference: i64) -> i64
+    requires { link < length net.now.ends }
+{
+    let _links = net.links();
+    let law = net.law(link);
+    let near = within_reach(difference);
+    narrowed(law.low(near))
+}
+
+// At least the flow of a link at a head difference.
+fn high_flow(net: &Net, link: u32, difference: i64) -> i64
+    requires { link < length net.now.ends }
+{
+    let _links = net.links();
+    let law = net.law(link);
+    let near = within_reach(difference);
+    narrowed(law.high(near))
+}
+
+// The flow of a link at a head difference, as the middle of its bounds.
+fn middle_flow(net: &Net, link: u32, difference: i64) -> i64
+    requires { link < length net.now.ends }
+{
+    let _links = net.links();
+    let law = net.law(link);
+    let near = within_reach(difference);
+    narrowed((law.low(near) + law.high(near)) / 2)
+}
+
+// What leaves a junction at a head beside its links, as the middle of its bounds.
+fn middle_outflow(net: &Net, junction: u32, head: i64) -> i64 {
+    if junction >= net.junctions() || !is_in_box(head) {
+        return 0;
+    }
+    let least = outflow(net, Side::Upper, junction, head);
+    let most = outflow(net, Side::Lower, junction, head);
+    narrowed((least + most) / 2)
+}
+
+/// What leaves a junction at a head beside its links: at most for UPPER, at least for LOWER.
+pub(crate) fn bound_outflow(net: &Net, side: Side, junction: u32, head: i64) -> i64 {
+    if junction >= net.junctions() || !is_in_box(head) {
+        return 0;
+    }
+    narrowed(outflow(net, side, junction, head))
+}
+
+/// At most what leaves a junction at a head beside its links.
+pub(crate) fn low_outflow(net: &Net, junction: u32, head: i64) -> i64 {
+    bound_outflow(net, Side::Upper, junction, head)
+}
+
+/// What flows out of a junction at a head through a link end to a node at another head: at most for UPPER, at least for
+/// LOWER.
+pub(crate) fn bound_flow(net: &Net, side: Side, tie: Tie, head: i64, other: i64) -> i64 {
+    if tie.link >= net.links() {
+        return 0;
+    }
+    let difference = head.saturating_sub(other);
+    match (tie.out, side) {
+        (true, Side::Upper) => low_flow(net, tie.link, difference),
+        (true, Side::Lower) => high_flow(net, tie.link, difference),
+        (false, Side::Upper) => high_flow(
+            net,
+            tie.link,
+            difference.saturating_neg(),
+        ).saturating_neg(),
+        (false, Side::Lower) => low_flow(
+            net,
+            tie.link,
+            difference.saturating_neg(),
+        ).saturating_neg(),
+    }
+}
+
+/// Whether what leaves a junction beside its links is the same at every head.
+pub(crate) fn is_flat(net: &Net, junction: u32) -> bool {
+    if junction >= net.junctions() {
+        return true;
+    }
+    matches!(net.demand_law(junction), OutLaw::Fixed(_)) && net.emitter_law(junction).is_none()
+}
+
+/// The head difference along a link.
+pub(crate) fn difference(heads: &[i64], ends: Ends) -> i64 {
+    number_at(heads, ends.from).saturating_sub(number_at(heads, ends.to))
+}
+
+// Puts the load of each junction less what leaves it beside its links.
+fn put_outflows(net: &Net, heads: &[i64], loads: &[i64], misses: &mut [i64])
+    ensures { length misses.new ≡ length misses.old }
+{
+    for junction in 0..net.junctions() {
+        if let Some(miss) = misses.get_mut(junction as usize) {
+            let leaves = middle_outflow(net, junction, number_at(heads, junction));
+            *miss = number_at(loads, junction).saturating_sub(leaves);
+        }
+    }
+}
+
+// Adds what links bring to their ends.
+fn add_flows(net: &Net, heads: &[i64], misses: &mut [i64])
+    ensures { length misses.new ≡ length misses.old }
+{
+    for link in 0..net.links() {
+        let ends = net.ends(link);
+        let flow = middle_flow(net, link, difference(heads, ends));
+        add_at(misses, ends.from, flow.saturating_neg());
+        add_at(misses, ends.to, flow);
+    }
+}
+
+/// Puts by how much each junction misses its balance at given heads of all nodes: its load and what flows in, less what
+/// flows out.
+pub(crate) fn put_misses(net: &Net, heads: &[i64], loads: &[i64], misses: &mut [i64])
+    ensures { length misses.new ≡ length misses.old }
+{
+    put_outflows(net, heads, loads, misses);
+    add_flows(net, heads, misses);
+}

@@ -1,0 +1,20 @@
+//! Proposals of certificates: what a finder of them is, one that proposes nothing, and the gradient method (Todini and
+//! Pilati 1988). Nothing is promised of a proposal: whoever takes one checks it.
+#![tactic(auto)]
+
+mod certificate_test;
+mod convergence;
+mod finder;
+mod flows;
+mod gradient;
+mod jacobian;
+mod junction_turns;
+mod junction_weights;
+mod line_search;
+mod number_lists;
+mod raises;
+mod slopes;
+mod tightening;
+
+pub use finder::{Finder, Null};
+pub use gradient::Gradient;

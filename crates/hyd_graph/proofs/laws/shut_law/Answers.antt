@@ -1,8 +1,0 @@
-use Rattle.std.proofs.Common.{subst}
-use Rattle.hyd_law.specs.declared.link_law.LinkLaw.{LinkLaw}
-use Rattle.hyd_graph.specs.Settings.{HasRoom}
-use Rattle.hyd_graph.proofs.laws.shut_law.Goals as goal
-
-pub returns-in-Bent-clause-room : goal.returns-in-Bent-clause-room
-returns-in-Bent-clause-room c n room = c.closed_curve.ensures.room n
-    (subst (λ (l : LinkLaw). HasRoom n l) c.in-Bent.is room)

@@ -1,8 +1,0 @@
-pub mod NetView
-pub mod Ties
-pub mod Demands
-pub mod ExactLaw
-pub mod Settings
-pub mod GridOf
-pub mod Nets
-pub mod Periods

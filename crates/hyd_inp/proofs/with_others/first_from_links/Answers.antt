@@ -1,9 +1,0 @@
-use Rattle.hyd_spec_input.specs.Tables.{is_link}
-use Rattle.hyd_inp.specs.JudgedSections.{commands}
-use Rattle.hyd_inp.proofs.Families.{found_next}
-use Rattle.hyd_inp.proofs.with_others.first_from_links.Goals as goal
-
-pub returns : goal.returns
-returns c =
-    found_next c.args.text.now.text c.args.lines.now is_link commands c.in_ok-links.links.found
-    c.in_ok-commands.commands c.least.result c.least.ensures c.in_ok-links.ensures.found c.in_ok-commands.ensures

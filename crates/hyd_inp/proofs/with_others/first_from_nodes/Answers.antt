@@ -1,9 +1,0 @@
-use Rattle.hyd_spec_input.specs.Tables.{is_node}
-use Rattle.hyd_inp.specs.JudgedSections.{behind_nodes}
-use Rattle.hyd_inp.proofs.Families.{found_next}
-use Rattle.hyd_inp.proofs.with_others.first_from_nodes.Goals as goal
-
-pub returns : goal.returns
-returns c =
-    found_next c.args.text.now.text c.args.lines.now is_node behind_nodes c.in_ok-nodes.nodes.found
-    c.in_ok-behind.behind c.least.result c.least.ensures c.in_ok-nodes.ensures.found c.in_ok-behind.ensures

@@ -1,0 +1,211 @@
+//! The first row that is wrong with the others: the first of those that the passes over the sections find. Each
+//! function makes one table, and hands it to what is judged against it.
+#![tactic(auto)]
+
+ghost use Rattle.std.specs.Prelude.{◌≡◌, ◌≤◌, ◌^◌, length, IfOk};
+ghost use Rattle.std.specs.List.{All};
+ghost use Rattle.hyd_spec_lines.specs.Lines.{LiesIn};
+ghost use Rattle.hyd_spec_lines.specs.declared.section.Section.TheVariants.{Curves as InCurves};
+ghost use Rattle.hyd_spec_input.specs.SingleRows.{IsWrongByItself};
+ghost use Rattle.hyd_spec_input.specs.Faults.{NoneIs, IsWrongWithOthers};
+ghost use Rattle.hyd_spec_input.specs.InForce as force;
+ghost use Rattle.hyd_spec_input.specs.Tables.{node_rows, link_rows, rows_of};
+ghost use Rattle.hyd_text_rows.specs.Found.{HasFound, rows_at};
+ghost use Rattle.hyd_text_rows.specs.Tables.{IsTable};
+ghost use Rattle.hyd_judge_nodes_curves_and_options.specs.JudgedNodes as nodes_form;
+ghost use Rattle.hyd_judge_nodes_curves_and_options.specs.Patterns.{ArePatterns};
+ghost use Rattle.hyd_judge_links.specs.LinkFaults as links_form;
+ghost use Rattle.hyd_inp.specs.SectionFamilies as family;
+ghost use Rattle.hyd_inp.specs.SectionFamilies.{IsWrongOf};
+
+use hyd_curves::gather_points;
+use hyd_judge_controls::{judge_controls, judge_rules, judge_status};
+use hyd_judge_links::{LinkTables, judge_links};
+use hyd_judge_nodes_curves_and_options::{
+    NodeTables, Patterns, judge_curves, judge_demands, judge_emitters, judge_nodes, judge_options,
+    judge_patterns, unit_in_force,
+};
+use hyd_lex::{Line, Lines};
+use hyd_net::OutOfMemory;
+use hyd_num::FlowUnit;
+use hyd_text_rows::{Found, Table, least};
+use std::alloc::Global;
+
+// The first wrong row of states, controls and rules.
+fn first_of_commands(
+    alloc: Global,
+    text: &Lines<'_>,
+    lines: &[Line],
+    nodes: &Table,
+    links: &Table,
+    unit: FlowUnit,
+) -> Result<Option<Found>, OutOfMemory>
+    requires few { length lines.now ≤ 2 ^ 26 }
+    requires lie { All (LiesIn text.now.text) lines.now }
+    requires right { NoneIs (IsWrongByItself (rows_at text.now.text lines.now)) }
+    requires nodes { IsTable text.now.text (node_rows (rows_at text.now.text lines.now)) nodes.now }
+    requires links { IsTable text.now.text (link_rows (rows_at text.now.text lines.now)) links.now }
+    requires unit { unit ≡ force.unit (rows_at text.now.text lines.now) }
+    ensures { IfOk result (λ found. HasFound (rows_at text.now.text lines.now)
+        (IsWrongOf family.commands (rows_at text.now.text lines.now)) (length lines.now) found) }
+{
+    let status = judge_status(text, lines, links, unit);
+    let controls = judge_controls(text, lines, nodes, links, unit);
+    let rules = judge_rules(alloc, text, lines, nodes, links, unit)?;
+    Ok(least(status, least(controls, rules)))
+}
+
+// The first wrong row of links and of what is judged against them.
+fn first_from_links(
+    alloc: Global,
+    text: &Lines<'_>,
+    lines: &[Line],
+    tables: &LinkTables<'_>,
+) -> Result<Option<Found>, OutOfMemory>
+    requires few { length lines.now ≤ 2 ^ 26 }
+    requires lie { All (LiesIn text.now.text) lines.now }
+    requires right { NoneIs (IsWrongByItself (rows_at text.now.text lines.now)) }
+    requires tables { links_form.AreTables text.now.text (rows_at text.now.text lines.now) tables.now }
+    ensures { IfOk result (λ found. HasFound (rows_at text.now.text lines.now)
+        (IsWrongOf family.from_links (rows_at text.now.text lines.now)) (length lines.now) found) }
+{
+    let links = judge_links(alloc, text, lines, tables)?;
+    let commands = first_of_commands(alloc, text, lines, tables.nodes, &links.table, tables.unit)?;
+    Ok(least(links.found, commands))
+}
+
+// The first wrong row of links and of what is judged against them, where curves are judged first.
+fn first_behind_verdicts(
+    alloc: Global,
+    text: &Lines<'_>,
+    lines: &[Line],
+    tables: &NodeTables<'_>,
+    nodes: &Table,
+) -> Result<Option<Found>, OutOfMemory>
+    requires few { length lines.now ≤ 2 ^ 26 }
+    requires lie { All (LiesIn text.now.text) lines.now }
+    requires right { NoneIs (IsWrongByItself (rows_at text.now.text lines.now)) }
+    requires tables { nodes_form.AreTables text.now.text (rows_at text.now.text lines.now) tables.now }
+    requires nodes { IsTable text.now.text (node_rows (rows_at text.now.text lines.now)) nodes.now }
+    ensures { IfOk result (λ found. HasFound (rows_at text.now.text lines.now)
+        (IsWrongOf family.from_links (rows_at text.now.text lines.now)) (length lines.now) found) }
+{
+    let verdicts = hyd_curves::curve_verdicts(alloc, tables.points, tables.unit)?;
+    let link_tables = LinkTables {
+        nodes,
+        curves: tables.curves,
+        verdicts: &verdicts,
+        patterns: tables.patterns,
+        unit: tables.unit,
+    };
+    first_from_links(alloc, text, lines, &link_tables)
+}
+
+// The first wrong row of what is judged against nodes.
+fn first_behind_nodes(
+    alloc: Global,
+    text: &Lines<'_>,
+    lines: &[Line],
+    tables: &NodeTables<'_>,
+    nodes: &Table,
+) -> Result<Option<Found>, OutOfMemory>
+    requires few { length lines.now ≤ 2 ^ 26 }
+    requires lie { All (LiesIn text.now.text) lines.now }
+    requires right { NoneIs (IsWrongByItself (rows_at text.now.text lines.now)) }
+    requires tables { nodes_form.AreTables text.now.text (rows_at text.now.text lines.now) tables.now }
+    requires nodes { IsTable text.now.text (node_rows (rows_at text.now.text lines.now)) nodes.now }
+    ensures { IfOk result (λ found. HasFound (rows_at text.now.text lines.now)
+        (IsWrongOf family.behind_nodes (rows_at text.now.text lines.now)) (length lines.now) found) }
+{
+    let links = first_behind_verdicts(alloc, text, lines, tables, nodes)?;
+    let demands = judge_demands(text, lines, nodes, &tables.patterns.table, tables.unit);
+    let emitters = judge_emitters(text, lines, nodes, tables.unit);
+    Ok(least(demands.found, least(emitters, links)))
+}
+
+// The first wrong row of nodes and of what is judged against them.
+fn first_from_nodes(
+    alloc: Global,
+    text: &Lines<'_>,
+    lines: &[Line],
+    tables: &NodeTables<'_>,
+) -> Result<Option<Found>, OutOfMemory>
+    requires few { length lines.now ≤ 2 ^ 26 }
+    requires lie { All (LiesIn text.now.text) lines.now }
+    requires right { NoneIs (IsWrongByItself (rows_at text.now.text lines.now)) }
+    requires tables { nodes_form.AreTables text.now.text (rows_at text.now.text lines.now) tables.now }
+    ensures { IfOk result (λ found. HasFound (rows_at text.now.text lines.now)
+        (IsWrongOf family.from_nodes (rows_at text.now.text lines.now)) (length lines.now) found) }
+{
+    let nodes = judge_nodes(alloc, text, lines, tables)?;
+    let behind = first_behind_nodes(alloc, text, lines, tables, &nodes.table)?;
+    Ok(least(nodes.found, behind))
+}
+
+// The first wrong row of nodes and of what is judged against them, where the points of curves are gathered first.
+fn first_behind_curves(
+    alloc: Global,
+    text: &Lines<'_>,
+    lines: &[Line],
+    patterns: &Patterns,
+    curves: &Table,
+    unit: FlowUnit,
+) -> Result<Option<Found>, OutOfMemory>
+    requires few { length lines.now ≤ 2 ^ 26 }
+    requires lie { All (LiesIn text.now.text) lines.now }
+    requires right { NoneIs (IsWrongByItself (rows_at text.now.text lines.now)) }
+    requires patterns { ArePatterns text.now.text (rows_at text.now.text lines.now) patterns.now }
+    requires curves { IsTable text.now.text (rows_of InCurves (rows_at text.now.text lines.now)) curves.now }
+    requires unit { unit ≡ force.unit (rows_at text.now.text lines.now) }
+    ensures { IfOk result (λ found. HasFound (rows_at text.now.text lines.now)
+        (IsWrongOf family.from_nodes (rows_at text.now.text lines.now)) (length lines.now) found) }
+{
+    let points = gather_points(alloc, text, lines, curves)?;
+    let tables = NodeTables {
+        patterns,
+        curves,
+        points: &points,
+        unit,
+    };
+    first_from_nodes(alloc, text, lines, &tables)
+}
+
+// The first wrong row of curves and of what is judged against them.
+fn first_from_curves(
+    alloc: Global,
+    text: &Lines<'_>,
+    lines: &[Line],
+    patterns: &Patterns,
+    unit: FlowUnit,
+) -> Result<Option<Found>, OutOfMemory>
+    requires few { length lines.now ≤ 2 ^ 26 }
+    requires lie { All (LiesIn text.now.text) lines.now }
+    requires right { NoneIs (IsWrongByItself (rows_at text.now.text lines.now)) }
+    requires patterns { ArePatterns text.now.text (rows_at text.now.text lines.now) patterns.now }
+    requires unit { unit ≡ force.unit (rows_at text.now.text lines.now) }
+    ensures { IfOk result (λ found. HasFound (rows_at text.now.text lines.now)
+        (IsWrongOf family.from_curves (rows_at text.now.text lines.now)) (length lines.now) found) }
+{
+    let curves = judge_curves(alloc, text, lines)?;
+    let behind = first_behind_curves(alloc, text, lines, patterns, &curves.table, unit)?;
+    Ok(least(curves.found, behind))
+}
+
+/// The first row that is wrong with the others, of a file whose rows are right by themselves.
+pub(crate) fn first_with_others(
+    alloc: Global,
+    text: &Lines<'_>,
+    lines: &[Line],
+) -> Result<Option<Found>, OutOfMemory>
+    requires few { length lines.now ≤ 2 ^ 26 }
+    requires lie { All (LiesIn text.now.text) lines.now }
+    requires right { NoneIs (IsWrongByItself (rows_at text.now.text lines.now)) }
+    ensures { IfOk result (λ found. HasFound (rows_at text.now.text lines.now)
+        (IsWrongWithOthers (rows_at text.now.text lines.now)) (length lines.now) found) }
+{
+    let unit = unit_in_force(text, lines);
+    let options = judge_options(text, lines, unit);
+    let patterns = judge_patterns(alloc, text, lines)?;
+    let behind = first_from_curves(alloc, text, lines, &patterns, unit)?;
+    Ok(least(options, least(patterns.found, behind)))
+}

@@ -1,0 +1,18 @@
+//! What rows of links are judged against.
+#![tactic(auto)]
+
+use hyd_curves::Verdicts;
+use hyd_judge_nodes_curves_and_options::Patterns;
+use hyd_num::FlowUnit;
+use hyd_text_rows::Table;
+
+/// What rows of links name, and the unit of flows in force.
+#[derive(Clone, Copy, Drop)]
+pub struct LinkTables<'a> {
+    pub nodes: &'a Table,
+    pub curves: &'a Table,
+    /// What pumps and general purpose valves ask of each curve.
+    pub verdicts: &'a Verdicts,
+    pub patterns: &'a Patterns,
+    pub unit: FlowUnit,
+}

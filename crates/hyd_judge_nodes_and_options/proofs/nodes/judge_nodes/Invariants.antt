@@ -1,6 +1,0 @@
-use Rattle.hyd_row_tables.specs.Found.{rows_at}
-use Rattle.hyd_judge_nodes_and_options.specs.JudgedNodes.{AreNodes}
-use Rattle.hyd_judge_nodes_and_options.proofs.nodes.judge_nodes.Given as goal
-
-abbrev pub invariant-loop-place : goal.invariant-loop-place
-invariant-loop-place l = AreNodes l.text.text (rows_at l.text.text l.lines) l.place l.nodes

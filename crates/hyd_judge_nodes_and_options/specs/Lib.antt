@@ -1,8 +1,0 @@
-pub mod Patterns
-pub mod Curves
-pub mod OptionLines
-pub mod Nodes
-pub mod Demands
-pub mod Options
-pub mod Extremes
-pub mod JudgedNodes

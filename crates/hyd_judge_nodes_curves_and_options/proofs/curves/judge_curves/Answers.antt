@@ -1,0 +1,28 @@
+use Rattle.std.proofs.Common.{refl, arith, length, ap}
+use Rattle.hyd_spec_lines.specs.declared.section.Section.TheVariants.{Curves}
+use Rattle.hyd_spec_input.specs.Tables.{is_of}
+use Rattle.hyd_text_rows.specs.Found.{rows_at}
+use Rattle.hyd_text_rows.specs.WrongInSection.{IsWrongIn}
+use Rattle.hyd_text_rows.proofs.SectionLemmas.{table_of_all, found_fewer}
+use Rattle.hyd_judge_nodes_curves_and_options.proofs.curves.judge_curves.Goals as goal
+
+pub loop-place-init : goal.loop-place-init
+loop-place-init c = record {
+  count = refl;
+  small = omega arith;
+  table = c.new.ensures.table c.args.text.now.text;
+  distinct = ap length c.new.ensures.empty;
+  few = omega (arith, ap length c.new.ensures.empty);
+  found = λ k l. absurd (omega arith);
+}
+
+pub returns : goal.returns
+returns c =
+    let text = c.args.text.now.text in
+    let lines = c.args.lines.now in
+    record {
+      table = table_of_all text lines c.loop-place.place (is_of Curves) c.loop-place.curves.table.names
+          c.loop-place.curves.table.firsts.items c.loop-place.invariant.table c.loop-place-test.false;
+      found = found_fewer (rows_at text lines) (IsWrongIn Curves (rows_at text lines)) c.loop-place.place (length lines)
+          c.loop-place.curves.found c.loop-place.invariant.found c.loop-place-test.false;
+    }

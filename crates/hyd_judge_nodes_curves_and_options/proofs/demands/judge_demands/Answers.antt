@@ -1,0 +1,16 @@
+use Rattle.std.proofs.Common.{length, refl, arith}
+use Rattle.hyd_spec_lines.specs.declared.section.Section.TheVariants.{Demands}
+use Rattle.hyd_text_rows.specs.Found.{rows_at}
+use Rattle.hyd_text_rows.specs.WrongInSection.{IsWrongIn}
+use Rattle.hyd_text_rows.proofs.SectionLemmas.{found_fewer}
+use Rattle.hyd_judge_nodes_curves_and_options.proofs.demands.judge_demands.Goals as goal
+
+pub loop-place-init : goal.loop-place-init
+loop-place-init c = record { count = refl; small = omega arith; found = λ k l. absurd (omega arith) }
+
+pub returns : goal.returns
+returns c =
+    let text = c.args.text.now.text in
+    let lines = c.args.lines.now in
+    found_fewer (rows_at text lines) (IsWrongIn Demands (rows_at text lines)) c.loop-place.place (length lines)
+    c.loop-place.demands.found c.loop-place.invariant.found c.loop-place-test.false

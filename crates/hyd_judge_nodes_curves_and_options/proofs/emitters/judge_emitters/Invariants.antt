@@ -1,0 +1,8 @@
+use Rattle.hyd_spec_lines.specs.declared.section.Section.TheVariants.{Emitters}
+use Rattle.hyd_text_rows.specs.Found.{rows_at, HasFound}
+use Rattle.hyd_text_rows.specs.WrongInSection.{IsWrongIn}
+use Rattle.hyd_judge_nodes_curves_and_options.proofs.emitters.judge_emitters.Given as goal
+
+abbrev pub invariant-loop-place : goal.invariant-loop-place
+invariant-loop-place l =
+    HasFound (rows_at l.text.text l.lines) (IsWrongIn Emitters (rows_at l.text.text l.lines)) l.place l.found

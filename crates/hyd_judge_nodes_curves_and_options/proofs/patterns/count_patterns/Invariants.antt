@@ -1,0 +1,6 @@
+use Rattle.hyd_text_rows.specs.Found.{rows_at}
+use Rattle.hyd_judge_nodes_curves_and_options.specs.Patterns.{AreCounted}
+use Rattle.hyd_judge_nodes_curves_and_options.proofs.patterns.count_patterns.Given as goal
+
+abbrev pub invariant-loop-place : goal.invariant-loop-place
+invariant-loop-place l = AreCounted l.text.text (rows_at l.text.text l.lines) l.place l.counted

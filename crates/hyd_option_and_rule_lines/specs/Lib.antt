@@ -1,0 +1,4 @@
+pub mod FaultOrValue
+pub mod Hours
+pub mod Moments
+pub mod Meanings

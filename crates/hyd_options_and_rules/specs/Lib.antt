@@ -1,4 +1,0 @@
-pub mod Judged
-pub mod Parts
-pub mod Moments
-pub mod Meanings

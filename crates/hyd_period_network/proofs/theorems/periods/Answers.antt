@@ -1,0 +1,5 @@
+use Rattle.hyd_period_network.proofs.Answering.{answer_alike}
+use Rattle.hyd_period_network.proofs.theorems.periods.Goals as goal
+
+pub returns : goal.returns
+returns c = answer_alike

@@ -1,0 +1,55 @@
+//! The network of a period.
+#![tactic(auto)]
+
+use crate::junctions_ties_and_settings::{Ends, NetJunction, Setting, Tie};
+use hyd_law::{LinkLaw, OutLaw};
+use hyd_spec_certificates::LevelSpan;
+use smallvec::SmallVec;
+use std::marker::Model;
+
+/// The network of a period: its junctions with the laws of their demands, the heads of reservoirs and tanks, its links
+/// with their laws, and the link ends at each node. Contracts see it as a grid.
+#[derive(Drop)]
+pub struct Net {
+    pub(crate) junctions: Vec<NetJunction>,
+    pub(crate) demands: Vec<OutLaw>,
+    pub(crate) reservoirs: Vec<i64>,
+    pub(crate) tanks: Vec<LevelSpan>,
+    pub(crate) ends: Vec<Ends>,
+    pub(crate) settings: Vec<Setting>,
+    pub(crate) own: Vec<LinkLaw>,
+    pub(crate) laws: Vec<LinkLaw>,
+    pub(crate) rows: Vec<SmallVec<Tie, 6>>,
+}
+
+impl Model for Net {
+    ghost use Rattle.std.specs.Prelude.{◌+◌, length};
+    ghost use Rattle.hyd_period_network.specs.NetView.{NetView};
+    ghost use Rattle.hyd_period_network.specs.Nets.{IsSoundNet};
+    ghost use Rattle.hyd_period_network.specs.LinkEnds.{AreRowsOf};
+
+    ghost Value = { NetView };
+
+    ghost view = { λ n. record {
+      junctions = n.junctions.items;
+      demands = n.demands.items;
+      reservoirs = n.reservoirs.items;
+      tanks = n.tanks.items;
+      ends = n.ends.items;
+      settings = n.settings.items;
+      own = n.own.items;
+      laws = n.laws.items;
+    } };
+
+    ghost invariant = { λ n. IsSoundNet (record {
+      junctions = n.junctions.items;
+      demands = n.demands.items;
+      reservoirs = n.reservoirs.items;
+      tanks = n.tanks.items;
+      ends = n.ends.items;
+      settings = n.settings.items;
+      own = n.own.items;
+      laws = n.laws.items;
+    }) × AreRowsOf (length n.junctions.items + length n.reservoirs.items
+        + length n.tanks.items) n.ends.items n.rows.items };
+}

@@ -1,4 +1,0 @@
-pub mod Found
-pub mod Tables
-pub mod Sections
-pub mod Ranges

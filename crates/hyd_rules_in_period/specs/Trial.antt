@@ -1,0 +1,29 @@
+-- What the rules look at in a period, and what is known of them at an instant of it.
+-- Source: EPANET 2.2 User Manual, chapter 3 (rule-based controls).
+use Rattle.std.specs.Prelude.{◌≡◌, ℕ, ℤ, Bool, false, List, ◌++◌, map}
+use Rattle.std.specs.List.{list_any}
+use Rattle.hyd_num.specs.declared.decimals.Span.{Span}
+use Rattle.hyd_spec.specs.ProgramTypes.{Project}
+use Rattle.hyd_spec_certificates.specs.Grid.{Grid}
+use Rattle.hyd_spec_certificates.specs.Record.{Record, Standing}
+use Rattle.hyd_spec_certificates.specs.Verdict.{is_yes, is_unknown}
+use Rattle.hyd_spec_certificates.specs.Decided.{OpenRule, rule_truths, flow_boxes}
+use Rattle.hyd_controls_and_rules.specs.Instants.{flow_interval}
+use Rattle.hyd_rule_values.specs.declared.values.RuleOpen.{RuleOpen}
+
+-- the heads of junctions and then of reservoirs are those of a record's vectors with all tanks alike, and the flows of
+-- links are their flow boxes
+pub record AreRead (grid : Grid) (row : Record) (low high : List ℤ) (flows : List Span) : Type 0 where
+  pub low_is : low ≡ row.main.lower ++ grid.reservoirs
+  pub high_is : high ≡ row.main.upper ++ grid.reservoirs
+  pub flows_are : map flow_interval flows ≡ flow_boxes grid row
+
+-- some seconds after the start all rules are decided, with these values
+pub record AreDecided (network : Project) (grid : Grid) (standing : Standing) (row : Record) (seconds : ℕ)
+    (values : List Bool) : Type 0 where
+  pub none_open : list_any is_unknown (rule_truths network grid standing row seconds) ≡ false
+  pub values_are : values ≡ map is_yes (rule_truths network grid standing row seconds)
+
+-- the open rule that was found
+abbrev pub open_rule : RuleOpen → OpenRule
+open_rule found = record { rule = found.rule; clause = found.clause; lo = found.lo; hi = found.hi }

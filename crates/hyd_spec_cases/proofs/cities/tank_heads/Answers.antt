@@ -1,8 +1,0 @@
-use Rattle.std.proofs.Common.{refl}
-use Rattle.hyd_spec_cases.proofs.cities.tank_heads.Goals as goal
-
-pub returns-clause-both : goal.returns-clause-both
-returns-clause-both c = λ tank other bottom other_bottom. rw (bottom, other_bottom) refl
-
-pub returns-clause-none : goal.returns-clause-none
-returns-clause-none c = refl

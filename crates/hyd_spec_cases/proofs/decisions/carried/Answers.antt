@@ -1,5 +1,0 @@
-use Rattle.std.proofs.Common.{refl}
-use Rattle.hyd_spec_cases.proofs.decisions.carried.Goals as goal
-
-pub returns : goal.returns
-returns c = λ network bottom initial diameter junctions reservoirs tanks. rw (tanks, junctions, reservoirs) refl

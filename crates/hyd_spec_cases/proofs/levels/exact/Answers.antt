@@ -1,8 +1,0 @@
-use Rattle.std.proofs.Common.{refl}
-use Rattle.hyd_spec_cases.proofs.levels.exact.Goals as goal
-
-pub returns-clause-filling : goal.returns-clause-filling
-returns-clause-filling c = refl
-
-pub returns-clause-draining : goal.returns-clause-draining
-returns-clause-draining c = refl

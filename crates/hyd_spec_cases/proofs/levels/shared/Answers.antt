@@ -1,5 +1,0 @@
-use Rattle.std.proofs.Common.{refl}
-use Rattle.hyd_spec_cases.proofs.levels.shared.Goals as goal
-
-pub returns : goal.returns
-returns c = λ tank minimum maximum. rw (maximum, minimum) refl

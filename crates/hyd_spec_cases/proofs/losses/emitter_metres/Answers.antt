@@ -1,9 +1,0 @@
-use Rattle.std.proofs.Common.{refl}
-use Rattle.hyd_spec_cases.proofs.losses.emitter_metres.Goals as goal
-use Rattle.std.proofs.lemmas.Bool.{leb-true}
-
-pub returns-clause-below : goal.returns-clause-below
-returns-clause-below c = λ coefficient passed. rw passed (leb-true _ _ refl)
-
-pub returns-clause-above : goal.returns-clause-above
-returns-clause-above c = λ coefficient passed. rw passed (leb-true _ _ refl)

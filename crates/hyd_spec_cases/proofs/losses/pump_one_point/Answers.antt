@@ -1,9 +1,0 @@
-use Rattle.std.proofs.Common.{refl}
-use Rattle.hyd_spec_cases.proofs.losses.pump_one_point.Goals as goal
-use Rattle.std.proofs.lemmas.Bool.{leb-true}
-
-pub returns-clause-below : goal.returns-clause-below
-returns-clause-below c = λ flow drop delivered lost. rw (delivered, lost) (leb-true _ _ refl)
-
-pub returns-clause-above : goal.returns-clause-above
-returns-clause-above c = λ flow drop delivered lost. rw (delivered, lost) (leb-true _ _ refl)

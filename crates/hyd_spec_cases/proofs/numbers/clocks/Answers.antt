@@ -1,7 +1,0 @@
-use Rattle.std.proofs.Common.{refl}
-use Rattle.hyd_spec_cases.proofs.numbers.clocks.Goals as goal
-use Rattle.std.specs.Fmt.{digits}
-
-pub returns : goal.returns
-unfolding digits
-returns c = refl

@@ -1,8 +1,0 @@
-use Rattle.std.proofs.Common.{refl}
-use Rattle.hyd_spec_cases.proofs.numbers.settings.Goals as goal
-use Rattle.std.specs.Fmt.{digits}
-use Rattle.hyd_num.specs.PrintedDecimals.{fixed_point}
-
-pub returns : goal.returns
-unfolding digits fixed_point
-returns c = refl

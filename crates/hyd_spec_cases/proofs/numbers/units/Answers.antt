@@ -1,8 +1,0 @@
-use Rattle.std.proofs.Common.{refl}
-use Rattle.hyd_spec_cases.proofs.numbers.units.Goals as goal
-
-pub returns-clause-factors : goal.returns-clause-factors
-returns-clause-factors c = refl
-
-pub returns-clause-us : goal.returns-clause-us
-returns-clause-us c = refl

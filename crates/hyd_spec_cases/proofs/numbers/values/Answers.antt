@@ -1,7 +1,0 @@
-use Rattle.std.proofs.Common.{refl}
-use Rattle.hyd_spec_cases.proofs.numbers.values.Goals as goal
-use Rattle.hyd_num.specs.Numeral.{nano_of, magnitude_of}
-
-pub returns : goal.returns
-unfolding nano_of magnitude_of
-returns c = refl

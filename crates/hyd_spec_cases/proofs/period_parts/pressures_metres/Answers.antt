@@ -1,8 +1,0 @@
-use Rattle.std.proofs.Common.{refl}
-use Rattle.hyd_spec_cases.proofs.period_parts.pressures_metres.Goals as goal
-
-pub returns-clause-minimum : goal.returns-clause-minimum
-returns-clause-minimum c = λ network unit least. rw (unit, least) refl
-
-pub returns-clause-required : goal.returns-clause-required
-returns-clause-required c = λ network unit whole. rw (unit, whole) refl

@@ -1,5 +1,0 @@
-use Rattle.std.proofs.Common.{refl}
-use Rattle.hyd_spec_cases.proofs.starts.boundaries.Goals as goal
-
-pub returns : goal.returns
-returns c = λ network step start. rw (start, step) refl

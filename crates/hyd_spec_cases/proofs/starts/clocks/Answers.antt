@@ -1,5 +1,0 @@
-use Rattle.std.proofs.Common.{refl}
-use Rattle.hyd_spec_cases.proofs.starts.clocks.Goals as goal
-
-pub returns : goal.returns
-returns c = λ network start. rw start refl

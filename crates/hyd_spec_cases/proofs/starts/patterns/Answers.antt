@@ -1,5 +1,0 @@
-use Rattle.std.proofs.Common.{refl}
-use Rattle.hyd_spec_cases.proofs.starts.patterns.Goals as goal
-
-pub returns : goal.returns
-returns c = λ network capacity head shutoff links multipliers step start. rw (start, step, links, multipliers) refl

@@ -1,5 +1,0 @@
-use Rattle.std.proofs.Common.{refl}
-use Rattle.hyd_spec_cases.proofs.statuses_and_events.event_lines.Goals as goal
-
-pub returns : goal.returns
-returns c = refl

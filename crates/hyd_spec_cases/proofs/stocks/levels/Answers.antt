@@ -1,8 +1,0 @@
-use Rattle.std.proofs.Common.{refl}
-use Rattle.hyd_spec_cases.proofs.stocks.levels.Goals as goal
-
-pub returns-clause-down : goal.returns-clause-down
-returns-clause-down c = λ diameter. refl
-
-pub returns-clause-up : goal.returns-clause-up
-returns-clause-up c = λ diameter. refl

@@ -1,8 +1,0 @@
-use Rattle.hyd_spec_towns.proofs.RoundsAre.{not_yet_up, not_yet_down}
-use Rattle.hyd_spec_towns.proofs.rounds.unfinished.Goals as goal
-
-pub returns-clause-up : goal.returns-clause-up
-returns-clause-up c = not_yet_up
-
-pub returns-clause-down : goal.returns-clause-down
-returns-clause-down c = not_yet_down

@@ -1,4 +1,0 @@
-pub mod OneLink
-pub mod Words
-pub mod Spurs
-pub mod Timed

@@ -1,0 +1,99 @@
+//! Records handed to a run as those of the periods that are due.
+
+ghost use Rattle.std.specs.Prelude.{◌≡◌, None};
+
+use crate::offers::IDLE;
+use crate::trials::{Trial, passes};
+use hyd_cert::Record;
+use hyd_sim::{Settings, Sim};
+use hyd_spec_certificates::{Problem, Side};
+use hyd_spec_reports::CertRefused;
+use std::alloc::Global;
+use std::test::Fail;
+
+/// What a run answers to a record, and how many periods are done behind it.
+type Answer = (Option<Result<(), CertRefused>>, u32);
+
+/// The record of one junction and no tank with these heads.
+fn record_of(alloc: Global, upper: i64, lower: i64) -> Result<Record, Fail> {
+    let mut row = Record::open(alloc, 1, 1, 0)?;
+    row.set_vector(Problem::Main, Side::Upper, &[upper]);
+    row.set_vector(Problem::Main, Side::Lower, &[lower]);
+    Ok(row)
+}
+
+/// What a run answers to a record, if the record has as many junctions and tanks as the network.
+fn answer(sim: &mut Sim, row: &Record) -> Answer
+    requires running { sim.old.stopped ≡ None }
+    ensures running { sim.new.stopped ≡ None }
+{
+    let project = sim.project();
+    let junctions = project.junctions.len();
+    let tanks = project.tanks.len();
+    if junctions != row.junctions as usize || tanks != row.tanks as usize {
+        return (None, sim.number());
+    }
+    let answer = sim.accept(row);
+    (Some(answer), sim.number())
+}
+
+/// What a run answers to a record that is wrong, to one that is right, and to that one again.
+fn answers(sim: &mut Sim, wrong: &Record, right: &Record) -> [Answer; 3]
+    requires running { sim.old.stopped ≡ None }
+{
+    let first = answer(sim, wrong);
+    let second = answer(sim, right);
+    let third = answer(sim, right);
+    [first, second, third]
+}
+
+/// A record that is wrong and one that is right, handed to a run, and what it answers.
+#[derive(Drop)]
+struct HandedIn<'a> {
+    wrong: &'a Record,
+    right: &'a Record,
+    answers: Option<[Answer; 3]>,
+}
+
+impl<'a> Trial for HandedIn<'a> {
+    fn passes(&mut self, sim: &mut Sim) -> bool {
+        self.answers = Some(answers(sim, self.wrong, self.right));
+        true
+    }
+}
+
+/// Checking finds no vectors.
+const NO_SEARCH: Settings = Settings {
+    rounds: 0,
+    width: 0,
+    tight: false,
+};
+
+#[test]
+fn a_record_that_is_refused_leaves_the_run_where_it_was(rt: HostRuntime) -> Result<(), Fail> {
+    let alloc = rt.alloc();
+    let wrong = record_of(alloc, 1_000_000_000_000_000, 999_999_999_999_999)?;
+    let right = record_of(alloc, 1_000_000_000_000_001, 999_999_999_999_999)?;
+    let fails = CertRefused::Fails {
+        period: 0,
+        problem: Problem::Main,
+        side: Side::Upper,
+        junction: 0,
+    };
+    let after = CertRefused::After { period: 1 };
+    let mut records = HandedIn {
+        wrong: &wrong,
+        right: &right,
+        answers: None,
+    };
+    assert!(rt; passes(alloc, IDLE, NO_SEARCH, &mut records));
+    assert_eq!(rt;
+        records.answers,
+        Some([
+            (Some(Err(fails)), 0),
+            (Some(Ok(())), 1),
+            (Some(Err(after)), 1)
+        ])
+    );
+    Ok(())
+}

@@ -1,0 +1,4 @@
+pub mod Found
+pub mod Tables
+pub mod WrongInSection
+pub mod QuantityRanges

@@ -1,0 +1,19 @@
+//! What the passes over an input file share: its rows, gathered once; the first wrong row found so far; tables of IDs;
+//! counts, names and quantities against their limits.
+#![tactic(auto)]
+
+mod first_wrong;
+mod limits;
+mod quantity_ranges;
+mod table;
+mod text;
+mod unknown_names;
+
+pub use first_wrong::{Found, kept, least};
+pub use limits::{count_words, limit};
+pub use quantity_ranges::{flow_fault, head_fault};
+pub use table::{Table, own_id};
+pub use text::{Gathered, gather};
+pub use unknown_names::{
+    has, is_junctions, unknown_curve, unknown_junction, unknown_node, unknown_pattern,
+};

@@ -1,0 +1,5 @@
+use Rattle.hyd_theorems_on_definitions.proofs.OneStanding.{one_vector}
+use Rattle.hyd_theorems_on_definitions.proofs.determined.vectors.Goals as goal
+
+pub returns : goal.returns
+returns c = one_vector

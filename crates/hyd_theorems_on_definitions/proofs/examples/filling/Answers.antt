@@ -1,0 +1,5 @@
+use Rattle.hyd_theorems_on_definitions.proofs.Worked.{first_filled}
+use Rattle.hyd_theorems_on_definitions.proofs.examples.filling.Goals as goal
+
+pub returns : goal.returns
+returns c = first_filled

@@ -1,0 +1,79 @@
+//! What a record decides is one, in every network: the grid of a standing and its tight vectors, the end of the
+//! period, the standing that it leads on to, and the lines of its report. So a tight run that the relations accept is
+//! the only tight one of as many periods.
+#![tactic(auto)]
+
+ghost use Rattle.std.specs.Prelude.{◌≡◌, ℕ, ℤ, List, length};
+ghost use Rattle.std.specs.List.{AllByRecursion};
+ghost use Rattle.hyd_num.specs.CapacityPairs.{IsMade};
+ghost use Rattle.hyd_spec.specs.ProgramTypes.{Project, Capacity};
+ghost use Rattle.hyd_spec_certificates.specs.declared.Problem.{Problem};
+ghost use Rattle.hyd_spec_certificates.specs.declared.Side.{Side};
+ghost use Rattle.hyd_spec_certificates.specs.Grid.{Grid};
+ghost use Rattle.hyd_spec_certificates.specs.Certificate.{IsTight};
+ghost use Rattle.hyd_spec_certificates.specs.Record.{Record, Standing};
+ghost use Rattle.hyd_spec_certificates.specs.Decided.{End, EndsBy};
+ghost use Rattle.hyd_spec_certificates.specs.Valid.{LeadsOn, IsGridAt, IsValid};
+ghost use Rattle.hyd_spec_reports.specs.declared.CertRefused.{CertRefused};
+ghost use Rattle.hyd_spec_reports.specs.Refusals.{IsRefused};
+ghost use Rattle.hyd_spec_reports.specs.ReportLine.{ReportLine};
+ghost use Rattle.hyd_spec_reports.specs.Report.{IsReport};
+ghost use Rattle.hyd_spec_reports.specs.Headline.{Found, IsRun, IsTightThroughout};
+
+/// A period ends in one way.
+pub fn ends()
+    ensures { (network : Project) (grid : Grid) (standing : Standing) (row : Record) (a b : End)
+        → EndsBy network grid standing row a → EndsBy network grid standing row b → a ≡ b }
+{}
+
+/// A record leads on to one standing.
+pub fn standings()
+    ensures { (network : Project) (grid : Grid) (standing : Standing) (row : Record) (a b : Standing)
+        → LeadsOn network grid standing row a → LeadsOn network grid standing row b → a ≡ b }
+{}
+
+/// A grid has one tight vector of a problem and side.
+pub fn vectors()
+    ensures { (grid : Grid) (problem : Problem) (side : Side) (u v : List ℤ)
+        → IsTight grid problem side u → IsTight grid problem side v → u ≡ v }
+{}
+
+/// A record has one report.
+pub fn reports()
+    ensures { (network : Project) (grid : Grid) (standing : Standing) (row : Record) (a b : List ReportLine)
+        → IsReport network grid standing row a → IsReport network grid standing row b → a ≡ b }
+{}
+
+/// A record is refused at a standing by one cause, and one that is refused isn't valid there.
+pub fn refusals()
+    ensures one { (network : Project) (standing : Standing) (row : Record) (a b : CertRefused)
+        → IsRefused network standing row a → IsRefused network standing row b → a ≡ b }
+    ensures invalid { (network : Project) (standing : Standing) (row : Record) (cause : CertRefused)
+        → IsRefused network standing row cause → (grid : Grid) (next : Standing)
+        → IsValid network standing grid row next → ⊥ }
+{}
+
+/// A record that leads on has one length.
+pub fn lengths()
+    ensures { (network : Project) (grid : Grid) (standing : Standing) (row : Record) (other : ℕ) (a b : Standing)
+        → LeadsOn network grid standing row a → LeadsOn network grid standing (record row { length = other }) b
+        → row.length ≡ other }
+{}
+
+/// Given numbers have one capacity.
+pub fn capacities()
+    ensures { (a b : Capacity) → a.origin ≡ b.origin → IsMade a → IsMade b → a ≡ b }
+{}
+
+/// A standing has one grid.
+pub fn grids()
+    ensures { (network : Project) (standing : Standing) (a b : Grid) → IsGridAt network standing a
+        → IsGridAt network standing b → a ≡ b }
+{}
+
+/// Two tight runs of as many periods are the same, and leave the same standing.
+pub fn runs()
+    ensures { (network : Project) → (a b : List Found) (last other : Standing)
+        → IsRun network a last → IsRun network b other → AllByRecursion (IsTightThroughout network) a
+        → AllByRecursion (IsTightThroughout network) b → length a ≡ length b → (a ≡ b) × (last ≡ other) }
+{}

@@ -1,5 +1,0 @@
-use Rattle.hyd_theorems_on_periods.proofs.HeldFlows.{held_flow}
-use Rattle.hyd_theorems_on_periods.proofs.certificates.held_flows.Goals as goal
-
-pub returns : goal.returns
-returns c = record { flow = held_flow }

@@ -1,5 +1,0 @@
-use Rattle.hyd_theorems_on_periods.proofs.OneCapacity.{one_capacity}
-use Rattle.hyd_theorems_on_periods.proofs.determined.capacities.Goals as goal
-
-pub returns : goal.returns
-returns c = one_capacity

@@ -1,5 +1,0 @@
-use Rattle.hyd_theorems_on_periods.proofs.OneAnswer.{one_end}
-use Rattle.hyd_theorems_on_periods.proofs.determined.ends.Goals as goal
-
-pub returns : goal.returns
-returns c = one_end

@@ -1,5 +1,0 @@
-use Rattle.hyd_theorems_on_periods.proofs.Worked.{pattern_demands}
-use Rattle.hyd_theorems_on_periods.proofs.examples.demands.Goals as goal
-
-pub returns : goal.returns
-returns c = pattern_demands

@@ -1,5 +1,0 @@
-use Rattle.hyd_theorems_on_periods.proofs.Worked.{first_filled}
-use Rattle.hyd_theorems_on_periods.proofs.examples.filling.Goals as goal
-
-pub returns : goal.returns
-returns c = first_filled

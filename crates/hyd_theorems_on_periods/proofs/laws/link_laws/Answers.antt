@@ -1,5 +1,0 @@
-use Rattle.hyd_theorems_on_periods.proofs.EachLaw.{IsLaw-each}
-use Rattle.hyd_theorems_on_periods.proofs.laws.link_laws.Goals as goal
-
-pub returns : goal.returns
-returns c = record { each = IsLaw-each }

@@ -1,5 +1,0 @@
-use Rattle.hyd_theorems_on_periods.proofs.LossLaws.{IsLossLaw-origin}
-use Rattle.hyd_theorems_on_periods.proofs.laws.losses.Goals as goal
-
-pub returns : goal.returns
-returns c = record { each = IsLossLaw-origin }

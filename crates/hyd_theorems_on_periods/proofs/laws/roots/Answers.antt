@@ -1,8 +1,0 @@
-use Rattle.hyd_theorems_on_periods.proofs.Roots.{root_down-is, root_up-is}
-use Rattle.hyd_theorems_on_periods.proofs.laws.roots.Goals as goal
-
-pub returns-clause-down : goal.returns-clause-down
-returns-clause-down c = root_down-is
-
-pub returns-clause-up : goal.returns-clause-up
-returns-clause-up c = root_up-is

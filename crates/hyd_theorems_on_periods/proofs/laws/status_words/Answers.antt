@@ -1,5 +1,0 @@
-use Rattle.hyd_theorems_on_periods.proofs.laws.status_words.Goals as goal
-use Rattle.hyd_theorems_on_periods.proofs.StatusWords.{status_holds}
-
-pub returns : goal.returns
-returns c = record { each = status_holds }

@@ -1,6 +1,0 @@
-use Rattle.hyd_spec_certificates.specs.Record.{initial_standing}
-use Rattle.hyd_theorems_on_periods.proofs.RunRecords.{valid_from}
-use Rattle.hyd_theorems_on_periods.proofs.runs.records.Goals as goal
-
-pub returns : goal.returns
-returns c = λ network founds last is. valid_from network (initial_standing network) founds last is

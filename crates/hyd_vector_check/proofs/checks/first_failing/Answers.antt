@@ -1,0 +1,41 @@
+use Rattle.std.proofs.Common.{◌≡◌, ◌∙◌, ◌<◌, sym, subst, arith, ℕ, length, Some, inl, inr}
+use Rattle.std.specs.Prelude.{Option}
+use Rattle.std.proofs.lemmas.Bool.{cases_eq, false≢true}
+use Rattle.std.proofs.lemmas.Option.{slice_get_within}
+use Rattle.hyd_spec_certificates.specs.Grid.{GridJunction}
+use Rattle.hyd_spec_certificates.specs.Certificate.{Passes, fails}
+use Rattle.hyd_period_network.specs.GridOf.{grid_of}
+use Rattle.hyd_vector_check.specs.Sides.{PassesAt}
+use Rattle.hyd_vector_check.proofs.Lookups.{junction-there}
+use Rattle.hyd_vector_check.proofs.checks.first_failing.Goals as goal
+
+one : (X : Type 0) (x y : X) → ◌≡◌ {A = Option X} (Some x) (Some y) → x ≡ y
+one X x y e = cc
+
+pub returns-then-not-passes-clause-some : goal.returns-then-not-passes-clause-some
+returns-then-not-passes-clause-some c =
+    let grid = grid_of c.args.net.now in
+    let i = c.loop-i.i in
+    let inside : i < length grid.junctions = (let a = c.loop-i-test.true in let b = c.junctions-i-end.ensures.each in
+    let d = c.junctions-i-end.ensures.count in omega (arith, a, b, d)) in
+    let at = junction-there grid.junctions i inside in
+    fails at.0 c.requires.in_box at.1
+    (λ suits. false≢true (sym c.if-not-passes.true ∙ c.passes.ensures.1 (λ other there.
+    subst (λ (j : GridJunction). Passes grid c.args.problem c.args.side c.args.u.now i j)
+    (one GridJunction at.0 other (sym at.1 ∙ there)) suits)))
+    (λ k before lt there. c.loop-i.invariant k lt before there)
+
+pub loop-i-preserved : goal.loop-i-preserved
+loop-i-preserved c k lt = elim (cases_eq k c.loop-i.i) [
+  | inl e ↦ subst (λ (m : ℕ). PassesAt (grid_of c.args.net.now) c.args.problem c.args.side c.args.u.now m) (sym e)
+      (c.passes.ensures.0 c.if-not-passes.false)
+  | inr ne ↦ c.loop-i.invariant k (omega (arith, lt, ne))
+]
+
+pub returns-clause-none : goal.returns-clause-none
+returns-clause-none c k junction at =
+    let a = slice_get_within (grid_of c.args.net.now).junctions k junction at in
+    let b = c.junctions-i-end.ensures.each in
+    let d = c.junctions-i-end.ensures.count in
+    let e = c.loop-i-test.false in
+    c.loop-i.invariant k (omega (arith, a, b, d, e)) junction at

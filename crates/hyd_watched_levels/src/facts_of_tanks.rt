@@ -1,0 +1,44 @@
+//! Stocks and inflows of tanks by the facts of a period.
+#![tactic(auto)]
+
+ghost use Rattle.std.specs.Prelude.{◌≡◌, ◌<◌, length, map, slice_index_or};
+ghost use Rattle.std.specs.List.{All};
+ghost use Rattle.hyd_spec_certificates.specs.Decided.{nowhere};
+ghost use Rattle.hyd_tank.specs.Spans.{stocks_of, inflows_of, IsInflow};
+ghost use Rattle.hyd_period_facts.specs.OfPeriod.{levels_of};
+ghost use Rattle.hyd_watched_levels.specs.FactsAtStart.{stocks_in, inflow_in};
+
+use hyd_num::Span;
+use hyd_period_facts::Facts;
+use hyd_spec_certificates::LevelSpan;
+use hyd_tank::Stock;
+
+/// The levels of a tank at the start of a period.
+pub(crate) fn level_at(facts: &Facts, tank: u32) -> LevelSpan
+    requires { tank < length facts.now.levels.list }
+    ensures { levels_of result ≡ slice_index_or (map levels_of facts.now.levels.list) tank nowhere }
+{
+    facts.levels.as_slice()[tank as usize]
+}
+
+/// The stock of a tank at the start of a period.
+pub fn stock_at(facts: &Facts, tank: u32) -> Stock
+    requires levels { tank < length facts.now.levels.list }
+    requires volumes { tank < length facts.now.volumes.list }
+    ensures { stocks_of result ≡ stocks_in facts.now tank }
+{
+    Stock {
+        level: facts.levels.as_slice()[tank as usize],
+        volume: facts.volumes.as_slice()[tank as usize],
+    }
+}
+
+/// What flows into a tank during a period, in flow ticks.
+pub fn inflow_at(facts: &Facts, tank: u32) -> Span
+    requires in_range { tank < length facts.now.inflows.list }
+    requires small { All IsInflow facts.now.inflows.list }
+    ensures value { inflows_of result ≡ inflow_in facts.now tank }
+    ensures small { IsInflow result }
+{
+    facts.inflows.as_slice()[tank as usize]
+}
