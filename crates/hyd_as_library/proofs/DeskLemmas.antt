@@ -2,7 +2,7 @@
 use Rattle.std.proofs.Common.{◌≡◌, ℕ, List, [], ◌++◌, Option, Some, inr, ◌⊎◌, ◌∙◌, sym, ap}
 use Rattle.std.specs.Option.{option_map_or}
 use Rattle.hyd_io.specs.Memory.{Memory}
-use Rattle.hyd_io.specs.ToldBytes.{append_known}
+use Rattle.hyd_io.specs.DeskBytes.{append_known}
 use Rattle.hyd_spec.specs.ProgramTypes.{Project}
 use Rattle.hyd_cert_check.specs.Checks.{CheckEnds, CheckBreaksOff}
 use Rattle.hyd_cert_check.specs.RecordByRecord.{IsPrinted}

@@ -5,13 +5,13 @@ use Rattle.hyd_io.specs.declared.desk.Faults.{Faults}
 use Rattle.hyd_io.specs.declared.output.OutFault.{OutFault}
 use Rattle.hyd_io.specs.Memory.{Memory}
 use Rattle.hyd_spec.specs.ProgramTypes.{Project}
-use Rattle.hyd_spec_reports.specs.Headline.{RunWrites, RunBreaksOff}
+use Rattle.hyd_spec_reports.specs.PromisesOfRunsAndChecks.{RunWrites, RunBreaksOff}
 use Rattle.hyd_sim.specs.declared.settings.Settings.{Settings}
 use Rattle.hyd_run.specs.Pens.{OneRose}
 use Rattle.hyd_run.specs.Runs.{outcome_of, sharpness_of}
 use Rattle.hyd_run.specs.declared.outcome.RunEnd.{RunEnd}
 use Rattle.hyd_cert_check.specs.Checks.{CheckEnds, CheckBreaksOff}
-use Rattle.hyd_cert_check.specs.Printing.{Rose}
+use Rattle.hyd_cert_check.specs.ReaderAndPen.{Rose}
 use Rattle.hyd_cert_check.specs.declared.outcome.CheckEnd.{CheckEnd}
 use Rattle.hyd_cert_check.specs.declared.outcome.CheckFault.{CheckFault}
 use Rattle.hyd_as_library.specs.declared.Ended.{Ended}

@@ -5,11 +5,11 @@ use Rattle.std.proofs.lemmas.Int.{ints}
 use Rattle.hyd_num.specs.CapacityRange.{IsRefused}
 use Rattle.hyd_num.specs.declared.link_capacities.Origin.TheVariants.{Pipe}
 use Rattle.hyd_num.specs.declared.decimals.Decimal.{Decimal}
-use Rattle.hyd_spec_lines.specs.Bytes.{is_keyword}
+use Rattle.hyd_spec_lines.specs.WordsOfLines.{is_keyword}
 use Rattle.hyd_net.proofs.Equal.{Decimal-equal}
 use Rattle.hyd_net.specs.NumberRanges.{Lies, IsUpTo}
 use Rattle.hyd_capacities.specs.Ranges.{IsPositiveUpTo, IsMinorCoefficient}
-use Rattle.hyd_spec_input.specs.Capacities.{IsRefusedPipe}
+use Rattle.hyd_spec_input.specs.CapacitiesOutOfRange.{IsRefusedPipe}
 use Rattle.hyd_spec_input.specs.Columns.{up_to, word, amount, units, is_option_keyword}
 use Rattle.hyd_spec_input.specs.NetworkRows as alone
 use Rattle.hyd_theorems_on_input.proofs.Faultless.{needed_none, within}

@@ -7,13 +7,13 @@ use Rattle.hyd_num.specs.declared.decimals.Decimal.{Decimal}
 use Rattle.hyd_num.specs.declared.flow_units.FlowUnit.{FlowUnit}
 use Rattle.hyd_num.specs.declared.link_capacities.Origin.TheVariants.{Valve}
 use Rattle.hyd_num.specs.CapacityRange.{IsRefused}
-use Rattle.hyd_spec_lines.specs.Bytes.{is_keyword}
+use Rattle.hyd_spec_lines.specs.WordsOfLines.{is_keyword}
 use Rattle.hyd_spec_lines.specs.Lines.{Row}
 use Rattle.hyd_spec_lines.specs.declared.section.Section.TheVariants.{Valves}
 use Rattle.hyd_net.proofs.Equal.{Decimal-equal}
 use Rattle.hyd_option_and_rule_lines.specs.Meanings.{IsAsked}
 use Rattle.hyd_option_and_rule_lines.specs.declared.controls.Asked.TheVariants.{Number}
-use Rattle.hyd_spec_input.specs.Capacities.{IsRefusedSetting, IsRefusedValve}
+use Rattle.hyd_spec_input.specs.CapacitiesOutOfRange.{IsRefusedSetting, IsRefusedValve}
 use Rattle.hyd_spec_input.specs.Columns.{amount}
 use Rattle.hyd_spec_input.specs.InForce as force
 use Rattle.hyd_spec_input.specs.NetworkRows.{is_throttle}
@@ -21,7 +21,7 @@ use Rattle.hyd_spec_input.specs.Tables.{is_of}
 use Rattle.hyd_spec_input.specs.RowsTogether as others
 use Rattle.hyd_theorems_on_input.proofs.InForce.{keyword_same}
 use Rattle.hyd_asked_link_states.specs.AskedLinks.{IsType}
-use Rattle.hyd_asked_link_states.specs.declared.types.LinkType.TheVariants.{Tcv}
+use Rattle.hyd_asked_link_states.specs.declared.link_types.LinkType.TheVariants.{Tcv}
 use Rattle.hyd_asked_link_states.proofs.StateLemmas.{status_is}
 
 -- ---- capacities

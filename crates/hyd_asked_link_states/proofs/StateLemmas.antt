@@ -6,13 +6,13 @@ use Rattle.std.proofs.lemmas.Bool.{cases_Bool}
 use Rattle.hyd_num.specs.Numeral.{nano_of}
 use Rattle.hyd_num.specs.FileQuantity.{is_us_unit}
 use Rattle.hyd_num.specs.declared.flow_units.FlowUnit.{FlowUnit}
-use Rattle.hyd_spec_lines.specs.Bytes.{is_keyword}
+use Rattle.hyd_spec_lines.specs.WordsOfLines.{is_keyword}
 use Rattle.hyd_spec_lines.specs.Lines.{Row}
 use Rattle.hyd_spec_lines.specs.declared.section.Section.TheVariants.{Pipes, Pumps, Valves}
 use Rattle.hyd_option_and_rule_lines.specs.Meanings.{IsAsked}
 use Rattle.hyd_option_and_rule_lines.specs.declared.controls.Asked.{Asked}
 use Rattle.hyd_option_and_rule_lines.specs.declared.controls.Asked.TheVariants.{Open, Closed, Number}
-use Rattle.hyd_spec_input.specs.Capacities.{IsRefusedSetting, IsRefusedValve}
+use Rattle.hyd_spec_input.specs.CapacitiesOutOfRange.{IsRefusedSetting, IsRefusedValve}
 use Rattle.hyd_spec_input.specs.Columns.{amount, or_else, unless}
 use Rattle.hyd_spec_input.specs.InForce as force
 use Rattle.hyd_spec_input.specs.NetworkRows.{has_check_valve, is_throttle, is_general}
@@ -25,8 +25,8 @@ use Rattle.hyd_net.specs.declared.refusal_cause.Cause.TheVariants.{Syntax, Unsup
 use Rattle.hyd_asked_link_states.specs.AskedLinks.{IsType, IsAllowed, IsSettable, IsRefusedAsked}
 use Rattle.hyd_asked_link_states.specs.AskedLinks.{takes, takes_number, is_check_pipe}
 use Rattle.hyd_asked_link_states.specs.AskedLinks.{range_fault, type_fault}
-use Rattle.hyd_asked_link_states.specs.declared.types.LinkType.{LinkType}
-use Rattle.hyd_asked_link_states.specs.declared.types.LinkType.TheVariants.{Pipe, CheckPipe, Pump, Tcv, Fcv, Gpv}
+use Rattle.hyd_asked_link_states.specs.declared.link_types.LinkType.{LinkType}
+use Rattle.hyd_asked_link_states.specs.declared.link_types.LinkType.TheVariants.{Pipe, CheckPipe, Pump, Tcv, Fcv, Gpv}
 
 -- a status is asked for, and no number
 abbrev pub asks_status : Asked → Bool

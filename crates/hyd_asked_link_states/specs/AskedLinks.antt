@@ -9,7 +9,7 @@ use Rattle.hyd_spec_lines.specs.declared.section.Section.TheVariants.{Pipes, Pum
 use Rattle.hyd_option_and_rule_lines.specs.declared.controls.Asked.{Asked}
 use Rattle.hyd_option_and_rule_lines.specs.declared.controls.Asked.TheVariants.{Number}
 use Rattle.hyd_spec_input.specs.SingleRows.{section_fault}
-use Rattle.hyd_spec_input.specs.Capacities.{IsRefusedValve}
+use Rattle.hyd_spec_input.specs.CapacitiesOutOfRange.{IsRefusedValve}
 use Rattle.hyd_spec_input.specs.Columns.{amount, or_else, first, unless, units}
 use Rattle.hyd_spec_input.specs.NetworkRows.{has_check_valve, is_throttle, is_general}
 use Rattle.hyd_spec_input.specs.Project.{IsOpenValve}
@@ -20,8 +20,8 @@ use Rattle.hyd_net.specs.declared.refusal_cause.Cause.TheVariants.{Syntax, Range
 use Rattle.hyd_net.specs.declared.links.LinkState.{LinkState}
 use Rattle.hyd_net.specs.declared.links.LinkState.TheVariants.{Open, Speed, Throttle}
 use Rattle.hyd_text_rows.specs.QuantityRanges.{flow_fault}
-use Rattle.hyd_asked_link_states.specs.declared.types.LinkType.{LinkType}
-use Rattle.hyd_asked_link_states.specs.declared.types.LinkType.TheVariants.{Pipe, CheckPipe, Pump, Tcv, Fcv, Gpv}
+use Rattle.hyd_asked_link_states.specs.declared.link_types.LinkType.{LinkType}
+use Rattle.hyd_asked_link_states.specs.declared.link_types.LinkType.TheVariants.{Pipe, CheckPipe, Pump, Tcv, Fcv, Gpv}
 
 -- ---- links
 

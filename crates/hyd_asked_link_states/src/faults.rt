@@ -9,7 +9,7 @@ ghost use Rattle.hyd_spec_input.specs.RowsTogether as others;
 ghost use Rattle.hyd_asked_link_states.specs.AskedLinks as states;
 ghost use Rattle.hyd_asked_link_states.specs.AskedLinks.{IsRightLink, IsAllowed};
 
-use crate::types::{LinkType, link_type};
+use crate::link_types::{LinkType, link_type};
 use hyd_lex::{Line, Lines};
 use hyd_net::Cause;
 use hyd_num::{Decimal, FlowUnit};

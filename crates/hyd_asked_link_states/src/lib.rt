@@ -3,11 +3,11 @@
 #![tactic(auto)]
 
 mod faults;
+mod link_types;
 mod settings;
-mod types;
 
 pub use faults::state_fault;
+pub use link_types::{LinkType, link_type};
 pub use settings::{
     is_refused, is_refused_valve, limit_state, link_state, speed_state, throttle_state, valve_law,
 };
-pub use types::{LinkType, link_type};

@@ -4,10 +4,10 @@
 ghost use Rattle.std.specs.Prelude.{◌≡◌, ◌↔◌, ℕ, true, None, List, Some};
 ghost use Rattle.hyd_num.specs.FileQuantity as quantity;
 ghost use Rattle.hyd_spec_lines.specs.Lines.{LiesIn, Row, row_of};
-ghost use Rattle.hyd_option_and_rule_lines.specs.FaultOrValue.{words_at};
+ghost use Rattle.hyd_row_words.specs.FaultOrValue.{words_at};
 ghost use Rattle.hyd_option_and_rule_lines.specs.Meanings.{IsAsked};
 ghost use Rattle.hyd_capacities.specs.Ranges.{IsDiameter};
-ghost use Rattle.hyd_spec_input.specs.Capacities.{IsRefusedSetting, IsRefusedValve};
+ghost use Rattle.hyd_spec_input.specs.CapacitiesOutOfRange.{IsRefusedSetting, IsRefusedValve};
 ghost use Rattle.hyd_spec_input.specs.Columns.{amount};
 ghost use Rattle.hyd_spec_input.specs.InForce as force;
 ghost use Rattle.hyd_spec_input.specs.NetworkRows as row;
@@ -17,7 +17,7 @@ ghost use Rattle.hyd_asked_link_states.specs.AskedLinks as states;
 ghost use Rattle.hyd_asked_link_states.specs.AskedLinks.{IsRightLink, IsAllowed, IsSettable, IsThrottleCoefficient};
 ghost use Rattle.hyd_asked_link_states.specs.AskedLinks.{IsThrottled};
 
-use crate::types::{LinkType, link_type};
+use crate::link_types::{LinkType, link_type};
 use hyd_capacities::valve_capacity;
 use hyd_lex::{Line, Lines};
 use hyd_net::{LinkState, OpenValve};

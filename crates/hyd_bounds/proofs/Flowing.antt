@@ -6,14 +6,14 @@ use Rattle.std.specs.Option.{IfSome}
 use Rattle.hyd_num.specs.declared.decimals.Span.{Span}
 use Rattle.hyd_spec.specs.Assignment.{head_at}
 use Rattle.hyd_spec_certificates.specs.EnclosingFunctions.{low, high}
-use Rattle.hyd_spec_certificates.specs.Grid.{GridLink}
-use Rattle.hyd_spec_certificates.specs.Boxes.{flow_box}
+use Rattle.hyd_spec_certificates.specs.PeriodNetwork.{GridLink}
+use Rattle.hyd_spec_certificates.specs.FlowIntervals.{flow_box}
 use Rattle.hyd_law.specs.LinkLaws.{link_low, link_high}
 use Rattle.hyd_law.specs.declared.link_law.LinkLaw.{LinkLaw}
-use Rattle.hyd_period_network.specs.declared.junctions_ties_and_settings.Ends.{Ends}
+use Rattle.hyd_period_network.specs.declared.net_types.Ends.{Ends}
 use Rattle.hyd_period_network.specs.ExactLaw.{exact_law}
 use Rattle.hyd_vector_check.proofs.Shares.{StandsFor}
-use Rattle.hyd_bounds.specs.Bounds.{IsSpan}
+use Rattle.hyd_bounds.specs.VectorsInOrder.{IsSpan}
 
 -- the link at a number has these ends
 abbrev pub HasTheseEnds : Ends → GridLink → Type 0

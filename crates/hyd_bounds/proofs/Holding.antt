@@ -11,23 +11,23 @@ use Rattle.hyd_net.specs.ListView.{ListView}
 use Rattle.hyd_spec.specs.ProgramTypes.{HeadPoint, LinkKind, LinkState}
 use Rattle.hyd_spec.specs.Scale.{at_scale}
 use Rattle.hyd_spec.specs.NodeNumbers.{tank_node}
-use Rattle.hyd_spec.specs.Quantity.{reservoir_head}
+use Rattle.hyd_spec.specs.DemandsReservoirHeadsAndCurves.{reservoir_head}
 use Rattle.hyd_spec.specs.Assignment.{head_at, node_heads}
 use Rattle.hyd_spec_certificates.specs.declared.Problem.TheVariants.{Main, Pinned}
 use Rattle.hyd_spec_certificates.specs.declared.Side.TheVariants.{Upper, Lower}
 use Rattle.hyd_spec_certificates.specs.Interval.{Interval}
-use Rattle.hyd_spec_certificates.specs.Grid.{Grid, GridLink, GridJunction, all_heads}
-use Rattle.hyd_spec_certificates.specs.Boxes.{difference, flow_box, out_box, inflow_box}
+use Rattle.hyd_spec_certificates.specs.PeriodNetwork.{Grid, GridLink, GridJunction, all_heads}
+use Rattle.hyd_spec_certificates.specs.FlowIntervals.{difference, flow_box, out_box, inflow_box}
 use Rattle.hyd_spec_reports.specs.Report.{status_of}
 use Rattle.hyd_spec_reports.specs.declared.StatusWord.{StatusWord}
 use Rattle.hyd_spec_reports.specs.Claims.{StatusHolds}
-use Rattle.hyd_theorems_on_definitions.specs.Laws.{LiesIn, LieBetween}
+use Rattle.hyd_theorems_on_definitions.specs.TermsOfTheorems.{LiesIn, LieBetween}
 use Rattle.hyd_theorems_on_definitions.proofs.Boxed.{heads_between, flow_lies, outflow_lies}
 use Rattle.hyd_theorems_on_definitions.proofs.Comparison.{one_each}
 use Rattle.hyd_theorems_on_definitions.proofs.NetRising.{item-at}
 use Rattle.hyd_theorems_on_definitions.proofs.Pinning.{inflow_lies}
 use Rattle.hyd_theorems_on_definitions.proofs.StatusWords.{status_holds}
-use Rattle.hyd_bounds.specs.Bounds.{IsSpan}
+use Rattle.hyd_bounds.specs.VectorsInOrder.{IsSpan}
 use Rattle.hyd_bounds.specs.Enclosed.{interval_of, HoldsFlow, HoldsOutflow, HoldsInflow, HoldsStatus}
 
 -- what lies in an interval lies in its span

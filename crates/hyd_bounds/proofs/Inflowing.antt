@@ -11,11 +11,11 @@ use Rattle.hyd_spec_certificates.specs.declared.Side.{Side}
 use Rattle.hyd_spec_certificates.specs.declared.Side.TheVariants.{Upper, Lower}
 use Rattle.hyd_spec_certificates.specs.Interval.{Interval, exactly, width}
 use Rattle.hyd_spec_certificates.specs.EnclosingFunctions.{low, high}
-use Rattle.hyd_spec_certificates.specs.Grid.{Grid, end_on, opposite, tank_side, fixed_heads, all_heads}
+use Rattle.hyd_spec_certificates.specs.PeriodNetwork.{Grid, end_on, opposite, tank_side, fixed_heads, all_heads}
 use Rattle.hyd_spec_certificates.specs.NetOutflow.{net}
-use Rattle.hyd_theorems_on_definitions.specs.Laws.{IsSteady}
+use Rattle.hyd_theorems_on_definitions.specs.TermsOfTheorems.{IsSteady}
 use Rattle.hyd_theorems_on_definitions.proofs.NetRising.{low-rises, high-rises, IsTop, net-rises, net-ordered}
-use Rattle.hyd_bounds.specs.Bounds.{AreInOrder}
+use Rattle.hyd_bounds.specs.VectorsInOrder.{AreInOrder}
 
 same : (k : ℕ) → (k == k) ≡ true
 same k = search arith

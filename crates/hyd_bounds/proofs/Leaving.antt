@@ -6,12 +6,12 @@ use Rattle.std.proofs.lemmas.Int.{ints}
 use Rattle.hyd_num.specs.declared.decimals.Span.{Span}
 use Rattle.hyd_spec.specs.ProgramTypes.{Capacity}
 use Rattle.hyd_spec_certificates.specs.EnclosingFunctions.{DemandLaw}
-use Rattle.hyd_spec_certificates.specs.Grid.{Grid, GridJunction}
+use Rattle.hyd_spec_certificates.specs.PeriodNetwork.{Grid, GridJunction}
 use Rattle.hyd_spec_certificates.specs.NetOutflow.{outflow_low, outflow_high}
-use Rattle.hyd_spec_certificates.specs.Boxes.{out_box}
-use Rattle.hyd_theorems_on_definitions.specs.Laws.{IsSteady}
+use Rattle.hyd_spec_certificates.specs.FlowIntervals.{out_box}
+use Rattle.hyd_theorems_on_definitions.specs.TermsOfTheorems.{IsSteady}
 use Rattle.hyd_theorems_on_definitions.proofs.NetRising.{item-at, demand-at, outflow-rises}
-use Rattle.hyd_bounds.specs.Bounds.{IsSpan}
+use Rattle.hyd_bounds.specs.VectorsInOrder.{IsSpan}
 
 -- by how much outflows may miss
 abbrev pub miss : Option Capacity → ℤ

@@ -14,11 +14,11 @@ use Rattle.hyd_spec.specs.Tank.{tank_inflow}
 use Rattle.hyd_spec_certificates.specs.declared.Problem.TheVariants.{Main, Pinned}
 use Rattle.hyd_spec_certificates.specs.declared.Side.TheVariants.{Upper, Lower}
 use Rattle.hyd_spec_certificates.specs.Interval.{Interval}
-use Rattle.hyd_spec_certificates.specs.Grid.{Grid, GridLink}
+use Rattle.hyd_spec_certificates.specs.PeriodNetwork.{Grid, GridLink}
 use Rattle.hyd_spec_certificates.specs.Certificate.{IsCertificate}
 use Rattle.hyd_spec_reports.specs.declared.StatusWord.{StatusWord}
 use Rattle.hyd_spec_reports.specs.Claims.{StatusHolds}
-use Rattle.hyd_theorems_on_definitions.specs.Laws.{IsCompared, LiesIn}
+use Rattle.hyd_theorems_on_definitions.specs.TermsOfTheorems.{IsCompared, LiesIn}
 
 -- the interval of a span
 abbrev pub interval_of : Span → Interval

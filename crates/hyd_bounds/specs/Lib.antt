@@ -1,3 +1,3 @@
-pub mod Bounds
+pub mod VectorsInOrder
 pub mod StatusWords
 pub mod Enclosed

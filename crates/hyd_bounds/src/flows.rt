@@ -5,11 +5,11 @@ ghost use Rattle.std.specs.Prelude.{◌≡◌, ◌<◌, ◌≤◌, ◌^◌, ◌�
 ghost use Rattle.std.specs.Option.{IfSome};
 ghost use Rattle.hyd_spec_certificates.specs.declared.Problem.TheVariants.{Main};
 ghost use Rattle.hyd_spec_certificates.specs.declared.Side.TheVariants.{Upper, Lower};
-ghost use Rattle.hyd_spec_certificates.specs.Grid.{all_heads};
-ghost use Rattle.hyd_spec_certificates.specs.Boxes.{flow_box};
-ghost use Rattle.hyd_period_network.specs.GridOf.{grid_of};
+ghost use Rattle.hyd_spec_certificates.specs.PeriodNetwork.{all_heads};
+ghost use Rattle.hyd_spec_certificates.specs.FlowIntervals.{flow_box};
+ghost use Rattle.hyd_period_network.specs.NetAsPeriodNetwork.{grid_of};
 ghost use Rattle.hyd_law.specs.LinkLaws.{link_low, link_high, IsSoundLink, LinkAccepts};
-ghost use Rattle.hyd_bounds.specs.Bounds.{IsSpan, IsVector, AreInOrder};
+ghost use Rattle.hyd_bounds.specs.VectorsInOrder.{IsSpan, IsVector, AreInOrder};
 ghost use Rattle.hyd_bounds.specs.Enclosed.{HoldsFlow};
 
 use crate::heads::{difference, node_head};

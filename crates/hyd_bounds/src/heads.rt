@@ -3,10 +3,10 @@
 
 ghost use Rattle.std.specs.Prelude.{◌≡◌, ◌<◌, ◌≤◌, ◌*◌, ◌^◌, ◌-ℤ◌, unsigned_abs};
 ghost use Rattle.hyd_spec.specs.Assignment.{head_at};
-ghost use Rattle.hyd_spec_certificates.specs.Grid.{all_heads};
-ghost use Rattle.hyd_period_network.specs.GridOf.{grid_of, node_count};
-ghost use Rattle.hyd_period_network.specs.Nets.{HasProblem};
-ghost use Rattle.hyd_bounds.specs.Bounds.{IsVector};
+ghost use Rattle.hyd_spec_certificates.specs.PeriodNetwork.{all_heads};
+ghost use Rattle.hyd_period_network.specs.NetAsPeriodNetwork.{grid_of, node_count};
+ghost use Rattle.hyd_period_network.specs.NetInvariant.{HasProblem};
+ghost use Rattle.hyd_bounds.specs.VectorsInOrder.{IsVector};
 
 use hyd_period_network::Net;
 use hyd_spec_certificates::{Problem, Side};

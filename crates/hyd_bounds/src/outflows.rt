@@ -5,9 +5,9 @@ ghost use Rattle.std.specs.Prelude.{◌≡◌, ◌<◌, ◌≤◌, ◌^◌, ◌�
 ghost use Rattle.std.specs.Prelude.{if◌then◌else◌};
 ghost use Rattle.std.specs.Option.{IfSome, option_map, option_copied};
 ghost use Rattle.hyd_spec_certificates.specs.Certificate.{IsInBox};
-ghost use Rattle.hyd_spec_certificates.specs.Boxes.{out_box};
-ghost use Rattle.hyd_period_network.specs.GridOf.{grid_of, capacity_of};
-ghost use Rattle.hyd_bounds.specs.Bounds.{IsSpan};
+ghost use Rattle.hyd_spec_certificates.specs.FlowIntervals.{out_box};
+ghost use Rattle.hyd_period_network.specs.NetAsPeriodNetwork.{grid_of, capacity_of};
+ghost use Rattle.hyd_bounds.specs.VectorsInOrder.{IsSpan};
 ghost use Rattle.hyd_bounds.specs.Enclosed.{HoldsOutflow};
 
 use crate::flows::TOLERANCE;

@@ -6,7 +6,7 @@ use Rattle.hyd_spec_lines.specs.declared.section.Section.{Section}
 use Rattle.hyd_spec_lines.specs.declared.section.Section.TheVariants.{Rules}
 use Rattle.hyd_net.specs.declared.refusal_cause.Cause.TheVariants.{Limit}
 use Rattle.hyd_spec_input.specs.SingleRows.{IsWrongByItself}
-use Rattle.hyd_spec_input.specs.Capacities.{IsRefusedIn, IsRefusedSetting}
+use Rattle.hyd_spec_input.specs.CapacitiesOutOfRange.{IsRefusedIn, IsRefusedSetting}
 use Rattle.hyd_spec_input.specs.Columns.{first, word}
 use Rattle.hyd_spec_input.specs.Faults.{NoneIs, IsWrongWithOthers}
 use Rattle.hyd_spec_input.specs.Keywords.{link_word}
@@ -19,7 +19,7 @@ use Rattle.hyd_spec_input.specs.declared.RuleWord.TheVariants.{Rule, If, And, Or
 use Rattle.hyd_theorems_on_input.proofs.Faultless.{or_none, all_none, section_is}
 use Rattle.hyd_text_rows.proofs.SectionLemmas.{none_of}
 use Rattle.hyd_judge_controls.proofs.RuleLemmas.{action_is_right}
-use Rattle.hyd_build_controls.specs.Rows.{IsRightAction}
+use Rattle.hyd_build_controls.specs.CheckedRows.{IsRightAction}
 use Rattle.hyd_build_controls.proofs.ControlLemmas.{known}
 
 action_is_part : (o : Option RuleWord) (acting : Bool) → is_action_word o acting ≡ true

@@ -3,7 +3,7 @@ use Rattle.std.proofs.Common.{◌≡◌, ◌+◌, ◌++◌, ℕ, Bool, true, fal
 use Rattle.std.proofs.Common.{Some, None, refl, sym, ap, ◌∙◌, subst, true≢false, codes, if◌then◌else◌, inl, inr}
 use Rattle.std.specs.Prelude.{◌||◌}
 use Rattle.std.proofs.lemmas.List.{map-append}
-use Rattle.hyd_spec_lines.specs.Bytes.{is_keyword}
+use Rattle.hyd_spec_lines.specs.WordsOfLines.{is_keyword}
 use Rattle.hyd_spec_lines.specs.Headings.{is_one_of}
 use Rattle.hyd_spec_lines.specs.Lines.{Row}
 use Rattle.hyd_spec_lines.specs.declared.section.Section.{Section}
@@ -16,7 +16,7 @@ use Rattle.hyd_num.specs.FileQuantity.{is_us_unit, head_ticks}
 use Rattle.hyd_num.specs.declared.flow_units.FlowUnit.{FlowUnit}
 use Rattle.hyd_spec_input.specs.SingleRows as itself
 use Rattle.hyd_spec_input.specs.SingleRows.{IsWrongByItself}
-use Rattle.hyd_spec_input.specs.Capacities.{IsRefusedIn, IsRefusedSetting}
+use Rattle.hyd_spec_input.specs.CapacitiesOutOfRange.{IsRefusedIn, IsRefusedSetting}
 use Rattle.hyd_spec_input.specs.Columns.{unless, id, meant, asked, one_of, needed, word, word_is, is_option_keyword}
 use Rattle.hyd_spec_input.specs.Columns.{amount}
 use Rattle.hyd_spec_input.specs.ControlRows as row_form
@@ -34,7 +34,7 @@ use Rattle.hyd_theorems_on_input.proofs.Points.{is_head_lies}
 use Rattle.hyd_text_rows.proofs.FoundLemmas.{filter_more, filter_same}
 use Rattle.hyd_text_rows.proofs.SectionLemmas.{none_of}
 use Rattle.hyd_build_controls.specs.Controls.{IsRightWhen, AreControls}
-use Rattle.hyd_build_controls.specs.Rows.{IsRightControl}
+use Rattle.hyd_build_controls.specs.CheckedRows.{IsRightControl}
 use Rattle.hyd_build_controls.proofs.NumberLemmas.{tank_numbered}
 
 -- ---- a name that is known

@@ -31,7 +31,7 @@ use Rattle.hyd_theorems_on_input.proofs.Faultless.{or_none, all_none, unless_non
 use Rattle.hyd_theorems_on_input.proofs.RuleLines.{not_rule}
 use Rattle.hyd_text_rows.proofs.SectionLemmas.{none_of}
 use Rattle.hyd_build_controls.specs.Clauses.{HasNumber}
-use Rattle.hyd_build_controls.specs.Rows.{IsRightAction}
+use Rattle.hyd_build_controls.specs.CheckedRows.{IsRightAction}
 use Rattle.hyd_build_controls.specs.Rules.{is_clause_word, IsRightClause, is_of_branch, stage_at}
 use Rattle.hyd_build_controls.specs.declared.rule_parts.Branch.{Branch}
 use Rattle.hyd_build_controls.specs.declared.rule_parts.Branch.TheVariants as branch

@@ -1,4 +1,4 @@
-pub mod Rows
+pub mod CheckedRows
 pub mod Controls
 pub mod Values
 pub mod Clauses

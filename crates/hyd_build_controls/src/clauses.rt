@@ -3,7 +3,7 @@
 
 ghost use Rattle.std.specs.Prelude.{◌≡◌, ℕ, List, Some, true, ℤ, pos, ◌*ℤ◌};
 ghost use Rattle.hyd_spec_lines.specs.Lines.{LiesIn, Row};
-ghost use Rattle.hyd_option_and_rule_lines.specs.FaultOrValue.{words_at};
+ghost use Rattle.hyd_row_words.specs.FaultOrValue.{words_at};
 ghost use Rattle.hyd_option_and_rule_lines.specs.Meanings as meaning;
 ghost use Rattle.hyd_option_and_rule_lines.specs.Meanings.{IsClauseLine};
 ghost use Rattle.hyd_option_and_rule_lines.specs.declared.rules.Value.TheVariants as said;
@@ -22,7 +22,8 @@ use crate::values::{quantity_value, time_value};
 use hyd_lex::{Line, Lines};
 use hyd_net::{Clause, Joined, Names, RuleClause, Value, What};
 use hyd_num::FlowUnit;
-use hyd_option_and_rule_lines::{Attribute, ClauseLine, or_empty};
+use hyd_option_and_rule_lines::{Attribute, ClauseLine};
+use hyd_row_words::or_empty;
 
 // What a clause speaks of.
 fn what_of(attribute: Attribute, name: &[u8], nodes: &Names, tanks: &Names, links: &Names) -> What

@@ -5,7 +5,7 @@ ghost use Rattle.std.specs.Prelude.{◌≡◌, ◌<◌, ◌+◌, ◌==◌, List 
 ghost use Rattle.std.specs.List.{All};
 ghost use Rattle.hyd_spec_lines.specs.Lines.{LiesIn, Row};
 ghost use Rattle.hyd_spec_lines.specs.declared.section.Section.TheVariants.{Controls};
-ghost use Rattle.hyd_option_and_rule_lines.specs.FaultOrValue.{words_at};
+ghost use Rattle.hyd_row_words.specs.FaultOrValue.{words_at};
 ghost use Rattle.hyd_option_and_rule_lines.specs.Meanings as meaning;
 ghost use Rattle.hyd_spec_input.specs.SingleRows.{IsWrongByItself};
 ghost use Rattle.hyd_spec_input.specs.Faults.{NoneIs, IsWrongWithOthers};
@@ -13,8 +13,8 @@ ghost use Rattle.hyd_spec_input.specs.InForce as force;
 ghost use Rattle.hyd_spec_input.specs.MeaningsAcrossRows.{tank_ids, link_ids};
 ghost use Rattle.hyd_spec_input.specs.Project.{Match, IsControl, IsWhen};
 ghost use Rattle.hyd_spec_input.specs.Tables.{place as section_place, is_of, words_of, link_rows};
-ghost use Rattle.hyd_text_rows.specs.Found.{rows_at};
-ghost use Rattle.hyd_text_rows.specs.Tables.{IsTable};
+ghost use Rattle.hyd_text_rows.specs.FirstWrongRow.{rows_at};
+ghost use Rattle.hyd_text_rows.specs.IdTables.{IsTable};
 ghost use Rattle.hyd_build_controls.specs.Controls.{IsRightWhen, AreControls};
 
 use crate::numbering::{level_ticks, number_of};
@@ -22,7 +22,8 @@ use hyd_asked_link_states::link_state;
 use hyd_lex::{Line, Lines, Section};
 use hyd_net::{Control, LinkState, List, Names, OutOfMemory, When};
 use hyd_num::FlowUnit;
-use hyd_option_and_rule_lines::{WhenLine, or_empty, read_control};
+use hyd_option_and_rule_lines::{WhenLine, read_control};
+use hyd_row_words::or_empty;
 use hyd_text_rows::Table;
 use std::alloc::Global;
 

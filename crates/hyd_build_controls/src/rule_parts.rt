@@ -5,7 +5,7 @@ ghost use Rattle.std.specs.Prelude.{◌≡◌, ◌<◌, ℕ, List as ListOf, Som
 ghost use Rattle.std.specs.Prelude.{IfSome, IfNone};
 ghost use Rattle.std.specs.List.{All};
 ghost use Rattle.hyd_spec_lines.specs.Lines.{LiesIn, Row};
-ghost use Rattle.hyd_option_and_rule_lines.specs.FaultOrValue.{words_at};
+ghost use Rattle.hyd_row_words.specs.FaultOrValue.{words_at};
 ghost use Rattle.hyd_option_and_rule_lines.specs.Meanings.{IsRuleLine, IsClauseLine};
 ghost use Rattle.hyd_spec_input.specs.SingleRows.{IsWrongByItself};
 ghost use Rattle.hyd_spec_input.specs.Columns as column;
@@ -19,8 +19,8 @@ ghost use Rattle.hyd_spec_input.specs.RuleRows.{begins_with};
 ghost use Rattle.hyd_spec_input.specs.Project.{Match, IsClause, IsAction};
 ghost use Rattle.hyd_spec_input.specs.Tables.{link_rows};
 ghost use Rattle.hyd_spec_input.specs.declared.Stage.TheVariants.{Named};
-ghost use Rattle.hyd_text_rows.specs.Found.{rows_at};
-ghost use Rattle.hyd_text_rows.specs.Tables.{IsTable};
+ghost use Rattle.hyd_text_rows.specs.FirstWrongRow.{rows_at};
+ghost use Rattle.hyd_text_rows.specs.IdTables.{IsTable};
 ghost use Rattle.hyd_build_controls.specs.Rules as rules;
 ghost use Rattle.hyd_build_controls.specs.Rules.{is_clause_word, IsRightClause, rest_of_rule, stage_at};
 
@@ -32,7 +32,8 @@ use hyd_net::{
     Action, Clause, Joined, List, Names, OutOfMemory, Relation, RuleClause, Value, What,
 };
 use hyd_num::FlowUnit;
-use hyd_option_and_rule_lines::{ClauseLine, RuleLine, number, read_rule_line};
+use hyd_option_and_rule_lines::{ClauseLine, RuleLine, read_rule_line};
+use hyd_row_words::number;
 use hyd_spec_input::{RuleWord, Stage};
 use hyd_text_rows::Table;
 use std::alloc::Global;

@@ -3,7 +3,7 @@ use Rattle.std.proofs.Common.{◌≡◌, ℕ, Bool, true, List, [], ◌∷◌, O
 use Rattle.std.specs.Prelude.{slice_get, nat_le, codes, IfSome, ◌^◌, pos, if◌then◌else◌, ℤ}
 use Rattle.std.proofs.lemmas.Bool.{and_parts, le-leb}
 use lib.Signed.{le_z}
-use Rattle.hyd_spec_lines.specs.Bytes.{is_keyword}
+use Rattle.hyd_spec_lines.specs.WordsOfLines.{is_keyword}
 use Rattle.hyd_spec_lines.specs.Lines.{Row, row_of}
 use Rattle.hyd_spec_lines.specs.declared.line.Line.{Line}
 use Rattle.hyd_spec_lines.specs.declared.section.Section.{Section}
@@ -21,7 +21,7 @@ use Rattle.hyd_spec_input.specs.Moments.{moment_word, unit_word, time_nano, time
 use Rattle.hyd_spec_input.specs.OptionRows.{demand_words, demand_value, demand_line, bound_line, option_about, option}
 use Rattle.hyd_spec_input.specs.OptionRows.{step_line, step_or_start_line, start_line, time_about, time_line}
 use Rattle.hyd_spec_input.specs.Tables.{rows_of}
-use Rattle.hyd_text_rows.specs.Found.{rows_at}
+use Rattle.hyd_text_rows.specs.FirstWrongRow.{rows_at}
 use Rattle.hyd_theorems_on_input.proofs.Faultless.{AreRight, right_alone, or_none, all_none, unless_none, needed_none}
 use Rattle.hyd_theorems_on_input.proofs.InForce.{IsInForce, in_force, word_is_keyword, first_named_same, is_one_of_same}
 use Rattle.hyd_build_ids_and_options.specs.InForce.{row_in, GivesTime}

@@ -5,14 +5,14 @@ use Rattle.std.specs.List.{All, slice_split}
 use Rattle.std.proofs.Common.{nat_le}
 use Rattle.std.proofs.lemmas.Bool.{leb-true}
 use Rattle.std.proofs.lemmas.List.Elements.{filter_passes}
-use Rattle.hyd_spec_lines.specs.Bytes.{words_in, is_blank}
+use Rattle.hyd_spec_lines.specs.WordsOfLines.{words_in, is_blank}
 use Rattle.hyd_spec_lines.specs.Lines.{Row, row_of}
 use Rattle.hyd_spec_lines.specs.declared.line.Line.{Line}
 use Rattle.hyd_spec_input.specs.SingleRows as itself
 use Rattle.hyd_spec_input.specs.SingleRows.{IsWrongByItself}
 use Rattle.hyd_spec_input.specs.RowsTogether as others
 use Rattle.hyd_spec_input.specs.Faults.{NoneIs, IsWrongWithOthers}
-use Rattle.hyd_text_rows.specs.Found.{rows_at}
+use Rattle.hyd_text_rows.specs.FirstWrongRow.{rows_at}
 use Rattle.hyd_text_rows.proofs.SectionLemmas.{none_of}
 use Rattle.hyd_theorems_on_input.proofs.Faultless.{AreRight}
 use Rattle.hyd_theorems_on_input.proofs.Places.{source}

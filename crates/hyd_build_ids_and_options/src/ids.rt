@@ -10,7 +10,7 @@ ghost use Rattle.hyd_spec_input.specs.MeaningsAcrossRows as network;
 ghost use Rattle.hyd_spec_input.specs.MeaningsAcrossRows.{new_names};
 ghost use Rattle.hyd_spec_input.specs.Tables as table;
 ghost use Rattle.hyd_spec_input.specs.Tables.{rows_of};
-ghost use Rattle.hyd_text_rows.specs.Found.{rows_at};
+ghost use Rattle.hyd_text_rows.specs.FirstWrongRow.{rows_at};
 
 use hyd_lex::{Line, Lines, Section};
 use hyd_net::{Names, OutOfMemory};

@@ -3,17 +3,17 @@
 
 ghost use Rattle.std.specs.Prelude.{◌≡◌, IfSome};
 ghost use Rattle.std.specs.List.{All};
-ghost use Rattle.hyd_spec_lines.specs.Bytes.{text_of};
+ghost use Rattle.hyd_spec_lines.specs.WordsOfLines.{text_of};
 ghost use Rattle.hyd_spec_lines.specs.Lines.{LiesIn, row_of};
 ghost use Rattle.hyd_spec_input.specs.InForce.{last_where};
 ghost use Rattle.hyd_spec_input.specs.Tables.{rows_of};
-ghost use Rattle.hyd_text_rows.specs.Found.{rows_at};
+ghost use Rattle.hyd_text_rows.specs.FirstWrongRow.{rows_at};
 ghost use Rattle.hyd_build_ids_and_options.specs.InForce as force;
 ghost use Rattle.hyd_build_ids_and_options.specs.InForce.{row_in};
 
 use crate::ids::is_of;
 use hyd_lex::{Line, Lines, Section};
-use hyd_option_and_rule_lines::word_is;
+use hyd_row_words::word_is;
 
 // Whether a line begins with one word, or with two.
 fn begins_with(text: &Lines<'_>, line: &Line, key: &[u8], second: Option<&[u8]>) -> bool

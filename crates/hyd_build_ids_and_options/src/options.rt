@@ -4,21 +4,21 @@
 ghost use Rattle.std.specs.Prelude.{◌≡◌, None, IfSome};
 ghost use Rattle.std.specs.List.{All};
 ghost use Rattle.hyd_spec_lines.specs.Lines.{LiesIn};
-ghost use Rattle.hyd_option_and_rule_lines.specs.FaultOrValue.{words_at};
+ghost use Rattle.hyd_row_words.specs.FaultOrValue.{words_at};
 ghost use Rattle.hyd_spec_input.specs.SingleRows.{IsWrongByItself};
 ghost use Rattle.hyd_spec_input.specs.Faults.{NoneIs, IsWrongWithOthers};
 ghost use Rattle.hyd_spec_input.specs.Columns as column;
 ghost use Rattle.hyd_spec_input.specs.InForce as force;
 ghost use Rattle.hyd_spec_input.specs.MeaningsAcrossRows as network;
 ghost use Rattle.hyd_spec_input.specs.Project.{IsOptions};
-ghost use Rattle.hyd_text_rows.specs.Found.{rows_at};
+ghost use Rattle.hyd_text_rows.specs.FirstWrongRow.{rows_at};
 ghost use Rattle.hyd_build_ids_and_options.specs.InForce.{row_in};
 
 use crate::in_force::last_line;
 use hyd_lex::{Line, Lines, Section};
 use hyd_net::{Names, Options};
 use hyd_num::{Decimal, FlowUnit};
-use hyd_option_and_rule_lines::{number, or_empty, word_is};
+use hyd_row_words::{number, or_empty, word_is};
 
 const ZERO: i128 = 0;
 

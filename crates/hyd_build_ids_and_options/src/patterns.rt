@@ -5,7 +5,7 @@ ghost use Rattle.std.specs.Prelude.{◌≡◌, ◌<◌, ◌≤◌, ◌+◌, ◌^
 ghost use Rattle.std.specs.Prelude.{IfOk, OnOk};
 ghost use Rattle.std.specs.List.{All};
 ghost use Rattle.hyd_num.specs.Numeral.{nano_of};
-ghost use Rattle.hyd_spec_lines.specs.Bytes.{words_in};
+ghost use Rattle.hyd_spec_lines.specs.WordsOfLines.{words_in};
 ghost use Rattle.hyd_spec_lines.specs.Lines.{LiesIn};
 ghost use Rattle.hyd_spec_input.specs.SingleRows.{IsWrongByItself};
 ghost use Rattle.hyd_spec_input.specs.Columns.{within};
@@ -13,14 +13,14 @@ ghost use Rattle.hyd_spec_input.specs.DemandCurveAndStatusRows as row;
 ghost use Rattle.hyd_spec_input.specs.Faults.{NoneIs, IsWrongWithOthers};
 ghost use Rattle.hyd_spec_input.specs.MeaningsAcrossRows as network;
 ghost use Rattle.hyd_spec_input.specs.Project.{Match, IsPattern};
-ghost use Rattle.hyd_text_rows.specs.Found.{rows_at};
+ghost use Rattle.hyd_text_rows.specs.FirstWrongRow.{rows_at};
 ghost use Rattle.hyd_build_ids_and_options.specs.PatternsSoFar.{each, opened, AreFilled};
 
 use crate::ids::is_of;
 use hyd_lex::{Line, Lines, Section, split_word};
 use hyd_net::{List, Names, OutOfMemory, Pattern};
 use hyd_network_rows::read_pattern;
-use hyd_option_and_rule_lines::number_of;
+use hyd_row_words::number_of;
 use std::alloc::Global;
 
 // A multiplier in billionths.

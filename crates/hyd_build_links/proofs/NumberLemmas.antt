@@ -22,8 +22,8 @@ use Rattle.hyd_theorems_on_input.proofs.Names.{First, Second, Third, one_of_thre
 use Rattle.hyd_theorems_on_input.proofs.Names.{link_new, named_stands}
 use Rattle.hyd_theorems_on_input.proofs.Occurs.{itself, occurs, occurs_append, occurs_at, has_number, kept_once}
 use Rattle.hyd_theorems_on_input.proofs.Places.{kept_stands, kept_passes}
-use Rattle.hyd_text_rows.specs.Found.{rows_at}
-use Rattle.hyd_text_rows.specs.Tables.{AreFirsts}
+use Rattle.hyd_text_rows.specs.FirstWrongRow.{rows_at}
+use Rattle.hyd_text_rows.specs.IdTables.{AreFirsts}
 use Rattle.hyd_build_links.specs.CheckedRows.{HasNumber}
 
 -- a name that occurs has a number

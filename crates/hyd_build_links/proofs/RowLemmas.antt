@@ -14,7 +14,7 @@ use Rattle.hyd_net.specs.declared.refusal_cause.Cause.{Cause}
 use Rattle.hyd_network_rows.specs.Rows.{IsPipeRow, IsValveRow}
 use Rattle.hyd_network_rows.specs.declared.pipes.PipeRow.{PipeRow}
 use Rattle.hyd_network_rows.specs.declared.valves.ValveRow.{ValveRow}
-use Rattle.hyd_spec_input.specs.Capacities.{IsRefusedPipe, IsRefusedValve}
+use Rattle.hyd_spec_input.specs.CapacitiesOutOfRange.{IsRefusedPipe, IsRefusedValve}
 use Rattle.hyd_spec_input.specs.Columns.{or_empty, amount}
 use Rattle.hyd_spec_input.specs.Curves.{is_bent}
 use Rattle.hyd_spec_input.specs.NetworkRows as alone

@@ -4,12 +4,12 @@ use Rattle.std.proofs.Common.{nat_le}
 use Rattle.std.specs.List.{All, slice_split}
 use Rattle.std.proofs.lemmas.Bool.{leb-true}
 use Rattle.std.proofs.lemmas.List.Elements.{filter_passes}
-use Rattle.hyd_spec_lines.specs.Bytes.{words_in, is_blank}
+use Rattle.hyd_spec_lines.specs.WordsOfLines.{words_in, is_blank}
 use Rattle.hyd_spec_lines.specs.Lines.{Row, row_of}
 use Rattle.hyd_spec_lines.specs.declared.section.Section.{Section}
 use Rattle.hyd_net.specs.declared.refusal_cause.Cause.TheVariants.{Limit}
 use Rattle.hyd_spec_input.specs.SingleRows as itself
-use Rattle.hyd_spec_input.specs.Capacities.{IsRefusedIn, IsRefusedRow}
+use Rattle.hyd_spec_input.specs.CapacitiesOutOfRange.{IsRefusedIn, IsRefusedRow}
 use Rattle.hyd_spec_input.specs.Tables.{is_of}
 use Rattle.hyd_spec_input.specs.RowsTogether as others
 use Rattle.hyd_theorems_on_input.proofs.Faultless.{AreRight, section_is}

@@ -5,7 +5,7 @@ use Rattle.std.specs.Str.{bytes_eq}
 use Rattle.std.proofs.lemmas.Bool.{cases_Bool}
 use Rattle.hyd_num.specs.FileQuantity.{is_us_unit}
 use Rattle.hyd_num.specs.declared.decimals.Decimal.{Decimal}
-use Rattle.hyd_spec_lines.specs.Bytes.{is_keyword}
+use Rattle.hyd_spec_lines.specs.WordsOfLines.{is_keyword}
 use Rattle.hyd_spec_lines.specs.Lines.{Row, row_of}
 use Rattle.hyd_spec_lines.specs.declared.line.Line.{Line}
 use Rattle.hyd_spec_lines.specs.declared.section.Section.TheVariants.{Pipes, Pumps, Valves, Status}
@@ -17,7 +17,7 @@ use Rattle.hyd_option_and_rule_lines.specs.declared.controls.Asked.{Asked}
 use Rattle.hyd_network_rows.specs.Rows.{pipe_status}
 use Rattle.hyd_network_rows.specs.declared.pipes.PipeStatus.{PipeStatus}
 use Rattle.hyd_network_rows.specs.declared.pipes.PipeStatus.TheVariants.{Closed}
-use Rattle.hyd_spec_input.specs.Capacities.{IsRefusedSetting}
+use Rattle.hyd_spec_input.specs.CapacitiesOutOfRange.{IsRefusedSetting}
 use Rattle.hyd_spec_input.specs.Columns.{word, amount, is_option_keyword}
 use Rattle.hyd_spec_input.specs.DemandCurveAndStatusRows as data_row
 use Rattle.hyd_spec_input.specs.InForce as force

@@ -3,7 +3,7 @@ use Rattle.std.specs.Prelude.{◌≡◌, true, false, List}
 use Rattle.hyd_num.specs.FileQuantity.{is_us_unit}
 use Rattle.hyd_num.specs.declared.flow_units.FlowUnit.{FlowUnit}
 use Rattle.hyd_net.specs.RoundedFileNumbers.{IsShutoffMade}
-use Rattle.hyd_spec_input.specs.Capacities.{IsRefusedPump}
+use Rattle.hyd_spec_input.specs.CapacitiesOutOfRange.{IsRefusedPump}
 use Rattle.hyd_spec_input.specs.Curves.{drop_of, is_bent, is_pump_curve, are_flows, has_shutoff}
 use Rattle.hyd_spec_input.specs.Project.{IsPumpOf, IsShutoffOf}
 use Rattle.hyd_spec_input.specs.Tables.{Point}

@@ -18,7 +18,7 @@ use crate::statuses::gather_statuses;
 use crate::valves::valve_kind;
 use hyd_lex::{Line, Lines, Section};
 use hyd_net::{Link, LinkKind, OutOfMemory};
-use hyd_option_and_rule_lines::or_empty;
+use hyd_row_words::or_empty;
 use std::alloc::Global;
 
 // What the link of a row is.

@@ -6,7 +6,7 @@ ghost use Rattle.hyd_spec_lines.specs.Lines.{Row, row_of};
 ghost use Rattle.hyd_spec_lines.specs.declared.section.Section.TheVariants.{Pipes};
 ghost use Rattle.hyd_capacities.specs.Ranges.{IsLength, IsDiameter, IsRoughness, IsMinorCoefficient};
 ghost use Rattle.hyd_network_rows.specs.Rows.{IsPipeRow};
-ghost use Rattle.hyd_spec_input.specs.Capacities.{IsRefusedPipe};
+ghost use Rattle.hyd_spec_input.specs.CapacitiesOutOfRange.{IsRefusedPipe};
 ghost use Rattle.hyd_spec_input.specs.Project.{IsPipeKind};
 ghost use Rattle.hyd_spec_input.specs.Tables.{is_of};
 ghost use Rattle.hyd_spec_input.specs.RowsTogether as others;

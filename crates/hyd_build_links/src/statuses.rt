@@ -7,8 +7,8 @@ ghost use Rattle.hyd_spec_lines.specs.Lines.{LiesIn, Row};
 ghost use Rattle.hyd_spec_input.specs.MeaningsAcrossRows.{last_naming};
 ghost use Rattle.hyd_spec_lines.specs.declared.section.Section.TheVariants.{Status};
 ghost use Rattle.hyd_spec_input.specs.Tables.{place as section_place, rows_of};
-ghost use Rattle.hyd_text_rows.specs.Found.{rows_at};
-ghost use Rattle.hyd_text_rows.specs.Tables.{IsEven};
+ghost use Rattle.hyd_text_rows.specs.FirstWrongRow.{rows_at};
+ghost use Rattle.hyd_text_rows.specs.IdTables.{IsEven};
 ghost use Rattle.hyd_build_links.specs.CheckedRows.{HasNumber};
 ghost use Rattle.hyd_build_links.specs.Statuses.{AreNone, AreStatuses, row_in};
 

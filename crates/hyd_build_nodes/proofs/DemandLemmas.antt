@@ -11,7 +11,7 @@ use Rattle.std.proofs.lemmas.List.{get_or-map}
 use Rattle.std.proofs.lemmas.List.Elements.{filter-append, All-push, All-map}
 use Rattle.hyd_num.specs.FileQuantity.{flow_ticks}
 use Rattle.hyd_num.specs.declared.flow_units.FlowUnit.{FlowUnit}
-use Rattle.hyd_spec_lines.specs.Bytes.{text_of}
+use Rattle.hyd_spec_lines.specs.WordsOfLines.{text_of}
 use Rattle.hyd_spec_lines.specs.Lines.{Row}
 use Rattle.hyd_spec_lines.specs.declared.line.Line.{Line}
 use Rattle.hyd_spec_lines.specs.declared.section.Section.TheVariants.{Demands}
@@ -28,12 +28,12 @@ use Rattle.hyd_spec_input.specs.Tables.{is_of, rows_of, rows_with, own_id, node_
 use Rattle.hyd_spec_input.specs.RowsTogether as others
 use Rattle.hyd_theorems_on_input.proofs.Faultless.{all_none}
 use Rattle.hyd_theorems_on_input.proofs.NodeRanges.{flow_right}
-use Rattle.hyd_text_rows.specs.Found.{rows_at}
-use Rattle.hyd_text_rows.specs.Tables.{AreFirsts}
+use Rattle.hyd_text_rows.specs.FirstWrongRow.{rows_at}
+use Rattle.hyd_text_rows.specs.IdTables.{AreFirsts}
 use Rattle.hyd_text_rows.proofs.FoundLemmas.{filter_more, filter_same}
 use Rattle.hyd_text_rows.proofs.SectionLemmas.{all_rows}
 use Rattle.hyd_text_rows.proofs.TableLemmas.{even}
-use Rattle.hyd_build_nodes.specs.Gathered.{demand_by, each, AreEmpty, IsSetAt, value_of, AreDemands}
+use Rattle.hyd_build_nodes.specs.DemandsAndEmitters.{demand_by, each, AreEmpty, IsSetAt, value_of, AreDemands}
 use Rattle.hyd_build_nodes.proofs.RightLemmas.{among}
 use Rattle.hyd_build_nodes.proofs.ReservoirLemmas.{pattern_is}
 use Rattle.hyd_build_nodes.proofs.GatherLemmas.{set_named, default_at, known_there}

@@ -18,7 +18,7 @@ use Rattle.hyd_net.specs.declared.refusal_cause.Cause.TheVariants.{Limit}
 use Rattle.hyd_network_rows.specs.Rows.{IsEmitterRow}
 use Rattle.hyd_network_rows.specs.declared.demands_curves_and_statuses.EmitterRow.{EmitterRow}
 use Rattle.hyd_spec_input.specs.SingleRows.{IsWrongByItself}
-use Rattle.hyd_spec_input.specs.Capacities.{IsRefusedEmitter, IsRefusedIn}
+use Rattle.hyd_spec_input.specs.CapacitiesOutOfRange.{IsRefusedEmitter, IsRefusedIn}
 use Rattle.hyd_spec_input.specs.Columns.{amount, word, or_empty, needed, id, up_to, ends, units}
 use Rattle.hyd_spec_input.specs.Faults.{NoneIs, IsWrongWithOthers}
 use Rattle.hyd_spec_input.specs.InForce as force
@@ -28,12 +28,12 @@ use Rattle.hyd_spec_input.specs.Project.{IsEmitter}
 use Rattle.hyd_spec_input.specs.Tables.{is_of, rows_of, own_id, node_rows}
 use Rattle.hyd_spec_input.specs.RowsTogether as others
 use Rattle.hyd_theorems_on_input.proofs.Faultless.{all_none, needed_none, within, section_is}
-use Rattle.hyd_text_rows.specs.Found.{rows_at}
-use Rattle.hyd_text_rows.specs.Tables.{AreFirsts}
+use Rattle.hyd_text_rows.specs.FirstWrongRow.{rows_at}
+use Rattle.hyd_text_rows.specs.IdTables.{AreFirsts}
 use Rattle.hyd_text_rows.proofs.FoundLemmas.{filter_more, filter_same}
 use Rattle.hyd_text_rows.proofs.SectionLemmas.{none_of, all_rows}
 use Rattle.hyd_text_rows.proofs.TableLemmas.{even}
-use Rattle.hyd_build_nodes.specs.Gathered.{IsSetAt, value_of, AreNone, AreEmitters}
+use Rattle.hyd_build_nodes.specs.DemandsAndEmitters.{IsSetAt, value_of, AreNone, AreEmitters}
 use Rattle.hyd_build_nodes.proofs.RightLemmas.{alone, among}
 use Rattle.hyd_build_nodes.proofs.GatherLemmas.{set_named, default_at, known_there}
 

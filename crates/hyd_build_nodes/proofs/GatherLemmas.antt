@@ -17,10 +17,10 @@ use Rattle.hyd_spec_lines.specs.declared.section.Section.TheVariants.{Junctions}
 use Rattle.hyd_spec_input.specs.MeaningsAcrossRows.{number_in}
 use Rattle.hyd_spec_input.specs.Tables.{is_of, is_node, node_rows, own_id, row_with, has_id}
 use Rattle.hyd_spec_input.specs.RowsTogether.{known_as, known_junction}
-use Rattle.hyd_text_rows.specs.Tables.{AreFirsts}
+use Rattle.hyd_text_rows.specs.IdTables.{AreFirsts}
 use Rattle.hyd_text_rows.proofs.FoundLemmas.{filter_more}
 use Rattle.hyd_text_rows.proofs.TableLemmas.{not_found, has_id-is}
-use Rattle.hyd_build_nodes.specs.Gathered.{IsSetAt, value_of}
+use Rattle.hyd_build_nodes.specs.DemandsAndEmitters.{IsSetAt, value_of}
 
 -- ---- names
 

@@ -8,7 +8,7 @@ use Rattle.std.proofs.lemmas.Option.{get_or_from_slice_get, slice_get-get_or}
 use Rattle.hyd_num.specs.FileQuantity.{flow_ticks}
 use Rattle.hyd_num.specs.declared.link_capacities.Capacity.{Capacity}
 use Rattle.hyd_num.specs.declared.flow_units.FlowUnit.{FlowUnit}
-use Rattle.hyd_spec_lines.specs.Bytes.{text_of}
+use Rattle.hyd_spec_lines.specs.WordsOfLines.{text_of}
 use Rattle.hyd_spec_lines.specs.Lines.{Row}
 use Rattle.hyd_spec_lines.specs.declared.line.Line.{Line}
 use Rattle.hyd_spec_lines.specs.declared.section.Section.TheVariants.{Junctions, Demands, Emitters}
@@ -28,10 +28,10 @@ use Rattle.hyd_spec_input.specs.Tables.{is_of, is_node, rows_of, rows_with, own_
 use Rattle.hyd_spec_input.specs.RowsTogether as others
 use Rattle.hyd_theorems_on_input.proofs.Faultless.{all_none}
 use Rattle.hyd_theorems_on_input.proofs.NodeRanges.{head_right, flow_right}
-use Rattle.hyd_text_rows.specs.Tables.{AreFirsts}
-use Rattle.hyd_build_nodes.specs.Built.{IsSmall}
-use Rattle.hyd_build_nodes.specs.Gathered.{demand_by, each, value_of, AreDemands, AreEmitters}
-use Rattle.hyd_build_nodes.specs.Joined.{IsJunctionBy, AreParts}
+use Rattle.hyd_text_rows.specs.IdTables.{AreFirsts}
+use Rattle.hyd_build_nodes.specs.ReservoirsAndTanks.{IsSmall}
+use Rattle.hyd_build_nodes.specs.DemandsAndEmitters.{demand_by, each, value_of, AreDemands, AreEmitters}
+use Rattle.hyd_build_nodes.specs.WholeJunctions.{IsJunctionBy, AreParts}
 use Rattle.hyd_build_nodes.specs.declared.junctions.Parts.{Parts}
 use Rattle.hyd_build_nodes.proofs.RightLemmas.{among, small_head, built_more}
 use Rattle.hyd_build_nodes.proofs.ReservoirLemmas.{pattern_is}

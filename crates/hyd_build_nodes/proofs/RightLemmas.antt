@@ -15,7 +15,7 @@ use Rattle.hyd_spec_input.specs.Tables.{is_of, rows_of, words_of}
 use Rattle.hyd_spec_input.specs.RowsTogether as others
 use Rattle.hyd_spec_input.specs.Project.{Match}
 use Rattle.hyd_theorems_on_input.proofs.Faultless.{section_is}
-use Rattle.hyd_text_rows.specs.Found.{rows_at}
+use Rattle.hyd_text_rows.specs.FirstWrongRow.{rows_at}
 use Rattle.hyd_text_rows.proofs.FoundLemmas.{filter_more, filter_same}
 use Rattle.hyd_text_rows.proofs.SectionLemmas.{none_of, all_rows}
 

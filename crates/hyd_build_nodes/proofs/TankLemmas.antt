@@ -23,7 +23,7 @@ use Rattle.hyd_spec_input.specs.RowsTogether as others
 use Rattle.hyd_spec_input.specs.RowsTogether.{us}
 use Rattle.hyd_theorems_on_input.proofs.Faultless.{all_none, needed_none, in_range, at_most, within}
 use Rattle.hyd_theorems_on_input.proofs.NodeRanges.{head_right, head_rises, head_sum}
-use Rattle.hyd_build_nodes.specs.Built.{number_of, AreSmall, IsTankOf, HasTankMore}
+use Rattle.hyd_build_nodes.specs.ReservoirsAndTanks.{number_of, AreSmall, IsTankOf, HasTankMore}
 use Rattle.hyd_build_nodes.proofs.RightLemmas.{alone, among, small_head, built_more}
 
 shape_is : (rows : List Row) (name : Option (List ℕ)) → number_of (shape_names rows) name ≡ shape_number rows name

@@ -1,3 +1,3 @@
-pub mod Built
-pub mod Gathered
-pub mod Joined
+pub mod ReservoirsAndTanks
+pub mod DemandsAndEmitters
+pub mod WholeJunctions

@@ -11,10 +11,10 @@ ghost use Rattle.hyd_spec_input.specs.Faults.{NoneIs, IsWrongWithOthers};
 ghost use Rattle.hyd_spec_input.specs.InForce as force;
 ghost use Rattle.hyd_spec_input.specs.MeaningsAcrossRows.{pattern_ids};
 ghost use Rattle.hyd_spec_input.specs.Tables.{place as section_place, node_rows};
-ghost use Rattle.hyd_text_rows.specs.Found.{rows_at};
-ghost use Rattle.hyd_text_rows.specs.Tables.{IsTable};
-ghost use Rattle.hyd_build_nodes.specs.Gathered.{AreDemands, AreEmpty, each, IsSetAt, demand_by as demand_as};
-ghost use Rattle.hyd_spec_lines.specs.Bytes.{text_of};
+ghost use Rattle.hyd_text_rows.specs.FirstWrongRow.{rows_at};
+ghost use Rattle.hyd_text_rows.specs.IdTables.{IsTable};
+ghost use Rattle.hyd_build_nodes.specs.DemandsAndEmitters.{AreDemands, AreEmpty, each, IsSetAt, demand_by as demand_as};
+ghost use Rattle.hyd_spec_lines.specs.WordsOfLines.{text_of};
 
 use crate::quantities::{flow_of, number_named};
 use hyd_lex::{Line, Lines, Section};

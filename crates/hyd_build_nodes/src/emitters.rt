@@ -5,14 +5,14 @@ ghost use Rattle.std.specs.Prelude.{◌≡◌, ◌<◌, ◌≤◌, ◌+◌, ◌*
 ghost use Rattle.std.specs.List.{All};
 ghost use Rattle.hyd_spec_lines.specs.Lines.{LiesIn};
 ghost use Rattle.hyd_spec_input.specs.SingleRows.{IsWrongByItself};
-ghost use Rattle.hyd_spec_input.specs.Capacities.{IsRefusedEmitter};
+ghost use Rattle.hyd_spec_input.specs.CapacitiesOutOfRange.{IsRefusedEmitter};
 ghost use Rattle.hyd_spec_input.specs.Faults.{NoneIs, IsWrongWithOthers};
 ghost use Rattle.hyd_spec_input.specs.InForce as force;
 ghost use Rattle.hyd_spec_input.specs.Project.{IsEmitter};
 ghost use Rattle.hyd_spec_input.specs.Tables.{place as section_place, node_rows};
-ghost use Rattle.hyd_text_rows.specs.Found.{rows_at};
-ghost use Rattle.hyd_text_rows.specs.Tables.{IsTable};
-ghost use Rattle.hyd_build_nodes.specs.Gathered.{AreEmitters, AreNone};
+ghost use Rattle.hyd_text_rows.specs.FirstWrongRow.{rows_at};
+ghost use Rattle.hyd_text_rows.specs.IdTables.{IsTable};
+ghost use Rattle.hyd_build_nodes.specs.DemandsAndEmitters.{AreEmitters, AreNone};
 
 use hyd_capacities::emitter_capacity;
 use hyd_lex::{Line, Lines, Section};

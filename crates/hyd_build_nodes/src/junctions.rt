@@ -5,7 +5,7 @@ ghost use Rattle.std.specs.Prelude.{◌≡◌, ◌<◌, ◌≤◌, ◌+◌, ◌*
 ghost use Rattle.std.specs.List.{All};
 ghost use Rattle.hyd_num.specs.FileQuantity as quantity;
 ghost use Rattle.hyd_num.specs.FileQuantity.{is_us_unit};
-ghost use Rattle.hyd_spec_lines.specs.Bytes.{text_of};
+ghost use Rattle.hyd_spec_lines.specs.WordsOfLines.{text_of};
 ghost use Rattle.hyd_spec_lines.specs.Lines.{LiesIn};
 ghost use Rattle.hyd_spec_lines.specs.declared.section.Section.TheVariants.{Junctions};
 ghost use Rattle.hyd_spec_input.specs.SingleRows.{IsWrongByItself};
@@ -15,11 +15,11 @@ ghost use Rattle.hyd_spec_input.specs.MeaningsAcrossRows as network;
 ghost use Rattle.hyd_spec_input.specs.MeaningsAcrossRows.{pattern_ids};
 ghost use Rattle.hyd_spec_input.specs.Project.{Match, IsJunction};
 ghost use Rattle.hyd_spec_input.specs.Tables.{place as section_place, rows_of, node_rows};
-ghost use Rattle.hyd_text_rows.specs.Found.{rows_at};
-ghost use Rattle.hyd_text_rows.specs.Tables.{IsTable};
-ghost use Rattle.hyd_build_nodes.specs.Built.{IsSmall};
-ghost use Rattle.hyd_build_nodes.specs.Gathered as gathered;
-ghost use Rattle.hyd_build_nodes.specs.Joined.{AreParts, IsJunctionBy};
+ghost use Rattle.hyd_text_rows.specs.FirstWrongRow.{rows_at};
+ghost use Rattle.hyd_text_rows.specs.IdTables.{IsTable};
+ghost use Rattle.hyd_build_nodes.specs.ReservoirsAndTanks.{IsSmall};
+ghost use Rattle.hyd_build_nodes.specs.DemandsAndEmitters as gathered;
+ghost use Rattle.hyd_build_nodes.specs.WholeJunctions.{AreParts, IsJunctionBy};
 
 use crate::demands::{demand_by, gather_demands};
 use crate::emitters::gather_emitters;

@@ -4,8 +4,8 @@
 ghost use Rattle.std.specs.Prelude.{◌≡◌, ◌≤◌, ◌*◌, ◌^◌, unsigned_abs};
 ghost use Rattle.hyd_num.specs.FileQuantity as quantity;
 ghost use Rattle.hyd_num.specs.FileQuantity.{is_us_unit};
-ghost use Rattle.hyd_spec_lines.specs.Bytes.{text_of};
-ghost use Rattle.hyd_build_nodes.specs.Built.{number_of};
+ghost use Rattle.hyd_spec_lines.specs.WordsOfLines.{text_of};
+ghost use Rattle.hyd_build_nodes.specs.ReservoirsAndTanks.{number_of};
 
 use hyd_net::Names;
 use hyd_num::{Decimal, FlowUnit};

@@ -5,10 +5,10 @@ ghost use Rattle.std.specs.Prelude.{◌≡◌, ◌<◌, ◌≤◌, ◌+◌, ◌*
 ghost use Rattle.std.specs.Prelude.{unsigned_abs, IfOk, OnOk};
 ghost use Rattle.std.specs.List.{All};
 ghost use Rattle.hyd_num.specs.FileQuantity.{is_us_unit, head_ticks};
-ghost use Rattle.hyd_num.specs.Roots.{IsFloor};
+ghost use Rattle.hyd_num.specs.QuotientsAndRoots.{IsFloor};
 ghost use Rattle.hyd_spec_lines.specs.Lines.{LiesIn, row_of};
 ghost use Rattle.hyd_spec_lines.specs.declared.section.Section.TheVariants.{Tanks};
-ghost use Rattle.hyd_option_and_rule_lines.specs.FaultOrValue.{words_at};
+ghost use Rattle.hyd_row_words.specs.FaultOrValue.{words_at};
 ghost use Rattle.hyd_spec_input.specs.SingleRows.{IsWrongByItself};
 ghost use Rattle.hyd_spec_input.specs.Faults.{NoneIs, IsWrongWithOthers};
 ghost use Rattle.hyd_spec_input.specs.InForce as force;
@@ -16,8 +16,8 @@ ghost use Rattle.hyd_spec_input.specs.MeaningsAcrossRows.{shape_names};
 ghost use Rattle.hyd_spec_input.specs.NetworkRows as row;
 ghost use Rattle.hyd_spec_input.specs.Project.{Match, IsTank};
 ghost use Rattle.hyd_spec_input.specs.Tables.{place as section_place, rows_of};
-ghost use Rattle.hyd_text_rows.specs.Found.{rows_at};
-ghost use Rattle.hyd_build_nodes.specs.Built.{AreSmall, HasTankMore, IsSmall, IsTankBy};
+ghost use Rattle.hyd_text_rows.specs.FirstWrongRow.{rows_at};
+ghost use Rattle.hyd_build_nodes.specs.ReservoirsAndTanks.{AreSmall, HasTankMore, IsSmall, IsTankBy};
 
 use crate::quantities::{head_of, number_named};
 use hyd_lex::{Line, Lines, Section};

@@ -3,10 +3,10 @@
 #![tactic(auto)]
 
 mod file_numbers;
-mod manning;
+mod pipes_and_valves;
 mod pumps_and_outlets;
 mod range;
 
-pub use manning::{pipe_capacity, valve_capacity};
+pub use pipes_and_valves::{pipe_capacity, valve_capacity};
 pub use pumps_and_outlets::{emitter_capacity, pda_capacity, pump_capacity};
 pub use range::CapRange;

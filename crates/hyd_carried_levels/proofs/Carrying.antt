@@ -5,12 +5,12 @@ use Rattle.hyd_spec.specs.ProgramTypes.{Project, Tank}
 use Rattle.hyd_spec.specs.Lists.{map_from}
 use Rattle.hyd_spec.specs.Tank.{Walls, Cylinder, Curve, walls_of}
 use Rattle.hyd_spec_certificates.specs.Interval.{Interval}
-use Rattle.hyd_spec_certificates.specs.Grid.{Grid}
-use Rattle.hyd_spec_certificates.specs.Record.{Record, Standing}
+use Rattle.hyd_spec_certificates.specs.PeriodNetwork.{Grid}
+use Rattle.hyd_spec_certificates.specs.RecordAndStanding.{Record, Standing}
 use Rattle.hyd_spec_certificates.specs.Stocks.{Stocks, carried_levels, carried_stocks}
 use Rattle.hyd_spec_certificates.specs.Decided.{stocks_of_tank, inflow_of_tank, carried_at}
 use Rattle.hyd_period_facts.specs.declared.facts.Facts.{Facts}
-use Rattle.hyd_watched_levels.specs.FactsAtStart.{AreStarted, inflow_in}
+use Rattle.hyd_watched_levels.specs.FactsBeforeEnd.{AreStarted, inflow_in}
 use Rattle.hyd_watched_levels.proofs.Reaching.{stocks_are, inflow_is}
 use Rattle.hyd_carried_levels.specs.Carried.{carried_in}
 

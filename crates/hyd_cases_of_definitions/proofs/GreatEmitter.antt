@@ -10,7 +10,7 @@ use Rattle.hyd_num.specs.declared.link_capacities.Origin.TheVariants.{Emitter}
 use Rattle.hyd_num.specs.Numeral.{is_numeral, magnitude_of, nano_of}
 use Rattle.hyd_num.specs.BinaryNumbers.{numerator, denominator, IsDown}
 use Rattle.hyd_num.specs.CapacityRange.{IsRefused}
-use Rattle.hyd_spec_lines.specs.Bytes.{words_in, is_keyword}
+use Rattle.hyd_spec_lines.specs.WordsOfLines.{words_in, is_keyword}
 use Rattle.hyd_spec_lines.specs.Headings.{read_section, is_passed_over, heading_kind}
 use Rattle.hyd_spec_lines.specs.Lines.{Row, items_of, rows_in, fault_in, kind_of}
 use Rattle.hyd_spec_lines.specs.declared.section.Section.TheVariants.{Junctions, Emitters, Options}
@@ -22,7 +22,7 @@ use Rattle.hyd_spec_input.specs.Moments.{unit_seconds}
 use Rattle.hyd_spec_input.specs.SingleRows as itself
 use Rattle.hyd_spec_input.specs.SingleRows.{IsWrongByItself}
 use Rattle.hyd_spec_input.specs.RowsTogether as others
-use Rattle.hyd_spec_input.specs.Capacities.{IsRefusedEmitter, IsRefusedRow}
+use Rattle.hyd_spec_input.specs.CapacitiesOutOfRange.{IsRefusedEmitter, IsRefusedRow}
 use Rattle.hyd_spec_input.specs.Faults.{IsWrongWithOthers, NoneIs, IsFirst, IsFault}
 use Rattle.hyd_cases_of_definitions.specs.Input.{great_emitter}
 

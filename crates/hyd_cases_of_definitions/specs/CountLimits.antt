@@ -1,6 +1,6 @@
 -- The fault of one row among many, where a limit is one of counts.
 use Rattle.std.specs.Prelude.{ℕ, zero, suc, ◌-◌, List, [], ◌∷◌, ◌+◌, ◌/◌, ◌%◌, codes, replicate, Option}
-use Rattle.hyd_spec_lines.specs.Bytes.{words_in}
+use Rattle.hyd_spec_lines.specs.WordsOfLines.{words_in}
 use Rattle.hyd_spec_lines.specs.Lines.{Row}
 use Rattle.hyd_spec_lines.specs.declared.section.Section.{Section}
 use Rattle.hyd_spec_lines.specs.declared.section.Section.TheVariants.{Patterns, Curves}

@@ -4,7 +4,7 @@ use Rattle.std.specs.Prelude.{pos, neg_ℤ, List, ℤ, [], ◌∷◌, Some, None
 use Rattle.hyd_spec.specs.ProgramTypes.{Capacity}
 use Rattle.hyd_spec.specs.Law.{QuadraticLaw, Lifted, ForwardOnly, Capped}
 use Rattle.hyd_spec_certificates.specs.EnclosingFunctions.{Fixed, Driven}
-use Rattle.hyd_spec_certificates.specs.Grid.{Grid, GridLink, GridJunction}
+use Rattle.hyd_spec_certificates.specs.PeriodNetwork.{Grid, GridLink, GridJunction}
 use Rattle.hyd_cases_of_definitions.specs.Capacities.{HasEnds}
 
 -- The capacities of the pipe (1000 m, 300 mm across), the pipe with a check valve (400 m, 200 mm across), the pump (40

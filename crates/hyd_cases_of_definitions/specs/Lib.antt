@@ -6,8 +6,8 @@ pub mod OneValve
 pub mod Input
 pub mod TextOfLinks
 pub mod CountLimits
-pub mod Tanks
+pub mod LinksBetweenTanks
 pub mod Curves
 pub mod Commands
 pub mod Cylinders
-pub mod Flask
+pub mod TankWithVolumeCurve

@@ -4,7 +4,7 @@ use Rattle.std.specs.Prelude.{pos, [], ◌∷◌, None}
 use Rattle.hyd_spec.specs.ProgramTypes.{Capacity}
 use Rattle.hyd_spec.specs.Law.{QuadraticLaw}
 use Rattle.hyd_spec_certificates.specs.EnclosingFunctions.{Fixed}
-use Rattle.hyd_spec_certificates.specs.Grid.{Grid, GridJunction}
+use Rattle.hyd_spec_certificates.specs.PeriodNetwork.{Grid, GridJunction}
 
 -- The junction.
 abbrev pub end : GridJunction

@@ -2,7 +2,7 @@
 use Rattle.std.specs.Prelude.{pos, [], ◌∷◌, false}
 use Rattle.hyd_spec.specs.declared.TankState.TheVariants.{Between}
 use Rattle.hyd_spec.specs.ProgramTypes.{Linear, Open, Closed, Speed, Throttle, Limit}
-use Rattle.hyd_spec_certificates.specs.Record.{Record, Standing}
+use Rattle.hyd_spec_certificates.specs.RecordAndStanding.{Record, Standing}
 
 -- Five minutes, from 0:01:00 on.
 abbrev pub row : Record

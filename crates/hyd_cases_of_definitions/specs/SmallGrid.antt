@@ -2,7 +2,7 @@
 use Rattle.std.specs.Prelude.{pos, neg_ℤ, [], ◌∷◌, None}
 use Rattle.hyd_spec.specs.Law.{Shut, LinearLaw, Lifted, ForwardOnly, ReverseOnly, Capped}
 use Rattle.hyd_spec_certificates.specs.EnclosingFunctions.{Fixed}
-use Rattle.hyd_spec_certificates.specs.Grid.{Grid, GridLink, GridJunction}
+use Rattle.hyd_spec_certificates.specs.PeriodNetwork.{Grid, GridLink, GridJunction}
 
 -- The reservoir's head is node 2, the tank's node 3.
 abbrev pub first : GridJunction

@@ -14,7 +14,7 @@ ghost use Rattle.hyd_cases_of_definitions.specs.Curves.{bends, pump_points, valv
 ghost use Rattle.hyd_cases_of_definitions.specs.Curves.{steps, rising_steps, last_step};
 ghost use Rattle.hyd_cases_of_definitions.specs.Curves.{running, along_pump, along_slow_pump, intervals, along_valve};
 ghost use Rattle.hyd_cases_of_definitions.specs.Curves.{either_way};
-ghost use Rattle.hyd_cases_of_definitions.specs.Tanks.{between_tanks, pairs, HasTanks};
+ghost use Rattle.hyd_cases_of_definitions.specs.LinksBetweenTanks.{between_tanks, pairs, HasTanks};
 
 /// Values on straight lines, rounded down and up, where neighbours have one place too.
 pub fn lines()

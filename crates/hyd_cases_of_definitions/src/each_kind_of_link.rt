@@ -11,9 +11,9 @@ ghost use Rattle.hyd_spec.specs.declared.TankState.TheVariants.{Empty, Between, 
 ghost use Rattle.hyd_spec_certificates.specs.declared.Problem.TheVariants.{Main, Pinned};
 ghost use Rattle.hyd_spec_certificates.specs.declared.Side.TheVariants.{Upper, Lower};
 ghost use Rattle.hyd_spec.specs.Law.{QuadraticLaw, ForwardOnly, ReverseOnly, Capped};
-ghost use Rattle.hyd_spec_certificates.specs.Grid.{grid_links, tank_intervals, fixed_heads, all_heads};
+ghost use Rattle.hyd_spec_certificates.specs.PeriodNetwork.{grid_links, tank_intervals, fixed_heads, all_heads};
 ghost use Rattle.hyd_spec_certificates.specs.NetOutflow.{net_low, net_high, margin};
-ghost use Rattle.hyd_spec_certificates.specs.Boxes.{flow_box, out_box, inflow_box};
+ghost use Rattle.hyd_spec_certificates.specs.FlowIntervals.{flow_box, out_box, inflow_box};
 ghost use Rattle.hyd_cases_of_definitions.specs.EachKindOfLink.{CityParts, city, first, second, pipe, check_pipe, pump};
 ghost use Rattle.hyd_cases_of_definitions.specs.EachKindOfLink.{throttle_valve};
 ghost use Rattle.hyd_cases_of_definitions.specs.EachKindOfLink.{control_valve};

@@ -4,7 +4,6 @@
 //! here has a body.
 #![tactic(auto)]
 
-pub mod capacities;
 pub mod certificates;
 pub mod commands;
 pub mod count_limits;
@@ -12,20 +11,23 @@ pub mod curves;
 pub mod decisions;
 pub mod each_kind_of_link;
 pub mod enclosing;
-pub mod further_definitions;
+pub mod exact_flows;
+pub mod flows_tanks_and_run_start;
 pub mod generated;
-pub mod held;
-pub mod input;
+pub mod held_junctions;
+pub mod input_faults;
 pub mod levels;
 pub mod links;
 pub mod losses;
+pub mod more_input_faults;
 pub mod net_outflows;
 pub mod numbers;
-pub mod quantities;
-pub mod refused;
+pub mod order_of_fractions;
+pub mod pressures_and_valve_states;
 pub mod rows;
 pub mod rules;
+pub mod scales_and_patterns;
 pub mod starts;
-pub mod statuses_and_events;
+pub mod statuses_events_tank_laws_and_clauses;
 pub mod stocks;
 pub mod texts;

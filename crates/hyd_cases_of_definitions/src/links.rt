@@ -11,7 +11,7 @@ ghost use Rattle.hyd_spec.specs.ProgramTypes.{FourThirds, Given, Open, Closed, S
 ghost use Rattle.hyd_spec.specs.LinkLaw.{own_law, law_of};
 ghost use Rattle.hyd_spec_certificates.specs.EnclosingFunctions.{low, high};
 ghost use Rattle.hyd_cases_of_definitions.specs.Capacities.{IsValve, IsPipe, IsPump, IsPumpInFeet, differences};
-ghost use Rattle.hyd_cases_of_definitions.specs.Tanks.{between_tanks, pairs, HasTanks};
+ghost use Rattle.hyd_cases_of_definitions.specs.LinksBetweenTanks.{between_tanks, pairs, HasTanks};
 
 /// A pipe that is open, and one that is closed.
 pub fn pipes()

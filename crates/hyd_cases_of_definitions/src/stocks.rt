@@ -9,7 +9,7 @@ ghost use Rattle.hyd_spec.specs.Tank.{Curve, Cylinder, walls_of, level_bounds, c
 ghost use Rattle.hyd_spec.specs.Tank.{level_at_volume, carried_level, has_reached};
 ghost use Rattle.hyd_spec_certificates.specs.Stocks.{next_stocks, carried_stocks, carried_levels, may_reach};
 ghost use Rattle.hyd_spec_certificates.specs.Stocks.{must_reach};
-ghost use Rattle.hyd_cases_of_definitions.specs.Flask.{flask, flask_points, flask_walls, stocks, between};
+ghost use Rattle.hyd_cases_of_definitions.specs.TankWithVolumeCurve.{flask, flask_points, flask_walls, stocks, between};
 
 /// The volume at a level, on each line, at each point and beyond both ends, and the volumes at the bounds.
 pub fn volumes()

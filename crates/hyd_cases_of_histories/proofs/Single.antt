@@ -10,7 +10,7 @@ use Rattle.hyd_spec.specs.declared.TankState.{TankState}
 use Rattle.hyd_spec.specs.Scale.{at_scale}
 use Rattle.hyd_spec.specs.Law.{Follows}
 use Rattle.hyd_spec.specs.LinkLaw.{law_of}
-use Rattle.hyd_spec.specs.PeriodStart.{started, acts_at}
+use Rattle.hyd_spec.specs.PumpPatternsAndSimpleControls.{started, acts_at}
 use Rattle.hyd_spec.specs.Assignment.{Assignment, LinksFollow, none, more, JunctionObeys, IsAssignment, head_at}
 use Rattle.hyd_spec.specs.PeriodLength.{at_end}
 use Rattle.hyd_spec.specs.History.{IsHistory}

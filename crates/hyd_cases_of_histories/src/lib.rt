@@ -5,9 +5,9 @@
 
 pub mod claims;
 pub mod controls;
-pub mod histories;
-pub mod links;
+pub mod limited_and_closed_links;
 pub mod networks;
 pub mod outflows;
 pub mod pipes;
+pub mod pump_valve_and_outflows_at_work;
 pub mod status_words;

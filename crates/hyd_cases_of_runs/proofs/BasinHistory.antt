@@ -18,7 +18,7 @@ use Rattle.hyd_spec.specs.PeriodLength.{by_level}
 use Rattle.hyd_spec.specs.PeriodLength.{by_rules, step, duration, HasItsLength, at_end, before_end, stock_at_start}
 use Rattle.hyd_spec.specs.PeriodLength.{exact_after, values_at}
 use Rattle.hyd_spec.specs.History.{IsHistory, IsPeriod, AreNextStocks, ComesAfter, initial_links, commanded_after}
-use Rattle.hyd_spec_reports.specs.Headline.{Agrees, AllAgree}
+use Rattle.hyd_spec_reports.specs.PromisesOfRunsAndChecks.{Agrees, AllAgree}
 use Rattle.hyd_spec_certificates.specs.Interval.{exactly}
 use Rattle.hyd_spec_reports.specs.ReportLine.{FilledLine}
 use Rattle.hyd_cases_of_runs.specs.Basin.{Basin, basin_network, feed, basin_period, open_to, found_of, state_lines}

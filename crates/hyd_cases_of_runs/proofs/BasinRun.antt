@@ -14,17 +14,17 @@ use Rattle.hyd_spec_reports.specs.declared.StatusWord.{StatusWord}
 use Rattle.hyd_spec_reports.specs.declared.StatusWord.TheVariants.{Active as WordActive}
 use Rattle.hyd_spec.specs.Lists.{map_from, present}
 use Rattle.hyd_spec.specs.Rules.{change_of, rule_changes, state_of_link}
-use Rattle.hyd_spec.specs.Quantity.{demand_of}
+use Rattle.hyd_spec.specs.DemandsReservoirHeadsAndCurves.{demand_of}
 use Rattle.hyd_spec.specs.PeriodLength.{EndsByClock, step, duration, pattern, report, control_time, control_clock}
 use Rattle.hyd_spec_certificates.specs.Interval.{Interval, exactly, shifted}
 use Rattle.std.specs.List.{list_any}
 use Rattle.hyd_spec.specs.Tank.{walls_of}
 use Rattle.hyd_spec_certificates.specs.Stocks.{may_reach, must_reach}
 use Rattle.hyd_lemmas.proofs.Trials.{none_below, from, any_of}
-use Rattle.hyd_spec_certificates.specs.Grid.{Grid, GridLink, GridJunction, tank_intervals, grid_links}
-use Rattle.hyd_spec_certificates.specs.Boxes.{difference}
+use Rattle.hyd_spec_certificates.specs.PeriodNetwork.{Grid, GridLink, GridJunction, tank_intervals, grid_links}
+use Rattle.hyd_spec_certificates.specs.FlowIntervals.{difference}
 use Rattle.hyd_spec_certificates.specs.Certificate.{IsInBox, IsCertificate}
-use Rattle.hyd_spec_certificates.specs.Record.{Record, Standing, Vectors, no_vectors, vector_of}
+use Rattle.hyd_spec_certificates.specs.RecordAndStanding.{Record, Standing, Vectors, no_vectors, vector_of}
 use Rattle.hyd_spec_certificates.specs.Decided.{heads_below, heads_above, flow_boxes, level_of_tank, links_at, Watch}
 use Rattle.hyd_spec_certificates.specs.Decided.{watches, stocks_of_tank, inflow_of_tank, SomeMayReach, SomeMustReach}
 use Rattle.hyd_spec_certificates.specs.Decided.{RulesMatter, NoRuleMatters, IsClockLength, IsEarliestEnd, IsLatestEnd}
@@ -36,7 +36,7 @@ use Rattle.hyd_spec_reports.specs.CertificateText.{IsVector, IsRow}
 use Rattle.hyd_spec_reports.specs.ReportLine.{ReservoirLine, TankLine, LinkLine, FilledLine}
 use Rattle.hyd_spec_reports.specs.Report.{IsReservoirLine, IsTankLine, IsLinkLine, status_of, AreStateLines, at_end}
 use Rattle.hyd_spec_reports.specs.Report.{by_clock as ended_by_clock}
-use Rattle.hyd_spec_reports.specs.Headline.{IsFound, IsRun, none as nothing_more, more}
+use Rattle.hyd_spec_reports.specs.PromisesOfRunsAndChecks.{IsFound, IsRun, none as nothing_more, more}
 use Rattle.hyd_cases_of_runs.specs.Basin.{Basin, basin_network, feed, basin_grid, basin_row, state_lines, found_of}
 use Rattle.hyd_cases_of_runs.specs.Basin.{slow}
 use Rattle.hyd_cases_of_runs.specs.Basin.{fast, curved, curved_0, curved_1, curved_2, curved_left, curved_founds}

@@ -2,7 +2,7 @@
 use Rattle.std.proofs.Common.{◌≡◌, ℕ, ◌+◌, ℤ, pos, ◌+ℤ◌, ◌-ℤ◌, ◌*ℤ◌, Bool, true, int_le, subst, arith}
 use Rattle.hyd_spec_certificates.specs.Interval.{Interval, width}
 use Rattle.hyd_spec.specs.Assignment.{head_at}
-use Rattle.hyd_spec_certificates.specs.Record.{Record, Standing}
+use Rattle.hyd_spec_certificates.specs.RecordAndStanding.{Record, Standing}
 use Rattle.hyd_spec_certificates.specs.Decided.{level_of_tank}
 use Rattle.hyd_spec_certificates.specs.Narrow.{widest, IsNarrow}
 use Rattle.hyd_lemmas.proofs.Trials.{le-yes, all_pass, each_passes}

@@ -8,7 +8,7 @@ use Rattle.hyd_spec_certificates.specs.declared.Side.TheVariants.{Upper, Lower}
 use Rattle.hyd_spec.specs.Lists.{Each}
 use Rattle.hyd_spec.specs.Law.{LinearLaw, Capped}
 use Rattle.hyd_spec_certificates.specs.EnclosingFunctions.{low}
-use Rattle.hyd_spec_certificates.specs.Grid.{GridJunction}
+use Rattle.hyd_spec_certificates.specs.PeriodNetwork.{GridJunction}
 use Rattle.hyd_spec.specs.Assignment.{head_at}
 use Rattle.hyd_spec_certificates.specs.Certificate.{IsBeyond, Passes, IsCertificate, IsCandidate, IsRaised, IsRound}
 use Rattle.hyd_spec_certificates.specs.Certificate.{AreRounds, none, more, IsTight}

@@ -7,9 +7,9 @@ use Rattle.hyd_spec.specs.Assignment.{head_at}
 use Rattle.hyd_spec.specs.Law.{LinearLaw, ForwardOnly, ReverseOnly, Capped, Follows}
 use Rattle.hyd_spec.specs.PeriodLength.{HasItsLength, by_level, full, empty}
 use Rattle.hyd_spec.specs.History.{IsPeriod, ComesAfter, initial_links, commanded_after}
-use Rattle.hyd_spec_reports.specs.Headline.{Agrees}
+use Rattle.hyd_spec_reports.specs.PromisesOfRunsAndChecks.{Agrees}
 use Rattle.hyd_cases_of_runs.specs.Village.{village_with, mill, farm, main_link, feed_link, drop_link}
-use Rattle.hyd_cases_of_runs.specs.Shallow.{shallow, period_0, period_1, found_0, found_1}
+use Rattle.hyd_cases_of_runs.specs.ShallowVillage.{shallow, period_0, period_1, found_0, found_1}
 use Rattle.hyd_lemmas.proofs.Each.{each_two}
 use Rattle.hyd_cases_of_runs.proofs.VillageFlows.{straight, at_setting, obeys}
 use Rattle.hyd_cases_of_runs.proofs.VillageLengths.{has_length, next_level}

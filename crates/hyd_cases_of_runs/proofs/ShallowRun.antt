@@ -5,19 +5,19 @@ use Rattle.hyd_spec_certificates.specs.declared.Problem.TheVariants.{Main}
 use Rattle.hyd_spec_certificates.specs.declared.Side.TheVariants.{Lower}
 use Rattle.hyd_spec.specs.Law.{LinearLaw, ForwardOnly, ReverseOnly, Capped}
 use Rattle.hyd_spec.specs.PeriodLength.{pattern, step}
-use Rattle.hyd_spec_certificates.specs.Grid.{Grid}
+use Rattle.hyd_spec_certificates.specs.PeriodNetwork.{Grid}
 use Rattle.hyd_spec_certificates.specs.Certificate.{IsCertificate, Passes}
 use Rattle.hyd_spec_certificates.specs.Decided.{Watch, SomeMayReach, SomeMustReach, IsClockLength, EndsBy, WithoutRules}
 use Rattle.hyd_spec_certificates.specs.Decided.{by_clock}
 use Rattle.hyd_spec_certificates.specs.Valid.{by_clock as left_by_clock, IsValid}
 use Rattle.hyd_spec_reports.specs.Stops.{HasNoCertificate}
 use Rattle.hyd_spec_reports.specs.Report.{AreStateLines, by_clock as ended_by_clock, IsReport}
-use Rattle.hyd_spec_reports.specs.Headline.{IsRun, none, more}
+use Rattle.hyd_spec_reports.specs.PromisesOfRunsAndChecks.{IsRun, none, more}
 use Rattle.hyd_cases_of_runs.specs.Village.{village_with}
-use Rattle.hyd_cases_of_runs.specs.VillageParts.{village_grid, grid_farm}
-use Rattle.hyd_cases_of_runs.specs.Shallow.{shallow, standing_0, standing_1, left, grid_0, grid_1, row_0, row_1}
-use Rattle.hyd_cases_of_runs.specs.Shallow.{lines_0}
-use Rattle.hyd_cases_of_runs.specs.Shallow.{lines_1, found_0, found_1, founds}
+use Rattle.hyd_cases_of_runs.specs.VillagePeriods.{village_grid, grid_farm}
+use Rattle.hyd_cases_of_runs.specs.ShallowVillage.{shallow, standing_0, standing_1, left, grid_0, grid_1, row_0, row_1}
+use Rattle.hyd_cases_of_runs.specs.ShallowVillage.{lines_0}
+use Rattle.hyd_cases_of_runs.specs.ShallowVillage.{lines_1, found_0, found_1, founds}
 use Rattle.hyd_cases_of_runs.proofs.VillageGrids.{grid_at}
 use Rattle.hyd_cases_of_runs.proofs.VillageCertificates.{certificates, before_lower}
 use Rattle.hyd_cases_of_runs.proofs.VillageSeconds.{clock_length, no_rule, earliest_end, latest_end}

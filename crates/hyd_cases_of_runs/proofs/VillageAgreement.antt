@@ -5,7 +5,7 @@ use Rattle.hyd_spec.specs.ProgramTypes.{Linear, Throttle, Limit}
 use Rattle.hyd_spec.specs.Scale.{at_scale}
 use Rattle.hyd_spec.specs.Assignment.{head_at}
 use Rattle.hyd_spec.specs.History.{initial_links, commanded_after}
-use Rattle.hyd_spec_reports.specs.Headline.{Agrees}
+use Rattle.hyd_spec_reports.specs.PromisesOfRunsAndChecks.{Agrees}
 use Rattle.hyd_cases_of_runs.specs.Village.{village, mill, farm, tower, level_control, main_link, feed_link, drop_link}
 use Rattle.hyd_cases_of_runs.specs.VillageRun.{found_0, found_1, found_2, found_3, found_4}
 use Rattle.hyd_cases_of_runs.specs.VillageHistory.{period_0, period_1, period_2, period_3, period_4}

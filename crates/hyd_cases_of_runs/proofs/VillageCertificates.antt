@@ -8,10 +8,10 @@ use Rattle.hyd_spec_certificates.specs.declared.Problem.{Problem}
 use Rattle.hyd_spec_certificates.specs.declared.Problem.TheVariants.{Main, Pinned}
 use Rattle.hyd_spec_certificates.specs.declared.Side.{Side}
 use Rattle.hyd_spec_certificates.specs.declared.Side.TheVariants.{Upper, Lower}
-use Rattle.hyd_spec_certificates.specs.Grid.{Grid, GridJunction}
+use Rattle.hyd_spec_certificates.specs.PeriodNetwork.{Grid, GridJunction}
 use Rattle.hyd_spec_certificates.specs.NetOutflow.{net_low, net_high, margin}
 use Rattle.hyd_spec_certificates.specs.Certificate.{IsInBox, Passes, IsCertificate}
-use Rattle.hyd_spec_certificates.specs.Record.{Record, Vectors, vector_of}
+use Rattle.hyd_spec_certificates.specs.RecordAndStanding.{Record, Vectors, vector_of}
 use Rattle.hyd_spec_certificates.specs.Valid.{IsProblem, AreCertificates}
 use Rattle.hyd_spec_reports.specs.Stops.{EarlierHaveCertificates}
 use Rattle.hyd_cases_of_runs.specs.Village.{Choice, village_with}

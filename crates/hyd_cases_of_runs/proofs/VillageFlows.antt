@@ -5,14 +5,14 @@ use Rattle.std.proofs.lemmas.Int.{ints}
 use Rattle.hyd_spec.specs.ProgramTypes.{Junction, LinkState, Throttle, Linear}
 use Rattle.hyd_spec.specs.declared.TankState.{TankState}
 use Rattle.hyd_spec.specs.Scale.{at_scale}
-use Rattle.hyd_spec.specs.Quantity.{demand_of}
+use Rattle.hyd_spec.specs.DemandsReservoirHeadsAndCurves.{demand_of}
 use Rattle.hyd_spec.specs.Law.{Shut, LinearLaw, Capped, Follows}
 use Rattle.hyd_spec.specs.LinkLaw.{law_of}
 use Rattle.hyd_spec.specs.Outflow.{IsWithinTolerance, FollowsDemand, FollowsPressure}
 use Rattle.hyd_spec.specs.Assignment.{IsAssignment, JunctionObeys, none, more}
 use Rattle.hyd_spec.specs.PeriodLength.{Period}
 use Rattle.hyd_cases_of_runs.specs.Village.{Choice, village_with, mill, farm, feed_link, drop_link}
-use Rattle.hyd_cases_of_runs.specs.VillageParts.{village_period}
+use Rattle.hyd_cases_of_runs.specs.VillagePeriods.{village_period}
 use Rattle.hyd_lemmas.proofs.Each.{each_two}
 use Rattle.hyd_lemmas.proofs.Trials.{same_either_way, le-yes}
 

@@ -3,16 +3,16 @@ use Rattle.std.proofs.Common.{◌≡◌, ℤ, Bool, MatchBool, [], ◌∷◌, re
 use Rattle.std.specs.Prelude.{ℕ, pos}
 use Rattle.hyd_spec.specs.ProgramTypes.{Junction}
 use Rattle.hyd_spec_certificates.specs.Interval.{Interval}
-use Rattle.hyd_spec.specs.Quantity.{demand_of}
+use Rattle.hyd_spec.specs.DemandsReservoirHeadsAndCurves.{demand_of}
 use Rattle.hyd_spec.specs.Outflow.{is_pressure_driven}
 use Rattle.hyd_spec.specs.Law.{Law}
 use Rattle.hyd_spec_certificates.specs.EnclosingFunctions.{Fixed}
-use Rattle.hyd_spec_certificates.specs.Grid.{IsDriven, IsJunctionOf, grid_links, tank_intervals}
-use Rattle.hyd_spec_certificates.specs.Record.{Standing}
+use Rattle.hyd_spec_certificates.specs.PeriodNetwork.{IsDriven, IsJunctionOf, grid_links, tank_intervals}
+use Rattle.hyd_spec_certificates.specs.RecordAndStanding.{Standing}
 use Rattle.hyd_spec_certificates.specs.Decided.{links_at}
 use Rattle.hyd_spec_certificates.specs.Valid.{IsGridAt}
 use Rattle.hyd_cases_of_runs.specs.Village.{Choice, village_with, mill, farm}
-use Rattle.hyd_cases_of_runs.specs.VillageParts.{village_grid}
+use Rattle.hyd_cases_of_runs.specs.VillagePeriods.{village_grid}
 use Rattle.hyd_lemmas.proofs.Trials.{same_either_way}
 
 module _ (choice : Choice) where

@@ -5,14 +5,14 @@ use Rattle.std.specs.Prelude.{true, slice_index_or}
 use Rattle.std.proofs.lemmas.List.Elements.{All-nil, All-cons}
 use Rattle.hyd_spec.specs.ProgramTypes.{Junction}
 use Rattle.hyd_spec_certificates.specs.Interval.{Interval}
-use Rattle.hyd_spec.specs.Quantity.{demand_of}
-use Rattle.hyd_spec_certificates.specs.Verdict.{is_unknown}
+use Rattle.hyd_spec.specs.DemandsReservoirHeadsAndCurves.{demand_of}
+use Rattle.hyd_spec_certificates.specs.ThreeValuedLogic.{is_unknown}
 use Rattle.hyd_spec_certificates.specs.Decided.{nowhere, control_truth}
 use Rattle.hyd_spec_certificates.specs.Valid.{DemandsAreInRange, demand_limit, ControlsAreDecided, by_rules, by_clock}
 use Rattle.hyd_spec_certificates.specs.Valid.{continues, finishes, IsValid, IsGridAt, AreCertificates, LeavesLinks}
 use Rattle.hyd_spec_certificates.specs.Valid.{levels_next, volumes_next, AreStates}
-use Rattle.hyd_spec_certificates.specs.Grid.{Grid}
-use Rattle.hyd_spec_certificates.specs.Record.{Record, Standing}
+use Rattle.hyd_spec_certificates.specs.PeriodNetwork.{Grid}
+use Rattle.hyd_spec_certificates.specs.RecordAndStanding.{Record, Standing}
 use Rattle.hyd_cases_of_runs.specs.Village.{Choice, village_with, village, usual, mill, farm}
 use Rattle.hyd_cases_of_runs.specs.VillageRun.{standing_0, standing_1, standing_2, standing_3, standing_4, left, grid_0}
 use Rattle.hyd_cases_of_runs.specs.VillageRun.{grid_1, grid_2, grid_3, grid_4, row_0, row_1, row_2, row_3, row_4}

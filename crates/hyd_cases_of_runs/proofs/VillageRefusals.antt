@@ -6,20 +6,20 @@ use Rattle.hyd_spec.specs.ProgramTypes.{Project, LinkState}
 use Rattle.hyd_spec.specs.Assignment.{head_at}
 use Rattle.hyd_spec_certificates.specs.declared.Problem.TheVariants.{Main}
 use Rattle.hyd_spec_certificates.specs.declared.Side.TheVariants.{Upper}
-use Rattle.hyd_spec_certificates.specs.Grid.{Grid}
+use Rattle.hyd_spec_certificates.specs.PeriodNetwork.{Grid}
 use Rattle.hyd_spec_certificates.specs.Certificate.{IsInBox, FailsFirst, outside, fails}
-use Rattle.hyd_spec_certificates.specs.Record.{Record, Standing, initial_standing}
+use Rattle.hyd_spec_certificates.specs.RecordAndStanding.{Record, Standing, initial_standing}
 use Rattle.hyd_spec_certificates.specs.Decided.{End, EndsBy, by_rules, rule_is_open, by_clock, event_is_open}
 use Rattle.hyd_spec_certificates.specs.Decided.{RuleIsOpen, EventIsOpen, ByRules, WithoutRules}
 use Rattle.hyd_spec_certificates.specs.Valid.{DemandsAreInRange, IsGridAt, LeavesLinks, by_rules as left_by_rules}
 use Rattle.hyd_spec_certificates.specs.Valid.{by_clock as left_by_clock}
 use Rattle.hyd_spec_reports.specs.declared.CertRefused.TheVariants.{Place, Demand, Fails, Open as MatterOpen, Length}
 use Rattle.hyd_spec_reports.specs.declared.CertRefused.TheVariants.{After}
-use Rattle.hyd_spec_reports.specs.Refusals.{IsRefused, HasItsGrid, LeavesOpen, rule, event, tank, control, at_end}
+use Rattle.hyd_spec_reports.specs.RefusedRecords.{IsRefused, HasItsGrid, LeavesOpen, rule, event, tank, control, at_end}
 use Rattle.hyd_cases_of_runs.specs.Village.{Choice, usual, village, village_with, mill}
 use Rattle.hyd_cases_of_runs.specs.VillageRun.{standing_0, standing_1, standing_4, left, grid_0, grid_4, row_0, row_1}
 use Rattle.hyd_cases_of_runs.specs.VillageRun.{row_4}
-use Rattle.hyd_cases_of_runs.specs.VillageParts.{grid_mill}
+use Rattle.hyd_cases_of_runs.specs.VillagePeriods.{grid_mill}
 use Rattle.hyd_cases_of_runs.specs.VillageStops.{thirsty, unsure_rule, open_rule, unsure_event, unsure_control}
 use Rattle.hyd_cases_of_runs.specs.VillageStops.{unsure_tank}
 use Rattle.hyd_cases_of_runs.specs.VillageRefusals.{low_row, far_row}

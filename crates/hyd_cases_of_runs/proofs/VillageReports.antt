@@ -10,9 +10,9 @@ use Rattle.hyd_spec_reports.specs.declared.StatusWord.{StatusWord}
 use Rattle.hyd_spec_certificates.specs.Interval.{Interval, exactly, shifted}
 use Rattle.hyd_spec.specs.Assignment.{head_at}
 use Rattle.hyd_spec.specs.Rules.{state_of_link}
-use Rattle.hyd_spec_certificates.specs.Grid.{Grid, GridLink, GridJunction}
-use Rattle.hyd_spec_certificates.specs.Boxes.{difference, out_box}
-use Rattle.hyd_spec_certificates.specs.Record.{Record, Standing}
+use Rattle.hyd_spec_certificates.specs.PeriodNetwork.{Grid, GridLink, GridJunction}
+use Rattle.hyd_spec_certificates.specs.FlowIntervals.{difference, out_box}
+use Rattle.hyd_spec_certificates.specs.RecordAndStanding.{Record, Standing}
 use Rattle.hyd_spec_certificates.specs.Decided.{heads_below, heads_above, flow_boxes, level_of_tank, inflow_of_tank}
 use Rattle.hyd_spec_certificates.specs.Decided.{links_at}
 use Rattle.hyd_spec_reports.specs.ReportLine.{JunctionLine, ReservoirLine, TankLine, LinkLine}

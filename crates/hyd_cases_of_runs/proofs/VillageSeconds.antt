@@ -6,12 +6,12 @@ use Rattle.std.specs.List.{list_any}
 use Rattle.std.proofs.lemmas.Bool.{eq-eqb, lt-ltb}
 use Rattle.hyd_spec.specs.ProgramTypes.{Tank, Control}
 use Rattle.hyd_spec.specs.PeriodLength.{EndsByClock, step, duration, pattern, report, control_time, control_clock}
-use Rattle.hyd_spec_certificates.specs.Grid.{Grid}
-use Rattle.hyd_spec_certificates.specs.Record.{Record, Standing}
+use Rattle.hyd_spec_certificates.specs.PeriodNetwork.{Grid}
+use Rattle.hyd_spec_certificates.specs.RecordAndStanding.{Record, Standing}
 use Rattle.hyd_spec.specs.Tank.{walls_of}
 use Rattle.hyd_spec_certificates.specs.Stocks.{may_reach, must_reach}
 use Rattle.hyd_spec.specs.declared.Change.{Change}
-use Rattle.hyd_spec_certificates.specs.Verdict.{is_unknown}
+use Rattle.hyd_spec_certificates.specs.ThreeValuedLogic.{is_unknown}
 use Rattle.hyd_spec_certificates.specs.Decided.{Watch, watches, SomeMayReach, SomeMustReach, stocks_of_tank}
 use Rattle.hyd_spec_certificates.specs.Decided.{inflow_of_tank, IsClockLength, IsEarliestEnd, IsLatestEnd, rule_truths}
 use Rattle.hyd_spec_certificates.specs.Decided.{decided_changes, RulesMatter, NoRuleMatters}

@@ -4,9 +4,9 @@ use Rattle.hyd_spec_certificates.specs.declared.Problem.TheVariants.{Main}
 use Rattle.hyd_spec_certificates.specs.declared.Side.TheVariants.{Upper, Lower}
 use Rattle.hyd_spec.specs.Law.{LinearLaw, Shut, Capped}
 use Rattle.hyd_spec.specs.PeriodLength.{step}
-use Rattle.hyd_spec_certificates.specs.Grid.{Grid}
+use Rattle.hyd_spec_certificates.specs.PeriodNetwork.{Grid}
 use Rattle.hyd_spec_certificates.specs.Certificate.{IsCertificate, none}
-use Rattle.hyd_spec_certificates.specs.Record.{initial_standing}
+use Rattle.hyd_spec_certificates.specs.RecordAndStanding.{initial_standing}
 use Rattle.hyd_spec_certificates.specs.Decided.{IsTruthBetween, readings_below, readings_above, Watch, IsClockLength}
 use Rattle.hyd_spec_certificates.specs.Decided.{RulesMatter, IsFirstMatter, IsOpenRule, EndsBy, WithoutRules}
 use Rattle.hyd_spec_certificates.specs.Decided.{EventIsOpen, rule_is_open, by_clock, event_is_open}
@@ -17,7 +17,7 @@ use Rattle.hyd_spec_certificates.specs.declared.Truth.{Truth}
 use Rattle.hyd_spec_certificates.specs.declared.Truth.TheVariants.{True, False, Open}
 use Rattle.hyd_cases_of_runs.specs.Village.{Choice, usual, village, village_with, mill, farm, tower, refill_rule}
 use Rattle.hyd_cases_of_runs.specs.VillageRun.{standing_0, grid_0, row_0}
-use Rattle.hyd_cases_of_runs.specs.VillageParts.{grid_mill, grid_farm}
+use Rattle.hyd_cases_of_runs.specs.VillagePeriods.{grid_mill, grid_farm}
 use Rattle.hyd_cases_of_runs.specs.VillageStops.{thirsty, dry, unsure_rule, open_rule, unsure_event, unsure_control}
 use Rattle.hyd_cases_of_runs.specs.VillageStops.{unsure_tank, last_level}
 use Rattle.hyd_cases_of_runs.proofs.VillageGrids.{junction_at, grid_at}

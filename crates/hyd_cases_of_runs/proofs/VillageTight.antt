@@ -11,15 +11,15 @@ use Rattle.hyd_spec.specs.Lists.{Each}
 use Rattle.hyd_spec_certificates.specs.Interval.{Interval}
 use Rattle.hyd_spec.specs.Law.{Law, Shut, LinearLaw, Capped}
 use Rattle.hyd_spec_certificates.specs.EnclosingFunctions.{low, high}
-use Rattle.hyd_spec_certificates.specs.Grid.{Grid, GridJunction, end_on, tank_side}
+use Rattle.hyd_spec_certificates.specs.PeriodNetwork.{Grid, GridJunction, end_on, tank_side}
 use Rattle.hyd_spec.specs.Assignment.{head_at}
 use Rattle.hyd_spec_certificates.specs.Certificate.{IsBeyond, Passes, IsCertificate, IsTight}
-use Rattle.hyd_spec_certificates.specs.Record.{Record, Vectors, vector_of}
+use Rattle.hyd_spec_certificates.specs.RecordAndStanding.{Record, Vectors, vector_of}
 use Rattle.hyd_spec_certificates.specs.Valid.{IsProblem}
 use Rattle.hyd_cases_of_runs.specs.Village.{village}
 use Rattle.hyd_cases_of_runs.specs.VillageRun.{grid_0, grid_1, grid_2, grid_3, grid_4, row_0, row_1, row_2, row_3}
 use Rattle.hyd_cases_of_runs.specs.VillageRun.{row_4}
-use Rattle.hyd_cases_of_runs.specs.VillageParts.{village_grid, grid_mill, grid_farm}
+use Rattle.hyd_cases_of_runs.specs.VillagePeriods.{village_grid, grid_mill, grid_farm}
 use Rattle.hyd_cases_of_runs.proofs.VillageCertificates.{passing, passes_test, is_certificate, certificate}
 use Rattle.hyd_lemmas.proofs.Each.{each_two}
 

@@ -1,5 +1,5 @@
 -- The five periods of the village are a run.
-use Rattle.hyd_spec_reports.specs.Headline.{IsRun, none, more}
+use Rattle.hyd_spec_reports.specs.PromisesOfRunsAndChecks.{IsRun, none, more}
 use Rattle.hyd_cases_of_runs.specs.Village.{village}
 use Rattle.hyd_cases_of_runs.specs.VillageRun.{found_0, found_1, found_2, found_3, found_4, founds, left}
 use Rattle.hyd_cases_of_runs.proofs.VillageRecords.{first_valid, second_valid, third_valid, fourth_valid, fifth_valid}

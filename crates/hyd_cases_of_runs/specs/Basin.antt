@@ -12,10 +12,10 @@ use Rattle.hyd_spec.specs.Lists.{joined}
 use Rattle.hyd_spec.specs.Law.{LinearLaw, Capped}
 use Rattle.hyd_spec.specs.PeriodLength.{Period}
 use Rattle.hyd_spec_certificates.specs.Interval.{Interval, exactly}
-use Rattle.hyd_spec_certificates.specs.Grid.{Grid}
-use Rattle.hyd_spec_certificates.specs.Record.{Record, Standing, no_vectors}
+use Rattle.hyd_spec_certificates.specs.PeriodNetwork.{Grid}
+use Rattle.hyd_spec_certificates.specs.RecordAndStanding.{Record, Standing, no_vectors}
 use Rattle.hyd_spec_reports.specs.ReportLine.{ReportLine, TimeLine, ReservoirLine, TankLine, LinkLine, FilledLine}
-use Rattle.hyd_spec_reports.specs.Headline.{Found}
+use Rattle.hyd_spec_reports.specs.PromisesOfRunsAndChecks.{Found}
 use Rattle.hyd_cases_of_runs.specs.Village.{listed}
 
 -- ---- the network

@@ -3,10 +3,10 @@
 use Rattle.std.specs.Prelude.{ℕ, pos, List, [], ◌∷◌}
 use Rattle.std.proofs.Common.{lit≤}
 use Rattle.hyd_spec.specs.ProgramTypes.{Project, What, Relation, Value, Amount}
-use Rattle.hyd_spec_certificates.specs.Verdict.{Verdict}
+use Rattle.hyd_spec_certificates.specs.ThreeValuedLogic.{Verdict}
 use Rattle.hyd_spec_certificates.specs.Decided.{clause_truth}
 use Rattle.hyd_spec_certificates.specs.Interval.{Interval}
-use Rattle.hyd_spec_certificates.specs.Record.{Record, Standing}
+use Rattle.hyd_spec_certificates.specs.RecordAndStanding.{Record, Standing}
 use Rattle.hyd_cases_of_runs.specs.Town.{compared}
 use Rattle.hyd_cases_of_runs.specs.TownPeriods.{standing_at_two, grid_at_two, grid_when_full, row_at_two, row_when_full}
 use Rattle.hyd_cases_of_runs.specs.Hamlet.{standing_at_start, grid_at_start, row_at_start}

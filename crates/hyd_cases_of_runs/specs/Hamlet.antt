@@ -9,8 +9,8 @@ use Rattle.hyd_spec.specs.ProgramTypes.{Limit, Throttle, Rule, And, Or, Less, Mo
 use Rattle.hyd_spec.specs.declared.TankState.TheVariants.{Between}
 use Rattle.hyd_spec.specs.Law.{LinearLaw, Capped}
 use Rattle.hyd_spec_certificates.specs.EnclosingFunctions.{Fixed}
-use Rattle.hyd_spec_certificates.specs.Grid.{Grid}
-use Rattle.hyd_spec_certificates.specs.Record.{Record, Standing}
+use Rattle.hyd_spec_certificates.specs.PeriodNetwork.{Grid}
+use Rattle.hyd_spec_certificates.specs.RecordAndStanding.{Record, Standing}
 use Rattle.hyd_cases_of_runs.specs.Town.{listed, no_room, zero_number, tenth, one, compared}
 
 -- UNITS GPM

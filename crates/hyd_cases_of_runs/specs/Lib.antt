@@ -6,12 +6,12 @@ pub mod TownReadings
 pub mod Hamlet
 pub mod Clauses
 pub mod Village
-pub mod VillageParts
+pub mod VillagePeriods
 pub mod VillageRun
 pub mod VillageHistory
 pub mod VillageTexts
 pub mod VillageStops
 pub mod VillageRefusals
-pub mod Shallow
+pub mod ShallowVillage
 pub mod Rounds
 pub mod Basin

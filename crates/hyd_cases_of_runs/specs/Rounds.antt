@@ -2,7 +2,7 @@
 use Rattle.std.specs.Prelude.{ℤ, pos, neg_ℤ, List, [], ◌∷◌, None}
 use Rattle.hyd_spec.specs.Law.{LinearLaw, Capped}
 use Rattle.hyd_spec_certificates.specs.EnclosingFunctions.{Fixed}
-use Rattle.hyd_spec_certificates.specs.Grid.{Grid, GridJunction}
+use Rattle.hyd_spec_certificates.specs.PeriodNetwork.{Grid, GridJunction}
 
 -- The junction next to the first reservoir.
 abbrev pub first_junction : GridJunction

@@ -4,8 +4,8 @@ use Rattle.hyd_spec.specs.ProgramTypes.{Open, Closed, Speed}
 use Rattle.hyd_spec.specs.declared.TankState.TheVariants.{Empty, Between, Full}
 use Rattle.hyd_spec.specs.Law.{Shut, LinearLaw, ForwardOnly, ReverseOnly, Capped}
 use Rattle.hyd_spec_certificates.specs.EnclosingFunctions.{Fixed}
-use Rattle.hyd_spec_certificates.specs.Grid.{Grid, GridJunction}
-use Rattle.hyd_spec_certificates.specs.Record.{Record, Standing}
+use Rattle.hyd_spec_certificates.specs.PeriodNetwork.{Grid, GridJunction}
+use Rattle.hyd_spec_certificates.specs.RecordAndStanding.{Record, Standing}
 use Rattle.hyd_cases_of_runs.specs.Town.{filling, fast_filling, narrow_main, night_main, unthrottled}
 
 -- ---- standings

@@ -4,7 +4,7 @@ use Rattle.hyd_spec.specs.declared.TankState.TheVariants.{Between}
 use Rattle.hyd_spec_reports.specs.declared.StatusWord.TheVariants.{Open as WordOpen, Closed as WordClosed}
 use Rattle.hyd_spec_reports.specs.declared.StatusWord.TheVariants.{Active as WordActive}
 use Rattle.hyd_spec.specs.Law.{Shut}
-use Rattle.hyd_spec_certificates.specs.Grid.{GridLink}
+use Rattle.hyd_spec_certificates.specs.PeriodNetwork.{GridLink}
 use Rattle.hyd_spec_reports.specs.ReportLine.{ReportLine, TimeLine, JunctionLine, ReservoirLine, TankLine, LinkLine}
 
 -- The place of the pump, closed.

@@ -3,7 +3,7 @@ use Rattle.std.specs.Prelude.{pos, List, [], ◌∷◌}
 use Rattle.hyd_spec.specs.ProgramTypes.{Closed, Limit}
 use Rattle.hyd_spec.specs.declared.TankState.TheVariants.{Between}
 use Rattle.hyd_spec.specs.PeriodLength.{Period}
-use Rattle.hyd_cases_of_runs.specs.VillageParts.{village_period}
+use Rattle.hyd_cases_of_runs.specs.VillagePeriods.{village_period}
 
 -- Period 0 of the history.
 abbrev pub period_0 : Period

@@ -1,6 +1,6 @@
 -- Records of the village with one head changed.
 use Rattle.std.specs.Prelude.{pos, [], ◌∷◌}
-use Rattle.hyd_spec_certificates.specs.Record.{Record}
+use Rattle.hyd_spec_certificates.specs.RecordAndStanding.{Record}
 use Rattle.hyd_cases_of_runs.specs.VillageRun.{row_0}
 
 -- The UPPER head of the first junction is one tick lower.

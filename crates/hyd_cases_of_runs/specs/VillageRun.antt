@@ -4,12 +4,12 @@ use Rattle.hyd_spec.specs.ProgramTypes.{Closed, Limit}
 use Rattle.hyd_spec.specs.declared.TankState.TheVariants.{Between}
 use Rattle.hyd_spec_reports.specs.declared.StatusWord.TheVariants.{Active as WordActive}
 use Rattle.hyd_spec.specs.Law.{Shut, LinearLaw, Capped}
-use Rattle.hyd_spec_certificates.specs.Grid.{Grid}
-use Rattle.hyd_spec_certificates.specs.Record.{Record, Standing}
+use Rattle.hyd_spec_certificates.specs.PeriodNetwork.{Grid}
+use Rattle.hyd_spec_certificates.specs.RecordAndStanding.{Record, Standing}
 use Rattle.hyd_spec_reports.specs.ReportLine.{ReportLine, TimeLine, JunctionLine, ReservoirLine, TankLine, LinkLine}
 use Rattle.hyd_spec_reports.specs.ReportLine.{ReachedLine, ControlLine, RuleLine}
-use Rattle.hyd_spec_reports.specs.Headline.{Found}
-use Rattle.hyd_cases_of_runs.specs.VillageParts.{village_standing, village_grid, village_row}
+use Rattle.hyd_spec_reports.specs.PromisesOfRunsAndChecks.{Found}
+use Rattle.hyd_cases_of_runs.specs.VillagePeriods.{village_standing, village_grid, village_row}
 
 -- What is known when period 0 begins.
 abbrev pub standing_0 : Standing

@@ -5,11 +5,12 @@
 
 ghost use Rattle.std.specs.Prelude.{◌≡◌, true};
 ghost use Rattle.hyd_net.specs.Sound.{Sound};
-ghost use Rattle.hyd_spec_certificates.specs.Record.{initial_standing};
+ghost use Rattle.hyd_spec_certificates.specs.RecordAndStanding.{initial_standing};
 ghost use Rattle.hyd_spec.specs.History.{IsHistory, initial_links};
 ghost use Rattle.hyd_spec_reports.specs.ReportLine.{report_text, done_line};
 ghost use Rattle.hyd_spec_reports.specs.CertificateText.{IsCertificateText, version_of};
-ghost use Rattle.hyd_spec_reports.specs.Headline.{IsRun, AllAgree, EveryHistoryAgrees, rows_of, lines_of};
+ghost use Rattle.hyd_spec_reports.specs.PromisesOfRunsAndChecks.{IsRun, AllAgree, EveryHistoryAgrees, rows_of};
+ghost use Rattle.hyd_spec_reports.specs.PromisesOfRunsAndChecks.{lines_of};
 ghost use Rattle.hyd_cases_of_runs.specs.Basin.{basin_network, curved, curved_0, curved_founds, curved_left};
 ghost use Rattle.hyd_cases_of_runs.specs.Basin.{curved_periods, curved_written, curved_printed};
 ghost use Rattle.hyd_cases_of_runs.specs.Basin.{spilling, spilling_0, spilling_founds, spilling_left, spilling_periods};

@@ -7,7 +7,7 @@ pub mod clauses;
 pub mod refusals;
 pub mod rounds;
 pub mod run_ends;
-pub mod shallow;
+pub mod shallow_village;
 pub mod town_ends;
 pub mod town_history;
 pub mod town_report;

@@ -4,11 +4,11 @@
 ghost use Rattle.std.specs.Prelude.{◌≡◌, pos, [], ◌∷◌, codes};
 ghost use Rattle.hyd_spec_certificates.specs.declared.Problem.TheVariants.{Main};
 ghost use Rattle.hyd_spec_certificates.specs.declared.Side.TheVariants.{Upper, Lower};
-ghost use Rattle.hyd_spec_certificates.specs.Record.{initial_standing};
+ghost use Rattle.hyd_spec_certificates.specs.RecordAndStanding.{initial_standing};
 ghost use Rattle.hyd_spec_reports.specs.declared.CertRefused.TheVariants.{Place, Demand, Fails, Open as MatterOpen};
 ghost use Rattle.hyd_spec_reports.specs.declared.CertRefused.TheVariants.{Length, After};
 ghost use Rattle.hyd_spec_reports.specs.ReportLine.{refused_line};
-ghost use Rattle.hyd_spec_reports.specs.Refusals.{IsRefused};
+ghost use Rattle.hyd_spec_reports.specs.RefusedRecords.{IsRefused};
 ghost use Rattle.hyd_cases_of_runs.specs.Village.{village, village_with};
 ghost use Rattle.hyd_cases_of_runs.specs.VillageRun.{standing_0, standing_1, standing_4, left, row_0, row_1, row_4};
 ghost use Rattle.hyd_cases_of_runs.specs.VillageStops.{thirsty, unsure_rule, unsure_event, unsure_control, unsure_tank};

@@ -7,16 +7,17 @@ ghost use Rattle.hyd_spec_certificates.specs.declared.Side.TheVariants.{Upper, L
 ghost use Rattle.hyd_spec_reports.specs.declared.StopCause.TheVariants.{Demand as DemandOutOfRange, NoCertificate};
 ghost use Rattle.hyd_spec_reports.specs.declared.StopCause.TheVariants.{RoundsSpent, RuleOpen, EventOpen, TankOpen};
 ghost use Rattle.hyd_spec_reports.specs.declared.StopCause.TheVariants.{ControlOpen};
-ghost use Rattle.hyd_spec_reports.specs.Headline.{Finished, Stopped, outcome_number, is_finished, accepted_line};
-ghost use Rattle.hyd_spec_reports.specs.Headline.{certificate_so_far, report_so_far};
+ghost use Rattle.hyd_spec_reports.specs.PromisesOfRunsAndChecks.{Finished, Stopped, outcome_number, is_finished};
+ghost use Rattle.hyd_spec_reports.specs.PromisesOfRunsAndChecks.{accepted_line};
+ghost use Rattle.hyd_spec_reports.specs.PromisesOfRunsAndChecks.{certificate_so_far, report_so_far};
 ghost use Rattle.hyd_spec_certificates.specs.Narrow.{widest, IsNarrow};
 ghost use Rattle.hyd_cases_of_runs.specs.Village.{village, village_with};
 ghost use Rattle.hyd_cases_of_runs.specs.VillageRun.{standing_0, standing_1, standing_2, row_0, row_1, left, found_0};
 ghost use Rattle.hyd_cases_of_runs.specs.VillageRun.{founds};
 ghost use Rattle.hyd_cases_of_runs.specs.VillageTexts.{written, printed};
 ghost use Rattle.hyd_cases_of_runs.specs.VillageStops.{last_level, open_rule};
-ghost use Rattle.hyd_cases_of_runs.specs.Shallow.{shallow, left as shallow_left, founds as shallow_founds};
-ghost use Rattle.hyd_cases_of_runs.specs.Shallow.{written as shallow_written, printed as shallow_printed};
+ghost use Rattle.hyd_cases_of_runs.specs.ShallowVillage.{shallow, left as shallow_left, founds as shallow_founds};
+ghost use Rattle.hyd_cases_of_runs.specs.ShallowVillage.{written as shallow_written, printed as shallow_printed};
 
 /// The exit statuses of the run that finishes and of each cause, as the independent program ends.
 pub fn statuses()

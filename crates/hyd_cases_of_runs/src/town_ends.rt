@@ -4,8 +4,8 @@
 ghost use Rattle.std.specs.Prelude.{◌≡◌, pos, neg_ℤ, true, false, [], ◌∷◌, map, codes, Some, None};
 ghost use Rattle.hyd_spec.specs.ProgramTypes.{Project};
 ghost use Rattle.hyd_spec_certificates.specs.declared.Side.TheVariants.{Upper, Lower};
-ghost use Rattle.hyd_spec.specs.Quantity.{demand_of, reservoir_head};
-ghost use Rattle.hyd_spec_certificates.specs.Grid.{grid_links, tank_intervals};
+ghost use Rattle.hyd_spec.specs.DemandsReservoirHeadsAndCurves.{demand_of, reservoir_head};
+ghost use Rattle.hyd_spec_certificates.specs.PeriodNetwork.{grid_links, tank_intervals};
 ghost use Rattle.hyd_spec_certificates.specs.Decided.{links_at, flow_boxes, inflow_boxes, watch_of, tank_watches};
 ghost use Rattle.hyd_spec_certificates.specs.Decided.{watches, carried_at};
 ghost use Rattle.hyd_spec_certificates.specs.Valid.{levels_next, demand_limit};

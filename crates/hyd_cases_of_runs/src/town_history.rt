@@ -7,7 +7,7 @@ ghost use Rattle.hyd_num.specs.Rational.{whole};
 ghost use Rattle.hyd_spec.specs.ProgramTypes.{Project, Open, Closed};
 ghost use Rattle.hyd_spec.specs.declared.TankState.TheVariants.{Empty, Between, Full};
 ghost use Rattle.hyd_spec.specs.Tank.{tank_inflow};
-ghost use Rattle.hyd_spec.specs.PeriodStart.{started, acts_at};
+ghost use Rattle.hyd_spec.specs.PumpPatternsAndSimpleControls.{started, acts_at};
 ghost use Rattle.hyd_spec.specs.PeriodLength.{level_at_start, exact_after, readings_after, values_at};
 ghost use Rattle.hyd_spec.specs.History.{tank_states, commanded_after};
 ghost use Rattle.hyd_cases_of_runs.specs.Town.{IsTown, north, south, filling, fast_filling, narrow_main, night_main};

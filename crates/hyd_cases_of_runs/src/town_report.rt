@@ -7,9 +7,9 @@ ghost use Rattle.hyd_spec.specs.declared.TankState.TheVariants.{Empty, Between, 
 ghost use Rattle.hyd_spec_reports.specs.declared.StatusWord.TheVariants.{Open as WordOpen, Closed as WordClosed};
 ghost use Rattle.hyd_spec_reports.specs.declared.StatusWord.TheVariants.{Active as WordActive, Unsure as WordUnsure};
 ghost use Rattle.hyd_spec.specs.Lists.{map_from, joined};
-ghost use Rattle.hyd_spec.specs.Quantity.{is_us};
+ghost use Rattle.hyd_spec.specs.DemandsReservoirHeadsAndCurves.{is_us};
 ghost use Rattle.hyd_spec.specs.Rules.{state_of_link};
-ghost use Rattle.hyd_spec_certificates.specs.Boxes.{difference, out_box};
+ghost use Rattle.hyd_spec_certificates.specs.FlowIntervals.{difference, out_box};
 ghost use Rattle.hyd_spec_certificates.specs.Decided.{links_at, heads_below, heads_above};
 ghost use Rattle.hyd_spec_reports.specs.Report.{is_report_time, status_of, control_lines, events_of, event_line};
 ghost use Rattle.hyd_spec_reports.specs.ReportLine.{line_text, report_text, done_line};

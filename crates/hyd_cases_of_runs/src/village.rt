@@ -5,14 +5,15 @@
 ghost use Rattle.std.specs.Prelude.{◌≡◌, true, List, [], ◌∷◌, length};
 ghost use Rattle.std.specs.List.{AllByRecursion};
 ghost use Rattle.hyd_net.specs.Sound.{Sound};
-ghost use Rattle.hyd_spec_certificates.specs.Record.{Standing, initial_standing};
+ghost use Rattle.hyd_spec_certificates.specs.RecordAndStanding.{Standing, initial_standing};
 ghost use Rattle.hyd_spec_certificates.specs.Decided.{EndsBy, WithoutRules, ByRules};
 ghost use Rattle.hyd_spec.specs.History.{IsHistory, initial_links};
 ghost use Rattle.hyd_spec_reports.specs.Report.{IsReport};
 ghost use Rattle.hyd_spec_reports.specs.ReportLine.{report_text, done_line};
 ghost use Rattle.hyd_spec_reports.specs.CertificateText.{IsCertificateText};
-ghost use Rattle.hyd_spec_reports.specs.Headline.{Found, IsTightThroughout, IsRun, AllAgree, EveryHistoryAgrees};
-ghost use Rattle.hyd_spec_reports.specs.Headline.{rows_of, lines_of};
+ghost use Rattle.hyd_spec_reports.specs.PromisesOfRunsAndChecks.{Found, IsTightThroughout, IsRun, AllAgree};
+ghost use Rattle.hyd_spec_reports.specs.PromisesOfRunsAndChecks.{EveryHistoryAgrees};
+ghost use Rattle.hyd_spec_reports.specs.PromisesOfRunsAndChecks.{rows_of, lines_of};
 ghost use Rattle.hyd_spec_certificates.specs.Valid.{IsGridAt, AreCertificates, IsValid, AreValid};
 ghost use Rattle.hyd_cases_of_runs.specs.Village.{village};
 ghost use Rattle.hyd_cases_of_runs.specs.VillageHistory.{periods};

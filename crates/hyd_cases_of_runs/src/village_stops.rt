@@ -10,7 +10,7 @@ ghost use Rattle.hyd_spec_reports.specs.declared.StopCause.TheVariants.{Demand a
 ghost use Rattle.hyd_spec_reports.specs.declared.StopCause.TheVariants.{RoundsSpent, RuleOpen, EventOpen, TankOpen};
 ghost use Rattle.hyd_spec_reports.specs.declared.StopCause.TheVariants.{ControlOpen};
 ghost use Rattle.hyd_spec_reports.specs.ReportLine.{stop_line};
-ghost use Rattle.hyd_spec_certificates.specs.Record.{initial_standing};
+ghost use Rattle.hyd_spec_certificates.specs.RecordAndStanding.{initial_standing};
 ghost use Rattle.hyd_spec_certificates.specs.declared.Truth.TheVariants.{True, False, Open};
 ghost use Rattle.hyd_spec_certificates.specs.Decided.{IsTruthBetween, readings_below, readings_above};
 ghost use Rattle.hyd_cases_of_runs.specs.Village.{village, village_with, refill_rule};

@@ -10,7 +10,7 @@ use Rattle.std.proofs.lemmas.Int.{ints}
 use Rattle.std.proofs.lemmas.List.{append_cancel_left}
 use Rattle.hyd_spec_certificates.specs.Certificate.{IsInBox}
 use Rattle.hyd_cert.specs.TextsWithoutLine.{HasNo}
-use Rattle.hyd_io.specs.ToldBytes.{prepend_known}
+use Rattle.hyd_io.specs.DeskBytes.{prepend_known}
 use Rattle.hyd_io.specs.declared.desk.Faults.{Faults}
 use Rattle.hyd_cert.specs.declared.answers.CertFault.{CertFault}
 use Rattle.hyd_cert.specs.declared.answers.CertFault.TheVariants.{Read, Grammar, Count}

@@ -7,10 +7,10 @@ use Rattle.std.proofs.lemmas.Grind.{common_steps}
 use Rattle.std.proofs.lemmas.Bool.Decides.{Decides-ltb}
 use Rattle.std.proofs.lemmas.List.Elements.{All-cons, All-nil, All-head, All-tail, All-append}
 use Rattle.hyd_spec.specs.Lists.{joined}
-use Rattle.hyd_io.specs.ToldBytes.{prepend_known}
+use Rattle.hyd_io.specs.DeskBytes.{prepend_known}
 use Rattle.hyd_io.proofs.ToldLemmas.{prepend_known-prepend_known}
 use Rattle.hyd_spec_certificates.specs.Certificate.{IsInBox}
-use Rattle.hyd_spec_certificates.specs.Record.{Record as Row, Vectors}
+use Rattle.hyd_spec_certificates.specs.RecordAndStanding.{Record as Row, Vectors}
 use Rattle.hyd_spec_reports.specs.CertificateText.{words, period_line, record_text, end_line, IsVector, IsRow}
 use Rattle.hyd_spec_reports.specs.CertificateText.{IsCertificateText, certificate_text}
 use Rattle.hyd_cert.specs.Lines.{Header, header_text, IsHeaderLine, IsPeriodLine, IsHeadLine, IsEndLine, end_word}

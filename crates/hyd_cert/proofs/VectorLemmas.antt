@@ -12,7 +12,7 @@ use Rattle.std.proofs.lemmas.Bool.Decides.{Decides-ltb}
 use Rattle.std.proofs.lemmas.Slice.{overwrites, take-put_mid_below, between-put_mid, drop-put_mid}
 use borrow.Rule.Slice.PartMut.{put_mid}
 use Rattle.std.specs.List.{refill}
-use Rattle.hyd_io.specs.ToldBytes.{prepend_known}
+use Rattle.hyd_io.specs.DeskBytes.{prepend_known}
 use Rattle.hyd_io.proofs.ToldLemmas.{prepend_known-prepend_known}
 use Rattle.hyd_spec.specs.Lists.{joined}
 use Rattle.hyd_spec_certificates.specs.Certificate.{IsInBox}
@@ -20,7 +20,7 @@ use Rattle.hyd_spec_certificates.specs.declared.Problem.{Problem}
 use Rattle.hyd_spec_certificates.specs.declared.Problem.TheVariants.{Main, Pinned}
 use Rattle.hyd_spec_certificates.specs.declared.Side.{Side}
 use Rattle.hyd_spec_certificates.specs.declared.Side.TheVariants.{Upper, Lower}
-use Rattle.hyd_spec_certificates.specs.Record.{Record as Row, Vectors, vector_of, no_vectors}
+use Rattle.hyd_spec_certificates.specs.RecordAndStanding.{Record as Row, Vectors, vector_of, no_vectors}
 use Rattle.hyd_spec_reports.specs.CertificateText.{line, head_lines, vectors_text, period_line, record_text, IsVector}
 use Rattle.hyd_spec_reports.specs.CertificateText.{IsRow}
 use Rattle.hyd_cert.specs.PlacesOfLines.{front_of, front_at, heads_in, head_text}

@@ -2,8 +2,8 @@
 -- text counted in, they begin none.
 use Rattle.std.specs.Prelude.{◌≡◌, ℕ, ◌+◌, ◌*◌, Bool, List, [], ◌∷◌, ◌++◌, length, map, Option, ◌⊎◌}
 use Rattle.hyd_spec.specs.Lists.{joined}
-use Rattle.hyd_io.specs.ToldBytes.{prepend_known}
-use Rattle.hyd_spec_certificates.specs.Record.{Record}
+use Rattle.hyd_io.specs.DeskBytes.{prepend_known}
+use Rattle.hyd_spec_certificates.specs.RecordAndStanding.{Record}
 use Rattle.hyd_spec_reports.specs.CertificateText.{IsCertificateText, record_text, line_feeds}
 use Rattle.hyd_cert.specs.TextsWithoutLine.{HasNo}
 use Rattle.hyd_cert.specs.Lines.{Header, header_text}

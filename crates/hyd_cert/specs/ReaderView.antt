@@ -1,6 +1,6 @@
 -- What a reader of a certificate text shows, and what it stands before.
 use Rattle.std.specs.Prelude.{ℕ, Bool, List, [], Option, Result, Ok, Err}
-use Rattle.hyd_io.specs.ToldBytes.{prepend_known}
+use Rattle.hyd_io.specs.DeskBytes.{prepend_known}
 use Rattle.hyd_cert.specs.Lines.{Header, header_text}
 use Rattle.hyd_cert.specs.PlacesOfLines.{Place, First as AtFirst, Between as AtBetween, Over as AtOver}
 use Rattle.hyd_cert.specs.declared.answers.Stand.{Stand}

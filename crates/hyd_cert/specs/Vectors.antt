@@ -5,7 +5,7 @@ use Rattle.hyd_spec_certificates.specs.declared.Problem.{Problem}
 use Rattle.hyd_spec_certificates.specs.declared.Problem.TheVariants.{Main, Pinned}
 use Rattle.hyd_spec_certificates.specs.declared.Side.{Side}
 use Rattle.hyd_spec_certificates.specs.declared.Side.TheVariants.{Upper, Lower}
-use Rattle.hyd_spec_certificates.specs.Record.{Vectors}
+use Rattle.hyd_spec_certificates.specs.RecordAndStanding.{Vectors}
 use Rattle.hyd_cert.specs.PlacesOfLines.{heads_in}
 
 -- The list has a head for each junction in each vector.

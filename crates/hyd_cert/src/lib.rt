@@ -2,23 +2,23 @@
 #![tactic(auto)]
 
 mod answers;
+mod certificate_version;
 mod line_reader;
 mod lines;
 mod reader;
 mod record;
 mod theorems;
-mod version;
 mod words;
 mod writing;
 
 pub use answers::{CertFault, CertNext, End, Stand};
+pub use certificate_version::version_of;
 pub use reader::CertReader;
 pub use record::Record;
 pub use theorems::{
     certificates_by_lines, fault_behind_records, fault_is_first, first_fault_is_one,
     reading_is_whole, record_has_a_header, refused_is_no_certificate,
 };
-pub use version::version_of;
 pub use writing::{put_end, put_head, put_record};
 
 /// The error of a call that found no memory.

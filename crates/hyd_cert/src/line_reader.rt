@@ -2,8 +2,8 @@
 
 ghost use Rattle.std.specs.Prelude.{◌≡◌, ◌≢◌, ℕ, ◌+◌, ◌-◌, ◌<◌, ◌≤◌, List, [], ◌∷◌, ◌++◌, length, take, drop};
 ghost use Rattle.std.specs.Prelude.{slice_index, false, IsTrue, Some, IfSome, IfNone, IfOk, OnOk, OnErr};
-ghost use Rattle.hyd_io.specs.ToldBytes.{where_told, prepend_known};
-ghost use Rattle.hyd_io.specs.Counts.{NeverFall, with_read_fault};
+ghost use Rattle.hyd_io.specs.DeskBytes.{where_told, prepend_known};
+ghost use Rattle.hyd_io.specs.FailureCounts.{NeverFall, with_read_fault};
 ghost use Rattle.hyd_cert.specs.TextsWithoutLine.{HasNo, HasNoLine};
 
 use hyd_io::{Desk, Failed};

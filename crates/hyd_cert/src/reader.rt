@@ -3,8 +3,8 @@
 ghost use Rattle.std.specs.Prelude.{◌≡◌, ◌≢◌, ℕ, ◌+◌, ◌<◌, ◌^◌, false, IsTrue, List, [], ◌∷◌, ◌++◌, length, take, drop};
 ghost use Rattle.std.specs.Prelude.{slice_set, Some, All, IfOk, IfErr, OnOk};
 ghost use Rattle.std.specs.Fmt.{signed_decimal};
-ghost use Rattle.hyd_io.specs.ToldBytes.{where_told, prepend_known};
-ghost use Rattle.hyd_io.specs.Counts.{NeverFall, with_read_fault};
+ghost use Rattle.hyd_io.specs.DeskBytes.{where_told, prepend_known};
+ghost use Rattle.hyd_io.specs.FailureCounts.{NeverFall, with_read_fault};
 ghost use Rattle.hyd_spec_certificates.specs.Certificate.{IsInBox};
 ghost use Rattle.hyd_spec_reports.specs.CertificateText.{IsRow, record_text, end_line};
 ghost use Rattle.hyd_cert.specs.TextsWithoutLine.{HasNo};

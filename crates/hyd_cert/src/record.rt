@@ -31,7 +31,7 @@ pub struct Record {
 }
 
 impl Record {
-    ghost use Rattle.hyd_spec_certificates.specs.Record.{vector_of};
+    ghost use Rattle.hyd_spec_certificates.specs.RecordAndStanding.{vector_of};
     ghost use Rattle.hyd_cert.specs.RecordView.{header_of, row_of, IsProblemOf};
 
     /// A record for a text of this version, 1 or 2, and for so many junctions and tanks, in which all is 0.

@@ -8,8 +8,8 @@ ghost use Rattle.hyd_spec_reports.specs.CertificateText.{period_line, record_tex
 ghost use Rattle.hyd_cert.specs.Lines.{header_words, header_text, end_word};
 ghost use Rattle.hyd_cert.specs.PlacesOfLines.{front_of, head_text};
 ghost use Rattle.hyd_cert.specs.RecordView.{header_of, row_of};
-ghost use Rattle.hyd_io.specs.ToldBytes.{file_at, Moves, PutOut};
-ghost use Rattle.hyd_io.specs.Counts.{NeverFall};
+ghost use Rattle.hyd_io.specs.DeskBytes.{file_at, Moves, PutOut};
+ghost use Rattle.hyd_io.specs.FailureCounts.{NeverFall};
 ghost use Rattle.hyd_io.specs.Output.{by_channel, OnCert, OnReport, HasOutCause};
 
 use crate::record::Record;

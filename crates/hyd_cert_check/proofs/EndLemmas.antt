@@ -6,21 +6,21 @@ use Rattle.std.proofs.lemmas.List.Elements.{All-push}
 use Rattle.hyd_net.specs.Sound.{Sound}
 use Rattle.hyd_spec.specs.ProgramTypes.{Project}
 use Rattle.hyd_spec.specs.NodeNumbers.{junction_count, tank_count}
-use Rattle.hyd_spec_certificates.specs.Record.{Standing, initial_standing}
+use Rattle.hyd_spec_certificates.specs.RecordAndStanding.{Standing, initial_standing}
 use Rattle.hyd_spec_reports.specs.CertificateText.{IsRow}
 use Rattle.hyd_spec_reports.specs.ReportLine.{report_text}
-use Rattle.hyd_spec_reports.specs.Headline.{Found, IsRun, IsRunFrom, rows_of, lines_of, report_so_far}
+use Rattle.hyd_spec_reports.specs.PromisesOfRunsAndChecks.{Found, IsRun, IsRunFrom, rows_of, lines_of, report_so_far}
 use Rattle.hyd_theorems_on_definitions.proofs.Appending.{run_more}
 use Rattle.hyd_theorems_on_histories.proofs.Running.{every_history}
-use Rattle.hyd_io.specs.ToldBytes.{append_known, Moves, PutOut}
+use Rattle.hyd_io.specs.DeskBytes.{append_known, Moves, PutOut}
 use Rattle.hyd_io.proofs.ToldLemmas.{moves_whole}
 use Rattle.hyd_io.specs.Output.{PenState}
 use Rattle.hyd_cert.specs.ReaderView.{ReaderView, fresh, to_come}
-use Rattle.hyd_report.specs.LinesOfParts.{texts}
+use Rattle.hyd_report.specs.NodeAndLinkLines.{texts}
 use Rattle.hyd_run.specs.Runs.{first_line}
 use Rattle.hyd_sim.specs.View.{header_for}
 use Rattle.hyd_cert_check.specs.Checks.{CheckEnds, CheckFinds, CheckBreaksOff, in_last_line, in_records}
-use Rattle.hyd_cert_check.specs.Printing.{Moment, new_pen, LeavesFiles, PutIn, IsCutOff, Rose}
+use Rattle.hyd_cert_check.specs.ReaderAndPen.{Moment, new_pen, LeavesFiles, PutIn, IsCutOff, Rose}
 use Rattle.hyd_cert_check.specs.RecordByRecord.{coming, IsReadTo, nothing, IsRead, IsStep, IsSoFar, AllRead, IsWhole}
 use Rattle.hyd_cert_check.specs.RecordByRecord.{IsCutShort}
 use Rattle.hyd_cert_check.specs.RecordByRecord.{IsPrinted, CheckPuts, verdict_line, end_of}

@@ -5,7 +5,7 @@ use Rattle.std.specs.Fmt.{decimal, signed_decimal}
 use Rattle.std.proofs.lemmas.List.Elements.{All-head, All-tail}
 use Rattle.hyd_spec.specs.Lists.{joined}
 use Rattle.hyd_spec_certificates.specs.Certificate.{IsInBox}
-use Rattle.hyd_spec_certificates.specs.Record.{Record, Vectors}
+use Rattle.hyd_spec_certificates.specs.RecordAndStanding.{Record, Vectors}
 use Rattle.hyd_spec_reports.specs.CertificateText.{words, head_lines, vectors_text, record_text}
 use Rattle.hyd_spec_reports.specs.CertificateText.{line_feeds, IsVector, IsRow, certificate_text}
 use Rattle.hyd_cert.specs.TextsWithoutLine.{HasNo}

@@ -7,13 +7,13 @@ use Rattle.hyd_io.specs.declared.desk.Openings.{Openings}
 use Rattle.hyd_io.specs.declared.output.OutFault.{OutFault}
 use Rattle.hyd_io.specs.declared.output.Channel.{Channel}
 use Rattle.hyd_io.specs.declared.output.Channel.TheVariants.{Report}
-use Rattle.hyd_io.specs.ToldBytes.{Files, Moves, PutOut}
+use Rattle.hyd_io.specs.DeskBytes.{Files, Moves, PutOut}
 use Rattle.hyd_io.specs.Output.{by_channel, OnCert, OnReport, HasOutCause, PenState}
 use Rattle.hyd_io.proofs.ToldLemmas.{moves_then, put_out_then, put_out_nothing, moves_nothing}
 use Rattle.hyd_cert.specs.ReaderView.{ReaderView}
 use Rattle.hyd_report.specs.Putting.{Puts}
 use Rattle.hyd_run.specs.Pens.{Told, told}
-use Rattle.hyd_cert_check.specs.Printing.{Moment, moment, new_pen, IsOpen, LeavesFiles, PutIn, IsCutOff, Rose}
+use Rattle.hyd_cert_check.specs.ReaderAndPen.{Moment, moment, new_pen, IsOpen, LeavesFiles, PutIn, IsCutOff, Rose}
 use Rattle.hyd_cert_check.specs.declared.outcome.CheckFault.{CheckFault}
 use Rattle.hyd_cert_check.specs.declared.outcome.CheckFault.TheVariants.{Output}
 

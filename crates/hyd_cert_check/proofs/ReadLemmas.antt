@@ -1,13 +1,13 @@
 -- What was read of a text so far, and one record more.
 use Rattle.std.proofs.Common.{◌≡◌, ℕ, suc, ◌+◌, ◌*◌, List, [], ◌∷◌, ◌++◌, length, length-append, map, Option}
 use Rattle.std.proofs.Common.{Some, sym, ap, ◌∙◌, arith, append-nil, append_assoc, inl, inr}
-use Rattle.hyd_io.specs.ToldBytes.{where_told, prepend_known}
+use Rattle.hyd_io.specs.DeskBytes.{where_told, prepend_known}
 use Rattle.hyd_io.proofs.ToldLemmas.{prepend_known-prepend_known}
 use Rattle.hyd_spec.specs.ProgramTypes.{Project}
 use Rattle.hyd_spec.specs.Lists.{joined}
-use Rattle.hyd_spec_certificates.specs.Record.{Record}
+use Rattle.hyd_spec_certificates.specs.RecordAndStanding.{Record}
 use Rattle.hyd_spec_reports.specs.CertificateText.{record_text}
-use Rattle.hyd_spec_reports.specs.Headline.{Found, rows_of}
+use Rattle.hyd_spec_reports.specs.PromisesOfRunsAndChecks.{Found, rows_of}
 use Rattle.hyd_cert.specs.Lines.{Header, header_text}
 use Rattle.hyd_cert.specs.PlacesOfLines.{heads_in}
 use Rattle.hyd_cert.specs.Faults.{lines_on}
@@ -18,7 +18,7 @@ use Rattle.hyd_cert.specs.declared.answers.Stand.TheVariants as stand
 use Rattle.hyd_cert.proofs.GoesLemmas.{has_rest}
 use Rattle.hyd_sim.specs.View.{header_for}
 use Rattle.hyd_cert_check.specs.Checks.{BeginsWithFound}
-use Rattle.hyd_cert_check.specs.Printing.{Moment}
+use Rattle.hyd_cert_check.specs.ReaderAndPen.{Moment}
 use Rattle.hyd_cert_check.specs.RecordByRecord.{coming, IsRead, IsReadTo, nothing, records}
 use Rattle.hyd_cert_check.proofs.TextLemmas.{join-more, no-rows, told-is}
 

@@ -4,13 +4,13 @@ use Rattle.std.proofs.Common.{◌∙◌, arith}
 use Rattle.std.proofs.lemmas.List.{length-map}
 use Rattle.hyd_net.specs.Sound.{Sound}
 use Rattle.hyd_spec.specs.ProgramTypes.{Project}
-use Rattle.hyd_spec_certificates.specs.Record.{Record, Standing}
-use Rattle.hyd_spec_reports.specs.Headline.{Found}
+use Rattle.hyd_spec_certificates.specs.RecordAndStanding.{Record, Standing}
+use Rattle.hyd_spec_reports.specs.PromisesOfRunsAndChecks.{Found}
 use Rattle.hyd_spec_reports.specs.CertificateText.{record_text, end_line, IsRow}
-use Rattle.hyd_spec_reports.specs.Refusals.{IsRefused}
+use Rattle.hyd_spec_reports.specs.RefusedRecords.{IsRefused}
 use Rattle.hyd_spec_reports.specs.declared.CertRefused.{CertRefused}
 use Rattle.hyd_io.specs.declared.desk.Faults.{Faults}
-use Rattle.hyd_io.specs.ToldBytes.{prepend_known, where_told}
+use Rattle.hyd_io.specs.DeskBytes.{prepend_known, where_told}
 use Rattle.hyd_cert.specs.Faults.{lines_on, IsTextFault, HasOtherHeader, LacksRecord}
 use Rattle.hyd_cert.specs.Lines.{Header}
 use Rattle.hyd_cert.specs.PlacesOfLines.{IsFault}
@@ -19,20 +19,20 @@ use Rattle.hyd_cert.specs.RecordView.{header_of, row_of}
 use Rattle.hyd_cert.specs.declared.answers.CertFault.TheVariants.{Grammar, Count}
 use Rattle.hyd_cert.specs.declared.answers.Stand.TheVariants as stand
 use Rattle.hyd_cert.specs.declared.record.Record.{Record as Row}
-use Rattle.hyd_period_network.specs.GridOf.{grid_of, states_of}
+use Rattle.hyd_period_network.specs.NetAsPeriodNetwork.{grid_of, states_of}
 use Rattle.hyd_period_network.specs.NetView.{NetView}
 use Rattle.hyd_period_network.specs.Periods.{ends_of, IsNetOf}
-use Rattle.hyd_period_network.specs.Settings.{AreStates}
+use Rattle.hyd_period_network.specs.LawsInSettings.{AreStates}
 use Rattle.hyd_period_facts.specs.declared.facts.Facts.{Facts}
-use Rattle.hyd_theorems_on_definitions.specs.Laws.{IsSteady}
-use Rattle.hyd_report.specs.LinesOfParts.{texts}
+use Rattle.hyd_theorems_on_definitions.specs.TermsOfTheorems.{IsSteady}
+use Rattle.hyd_report.specs.NodeAndLinkLines.{texts}
 use Rattle.hyd_report.specs.PeriodLines.{AreBounds, AreTankFacts, lines_of}
 use Rattle.hyd_report.proofs.ReportLemmas.{length-links_of, lines_are_report}
 use Rattle.hyd_run.specs.Runs.{periods_left}
 use Rattle.hyd_run.proofs.PeriodLemmas.{bounds-of, tank-facts-of, few-periods, number-next}
 use Rattle.hyd_sim.specs.View.{SimView, IsSim, standing_of, header_for}
 use Rattle.hyd_sim.specs.Acceptance.{IsAccepted}
-use Rattle.hyd_cert_check.specs.Printing.{Moment, PutIn, IsCutOff}
+use Rattle.hyd_cert_check.specs.ReaderAndPen.{Moment, PutIn, IsCutOff}
 use Rattle.hyd_cert_check.specs.RecordByRecord.{coming, IsRead, IsStep, IsOfPeriod, DidRecord, LostRecord, IsOver, IsSo}
 use Rattle.hyd_cert_check.specs.RecordByRecord.{IsEnd}
 use Rattle.hyd_cert_check.specs.RecordByRecord.{IsGrammarFault, IsCountsFault}

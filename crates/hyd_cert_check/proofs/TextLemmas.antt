@@ -2,18 +2,18 @@
 use Rattle.std.proofs.Common.{◌≡◌, ℕ, ◌<◌, ◌≤◌, ◌^◌, List, [], ◌∷◌, ◌++◌, map, Option, Some, None, refl}
 use Rattle.std.proofs.Common.{sym, ap, ◌∙◌, arith, append-nil, append_assoc, Bool, true, false}
 use Rattle.std.specs.Prelude.{if◌then◌else◌}
-use Rattle.hyd_io.specs.ToldBytes.{where_told, prepend_known}
+use Rattle.hyd_io.specs.DeskBytes.{where_told, prepend_known}
 use Rattle.hyd_net.specs.Sound.{Sound}
 use Rattle.hyd_spec.specs.ProgramTypes.{Project}
 use Rattle.hyd_spec.specs.Lists.{joined}
 use Rattle.hyd_spec.specs.NodeNumbers.{junction_count, tank_count}
-use Rattle.hyd_spec_certificates.specs.Record.{Standing}
+use Rattle.hyd_spec_certificates.specs.RecordAndStanding.{Standing}
 use Rattle.hyd_spec_reports.specs.CertificateText.{version_of}
 use Rattle.hyd_spec_reports.specs.ReportLine.{line_text, report_text}
-use Rattle.hyd_spec_reports.specs.Headline.{Found, lines_of, rows_of, report_so_far}
+use Rattle.hyd_spec_reports.specs.PromisesOfRunsAndChecks.{Found, lines_of, rows_of, report_so_far}
 use Rattle.hyd_cert.specs.Lines.{IsHeaderLine, header_words}
 use Rattle.hyd_cert.proofs.HeadLemmas.{header_is}
-use Rattle.hyd_report.specs.LinesOfParts.{texts}
+use Rattle.hyd_report.specs.NodeAndLinkLines.{texts}
 use Rattle.hyd_report.proofs.Joining.{map-append}
 use Rattle.hyd_run.specs.Runs.{first_line}
 use Rattle.hyd_sim.specs.View.{header_for}

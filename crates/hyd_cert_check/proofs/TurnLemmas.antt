@@ -2,11 +2,11 @@
 use Rattle.std.proofs.Common.{◌≡◌, sym, subst}
 use Rattle.hyd_net.specs.Sound.{Sound}
 use Rattle.hyd_spec.specs.ProgramTypes.{Project}
-use Rattle.hyd_spec_certificates.specs.Record.{Standing}
+use Rattle.hyd_spec_certificates.specs.RecordAndStanding.{Standing}
 use Rattle.hyd_cert.specs.ReaderView.{IsGoing}
 use Rattle.hyd_cert.specs.declared.answers.Stand.{Stand}
 use Rattle.hyd_sim.specs.View.{SimView, standing_of}
-use Rattle.hyd_cert_check.specs.Printing.{Moment}
+use Rattle.hyd_cert_check.specs.ReaderAndPen.{Moment}
 use Rattle.hyd_cert_check.specs.RecordByRecord.{CanGoOn, DidRecord, IsOver, IsLost, in_reading, in_report, IsSoFar}
 use Rattle.hyd_cert_check.specs.RecordByRecord.{IsSo}
 use Rattle.hyd_cert_check.specs.RecordByRecord.{AllRead}

@@ -7,13 +7,14 @@ use Rattle.hyd_net.specs.Sound.{Sound}
 use Rattle.hyd_spec.specs.ProgramTypes.{Project}
 use Rattle.hyd_spec.specs.Lists.{joined}
 use Rattle.hyd_spec.specs.NodeNumbers.{junction_count, tank_count}
-use Rattle.hyd_spec_certificates.specs.Record.{Record, Standing}
+use Rattle.hyd_spec_certificates.specs.RecordAndStanding.{Record, Standing}
 use Rattle.hyd_spec_reports.specs.CertificateText.{IsRow, IsCertificateText, record_text, end_line, line_feeds}
 use Rattle.hyd_spec_reports.specs.CertificateText.{certificate_text, version_of}
 use Rattle.hyd_spec_reports.specs.ReportLine.{report_text, refused_line, refused_end_line}
 use Rattle.hyd_spec_reports.specs.declared.CertRefused.{CertRefused}
-use Rattle.hyd_spec_reports.specs.Headline.{Found, rows_of, lines_of, accepted_line, CheckAccepts, CheckRefuses}
-use Rattle.hyd_spec_reports.specs.Headline.{CheckRefusesEnd}
+use Rattle.hyd_spec_reports.specs.PromisesOfRunsAndChecks.{Found, rows_of, lines_of, accepted_line, CheckAccepts}
+use Rattle.hyd_spec_reports.specs.PromisesOfRunsAndChecks.{CheckRefuses}
+use Rattle.hyd_spec_reports.specs.PromisesOfRunsAndChecks.{CheckRefusesEnd}
 use Rattle.hyd_theorems_on_histories.proofs.Running.{every_history}
 use Rattle.hyd_cert.specs.Lines.{Header, header_text, header_words}
 use Rattle.hyd_cert.specs.PlacesOfLines.{First, IsFault, heads_in}
@@ -29,7 +30,7 @@ use Rattle.hyd_cert_check.specs.Checks.{refused_grammar_line, refused_counts_lin
 use Rattle.hyd_cert_check.specs.Checks.{HasNoMoreRecords}
 use Rattle.hyd_cert_check.specs.Checks.{CheckRefusesGrammar, CheckRefusesCounts, grammar, counts, record_refused}
 use Rattle.hyd_cert_check.specs.Checks.{other_end, CheckEnds, CheckFinds}
-use Rattle.hyd_cert_check.specs.Printing.{Moment}
+use Rattle.hyd_cert_check.specs.ReaderAndPen.{Moment}
 use Rattle.hyd_cert_check.specs.RecordByRecord.{coming, IsReadTo, nothing, records, IsSoFar, IsSo, IsEnd, IsOtherEnd}
 use Rattle.hyd_cert_check.specs.RecordByRecord.{IsRefusedNext}
 use Rattle.hyd_cert_check.specs.RecordByRecord.{IsGrammarFault, IsCountsFault, end_number, verdict_line, end_of}

@@ -4,12 +4,13 @@ use Rattle.std.specs.Prelude.{◌≡◌, ◌≢◌, ℕ, ◌-◌, ◌^◌, ◌�
 use Rattle.hyd_spec.specs.ProgramTypes.{Project}
 use Rattle.hyd_spec.specs.Lists.{joined}
 use Rattle.hyd_spec.specs.NodeNumbers.{junction_count, tank_count}
-use Rattle.hyd_spec_certificates.specs.Record.{Record, Standing}
+use Rattle.hyd_spec_certificates.specs.RecordAndStanding.{Record, Standing}
 use Rattle.hyd_spec_reports.specs.CertificateText.{IsRow, line, version_of, header_line, record_text}
 use Rattle.hyd_spec_reports.specs.ReportLine.{report_text}
 use Rattle.hyd_spec_reports.specs.declared.CertRefused.{CertRefused}
-use Rattle.hyd_spec_reports.specs.Headline.{Found, IsRun, rows_of, lines_of, EveryHistoryAgrees, CheckAccepts}
-use Rattle.hyd_spec_reports.specs.Headline.{CheckRefuses, CheckRefusesEnd}
+use Rattle.hyd_spec_reports.specs.PromisesOfRunsAndChecks.{Found, IsRun, rows_of, lines_of, EveryHistoryAgrees}
+use Rattle.hyd_spec_reports.specs.PromisesOfRunsAndChecks.{CheckAccepts}
+use Rattle.hyd_spec_reports.specs.PromisesOfRunsAndChecks.{CheckRefuses, CheckRefusesEnd}
 use Rattle.hyd_cert.specs.Faults.{HasOtherHeader}
 use Rattle.hyd_cert.specs.FaultyLine.{IsFirstFault}
 use Rattle.hyd_sim.specs.View.{header_for}

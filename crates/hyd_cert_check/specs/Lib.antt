@@ -1,3 +1,3 @@
-pub mod Printing
+pub mod ReaderAndPen
 pub mod Checks
 pub mod RecordByRecord

@@ -3,16 +3,16 @@
 use Rattle.std.specs.Prelude.{◌≡◌, ◌⊎◌, ℕ, ◌+◌, ◌*◌, ◌<◌, ◌^◌, suc, Bool, List, [], ◌++◌, length, All, Option}
 use Rattle.std.specs.Prelude.{Some, None, Result, Ok, Err}
 use Rattle.hyd_io.specs.declared.output.OutFault.{OutFault}
-use Rattle.hyd_io.specs.ToldBytes.{append_known, prepend_known, where_told}
+use Rattle.hyd_io.specs.DeskBytes.{append_known, prepend_known, where_told}
 use Rattle.hyd_spec.specs.ProgramTypes.{Project}
 use Rattle.hyd_spec.specs.NodeNumbers.{junction_count, tank_count}
-use Rattle.hyd_spec_certificates.specs.Record.{Record, Standing}
+use Rattle.hyd_spec_certificates.specs.RecordAndStanding.{Record, Standing}
 use Rattle.hyd_spec_certificates.specs.Valid.{AreCertificates}
 use Rattle.hyd_spec_reports.specs.CertificateText.{IsRow, record_text, end_line}
 use Rattle.hyd_spec_reports.specs.ReportLine.{refused_line, refused_end_line}
 use Rattle.hyd_spec_reports.specs.declared.CertRefused.{CertRefused}
-use Rattle.hyd_spec_reports.specs.Refusals.{IsRefused}
-use Rattle.hyd_spec_reports.specs.Headline.{Found, IsFound, IsRun, rows_of, report_so_far, accepted_line}
+use Rattle.hyd_spec_reports.specs.RefusedRecords.{IsRefused}
+use Rattle.hyd_spec_reports.specs.PromisesOfRunsAndChecks.{Found, IsFound, IsRun, rows_of, report_so_far, accepted_line}
 use Rattle.hyd_cert.specs.Lines.{Header}
 use Rattle.hyd_cert.specs.PlacesOfLines.{First, IsFault, heads_in}
 use Rattle.hyd_cert.specs.Faults.{lines_on, HasOtherHeader, LacksRecord}
@@ -20,15 +20,15 @@ use Rattle.hyd_cert.specs.FaultyLine.{BeginsWith, lines_of as record_lines}
 use Rattle.hyd_cert.specs.ReaderView.{IsGoing, to_come, lead, lead_lines, place_of}
 use Rattle.hyd_cert.specs.declared.answers.Stand.TheVariants as stand
 use Rattle.hyd_cert.specs.RecordView.{row_of}
-use Rattle.hyd_period_network.specs.GridOf.{grid_of, states_of}
-use Rattle.hyd_period_network.specs.Settings.{AreStates}
-use Rattle.hyd_bounds.specs.Bounds.{TanksInOrder}
-use Rattle.hyd_watched_levels.specs.FactsAtStart.{HaveTanks}
-use Rattle.hyd_report.specs.LinesOfParts.{texts}
+use Rattle.hyd_period_network.specs.NetAsPeriodNetwork.{grid_of, states_of}
+use Rattle.hyd_period_network.specs.LawsInSettings.{AreStates}
+use Rattle.hyd_bounds.specs.VectorsInOrder.{TanksInOrder}
+use Rattle.hyd_watched_levels.specs.FactsBeforeEnd.{HaveTanks}
+use Rattle.hyd_report.specs.NodeAndLinkLines.{texts}
 use Rattle.hyd_sim.specs.View.{SimView, standing_of, header_for}
 use Rattle.hyd_run.specs.Runs.{periods_left}
 use Rattle.hyd_cert_check.specs.Checks.{refused_grammar_line, refused_counts_line, CheckEnds, CheckFinds}
-use Rattle.hyd_cert_check.specs.Printing.{Moment, IsOpen, PutIn, IsCutOff}
+use Rattle.hyd_cert_check.specs.ReaderAndPen.{Moment, IsOpen, PutIn, IsCutOff}
 use Rattle.hyd_cert_check.specs.declared.outcome.CheckEnd.{CheckEnd}
 use Rattle.hyd_cert_check.specs.declared.outcome.CheckEnd.TheVariants as ends
 use Rattle.hyd_cert_check.specs.declared.outcome.CheckFault.{CheckFault}

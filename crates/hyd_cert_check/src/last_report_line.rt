@@ -5,7 +5,7 @@ ghost use Rattle.std.specs.Prelude.{IsTrue};
 ghost use Rattle.hyd_io.specs.Output.{OnCert};
 ghost use Rattle.hyd_net.specs.Sound.{Sound};
 ghost use Rattle.hyd_report.specs.Putting.{Puts};
-ghost use Rattle.hyd_spec_reports.specs.Headline.{accepted_line};
+ghost use Rattle.hyd_spec_reports.specs.PromisesOfRunsAndChecks.{accepted_line};
 ghost use Rattle.hyd_cert_check.specs.RecordByRecord.{verdict_line};
 
 use crate::first_and_refusing_report_lines::{put_counts, put_grammar};

@@ -3,13 +3,13 @@
 
 ghost use Rattle.std.specs.Prelude.{◌≡◌, ⊤, ℕ, List, None, Some, IfErr, IfOk, OnOk};
 ghost use Rattle.hyd_spec.specs.ProgramTypes.{Project};
-ghost use Rattle.hyd_spec_certificates.specs.Record.{initial_standing};
+ghost use Rattle.hyd_spec_certificates.specs.RecordAndStanding.{initial_standing};
 ghost use Rattle.hyd_cert.specs.ReaderView.{ReaderView, fresh};
 ghost use Rattle.hyd_cert.specs.RecordView.{header_of};
 ghost use Rattle.hyd_run.specs.Pens.{told};
 ghost use Rattle.hyd_sim.specs.View.{header_for, standing_of};
 ghost use Rattle.hyd_cert_check.specs.Checks.{CheckEnds, CheckBreaksOff};
-ghost use Rattle.hyd_cert_check.specs.Printing.{Moment, moment, new_pen, IsOpen, Rose};
+ghost use Rattle.hyd_cert_check.specs.ReaderAndPen.{Moment, moment, new_pen, IsOpen, Rose};
 ghost use Rattle.hyd_cert_check.specs.RecordByRecord.{AllRead, CheckPuts, IsPrinted, IsWhole, end_of};
 
 use crate::first_and_refusing_report_lines::{empty, put_first};

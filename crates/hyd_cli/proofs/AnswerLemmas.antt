@@ -3,8 +3,8 @@ use Rattle.std.proofs.Common.{◌≡◌, ◌≢◌, ℕ, List, [], Option, None,
 use Rattle.std.proofs.Common.{is_some}
 use Rattle.std.specs.Option.{option_map_or}
 use Rattle.std.proofs.lemmas.Bool.{false≢true}
-use Rattle.hyd_io.specs.ToldBytes.{Files, where_told, append_known, file_at, content_of}
-use Rattle.hyd_io.specs.Counts.{with_opened, with_created}
+use Rattle.hyd_io.specs.DeskBytes.{Files, where_told, append_known, file_at, content_of}
+use Rattle.hyd_io.specs.FailureCounts.{with_opened, with_created}
 use Rattle.hyd_io.specs.declared.desk.Faults.{Faults}
 use Rattle.hyd_io.specs.declared.desk.Openings.{Openings}
 use Rattle.hyd_io.specs.declared.output.OutFault.{OutFault}
@@ -13,7 +13,7 @@ use Rattle.hyd_spec_lines.specs.Lines.{items_of, rows_in}
 use Rattle.hyd_net.specs.declared.refusal_cause.Cause.{Cause}
 use Rattle.hyd_spec.specs.ProgramTypes.{Project}
 use Rattle.hyd_spec_input.specs.Project.{IsProject}
-use Rattle.hyd_spec_reports.specs.Headline.{Outcome, Finished, Stopped, outcome_number}
+use Rattle.hyd_spec_reports.specs.PromisesOfRunsAndChecks.{Outcome, Finished, Stopped, outcome_number}
 use Rattle.hyd_spec_reports.specs.declared.StopCause.TheVariants.{NoCertificate, TankOpen, RuleOpen, ControlOpen}
 use Rattle.hyd_spec_reports.specs.declared.StopCause.TheVariants.{EventOpen, RoundsSpent as Rounds}
 use Rattle.hyd_spec_reports.specs.declared.StopCause.TheVariants.{Demand as OutOfRange}

@@ -2,8 +2,8 @@
 use Rattle.std.proofs.Common.{◌≡◌, ◌≢◌, ℕ, List, [], Option, None, Some, ◌⊎◌, inl, inr, ◌∙◌, refl, sym, ap, subst}
 use Rattle.std.proofs.Common.{append-nil}
 use Rattle.std.specs.Prelude.{⊤}
-use Rattle.hyd_io.specs.ToldBytes.{append_known}
-use Rattle.hyd_io.specs.Counts.{with_opened}
+use Rattle.hyd_io.specs.DeskBytes.{append_known}
+use Rattle.hyd_io.specs.FailureCounts.{with_opened}
 use Rattle.hyd_io.specs.declared.desk.Faults.{Faults}
 use Rattle.hyd_io.specs.declared.desk.Openings.{Openings}
 use Rattle.hyd_io.specs.declared.output.OutFault.TheVariants.{Fault, Stalled as Stall}
@@ -12,7 +12,7 @@ use Rattle.hyd_net.specs.declared.refusal_cause.Cause.{Cause}
 use Rattle.hyd_spec.specs.ProgramTypes.{Project}
 use Rattle.hyd_spec_input.specs.Project.{IsProject}
 use Rattle.hyd_cert_check.specs.Checks.{CheckEnds, CheckBreaksOff}
-use Rattle.hyd_cert_check.specs.Printing.{Rose}
+use Rattle.hyd_cert_check.specs.ReaderAndPen.{Rose}
 use Rattle.hyd_cert_check.specs.RecordByRecord.{IsPrinted}
 use Rattle.hyd_cert_check.specs.declared.outcome.CheckEnd.{CheckEnd}
 use Rattle.hyd_cert_check.specs.declared.outcome.CheckEnd.TheVariants.{Accepted, Refused}

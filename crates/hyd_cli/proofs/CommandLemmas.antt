@@ -4,7 +4,7 @@ use Rattle.std.proofs.Common.{option_map, option_and_then, bytes_eq, refl, sym, 
 use Rattle.std.proofs.lemmas.Bool.{false≢true}
 use Rattle.std.proofs.lemmas.Option.{same_Some}
 use Rattle.std.proofs.lemmas.Slice.Eq.{bytes_eq-Decides}
-use Rattle.hyd_command_words.specs.SaidWords.{Word, Said, said}
+use Rattle.hyd_command_words.specs.OptionsAndNames.{Word, Said, said}
 use Rattle.hyd_command_words.specs.CommandGrammar.{RunOrder, GenOrder, TwoFiles, run, check, gen, order_of}
 use Rattle.hyd_command_words.specs.CommandGrammar.{run_order, run_command, check_command, gen_command, gen_order}
 use Rattle.hyd_command_words.specs.CommandGrammar.{differing}

@@ -2,8 +2,8 @@
 use Rattle.std.proofs.Common.{◌≡◌, ◌≢◌, ℕ, Bool, false, List, [], ◌++◌, Option, None, Some, ◌⊎◌, inl, inr, ◌∙◌, refl}
 use Rattle.std.proofs.Common.{sym, subst, is_some}
 use Rattle.std.proofs.lemmas.Bool.{false≢true}
-use Rattle.hyd_io.specs.ToldBytes.{where_told, append_known, file_at, content_of, Moves, PutOut}
-use Rattle.hyd_io.specs.Counts.{with_created}
+use Rattle.hyd_io.specs.DeskBytes.{where_told, append_known, file_at, content_of, Moves, PutOut}
+use Rattle.hyd_io.specs.FailureCounts.{with_created}
 use Rattle.hyd_io.specs.Output.{by_channel}
 use Rattle.hyd_io.specs.declared.desk.Openings.{Openings}
 use Rattle.hyd_io.specs.declared.output.Channel.{Channel}
@@ -15,7 +15,7 @@ use Rattle.hyd_spec_lines.specs.Lines.{items_of, rows_in}
 use Rattle.hyd_net.specs.declared.refusal_cause.Cause.{Cause}
 use Rattle.hyd_spec.specs.ProgramTypes.{Project}
 use Rattle.hyd_spec_input.specs.Project.{IsProject}
-use Rattle.hyd_spec_reports.specs.Headline.{Outcome}
+use Rattle.hyd_spec_reports.specs.PromisesOfRunsAndChecks.{Outcome}
 use Rattle.hyd_sim.specs.declared.settings.Settings.{Settings}
 use Rattle.hyd_run.specs.Pens.{Told, LeavesRest}
 use Rattle.hyd_summarised_run.specs.SummarisedRuns.{IsSummed, IsSumBrokenOff}

@@ -4,7 +4,7 @@ use Rattle.hyd_io.specs.declared.desk.Faults.{Faults}
 use Rattle.hyd_io.specs.declared.output.Channel.{Channel}
 use Rattle.hyd_io.specs.declared.output.Channel.TheVariants.{Report}
 use Rattle.hyd_io.specs.declared.output.OutFault.{OutFault}
-use Rattle.hyd_io.specs.ToldBytes.{append_known, Moves, PutOut}
+use Rattle.hyd_io.specs.DeskBytes.{append_known, Moves, PutOut}
 use Rattle.hyd_io.specs.Output.{by_channel, OnReport, HasOutCause}
 use Rattle.hyd_io.proofs.ToldLemmas.{moves_flush, put_out_flush}
 

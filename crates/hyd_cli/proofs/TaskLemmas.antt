@@ -3,10 +3,10 @@ use Rattle.std.proofs.Common.{◌≡◌, Bool, inl, refl}
 use Rattle.hyd_io.specs.declared.desk.Openings.{Openings}
 use Rattle.hyd_spec.specs.ProgramTypes.{Project}
 use Rattle.hyd_cli.specs.DeskContents.{Seen, IsUntouched}
-use Rattle.hyd_cli.specs.Tasks.{DoesTask}
+use Rattle.hyd_cli.specs.TaskWithNetwork.{DoesTask}
 use Rattle.hyd_cli.specs.declared.status.Status.TheVariants.{OutOfMemory}
-use Rattle.hyd_cli.specs.declared.tasks.Task.{Task}
-use Rattle.hyd_cli.specs.declared.tasks.Task.TheVariants.{Run, Check, Gen}
+use Rattle.hyd_cli.specs.declared.task_with_network.Task.{Task}
+use Rattle.hyd_cli.specs.declared.task_with_network.Task.TheVariants.{Run, Check, Gen}
 use Rattle.hyd_cli.proofs.CheckLemmas.{prints_nothing}
 
 untouched : (same : Seen) → IsUntouched same same

@@ -5,7 +5,7 @@ use Rattle.std.specs.Prelude.{◌≡◌, ℕ, ◌⊎◌, List, Option, Some, Non
 use Rattle.hyd_io.specs.declared.desk.Faults.{Faults}
 use Rattle.hyd_io.specs.declared.output.OutFault.{OutFault}
 use Rattle.hyd_io.specs.declared.output.OutFault.TheVariants.{Fault, Stalled as Stall}
-use Rattle.hyd_io.specs.Counts.{with_read_fault, with_write_fault, with_print_fault, with_stall}
+use Rattle.hyd_io.specs.FailureCounts.{with_read_fault, with_write_fault, with_print_fault, with_stall}
 use Rattle.hyd_spec_lines.specs.Lines.{items_of, rows_in}
 use Rattle.hyd_net.specs.declared.refusal_cause.Cause.{Cause}
 use Rattle.hyd_spec.specs.ProgramTypes.{Project}

@@ -1,7 +1,7 @@
 -- What a desk tells of its contents, and what of them a call has left.
 -- Source: this program's.
 use Rattle.std.specs.Prelude.{◌≡◌, ◌≢◌, ℕ, List, Option}
-use Rattle.hyd_io.specs.ToldBytes.{Files, append_known, file_at, PutOut}
+use Rattle.hyd_io.specs.DeskBytes.{Files, append_known, file_at, PutOut}
 
 -- What a call on the desk can change of contents: the files, what was written since the last `create` that succeeded,
 -- and what was printed.

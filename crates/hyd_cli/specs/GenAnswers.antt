@@ -2,11 +2,11 @@
 -- Source: this program's.
 use Rattle.std.specs.Prelude.{◌≡◌, ◌≢◌, ℕ, ◌^◌, Bool, false, pos, ◌⊎◌, List, ◌++◌, is_some}
 use Rattle.hyd_io.specs.declared.desk.Openings.{Openings}
-use Rattle.hyd_io.specs.Counts.{with_created}
-use Rattle.hyd_io.specs.ToldBytes.{where_told, append_known, file_at}
+use Rattle.hyd_io.specs.FailureCounts.{with_created}
+use Rattle.hyd_io.specs.DeskBytes.{where_told, append_known, file_at}
 use Rattle.hyd_spec.specs.ProgramTypes.{Project}
 use Rattle.hyd_spec_generated.specs.GeneratedText.{generated_text}
-use Rattle.hyd_spec_reports.specs.Headline.{Outcome, outcome_number}
+use Rattle.hyd_spec_reports.specs.PromisesOfRunsAndChecks.{Outcome, outcome_number}
 use Rattle.hyd_spec_summary.specs.Summary.{RunSums, SumsBreakOff}
 use Rattle.hyd_run.specs.Runs.{sharpness_of}
 use Rattle.hyd_sim.specs.declared.settings.Settings.{Settings}

@@ -6,5 +6,5 @@ pub mod RunAnswers
 pub mod Reading
 pub mod CheckAnswers
 pub mod GenAnswers
-pub mod Tasks
+pub mod TaskWithNetwork
 pub mod Commands

@@ -1,6 +1,6 @@
 -- The statuses of a command.
 use Rattle.std.specs.Prelude.{ℕ}
-use Rattle.hyd_spec_reports.specs.Headline.{Outcome, Finished, Stopped}
+use Rattle.hyd_spec_reports.specs.PromisesOfRunsAndChecks.{Outcome, Finished, Stopped}
 use Rattle.hyd_spec_reports.specs.declared.StopCause.TheVariants.{Demand as OutOfRange, RoundsSpent as Rounds}
 use Rattle.hyd_cli.specs.declared.status.Status.{Status}
 use Rattle.hyd_cli.specs.declared.status.Status.TheVariants.{Done, OutOfMemory, Usage, ReadFault, WriteFault}

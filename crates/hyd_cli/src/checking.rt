@@ -1,10 +1,10 @@
 //! The command `check`: a certificate is checked against a network.
 
 ghost use Rattle.std.specs.Prelude.{◌≡◌, ◌≢◌, ℕ, List, Some, None, IsTrue, IfOk};
-ghost use Rattle.hyd_io.specs.ToldBytes.{IsTold};
+ghost use Rattle.hyd_io.specs.DeskBytes.{IsTold};
 ghost use Rattle.hyd_net.specs.Sound.{Sound};
 ghost use Rattle.hyd_net.specs.declared.refusal_cause.Cause.{Cause};
-ghost use Rattle.hyd_spec_certificates.specs.Record.{initial_standing};
+ghost use Rattle.hyd_spec_certificates.specs.RecordAndStanding.{initial_standing};
 ghost use Rattle.hyd_spec_input.specs.Faults.{IsFault, HasNoFault};
 ghost use Rattle.hyd_cert.specs.RecordView.{header_of};
 ghost use Rattle.hyd_sim.specs.View.{header_for, standing_of};
@@ -17,7 +17,7 @@ ghost use Rattle.hyd_cli.specs.declared.status.Status.TheVariants.{Usage, InputR
 
 use crate::reading::{Unread, read_network};
 use crate::status::{Status, fault_status};
-use crate::tasks::{Task, do_with_network};
+use crate::task_with_network::{Task, do_with_network};
 use crate::usage_and_refusal::refuse_text;
 use hyd_cert::{CertReader, Record, version_of};
 use hyd_cert_check::{CheckEnd, CheckFault, check};

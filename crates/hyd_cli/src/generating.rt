@@ -2,11 +2,11 @@
 
 ghost use Rattle.std.specs.Prelude.{◌≡◌, ◌≢◌, ◌⊎◌, ℕ, false, List, Some, IsTrue, IfOk, IfErr, OnOk, OnErr};
 ghost use Rattle.hyd_io.specs.declared.output.Channel.TheVariants.{Cert};
-ghost use Rattle.hyd_io.specs.Counts.{with_created};
+ghost use Rattle.hyd_io.specs.FailureCounts.{with_created};
 ghost use Rattle.hyd_io.specs.Output.{HasOutCause};
-ghost use Rattle.hyd_io.specs.ToldBytes.{append_known, PutOut};
+ghost use Rattle.hyd_io.specs.DeskBytes.{append_known, PutOut};
 ghost use Rattle.hyd_net.specs.declared.refusal_cause.Cause.{Cause};
-ghost use Rattle.hyd_spec_certificates.specs.Record.{initial_standing};
+ghost use Rattle.hyd_spec_certificates.specs.RecordAndStanding.{initial_standing};
 ghost use Rattle.hyd_spec_input.specs.Faults.{IsFault, HasNoFault};
 ghost use Rattle.hyd_sim.specs.View.{standing_of};
 ghost use Rattle.hyd_run.specs.Pens.{told, OneRose, LeavesRest};
@@ -24,7 +24,7 @@ ghost use Rattle.hyd_cli.specs.declared.status.Status.TheVariants.{Usage};
 use crate::reading::{Unread, network_of};
 use crate::running::status_of_end;
 use crate::status::{Status, fault_status};
-use crate::tasks::{Task, do_with_network};
+use crate::task_with_network::{Task, do_with_network};
 use crate::usage_and_refusal::refuse_text;
 use hyd_command_words::{Files, GenWords};
 use hyd_finders::{Finder, Gradient};

@@ -2,7 +2,6 @@
 #![tactic(auto)]
 
 mod checking;
-mod command;
 mod generating;
 mod messages;
 mod program;
@@ -10,9 +9,10 @@ mod reading;
 mod run_settings;
 mod running;
 mod status;
-mod tasks;
+mod task_with_network;
 mod usage_and_refusal;
+mod whole_command;
 
-pub use command::tool;
 pub use program::{run_program, start};
 pub use status::Status;
+pub use whole_command::tool;

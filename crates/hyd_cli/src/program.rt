@@ -9,9 +9,9 @@ ghost use Rattle.hyd_cli.specs.Answers.{MayUse, HasCause, Leaves, AnswersUsage};
 ghost use Rattle.hyd_cli.specs.Commands.{DoesRun, DoesCheck, DoesGen};
 ghost use Rattle.hyd_cli.specs.declared.status.Status.TheVariants.{Usage};
 
-use crate::command::tool;
 use crate::messages::say_why;
 use crate::status::Status;
+use crate::whole_command::tool;
 use hyd_io::{Desk, FileDesk};
 use std::alloc::{AllocError, Global};
 use std::env::Args;

@@ -1,8 +1,8 @@
 //! The reading of NET.
 
 ghost use Rattle.std.specs.Prelude.{◌≡◌, ◌⊎◌, ◌<◌, List, ℕ, IsTrue, IfOk, IfErr, IfSome, IfNone, OnOk, length};
-ghost use Rattle.hyd_io.specs.ToldBytes.{IsTold};
-ghost use Rattle.hyd_io.specs.Counts.{with_opened};
+ghost use Rattle.hyd_io.specs.DeskBytes.{IsTold};
+ghost use Rattle.hyd_io.specs.FailureCounts.{with_opened};
 ghost use Rattle.hyd_spec_lines.specs.Lines.{items_of, rows_in};
 ghost use Rattle.hyd_net.specs.Sound.{Sound};
 ghost use Rattle.hyd_spec_input.specs.Faults.{IsFault, HasNoFault};

@@ -1,7 +1,7 @@
 //! The command `run`: a network is run, and its certificate and report are put out.
 
 ghost use Rattle.std.specs.Prelude.{◌≡◌, IsTrue};
-ghost use Rattle.hyd_spec_certificates.specs.Record.{initial_standing};
+ghost use Rattle.hyd_spec_certificates.specs.RecordAndStanding.{initial_standing};
 ghost use Rattle.hyd_sim.specs.View.{standing_of};
 ghost use Rattle.hyd_run.specs.Runs.{outcome_of};
 ghost use Rattle.hyd_cli.specs.DeskContents.{seen, ChangesOnly};

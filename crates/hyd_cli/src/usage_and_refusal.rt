@@ -3,7 +3,7 @@
 ghost use Rattle.std.specs.Prelude.{◌≡◌, ℕ, List, IfErr, OnOk, OnErr};
 ghost use Rattle.hyd_io.specs.declared.output.Channel.TheVariants.{Report};
 ghost use Rattle.hyd_io.specs.Output.{HasOutCause};
-ghost use Rattle.hyd_io.specs.ToldBytes.{append_known, file_at, PutOut};
+ghost use Rattle.hyd_io.specs.DeskBytes.{append_known, file_at, PutOut};
 ghost use Rattle.hyd_report.specs.RefusedText.{refused_text_line};
 ghost use Rattle.hyd_cli.specs.Words.{usage_line};
 ghost use Rattle.hyd_cli.specs.DeskContents.{seen};

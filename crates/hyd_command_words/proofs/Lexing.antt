@@ -8,10 +8,10 @@ use Rattle.std.specs.Char.{encode_utf8}
 use Rattle.std.specs.Str.{chars}
 use Rattle.std.proofs.lemmas.Str.{encodes-chars}
 use Rattle.clap.specs.Lexer.{long_of, short_of, has_byte, name_and_value}
-use Rattle.hyd_command_words.specs.SaidWords.{Word, Kind, sweeps, width, tight, name, wrong, says, wants}
-use Rattle.hyd_command_words.specs.SaidWords.{begins_with_dash}
-use Rattle.hyd_command_words.specs.SaidWords.{kind_of}
-use Rattle.hyd_command_words.specs.SaidWords.{option_kind, ends}
+use Rattle.hyd_command_words.specs.OptionsAndNames.{Word, Kind, sweeps, width, tight, name, wrong, says, wants}
+use Rattle.hyd_command_words.specs.OptionsAndNames.{begins_with_dash}
+use Rattle.hyd_command_words.specs.OptionsAndNames.{kind_of}
+use Rattle.hyd_command_words.specs.OptionsAndNames.{option_kind, ends}
 use lib.Pointwise.{bytes_decides}
 
 -- ---- words of bytes

@@ -11,9 +11,9 @@ use Rattle.clap.proofs.SimpleLemmas.{is_nil}
 use Rattle.clap.proofs.WalkLemmas.{both}
 use Rattle.clap.specs.Matches.{found_of}
 use Rattle.clap.specs.declared.parser.matches.ArgMatches.{ArgMatches}
-use Rattle.hyd_command_words.specs.Parser.{words_command, said_of}
+use Rattle.hyd_command_words.specs.ClapParser.{words_command, said_of}
 use Rattle.clap.specs.Walk.{Row, Rule, Walk, default_rows, has_row, idle, is_empty, reading_by, rows_of, with_default}
-use Rattle.hyd_command_words.specs.SaidWords.{Word, Said, said}
+use Rattle.hyd_command_words.specs.OptionsAndNames.{Word, Said, said}
 use Rattle.hyd_command_words.specs.CommandGrammar.{Order, order_of, order_named}
 use Rattle.hyd_command_words.proofs.SaidLemmas.{joined}
 use Rattle.hyd_command_words.proofs.RowLemmas.{rules}

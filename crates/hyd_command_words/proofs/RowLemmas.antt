@@ -11,8 +11,8 @@ use Rattle.clap.specs.declared.parser.matches.ValueSource.{ValueSource}
 use Rattle.clap.specs.declared.parser.matches.ValueSource.TheVariants.{CommandLine}
 use Rattle.clap.specs.declared.builder.value_parser.Reading.TheVariants.{AsWritten}
 use Rattle.hyd_command_words.proofs.SaidLemmas.{joined}
-use Rattle.hyd_command_words.specs.SaidWords.{Word, said_by, sweeps, width, tight, name}
-use Rattle.hyd_command_words.specs.Parser.{all_values, words_command, said_of}
+use Rattle.hyd_command_words.specs.OptionsAndNames.{Word, said_by, sweeps, width, tight, name}
+use Rattle.hyd_command_words.specs.ClapParser.{all_values, words_command, said_of}
 use lib.Pointwise.{bytes_decides}
 
 same_id : (id : Text) (how : Reading) (s : ValueSource) (values : List Text) (rows : List Row)

@@ -4,9 +4,10 @@ use Rattle.std.proofs.Common.{append_assoc}
 use Rattle.std.specs.Prelude.{filter}
 use Rattle.std.specs.List.{list_any}
 use Rattle.std.proofs.lemmas.List.Elements.{filter_map-append}
-use Rattle.hyd_command_words.specs.SaidWords.{Part, Said, sweeps, width, tight, name, wrong, sweeps_value, width_value}
-use Rattle.hyd_command_words.specs.SaidWords.{named}
-use Rattle.hyd_command_words.specs.SaidWords.{is_tight, is_wrong, said_by}
+use Rattle.hyd_command_words.specs.OptionsAndNames.{Part, Said, sweeps, width, tight, name, wrong, sweeps_value}
+use Rattle.hyd_command_words.specs.OptionsAndNames.{width_value}
+use Rattle.hyd_command_words.specs.OptionsAndNames.{named}
+use Rattle.hyd_command_words.specs.OptionsAndNames.{is_tight, is_wrong, said_by}
 
 -- what is said first, and then this
 abbrev pub joined : Said → Said → Said

@@ -3,9 +3,9 @@ use Rattle.std.proofs.Common.{◌≡◌, ◌∙◌, ◌+◌, Bool, true, false, 
 use Rattle.std.proofs.Common.{refl, sym, ap, subst, codes, bytes_eq, append-nil}
 use Rattle.clap.specs.Kinds.{Kinds, or_else}
 use Rattle.clap.specs.Faults.{settle_fault, walk_fault}
-use Rattle.hyd_command_words.specs.Parser.{said_of}
+use Rattle.hyd_command_words.specs.ClapParser.{said_of}
 use Rattle.clap.specs.Walk.{Held, Row, Waiting, Walk, positional, settled_rows, walked}
-use Rattle.hyd_command_words.specs.SaidWords.{Word, Part, Said, name, wrong, said_by}
+use Rattle.hyd_command_words.specs.OptionsAndNames.{Word, Part, Said, name, wrong, said_by}
 use Rattle.hyd_command_words.specs.CommandGrammar.{Order, order_named, run_command, check_command, gen_command}
 use Rattle.hyd_command_words.proofs.SaidLemmas.{joined, joined_assoc, part_first}
 use Rattle.hyd_command_words.proofs.RowLemmas.{rules, name_used}

@@ -4,13 +4,13 @@ use Rattle.std.proofs.Common.{length, Option, Some, None, IsUtf8, arith, refl, s
 use Rattle.std.proofs.Common.{bytes_eq, option_map, option_and_then, ne_eqb, ◌^◌, pos}
 use Rattle.clap.specs.Kinds.{Kinds, or_else}
 use Rattle.clap.specs.Faults.{long_fault, settle_fault, step_fault}
-use Rattle.hyd_command_words.specs.Parser.{said_of}
+use Rattle.hyd_command_words.specs.ClapParser.{said_of}
 use Rattle.clap.specs.Walk.{Held, Row, Rule, Step, Text, Waiting, Walk, after_flag, after_step, arg_by_id, idle}
 use Rattle.clap.specs.Walk.{long_met, next, option, plain_word, positional, settled_rows}
 use Rattle.hyd_num.specs.Numeral.{is_numeral}
-use Rattle.hyd_command_words.specs.SaidWords.{Word, Part, Kind, Said, sweeps, width, tight, name, wrong, says}
-use Rattle.hyd_command_words.specs.SaidWords.{begins_with_dash}
-use Rattle.hyd_command_words.specs.SaidWords.{kind_of, parts_from, parts_waiting, said, said_by}
+use Rattle.hyd_command_words.specs.OptionsAndNames.{Word, Part, Kind, Said, sweeps, width, tight, name, wrong, says}
+use Rattle.hyd_command_words.specs.OptionsAndNames.{begins_with_dash}
+use Rattle.hyd_command_words.specs.OptionsAndNames.{kind_of, parts_from, parts_waiting, said, said_by}
 use Rattle.hyd_command_words.specs.CommandGrammar.{RunOrder, has_names_alone, is_sound, number_within, width_in_ticks}
 use Rattle.hyd_command_words.specs.CommandGrammar.{once}
 use Rattle.hyd_command_words.specs.CommandGrammar.{rounds_of}

@@ -10,8 +10,8 @@ use Rattle.clap.specs.Walk.{Held, Row, Step, Text, Waiting, Walk, after_flag, af
 use Rattle.clap.specs.Walk.{long_or_other, option, plain_word, positional, short_or_plain, subcommand_met}
 use Rattle.clap.specs.Walk.{subcommand_or_other, settled_rows, trailing, value, walked, word_met}
 use Rattle.clap.specs.declared.error.kind.ErrorKind.TheVariants.{UnknownArgument}
-use Rattle.hyd_command_words.specs.SaidWords.{Word}
-use Rattle.hyd_command_words.specs.Parser.{words_command}
+use Rattle.hyd_command_words.specs.OptionsAndNames.{Word}
+use Rattle.hyd_command_words.specs.ClapParser.{words_command}
 use Rattle.hyd_command_words.proofs.RowLemmas.{rules}
 use Rattle.hyd_command_words.proofs.Lexing.{IsPlain, IsShort, IsLong}
 

@@ -3,7 +3,7 @@ use Rattle.std.specs.Prelude.{ℕ, ◌-◌, ◌^◌, nat_le, ◌==◌, Bool, not
 use Rattle.std.specs.Prelude.{option_map, option_and_then, bytes_eq, codes, if◌then◌else◌, ℤ, pos, ◌*ℤ◌, int_lt, int_le}
 use Rattle.std.specs.List.{list_all}
 use Rattle.hyd_num.specs.Numeral.{is_digit, is_numeral, nano_of, number}
-use Rattle.hyd_command_words.specs.SaidWords.{Word, Said, said}
+use Rattle.hyd_command_words.specs.OptionsAndNames.{Word, Said, said}
 
 -- the two files of a command: NET, the network, and CERT, its certificate
 pub record TwoFiles : Type 0 where

@@ -1,8 +1,8 @@
 -- The commands that the reader hands out, and what it holds on its way, as the definitions see them.
 use Rattle.std.specs.Prelude.{false, List, map}
 use Rattle.std.specs.Borrow.{Bor}
-use Rattle.hyd_command_words.specs.SaidWords.{Word, Said}
-use Rattle.hyd_command_words.specs.declared.matched_words.Said.{Said as Read}
+use Rattle.hyd_command_words.specs.OptionsAndNames.{Word, Said}
+use Rattle.hyd_command_words.specs.declared.said_words.Said.{Said as Read}
 use Rattle.hyd_command_words.specs.CommandGrammar.{Order, RunOrder, GenOrder, TwoFiles, run, check, gen}
 use Rattle.hyd_command_words.specs.declared.command.Command.{Command}
 use Rattle.hyd_command_words.specs.declared.command.Command.TheVariants as command

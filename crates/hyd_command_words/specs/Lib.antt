@@ -1,4 +1,4 @@
-pub mod SaidWords
+pub mod OptionsAndNames
 pub mod CommandGrammar
 pub mod CommandView
-pub mod Parser
+pub mod ClapParser

@@ -2,12 +2,12 @@
 //! `gen SEED JUNCTIONS NET CERT`, with their options.
 #![tactic(auto)]
 
+mod clap_parser;
 mod command;
-mod matched_words;
+mod command_of_words;
 mod named_commands;
 mod numbers;
-mod parser;
-mod reader;
+mod said_words;
 
 pub use command::{Command, Files, GenWords, RunWords};
-pub use reader::read_words;
+pub use command_of_words::read_words;

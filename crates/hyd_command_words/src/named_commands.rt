@@ -6,8 +6,8 @@ ghost use Rattle.hyd_command_words.specs.CommandView.{said_seen, texts_seen, ord
 ghost use Rattle.hyd_command_words.specs.CommandView.{files_seen};
 
 use crate::command::{Command, Files, GenWords, RunWords};
-use crate::matched_words::Said;
 use crate::numbers::{number_within, rounds_of, width_of};
+use crate::said_words::Said;
 
 /// The command of this name, if what is said behind it fits.
 pub(crate) fn order_named<'a>(name: &str, said: Said<'_, 'a>) -> Option<Command<'a>>

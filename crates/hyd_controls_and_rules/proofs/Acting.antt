@@ -8,8 +8,8 @@ use Rattle.hyd_spec.specs.ProgramTypes.{Project, LinkState}
 use Rattle.hyd_spec.specs.declared.Change.{Change}
 use Rattle.hyd_spec.specs.Lists.{map_from, present}
 use Rattle.hyd_spec.specs.Rules.{Offer, change_by, change_of, offers_from, acted, rule_changes}
-use Rattle.hyd_controls_and_rules.specs.declared.offers.Offer as program
-use Rattle.hyd_controls_and_rules.specs.Offers.{AreBest, change_at, state_at}
+use Rattle.hyd_controls_and_rules.specs.declared.actions_by_priority.Offer as program
+use Rattle.hyd_controls_and_rules.specs.ActionsByPriority.{AreBest, change_at, state_at}
 
 -- A table that was written as a whole.
 pub whole_table : {X : Type 0} (new old : List X) (size : ℕ) → length new ≡ size

@@ -10,7 +10,7 @@ use Rattle.hyd_num.specs.FileQuantity.{head_ticks, flow_ticks, pressure_denomina
 use Rattle.hyd_num.specs.declared.decimals.Span.{Span}
 use Rattle.hyd_net.specs.ControlsAndRules.{HasPressure}
 use Rattle.hyd_net.specs.RoundedFileNumbers.{IsRounded, IsExactly, IsAmount, IsValueMade}
-use Rattle.hyd_spec.specs.Quantity.{is_us, pressure_value}
+use Rattle.hyd_spec.specs.DemandsReservoirHeadsAndCurves.{is_us, pressure_value}
 use Rattle.hyd_num.specs.Rational.{Rational, whole, total_of}
 use Rattle.hyd_spec.specs.ProgramTypes.{Project, Tank, Junction, Decimal, Clause, What, Head, Pressure, Level, Flow}
 use Rattle.hyd_spec.specs.ProgramTypes.{Setting}
@@ -19,7 +19,7 @@ use Rattle.hyd_spec.specs.Scale.{at_scale}
 use Rattle.hyd_spec.specs.NodeNumbers.{nodes_before_tanks}
 use Rattle.hyd_spec_certificates.specs.Interval.{Interval}
 use Rattle.hyd_spec_certificates.specs.declared.LevelSpan.{LevelSpan}
-use Rattle.hyd_controls_and_rules.specs.Instants.{level_interval, flow_interval, IsMeasured}
+use Rattle.hyd_controls_and_rules.specs.RuleReadings.{level_interval, flow_interval, IsMeasured}
 use Rattle.hyd_spec.specs.Rules.{Readings, level_of, bottom_of, elevation_of, in_ticks, measured, compares, holds_on}
 use Rattle.hyd_spec.specs.Rules.{clause_holds}
 

@@ -10,12 +10,13 @@ use Rattle.hyd_lemmas.proofs.Integers.{floor_low, floor_greatest, ceiling_high, 
 use Rattle.hyd_net.specs.Sound.{Sound, part_count}
 use Rattle.hyd_spec.specs.ProgramTypes.{Project, Rule, RuleClause, Joined, And, Or, Clause}
 use Rattle.hyd_spec.specs.Rules.{Parts, parts_of, put_before, groups_in}
-use Rattle.hyd_spec_certificates.specs.Verdict.{Verdict, Yes, No, Unknown, is_unknown, either, both, some_holds}
-use Rattle.hyd_spec_certificates.specs.Verdict.{all_hold}
+use Rattle.hyd_spec_certificates.specs.ThreeValuedLogic.{Verdict, Yes, No, Unknown, is_unknown, either, both}
+use Rattle.hyd_spec_certificates.specs.ThreeValuedLogic.{some_holds}
+use Rattle.hyd_spec_certificates.specs.ThreeValuedLogic.{all_hold}
 use Rattle.hyd_spec_certificates.specs.Decided.{IsOpenClause}
 use Rattle.hyd_controls_and_rules.specs.declared.clauses.Instant.{Instant}
 use Rattle.hyd_controls_and_rules.specs.declared.clauses.Ends.{Ends}
-use Rattle.hyd_controls_and_rules.specs.Instants.{below, above, AreEnds}
+use Rattle.hyd_controls_and_rules.specs.RuleReadings.{below, above, AreEnds}
 use Rattle.hyd_controls_and_rules.specs.KnownOfRules.{IsSoundRule, is_open}
 use Rattle.hyd_controls_and_rules.proofs.Positions.{fails}
 

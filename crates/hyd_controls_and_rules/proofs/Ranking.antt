@@ -9,8 +9,8 @@ use Rattle.std.proofs.lemmas.Bool.Decides.{eqb_tells}
 use Rattle.std.proofs.lemmas.List.{get_or-set_same, get_or-set_other, map_more}
 use Rattle.hyd_spec.specs.ProgramTypes.{Rule, Action}
 use Rattle.hyd_spec.specs.Rules.{Offer, is_above, higher, best_offer, offer_of, offers_of, offers_from}
-use Rattle.hyd_controls_and_rules.specs.declared.offers.Offer as program
-use Rattle.hyd_controls_and_rules.specs.Offers.{offer_for, is_higher, best_of, AreBest}
+use Rattle.hyd_controls_and_rules.specs.declared.actions_by_priority.Offer as program
+use Rattle.hyd_controls_and_rules.specs.ActionsByPriority.{offer_for, is_higher, best_of, AreBest}
 
 -- ---- priorities
 

@@ -1,12 +1,12 @@
 -- The start of a period, at every level inside.
 use Rattle.std.proofs.Common.{◌≡◌, ℕ, ◌<◌, ℤ, List, [], sym, refl, false}
 use Rattle.hyd_spec.specs.ProgramTypes.{Project, LinkState}
-use Rattle.hyd_spec.specs.PeriodStart.{started, acts_at}
+use Rattle.hyd_spec.specs.PumpPatternsAndSimpleControls.{started, acts_at}
 use Rattle.hyd_spec.specs.History.{tank_states}
 use Rattle.hyd_spec_certificates.specs.Interval.{Interval}
 use Rattle.hyd_spec_certificates.specs.Decided.{acts_on}
 use Rattle.hyd_spec_certificates.specs.Valid.{ControlsAreDecided}
-use Rattle.hyd_theorems_on_definitions.specs.Laws.{LevelsLie}
+use Rattle.hyd_theorems_on_definitions.specs.TermsOfTheorems.{LevelsLie}
 use Rattle.hyd_theorems_on_histories.proofs.Beginning.{same_links}
 
 -- where all level controls are decided, they act at every level as at the intervals

@@ -5,8 +5,8 @@ use Rattle.std.proofs.lemmas.List.Quantifiers.{position-Some}
 use Rattle.hyd_spec.specs.ProgramTypes.{Project, Control}
 use Rattle.hyd_spec_reports.specs.Stops.{is_open_control}
 use Rattle.hyd_spec_certificates.specs.declared.LevelSpan.{LevelSpan}
-use Rattle.hyd_controls_and_rules.specs.Instants.{level_interval}
-use Rattle.hyd_controls_and_rules.specs.Starts.{IsLevelOf, IsFirstOpen}
+use Rattle.hyd_controls_and_rules.specs.RuleReadings.{level_interval}
+use Rattle.hyd_controls_and_rules.specs.PumpPatternsAndSimpleControls.{IsLevelOf, IsFirstOpen}
 use Rattle.hyd_controls_and_rules.proofs.Positions.{found_at}
 
 level_as : (levels : List LevelSpan) (control : Control) (level : LevelSpan) (lo hi : ℤ)

@@ -6,13 +6,13 @@ use Rattle.hyd_net.specs.ControlsAndRules.{IsRule}
 use Rattle.hyd_net.specs.RoundedFileNumbers.{IsRuleMade}
 use Rattle.hyd_spec.specs.ProgramTypes.{Project, Rule, RuleClause, Clause}
 use Rattle.hyd_spec.specs.Rules.{parts_of, groups_in}
-use Rattle.hyd_spec_certificates.specs.Verdict.{Verdict, is_unknown, either, both, some_holds, all_hold}
+use Rattle.hyd_spec_certificates.specs.ThreeValuedLogic.{Verdict, is_unknown, either, both, some_holds, all_hold}
 use Rattle.hyd_spec_certificates.specs.Decided.{rule_between, IsTruthBetween}
 use Rattle.hyd_spec_certificates.specs.declared.Truth.{Truth}
 use Rattle.hyd_controls_and_rules.specs.declared.clauses.Instant.{Instant}
 use Rattle.hyd_controls_and_rules.specs.declared.rules.Premise.{Premise}
 use Rattle.hyd_controls_and_rules.specs.Verdicts.{verdict_of}
-use Rattle.hyd_controls_and_rules.specs.Instants.{below, above, verdict_there}
+use Rattle.hyd_controls_and_rules.specs.RuleReadings.{below, above, verdict_there}
 
 -- a rule of a sound network
 pub record IsSoundRule (network : Project) (rule : Rule) : Type 0 where

@@ -1,8 +1,8 @@
 pub mod AlikeButTankHeads
-pub mod Instants
-pub mod Offers
+pub mod RuleReadings
+pub mod ActionsByPriority
 pub mod KnownOfRules
 pub mod ReservedMemory
-pub mod Starts
+pub mod PumpPatternsAndSimpleControls
 pub mod Verdicts
 pub mod TruthOfRule

@@ -1,7 +1,7 @@
 -- What a truth tells of a rule.
 -- Source: Kleene 1952 (strong three-valued logic).
 use Rattle.std.specs.Prelude.{◌≡◌, ⊤, Bool, true, false}
-use Rattle.hyd_spec_certificates.specs.Verdict.{Verdict, Yes, No}
+use Rattle.hyd_spec_certificates.specs.ThreeValuedLogic.{Verdict, Yes, No}
 use Rattle.hyd_spec_certificates.specs.declared.Truth.{Truth}
 use Rattle.hyd_spec_certificates.specs.declared.Truth.TheVariants.{True, False, Open}
 

@@ -1,5 +1,5 @@
 -- The program's verdicts as those of the definitions.
-use Rattle.hyd_spec_certificates.specs.Verdict as logic
+use Rattle.hyd_spec_certificates.specs.ThreeValuedLogic as logic
 use Rattle.hyd_controls_and_rules.specs.declared.logic.Verdict.{Verdict}
 use Rattle.hyd_controls_and_rules.specs.declared.logic.Verdict.TheVariants.{Yes, No, Unknown}
 

@@ -2,7 +2,7 @@
 ghost use Rattle.std.specs.Prelude.{◌≡◌, ◌+◌, ◌<◌, [], ◌∷◌, ◌++◌, length, IfOk};
 ghost use Rattle.hyd_net.specs.Sound.{Sound};
 
-use crate::offers::Offer;
+use crate::actions_by_priority::Offer;
 use hyd_net::{List, OutOfMemory, Project};
 use hyd_spec::Change;
 use std::alloc::Global;

@@ -11,12 +11,12 @@ ghost use Rattle.hyd_spec.specs.Rules.{setting_of, compares, is_word, status_hol
 ghost use Rattle.hyd_spec.specs.Rules.{has_come, has_come_today};
 ghost use Rattle.hyd_spec_certificates.specs.Decided.{least_magnitude, greatest_magnitude};
 ghost use Rattle.hyd_controls_and_rules.specs.Verdicts.{verdict_of};
-ghost use Rattle.hyd_controls_and_rules.specs.Instants.{flow_interval, IsBounded, IsInstant, AreLevelEnds, AreEnds};
-ghost use Rattle.hyd_controls_and_rules.specs.Instants.{IsMeasured};
-ghost use Rattle.hyd_controls_and_rules.specs.Instants.{verdict_there};
+ghost use Rattle.hyd_controls_and_rules.specs.RuleReadings.{flow_interval, IsBounded, IsInstant, AreLevelEnds, AreEnds};
+ghost use Rattle.hyd_controls_and_rules.specs.RuleReadings.{IsMeasured};
+ghost use Rattle.hyd_controls_and_rules.specs.RuleReadings.{verdict_there};
 
-use crate::clock::{DAY, clock_at};
 use crate::logic::{Verdict, at_both_ends};
+use crate::time_of_day::{DAY, clock_at};
 use hyd_net::{Clause, LinkState, Project, Relation, Value, What};
 use hyd_num::Span;
 use hyd_spec_certificates::LevelSpan;

@@ -2,18 +2,18 @@
 //! what the rules change.
 #![tactic(auto)]
 
-mod actions;
+mod actions_by_priority;
 mod changes;
+mod changes_by_rules;
 mod clauses;
-mod clock;
 mod logic;
-mod offers;
-mod period_start;
+mod pump_patterns_and_simple_controls;
 mod rules;
-mod states;
+mod state_comparison;
 pub mod theorems;
+mod time_of_day;
 
-pub use actions::act;
 pub use changes::Changes;
-pub use period_start::{LevelOpen, find_open, settle};
+pub use changes_by_rules::act;
+pub use pump_patterns_and_simple_controls::{LevelOpen, find_open, settle};
 pub use rules::decide;

@@ -2,7 +2,7 @@
 #![tactic(auto)]
 
 ghost use Rattle.std.specs.Prelude.{◌≡◌};
-ghost use Rattle.hyd_spec_certificates.specs.Verdict.{is_yes, is_unknown, at_both_ends, either, both};
+ghost use Rattle.hyd_spec_certificates.specs.ThreeValuedLogic.{is_yes, is_unknown, at_both_ends, either, both};
 ghost use Rattle.hyd_controls_and_rules.specs.Verdicts.{verdict_of};
 
 /// What holds of all points of the intervals, of none, or is open.

@@ -10,7 +10,7 @@ ghost use Rattle.hyd_spec_certificates.specs.Interval.{Interval};
 ghost use Rattle.hyd_spec_certificates.specs.Decided.{IsTruthBetween};
 ghost use Rattle.hyd_theorems_on_histories.specs.Agreement.{AreBetween};
 ghost use Rattle.hyd_controls_and_rules.specs.AlikeButTankHeads.{AreAlike};
-ghost use Rattle.hyd_controls_and_rules.specs.Instants.{lower_readings, upper_readings};
+ghost use Rattle.hyd_controls_and_rules.specs.RuleReadings.{lower_readings, upper_readings};
 
 /// No clause looks at the place of a tank among the heads: a tank's head follows from its carried level. So what is
 /// known of a rule is the same with and without heads of tanks behind those of junctions and reservoirs, and so is what

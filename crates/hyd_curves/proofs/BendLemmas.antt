@@ -15,8 +15,8 @@ use Rattle.hyd_net.specs.declared.curves.HeadPoint.{HeadPoint}
 use Rattle.hyd_spec_input.specs.Curves.{in_turn, at_start, at_end, has_flow, is_slower, is_faster, is_pump_bend}
 use Rattle.hyd_spec_input.specs.Curves.{begins_at_0, head_point, head_points}
 use Rattle.hyd_curves.specs.PumpAndValveCurveTests.{IsPumpPoint, begins_and_ends, loss_passes}
-use Rattle.hyd_curves.specs.Asked.{valve_fault}
-use Rattle.hyd_curves.specs.Interpolation.{knot_of}
+use Rattle.hyd_curves.specs.CurveFaults.{valve_fault}
+use Rattle.hyd_curves.specs.PointsAsKnots.{knot_of}
 use Rattle.hyd_curves.specs.Points.{points_in, point_in}
 use Rattle.hyd_curves.specs.EachWithNext.{all_in_turn}
 use Rattle.hyd_curves.specs.declared.points.CurvePoint.{CurvePoint}

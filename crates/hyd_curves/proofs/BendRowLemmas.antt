@@ -39,7 +39,7 @@ use Rattle.hyd_spec_input.specs.Project.{Match, bend_points}
 use Rattle.hyd_spec_input.specs.Tables.{Point, place, is_of, rows_of, curve_named}
 use Rattle.hyd_spec_input.specs.RowsTogether as others
 use Rattle.hyd_spec_input.specs.RowsTogether.{us}
-use Rattle.hyd_text_rows.specs.Found.{rows_at}
+use Rattle.hyd_text_rows.specs.FirstWrongRow.{rows_at}
 use Rattle.hyd_text_rows.proofs.FoundLemmas.{filter_more, filter_same}
 use Rattle.hyd_text_rows.proofs.SectionLemmas.{none_of, all_rows}
 use Rattle.hyd_curves.specs.PumpAndValveCurveTests.{begins_and_ends, loss_passes}

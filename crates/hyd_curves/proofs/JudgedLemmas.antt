@@ -15,7 +15,7 @@ use Rattle.hyd_spec_input.specs.MeaningsAcrossRows.{number_in}
 use Rattle.hyd_spec_input.specs.Project.{Match}
 use Rattle.hyd_spec_input.specs.Tables.{Point, curve_named}
 use Rattle.hyd_spec_input.specs.RowsTogether as others
-use Rattle.hyd_curves.specs.Asked.{pump_fault}
+use Rattle.hyd_curves.specs.CurveFaults.{pump_fault}
 use Rattle.hyd_curves.specs.Judged.{on_no_points, verdict_at, IsVerdictOf, IsVerdictOn, AreVerdicts}
 use Rattle.hyd_curves.specs.Points.{points_in, each, list_of, ArePoints}
 use Rattle.hyd_curves.specs.declared.judged.Verdict.{Verdict}

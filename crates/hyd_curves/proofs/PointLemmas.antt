@@ -27,10 +27,10 @@ use Rattle.hyd_spec_input.specs.Tables.{row_with, has_id}
 use Rattle.hyd_spec_input.specs.Columns.{word, or_empty}
 use Rattle.hyd_network_rows.specs.Rows.{IsCurveRow}
 use Rattle.hyd_network_rows.specs.declared.demands_curves_and_statuses.CurveRow.{CurveRow}
-use Rattle.hyd_text_rows.specs.Tables.{AreFirsts}
+use Rattle.hyd_text_rows.specs.IdTables.{AreFirsts}
 use Rattle.hyd_text_rows.proofs.FoundLemmas.{filter_more, filter_same}
 use Rattle.hyd_text_rows.proofs.SectionLemmas.{none_of, all_rows}
-use Rattle.hyd_text_rows.specs.Found.{rows_at}
+use Rattle.hyd_text_rows.specs.FirstWrongRow.{rows_at}
 use Rattle.hyd_text_rows.proofs.TableLemmas.{not_found, has_id-is, even}
 use Rattle.hyd_curves.specs.Points.{points_in, point_in, each, list_of, ArePoints, AreEmpty, AreGathered, HasOneMore}
 use Rattle.hyd_curves.specs.declared.points.CurvePoint.{CurvePoint}

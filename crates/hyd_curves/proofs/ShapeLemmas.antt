@@ -16,7 +16,7 @@ use Rattle.hyd_net.specs.declared.curves.VolumePoint.{VolumePoint}
 use Rattle.hyd_curves.specs.Points.{points_in, point_in}
 use Rattle.hyd_net.specs.Curves.{Knot, between, value_from, value_at, volume_knots, volume_at}
 use Rattle.hyd_curves.specs.TankCurveTests.{level_passes, begins_and_ends, IsRight}
-use Rattle.hyd_curves.specs.Interpolation.{IsSmall, knot_of}
+use Rattle.hyd_curves.specs.PointsAsKnots.{IsSmall, knot_of}
 use Rattle.hyd_curves.specs.declared.points.CurvePoint.{CurvePoint}
 use Rattle.hyd_curves.specs.declared.ticks.Ticks.{Ticks}
 use Rattle.hyd_curves.proofs.LineLemmas.{one_times, apart, together, floor_whole}

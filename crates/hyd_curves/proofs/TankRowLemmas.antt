@@ -31,11 +31,11 @@ use Rattle.hyd_spec_input.specs.Tables.{place, is_of, rows_of, node_rows}
 use Rattle.hyd_spec_input.specs.RowsTogether as others
 use Rattle.hyd_spec_input.specs.RowsTogether.{us}
 use Rattle.hyd_text_rows.proofs.FoundLemmas.{filter_more, filter_same}
-use Rattle.hyd_text_rows.specs.Found.{rows_at}
+use Rattle.hyd_text_rows.specs.FirstWrongRow.{rows_at}
 use Rattle.hyd_text_rows.proofs.SectionLemmas.{none_of, all_rows}
 use Rattle.hyd_spec_lines.specs.declared.line.Line.{Line}
 use Rattle.hyd_spec_input.specs.InForce as force
-use Rattle.hyd_curves.specs.Asked.{tank_curve_fault}
+use Rattle.hyd_curves.specs.CurveFaults.{tank_curve_fault}
 use Rattle.hyd_curves.specs.NamedVolumeCurves.{IsSmallVolume, AreShapes, AreShapesAt, with_name}
 use Rattle.hyd_curves.specs.Points.{points_in, point_in}
 use Rattle.hyd_curves.specs.TankCurveTests.{IsRight, level_passes, begins_and_ends}

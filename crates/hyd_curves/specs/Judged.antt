@@ -4,11 +4,11 @@ use Rattle.std.specs.Bool.{OnTrue, OnFalse}
 use Rattle.hyd_num.specs.declared.flow_units.FlowUnit.{FlowUnit}
 use Rattle.hyd_spec_lines.specs.Lines.{Row}
 use Rattle.hyd_net.specs.declared.refusal_cause.Cause.TheVariants.{Range, Unsupported}
-use Rattle.hyd_spec_input.specs.Capacities.{IsRefusedCurve}
+use Rattle.hyd_spec_input.specs.CapacitiesOutOfRange.{IsRefusedCurve}
 use Rattle.hyd_spec_input.specs.MeaningsAcrossRows.{number_in}
 use Rattle.hyd_spec_input.specs.Tables.{Point}
 use Rattle.hyd_spec_input.specs.RowsTogether as others
-use Rattle.hyd_curves.specs.Asked.{pump_fault, valve_fault, IsRefusedPoints}
+use Rattle.hyd_curves.specs.CurveFaults.{pump_fault, valve_fault, IsRefusedPoints}
 use Rattle.hyd_curves.specs.declared.judged.Verdict.{Verdict}
 use Rattle.hyd_curves.specs.declared.judged.Verdicts.{Verdicts}
 

@@ -1,9 +1,9 @@
 pub mod Points
-pub mod Asked
+pub mod CurveFaults
 pub mod Judged
 pub mod EachWithNext
 pub mod TankCurveTests
-pub mod Interpolation
+pub mod PointsAsKnots
 pub mod PumpAndValveCurveTests
 pub mod NamedVolumeCurves
 pub mod NamedStraightLineCurves

@@ -3,7 +3,7 @@
 
 ghost use Rattle.std.specs.Prelude.{◌≡◌, ◌≤◌, ◌^◌, ◌*◌, ◌<ℤ◌, ◌*ℤ◌, ◌-ℤ◌, unsigned_abs};
 ghost use Rattle.hyd_net.specs.Curves as curve;
-ghost use Rattle.hyd_curves.specs.Interpolation.{IsSmall, knot_of};
+ghost use Rattle.hyd_curves.specs.PointsAsKnots.{IsSmall, knot_of};
 
 use crate::ticks::Ticks;
 

@@ -3,16 +3,16 @@
 
 ghost use Rattle.std.specs.Prelude.{◌≡◌, ◌≤◌, ◌^◌, ℕ, false, List, Some, None, pos, ◌-ℤ◌, ◌≤ℤ◌, ◌<ℤ◌, IfOk};
 ghost use Rattle.std.specs.Bool.{OnTrue, OnFalse};
-ghost use Rattle.hyd_spec_lines.specs.Bytes.{text_of};
+ghost use Rattle.hyd_spec_lines.specs.WordsOfLines.{text_of};
 ghost use Rattle.hyd_spec_lines.specs.Lines.{Row};
 ghost use Rattle.hyd_capacities.specs.Ranges.{IsCurveFlow};
-ghost use Rattle.hyd_spec_input.specs.Capacities.{IsRefusedCurve};
+ghost use Rattle.hyd_spec_input.specs.CapacitiesOutOfRange.{IsRefusedCurve};
 ghost use Rattle.hyd_spec_input.specs.Curves.{drop_of, is_bent};
 ghost use Rattle.hyd_spec_input.specs.InForce as force;
 ghost use Rattle.hyd_spec_input.specs.Tables.{Point};
 ghost use Rattle.hyd_spec_input.specs.RowsTogether as others;
-ghost use Rattle.hyd_curves.specs.Asked as asked;
-ghost use Rattle.hyd_curves.specs.Asked.{IsRefusedPoints};
+ghost use Rattle.hyd_curves.specs.CurveFaults as asked;
+ghost use Rattle.hyd_curves.specs.CurveFaults.{IsRefusedPoints};
 ghost use Rattle.hyd_curves.specs.Points.{ArePoints, points_in};
 ghost use Rattle.hyd_curves.specs.Judged.{AreVerdicts, IsVerdictOf, verdict_named};
 

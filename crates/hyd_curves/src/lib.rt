@@ -10,8 +10,8 @@ mod straight_line_curves;
 mod tanks;
 mod ticks;
 mod valves;
+mod volume_at_level;
 mod volume_curves;
-mod volumes;
 
 pub use judged::{Verdict, Verdicts, curve_verdicts};
 pub use points::{CurvePoint, Points, gather_points};

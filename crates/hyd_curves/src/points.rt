@@ -8,8 +8,8 @@ ghost use Rattle.hyd_spec_lines.specs.declared.section.Section.TheVariants.{Curv
 ghost use Rattle.hyd_spec_input.specs.SingleRows.{IsWrongByItself};
 ghost use Rattle.hyd_spec_input.specs.Faults.{NoneIs};
 ghost use Rattle.hyd_spec_input.specs.Tables.{place as section_place, rows_of, curve_named};
-ghost use Rattle.hyd_text_rows.specs.Found.{rows_at};
-ghost use Rattle.hyd_text_rows.specs.Tables.{IsTable};
+ghost use Rattle.hyd_text_rows.specs.FirstWrongRow.{rows_at};
+ghost use Rattle.hyd_text_rows.specs.IdTables.{IsTable};
 ghost use Rattle.hyd_curves.specs.Points.{ArePoints, AreEmpty, AreGathered, HasOneMore, points_in, point_in, each};
 
 use hyd_lex::{Line, Lines, Section};

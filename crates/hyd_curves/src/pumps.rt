@@ -11,9 +11,9 @@ ghost use Rattle.hyd_num.specs.Rational.{is_at_most, whole};
 ghost use Rattle.hyd_net.specs.Curves as curve_form;
 ghost use Rattle.hyd_spec_input.specs.Curves as curve;
 ghost use Rattle.hyd_spec_input.specs.Curves.{square, is_flow, is_slower, has_flow, at_start, at_end};
-ghost use Rattle.hyd_curves.specs.Asked as asked;
+ghost use Rattle.hyd_curves.specs.CurveFaults as asked;
 ghost use Rattle.hyd_curves.specs.PumpAndValveCurveTests.{IsPumpPoint, begins_and_ends};
-ghost use Rattle.hyd_curves.specs.Interpolation.{knot_of};
+ghost use Rattle.hyd_curves.specs.PointsAsKnots.{knot_of};
 ghost use Rattle.hyd_curves.specs.Points.{points_in, point_in};
 ghost use Rattle.hyd_curves.specs.EachWithNext.{goes_on, all_in_turn};
 

@@ -3,9 +3,9 @@
 
 ghost use Rattle.std.specs.Prelude.{◌≡◌, ◌==◌, ◌<◌, ◌≤◌, ◌+◌, ◌^◌, ℕ, List, length, All, IfOk, OnOk};
 ghost use Rattle.hyd_num.specs.FileQuantity.{is_us_unit};
-ghost use Rattle.hyd_spec_lines.specs.Bytes.{text_of};
+ghost use Rattle.hyd_spec_lines.specs.WordsOfLines.{text_of};
 ghost use Rattle.hyd_spec_lines.specs.Lines.{LiesIn, Row};
-ghost use Rattle.hyd_option_and_rule_lines.specs.FaultOrValue.{words_at};
+ghost use Rattle.hyd_row_words.specs.FaultOrValue.{words_at};
 ghost use Rattle.hyd_spec_input.specs.SingleRows.{IsWrongByItself};
 ghost use Rattle.hyd_spec_input.specs.Curves as curve;
 ghost use Rattle.hyd_spec_input.specs.Faults.{NoneIs, IsWrongWithOthers};
@@ -14,7 +14,7 @@ ghost use Rattle.hyd_spec_input.specs.MeaningsAcrossRows.{bend_names};
 ghost use Rattle.hyd_spec_input.specs.NetworkRows as row;
 ghost use Rattle.hyd_spec_input.specs.Project.{Match, bend_points};
 ghost use Rattle.hyd_spec_input.specs.Tables.{place as section_place};
-ghost use Rattle.hyd_text_rows.specs.Found.{rows_at};
+ghost use Rattle.hyd_text_rows.specs.FirstWrongRow.{rows_at};
 ghost use Rattle.hyd_curves.specs.NamedVolumeCurves.{with_name};
 ghost use Rattle.hyd_curves.specs.NamedStraightLineCurves.{IsSmallHead, AreBends, AreOfPumps, AreOfValves};
 ghost use Rattle.hyd_curves.specs.Points.{ArePoints, points_in, point_in};
@@ -25,7 +25,7 @@ use hyd_lex::{Line, Lines, Section};
 use hyd_net::{HeadPoint, Names, OutOfMemory};
 use hyd_network_rows::read_pump;
 use hyd_num::FlowUnit;
-use hyd_option_and_rule_lines::word_is;
+use hyd_row_words::word_is;
 use hyd_text_rows::Table;
 use std::alloc::Global;
 

@@ -3,19 +3,19 @@
 
 ghost use Rattle.std.specs.Prelude.{◌≡◌, ◌^◌, true, ◌&&◌, List, pos, ◌-ℤ◌, ◌≤ℤ◌};
 ghost use lib.Signed.{le_z};
-ghost use Rattle.hyd_spec_lines.specs.Bytes.{text_of};
+ghost use Rattle.hyd_spec_lines.specs.WordsOfLines.{text_of};
 ghost use Rattle.hyd_spec_lines.specs.Lines.{Row};
 ghost use Rattle.hyd_spec_input.specs.Curves as curve;
 ghost use Rattle.hyd_spec_input.specs.Curves.{is_fuller, covers};
 ghost use Rattle.hyd_net.specs.Curves.{volume_at};
-ghost use Rattle.hyd_curves.specs.Asked as asked;
+ghost use Rattle.hyd_curves.specs.CurveFaults as asked;
 ghost use Rattle.hyd_curves.specs.Points.{ArePoints, points_in, point_in};
 ghost use Rattle.hyd_curves.specs.EachWithNext.{goes_on, all_in_turn};
 ghost use Rattle.hyd_curves.specs.TankCurveTests.{level_passes, begins_and_ends, IsRight};
 
 use crate::points::{CurvePoint, Points};
 use crate::ticks::{GREATEST_HEAD, Ticks, is_within, rises, volume_point};
-use crate::volumes::volume_up_to;
+use crate::volume_at_level::volume_up_to;
 use hyd_net::Cause;
 use hyd_num::{Decimal, FlowUnit};
 use hyd_text_rows::Table;

@@ -5,7 +5,7 @@ ghost use Rattle.std.specs.Prelude.{◌≡◌, ◌&&◌};
 ghost use Rattle.hyd_num.specs.FileQuantity.{is_us_unit};
 ghost use Rattle.hyd_spec_input.specs.Curves as curve;
 ghost use Rattle.hyd_spec_input.specs.Curves.{is_faster};
-ghost use Rattle.hyd_curves.specs.Asked as asked;
+ghost use Rattle.hyd_curves.specs.CurveFaults as asked;
 ghost use Rattle.hyd_curves.specs.PumpAndValveCurveTests.{loss_passes};
 ghost use Rattle.hyd_curves.specs.Points.{points_in, point_in};
 ghost use Rattle.hyd_curves.specs.EachWithNext.{goes_on, all_in_turn};

@@ -14,8 +14,8 @@ use Rattle.hyd_net.specs.NumberRanges.{Numbers, LiesWithin}
 use Rattle.hyd_net.specs.NetworkRanges.{HasPattern, IsReservoir}
 use Rattle.hyd_net.specs.Sound.{Sound, IsPattern, demand_rows}
 use Rattle.hyd_spec.specs.ProgramTypes.{Project, Pattern, Demand, Junction, Reservoir}
-use Rattle.hyd_spec.specs.Quantity.{multiplier_at, category_demand, demand_of, reservoir_head}
-use Rattle.hyd_demand.specs.Numbered.{junction_demand, head_of_reservoir}
+use Rattle.hyd_spec.specs.DemandsReservoirHeadsAndCurves.{multiplier_at, category_demand, demand_of, reservoir_head}
+use Rattle.hyd_demand.specs.DemandsAndHeadsByNumber.{junction_demand, head_of_reservoir}
 
 -- ---- products
 

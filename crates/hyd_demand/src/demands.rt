@@ -6,8 +6,8 @@ ghost use Rattle.std.specs.List.{All};
 ghost use Rattle.hyd_net.specs.Sound.{Sound, IsPattern};
 ghost use Rattle.hyd_net.specs.NetworkRanges.{IsDemand, HasOptions};
 ghost use Rattle.hyd_spec.specs.Scale.{total};
-ghost use Rattle.hyd_spec.specs.Quantity.{category_multiplier, category_demand};
-ghost use Rattle.hyd_demand.specs.Numbered.{junction_demand, IsInRange, IsOutOfRange};
+ghost use Rattle.hyd_spec.specs.DemandsReservoirHeadsAndCurves.{category_multiplier, category_demand};
+ghost use Rattle.hyd_demand.specs.DemandsAndHeadsByNumber.{junction_demand, IsInRange, IsOutOfRange};
 
 use crate::multipliers::{multiplier_at, times};
 use hyd_net::{Demand, Project};

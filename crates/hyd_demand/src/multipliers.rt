@@ -5,7 +5,7 @@ ghost use Rattle.std.specs.Prelude.{◌≡◌, ◌<◌, ◌≤◌, ◌^◌, leng
 ghost use Rattle.std.specs.List.{All};
 ghost use Rattle.hyd_net.specs.Sound.{IsPattern};
 ghost use Rattle.hyd_spec.specs.Scale.{cut};
-ghost use Rattle.hyd_spec.specs.Quantity.{multiplier_at};
+ghost use Rattle.hyd_spec.specs.DemandsReservoirHeadsAndCurves.{multiplier_at};
 
 use hyd_net::Project;
 

@@ -6,8 +6,8 @@ ghost use Rattle.std.specs.List.{All};
 ghost use Rattle.hyd_net.specs.Sound.{Sound, IsPattern};
 ghost use Rattle.hyd_net.specs.NumberRanges.{IsHead};
 ghost use Rattle.hyd_spec.specs.Scale.{cut};
-ghost use Rattle.hyd_spec.specs.Quantity.{multiplier_at};
-ghost use Rattle.hyd_demand.specs.Numbered.{head_of_reservoir};
+ghost use Rattle.hyd_spec.specs.DemandsReservoirHeadsAndCurves.{multiplier_at};
+ghost use Rattle.hyd_demand.specs.DemandsAndHeadsByNumber.{head_of_reservoir};
 
 use crate::multipliers::{multiplier_at, times};
 use hyd_net::Project;

@@ -1,1 +1,1 @@
-pub mod ToldVectors
+pub mod ProposedVectors

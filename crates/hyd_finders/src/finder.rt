@@ -2,8 +2,8 @@
 #![tactic(auto)]
 
 ghost use Rattle.std.specs.Prelude.{◌≡◌, ℤ, List, length, Option, None, false};
-ghost use Rattle.hyd_period_network.specs.Nets.{HasProblem};
-ghost use Rattle.hyd_finders.specs.ToldVectors.{Leaves};
+ghost use Rattle.hyd_period_network.specs.NetInvariant.{HasProblem};
+ghost use Rattle.hyd_finders.specs.ProposedVectors.{Leaves};
 
 use hyd_period_network::Net;
 use hyd_spec_certificates::{Problem, Side};

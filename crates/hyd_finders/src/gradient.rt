@@ -2,17 +2,17 @@
 #![tactic(auto)]
 
 ghost use Rattle.std.specs.Prelude.{◌≡◌, ℤ, List, length, Option, None};
-ghost use Rattle.hyd_period_network.specs.Nets.{HasProblem};
+ghost use Rattle.hyd_period_network.specs.NetInvariant.{HasProblem};
 
 use crate::certificate_test::serve;
 use crate::convergence::Progress;
 use crate::finder::Finder;
 use crate::jacobian::Tangent;
-use crate::junction_weights::{greatest_ratio, put_weights};
 use crate::line_search::Course;
 use crate::number_lists::{copy, fill, multiply, number_at};
 use crate::raises::NoValue;
 use crate::tightening::Descent;
+use crate::weights_of_misses::{greatest_ratio, put_weights};
 use hyd_period_network::Net;
 use hyd_spec_certificates::{Problem, Side};
 use std::alloc::{AllocError as OutOfMemory, Global};

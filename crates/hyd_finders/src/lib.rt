@@ -8,13 +8,13 @@ mod finder;
 mod flows;
 mod gradient;
 mod jacobian;
-mod junction_turns;
-mod junction_weights;
 mod line_search;
 mod number_lists;
 mod raises;
 mod slopes;
 mod tightening;
+mod tightness_test;
+mod weights_of_misses;
 
 pub use finder::{Finder, Null};
 pub use gradient::Gradient;

@@ -2,7 +2,7 @@
 #![tactic(auto)]
 
 ghost use Rattle.std.specs.Prelude.{◌≡◌, ◌≤◌, ◌<◌, length};
-ghost use Rattle.hyd_period_network.specs.Nets.{HasProblem};
+ghost use Rattle.hyd_period_network.specs.NetInvariant.{HasProblem};
 
 use crate::flows::put_misses;
 use crate::number_lists::copy;

@@ -4,10 +4,10 @@
 ghost use Rattle.std.specs.Prelude.{◌≡◌, length};
 
 use crate::flows::is_flat;
-use crate::junction_turns::Turns;
 use crate::line_search::HEAD_TICK_PART;
 use crate::number_lists::{copy, number_at};
 use crate::raises::{further, mend, over, put_over};
+use crate::tightness_test::Turns;
 use hyd_period_network::Net;
 use hyd_spec_certificates::Side;
 use hyd_vector_check::is_in_box;

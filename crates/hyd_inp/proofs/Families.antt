@@ -8,12 +8,12 @@ use Rattle.hyd_spec_lines.specs.declared.line.Line.{Line}
 use Rattle.hyd_spec_lines.specs.declared.section.Section.{Section}
 use Rattle.hyd_spec_lines.specs.declared.section.Section.TheVariants.{Times}
 use Rattle.hyd_net.specs.declared.refusal_cause.Cause.{Cause}
-use Rattle.hyd_spec_input.specs.Capacities.{IsRefusedIn}
+use Rattle.hyd_spec_input.specs.CapacitiesOutOfRange.{IsRefusedIn}
 use Rattle.hyd_spec_input.specs.Faults.{IsWrongWithOthers}
 use Rattle.hyd_spec_input.specs.RowsTogether.{section_fault, holds_action}
 use Rattle.hyd_inp.specs.SectionFamilies.{Both, is_judged, IsWrongOf}
 use Rattle.hyd_text_rows.specs.declared.first_wrong.Found.{Found}
-use Rattle.hyd_text_rows.specs.Found.{HasFound, IsWrongAmong, Either, least, rows_at}
+use Rattle.hyd_text_rows.specs.FirstWrongRow.{HasFound, IsWrongAmong, Either, least, rows_at}
 use Rattle.hyd_text_rows.proofs.LeastLemmas.{found_least}
 
 -- where two notions of a wrong row are one

@@ -18,7 +18,7 @@ use Rattle.hyd_spec_input.specs.Faults.{lack, has_some}
 use Rattle.hyd_spec_input.specs.InForce.{names_head_loss}
 use Rattle.hyd_spec_input.specs.Tables.{is_of, rows_of}
 use Rattle.hyd_text_rows.specs.declared.first_wrong.Found.{Found}
-use Rattle.hyd_text_rows.specs.Found.{HasFound, rows_at}
+use Rattle.hyd_text_rows.specs.FirstWrongRow.{HasFound, rows_at}
 use Rattle.hyd_text_rows.proofs.FoundLemmas.{first_of, none_of}
 use Rattle.hyd_inp.specs.WaterSourceRows.{is_source}
 use Rattle.hyd_net.specs.Sound.{Sound}

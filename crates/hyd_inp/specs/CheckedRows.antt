@@ -8,10 +8,10 @@ use Rattle.hyd_spec_input.specs.SingleRows.{IsWrongByItself}
 use Rattle.hyd_spec_input.specs.Faults.{NoneIs, IsWrongWithOthers}
 use Rattle.hyd_spec_input.specs.InForce as force
 use Rattle.hyd_spec_input.specs.Tables.{node_rows, link_rows, rows_of}
-use Rattle.hyd_text_rows.specs.Found.{rows_at}
-use Rattle.hyd_text_rows.specs.Tables.{IsTable}
+use Rattle.hyd_text_rows.specs.FirstWrongRow.{rows_at}
+use Rattle.hyd_text_rows.specs.IdTables.{IsTable}
 use Rattle.hyd_inp.specs.Parts.{AreNumbers}
-use Rattle.hyd_inp.specs.declared.network_source.Source.{Source}
+use Rattle.hyd_inp.specs.declared.rows_to_build_from.Source.{Source}
 
 -- the rows of a source
 abbrev pub rows_from : List ℕ → Source → List Row

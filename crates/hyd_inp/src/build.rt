@@ -8,13 +8,13 @@ ghost use Rattle.hyd_spec_input.specs.SingleRows.{IsWrongByItself};
 ghost use Rattle.hyd_spec_input.specs.Faults.{NoneIs, IsWrongWithOthers};
 ghost use Rattle.hyd_spec_input.specs.InForce as force;
 ghost use Rattle.hyd_spec_input.specs.Project.{IsProject};
-ghost use Rattle.hyd_text_rows.specs.Found.{rows_at};
+ghost use Rattle.hyd_text_rows.specs.FirstWrongRow.{rows_at};
 ghost use Rattle.hyd_inp.specs.Parts.{AreNumbers, AreNodes, AreLinks, AreChanges, AreParts};
 ghost use Rattle.hyd_inp.specs.CheckedRows.{IsSource, rows_from};
 
 use crate::network_parts::{Changes, Links, Nodes, Parts, assemble};
-use crate::network_source::Source;
 use crate::numbering::{Numbers, number};
+use crate::rows_to_build_from::Source;
 use crate::tables::gather_tables;
 use hyd_build_controls::{build_controls, build_rules};
 use hyd_build_ids_and_options::{build_patterns, options_in_force, times_in_force};

@@ -5,7 +5,7 @@ ghost use Rattle.std.specs.Prelude.{◌≡◌, ◌≤◌, ◌^◌, length, IfOk,
 ghost use Rattle.std.specs.List.{All};
 ghost use Rattle.hyd_spec_lines.specs.Lines.{LiesIn, items_of, rows_in, fault_in};
 ghost use Rattle.hyd_spec_input.specs.Faults.{IsFault, IsFaultOf, HasNoFault};
-ghost use Rattle.hyd_text_rows.specs.Found.{rows_at};
+ghost use Rattle.hyd_text_rows.specs.FirstWrongRow.{rows_at};
 
 use crate::fault::{InpFault, line_cause};
 use crate::first_wrong_with_others::first_with_others;

@@ -7,9 +7,9 @@ mod first_fault;
 mod first_wrong_with_others;
 mod missing_from_file;
 mod network_parts;
-mod network_source;
 mod numbering;
 mod project;
+mod rows_to_build_from;
 mod tables;
 
 pub use fault::{InpFault, InpRefused};

@@ -5,8 +5,8 @@ ghost use Rattle.std.specs.Prelude.{◌≡◌, ◌≤◌, ◌^◌, ◌==◌, ◌
 ghost use Rattle.std.specs.List.{All};
 ghost use Rattle.hyd_spec_lines.specs.Lines.{LiesIn, row_of};
 ghost use Rattle.hyd_spec_input.specs.Tables.{place};
-ghost use Rattle.hyd_text_rows.specs.Found.{rows_at};
-ghost use Rattle.hyd_text_rows.specs.Tables.{IsTable};
+ghost use Rattle.hyd_text_rows.specs.FirstWrongRow.{rows_at};
+ghost use Rattle.hyd_text_rows.specs.IdTables.{IsTable};
 ghost use Rattle.hyd_inp.specs.IdTables.{is_kind, AreTables};
 
 use hyd_lex::{Line, Lines, Section};

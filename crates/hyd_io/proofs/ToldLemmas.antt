@@ -3,7 +3,7 @@ use Rattle.std.proofs.Common.{◌≡◌, ℕ, ◌+◌, ◌-◌, ◌≤◌, List,
 use Rattle.std.proofs.Common.{ap, ◌∙◌, append_assoc, arith}
 use Rattle.std.proofs.lemmas.Grind.{common_steps}
 use Rattle.std.proofs.lemmas.List.{drop-drop, take-append-drop}
-use Rattle.hyd_io.specs.ToldBytes.{append_known, prepend_known, where_told, Moves, PutOut, Took, Files, IsTold}
+use Rattle.hyd_io.specs.DeskBytes.{append_known, prepend_known, where_told, Moves, PutOut, Took, Files, IsTold}
 
 -- nothing more after what is out
 pub append_known-nil : (out : Option (List ℕ)) → append_known out [] ≡ out

@@ -1,5 +1,5 @@
-pub mod ToldBytes
-pub mod Counts
+pub mod DeskBytes
+pub mod FailureCounts
 pub mod Output
 pub mod Memory
 pub mod MemoryView

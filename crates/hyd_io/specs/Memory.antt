@@ -5,8 +5,8 @@ use Rattle.std.specs.List.{list_any}
 use Rattle.std.specs.BTreeMap.{BTreeMap, get_by_text}
 use Rattle.hyd_io.specs.declared.desk.Faults.{Faults}
 use Rattle.hyd_io.specs.declared.desk.Openings.{Openings}
-use Rattle.hyd_io.specs.ToldBytes.{Files}
-use Rattle.hyd_io.specs.Counts.{next_count}
+use Rattle.hyd_io.specs.DeskBytes.{Files}
+use Rattle.hyd_io.specs.FailureCounts.{next_count}
 
 -- what a map of files holds at a name
 abbrev pub file_bytes : {A B : Type 0} → BTreeMap (String A) (Vec ℕ B) → Files

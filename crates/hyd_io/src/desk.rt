@@ -4,11 +4,12 @@ ghost use Rattle.std.specs.Prelude.{◌≡◌, ◌≢◌, ℕ, ◌<◌, ◌≤�
 ghost use Rattle.std.specs.Prelude.{Some, option_map, IsTrue, IfOk, OnOk, OnErr, is_some, is_err};
 ghost use Rattle.hyd_io.specs.declared.desk.Faults.{Faults};
 ghost use Rattle.hyd_io.specs.declared.desk.Openings.{Openings};
-ghost use Rattle.hyd_io.specs.ToldBytes.{Files, where_told, append_known, prepend_known, file_at, with_empty};
-ghost use Rattle.hyd_io.specs.ToldBytes.{content_of};
+ghost use Rattle.hyd_io.specs.DeskBytes.{Files, where_told, append_known, prepend_known, file_at, with_empty};
+ghost use Rattle.hyd_io.specs.DeskBytes.{content_of};
 ghost use Rattle.std.specs.Result.{result_ok};
-ghost use Rattle.hyd_io.specs.Counts.{NeverFall, next_count, with_read_fault, with_write_fault, with_print_fault};
-ghost use Rattle.hyd_io.specs.Counts.{with_stall, with_opened, with_created};
+ghost use Rattle.hyd_io.specs.FailureCounts.{NeverFall, next_count, with_read_fault, with_write_fault};
+ghost use Rattle.hyd_io.specs.FailureCounts.{with_print_fault};
+ghost use Rattle.hyd_io.specs.FailureCounts.{with_stall, with_opened, with_created};
 
 use thiserror::Error;
 

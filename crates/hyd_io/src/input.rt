@@ -2,8 +2,8 @@
 
 ghost use Rattle.std.specs.Prelude.{◌≡◌, ℕ, ◌+◌, ◌<◌, ◌≤◌, List, [], length, take, min, Some, IfOk, IfErr, OnOk, OnErr};
 ghost use Rattle.std.specs.Prelude.{IsErrOf};
-ghost use Rattle.hyd_io.specs.ToldBytes.{where_told, prepend_known, Took};
-ghost use Rattle.hyd_io.specs.Counts.{NeverFall, HasInCause};
+ghost use Rattle.hyd_io.specs.DeskBytes.{where_told, prepend_known, Took};
+ghost use Rattle.hyd_io.specs.FailureCounts.{NeverFall, HasInCause};
 ghost use Rattle.hyd_io.specs.declared.input.InFault.TheVariants.{OutOfMemory};
 
 use crate::desk::Desk;

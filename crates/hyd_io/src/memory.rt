@@ -4,8 +4,8 @@ ghost use Rattle.std.specs.Prelude.{◌≡◌, ◌≢◌, ℕ, ◌<◌, ◌≤�
 ghost use Rattle.std.specs.Prelude.{Some, None, option_map, option_and_then, IsErr, IfOk, OnOk, OnErr, string_bytes};
 ghost use Rattle.std.specs.Prelude.{is_none, refl};
 ghost use Rattle.std.specs.Map.{update};
-ghost use Rattle.hyd_io.specs.ToldBytes.{append_known};
-ghost use Rattle.hyd_io.specs.Counts.{next_count};
+ghost use Rattle.hyd_io.specs.DeskBytes.{append_known};
+ghost use Rattle.hyd_io.specs.FailureCounts.{next_count};
 ghost use Rattle.hyd_io.specs.Memory.{file_bytes, is_listed, empty_memory};
 
 use crate::desk::{Desk, Failed, Faults, Openings, stalls_after};

@@ -2,8 +2,8 @@
 
 ghost use Rattle.std.specs.Prelude.{◌≡◌, ◌≢◌, ℕ, ◌+◌, ◌-◌, ◌<◌, ◌≤◌, List, [], ◌++◌, length, take, drop, min, Option};
 ghost use Rattle.std.specs.Prelude.{Some, None, Err, IsTrue, IfOk, IfErr, IfSome, IsSome, OnOk, OnErr, is_some};
-ghost use Rattle.hyd_io.specs.ToldBytes.{append_known, file_at, Moves, PutOut};
-ghost use Rattle.hyd_io.specs.Counts.{NeverFall};
+ghost use Rattle.hyd_io.specs.DeskBytes.{append_known, file_at, Moves, PutOut};
+ghost use Rattle.hyd_io.specs.FailureCounts.{NeverFall};
 ghost use Rattle.hyd_io.specs.Output.{by_channel, OnCert, OnReport, HasOutCause, PenState};
 
 use crate::desk::Desk;

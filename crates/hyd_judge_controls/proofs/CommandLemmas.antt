@@ -5,12 +5,12 @@ use Rattle.hyd_spec_lines.specs.Lines.{Row}
 use Rattle.hyd_spec_lines.specs.declared.section.Section.{Section}
 use Rattle.hyd_net.specs.declared.refusal_cause.Cause.{Cause}
 use Rattle.hyd_net.specs.declared.refusal_cause.Cause.TheVariants.{Limit}
-use Rattle.hyd_spec_input.specs.Capacities.{IsRefusedSetting}
+use Rattle.hyd_spec_input.specs.CapacitiesOutOfRange.{IsRefusedSetting}
 use Rattle.hyd_spec_input.specs.Columns.{or_else}
 use Rattle.hyd_spec_input.specs.Tables.{is_of, link_named}
 use Rattle.hyd_spec_input.specs.RowsTogether as others
 use Rattle.hyd_spec_input.specs.declared.LinkWord.{LinkWord}
-use Rattle.hyd_text_rows.specs.Found.{IsVerdict}
+use Rattle.hyd_text_rows.specs.FirstWrongRow.{IsVerdict}
 use Rattle.hyd_text_rows.specs.WrongInSection.{IsWrongIn, IsCapacityFault, IsFaultThen}
 use Rattle.hyd_text_rows.proofs.SectionLemmas.{other_section}
 

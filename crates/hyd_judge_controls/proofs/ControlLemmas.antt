@@ -7,7 +7,7 @@ use Rattle.hyd_spec_lines.specs.declared.section.Section.TheVariants.{Rules, Con
 use Rattle.hyd_net.specs.declared.refusal_cause.Cause.{Cause}
 use Rattle.hyd_spec_input.specs.SingleRows as itself
 use Rattle.hyd_spec_input.specs.SingleRows.{IsWrongByItself}
-use Rattle.hyd_spec_input.specs.Capacities.{IsRefusedIn, IsRefusedSetting}
+use Rattle.hyd_spec_input.specs.CapacitiesOutOfRange.{IsRefusedIn, IsRefusedSetting}
 use Rattle.hyd_spec_input.specs.Columns.{word}
 use Rattle.hyd_spec_input.specs.ControlRows as row_form
 use Rattle.hyd_spec_input.specs.Faults.{NoneIs}
@@ -16,7 +16,7 @@ use Rattle.hyd_spec_input.specs.Tables.{is_of, rows_of, words_of, link_named}
 use Rattle.hyd_spec_input.specs.RowsTogether as others
 use Rattle.hyd_spec_input.specs.declared.LinkWord.{LinkWord}
 use Rattle.hyd_theorems_on_input.proofs.Faultless.{section_is}
-use Rattle.hyd_text_rows.specs.Found.{IsVerdict, kept}
+use Rattle.hyd_text_rows.specs.FirstWrongRow.{IsVerdict, kept}
 use Rattle.hyd_text_rows.specs.WrongInSection.{IsWrongIn, IsFaultThen}
 use Rattle.hyd_text_rows.proofs.FoundLemmas.{filter_more, filter_same, found_skip, found_kept}
 use Rattle.hyd_text_rows.proofs.SectionLemmas.{none_of, verdict_with_capacity, other_section}

@@ -5,7 +5,7 @@ use Rattle.hyd_spec_lines.specs.Headings.{is_one_of}
 use Rattle.hyd_spec_lines.specs.Lines.{Row}
 use Rattle.hyd_net.specs.declared.refusal_cause.Cause.{Cause}
 use Rattle.hyd_net.specs.declared.refusal_cause.Cause.TheVariants.{Syntax}
-use Rattle.hyd_spec_input.specs.Capacities.{IsRefusedSetting}
+use Rattle.hyd_spec_input.specs.CapacitiesOutOfRange.{IsRefusedSetting}
 use Rattle.hyd_spec_input.specs.Columns.{id, one_of, meant, number, asked, needed, ends, word, status_words}
 use Rattle.hyd_spec_input.specs.Keywords.{link_word, attribute_word}
 use Rattle.hyd_spec_input.specs.RuleRows as form

@@ -8,7 +8,7 @@ use Rattle.hyd_net.specs.declared.refusal_cause.Cause.{Cause}
 use Rattle.hyd_net.specs.declared.refusal_cause.Cause.TheVariants.{Syntax, DuplicateId}
 use Rattle.hyd_spec_input.specs.SingleRows as itself
 use Rattle.hyd_spec_input.specs.SingleRows.{IsWrongByItself}
-use Rattle.hyd_spec_input.specs.Capacities.{IsRefusedIn, IsRefusedSetting}
+use Rattle.hyd_spec_input.specs.CapacitiesOutOfRange.{IsRefusedIn, IsRefusedSetting}
 use Rattle.hyd_spec_input.specs.Columns.{or_else, unless, word}
 use Rattle.hyd_spec_input.specs.Faults.{NoneIs}
 use Rattle.hyd_spec_input.specs.RuleRows as form
@@ -20,11 +20,11 @@ use Rattle.hyd_spec_input.specs.RowsTogether.{is_part_word, is_action_word, hold
 use Rattle.hyd_spec_input.specs.declared.RuleWord.{RuleWord}
 use Rattle.hyd_spec_input.specs.declared.RuleWord.TheVariants.{Rule, If, And, Or, Then, Else, Priority}
 use Rattle.hyd_theorems_on_input.proofs.Faultless.{or_none, section_is}
-use Rattle.hyd_text_rows.specs.Found.{IsVerdict, kept}
+use Rattle.hyd_text_rows.specs.FirstWrongRow.{IsVerdict, kept}
 use Rattle.hyd_text_rows.specs.WrongInSection.{IsWrongIn, IsFaultThen}
 use Rattle.hyd_text_rows.proofs.SectionLemmas.{none_of, verdict_with_capacity, other_section}
 use Rattle.hyd_text_rows.proofs.FoundLemmas.{filter_same, found_skip, found_kept}
-use Rattle.hyd_judge_single_rows.specs.Stages.{stage_with}
+use Rattle.hyd_judge_single_rows.specs.RuleLineStages.{stage_with}
 use Rattle.hyd_judge_single_rows.proofs.StageLemmas.{next_stage}
 use Rattle.hyd_judge_controls.proofs.CommandLemmas.{last_fault}
 use Rattle.hyd_judge_controls.proofs.RuleCounting.{counted_elsewhere}

@@ -6,7 +6,7 @@ use Rattle.hyd_spec_lines.specs.declared.section.Section.TheVariants.{Rules, Sta
 use Rattle.hyd_net.specs.declared.refusal_cause.Cause.{Cause}
 use Rattle.hyd_spec_input.specs.SingleRows as itself
 use Rattle.hyd_spec_input.specs.SingleRows.{IsWrongByItself}
-use Rattle.hyd_spec_input.specs.Capacities.{IsRefusedIn, IsRefusedSetting}
+use Rattle.hyd_spec_input.specs.CapacitiesOutOfRange.{IsRefusedIn, IsRefusedSetting}
 use Rattle.hyd_spec_input.specs.Columns.{word, or_empty, or_else}
 use Rattle.hyd_spec_input.specs.DemandCurveAndStatusRows as row_form
 use Rattle.hyd_spec_input.specs.Faults.{NoneIs}
@@ -14,7 +14,7 @@ use Rattle.hyd_spec_input.specs.Tables.{is_of, link_named, words_of}
 use Rattle.hyd_spec_input.specs.RowsTogether as others
 use Rattle.hyd_spec_input.specs.declared.LinkWord.TheVariants.{Link}
 use Rattle.hyd_theorems_on_input.proofs.Faultless.{section_is}
-use Rattle.hyd_text_rows.specs.Found.{IsVerdict}
+use Rattle.hyd_text_rows.specs.FirstWrongRow.{IsVerdict}
 use Rattle.hyd_text_rows.specs.WrongInSection.{IsWrongIn, IsFaultThen}
 use Rattle.hyd_text_rows.proofs.SectionLemmas.{none_of, verdict_with_capacity}
 use Rattle.hyd_judge_controls.proofs.CommandLemmas.{last_fault}

@@ -4,13 +4,13 @@ use Rattle.hyd_spec_lines.specs.Lines.{Row, row_of}
 use Rattle.hyd_spec_lines.specs.declared.line.Line.{Line}
 use Rattle.hyd_spec_lines.specs.declared.section.Section.TheVariants.{Controls as InControls}
 use Rattle.hyd_net.specs.declared.refusal_cause.Cause.{Cause}
-use Rattle.hyd_spec_input.specs.Capacities.{IsRefusedSetting}
+use Rattle.hyd_spec_input.specs.CapacitiesOutOfRange.{IsRefusedSetting}
 use Rattle.hyd_spec_input.specs.Columns.{word, first}
 use Rattle.hyd_spec_input.specs.Keywords.{link_word}
 use Rattle.hyd_spec_input.specs.Tables.{rows_of, link_named, node_named}
 use Rattle.hyd_spec_input.specs.RowsTogether.{passes, link_by_word, is_at_level, control_node, control_tank}
 use Rattle.hyd_spec_input.specs.RowsTogether.{control_level, set_link}
-use Rattle.hyd_text_rows.specs.Found.{HasFound}
+use Rattle.hyd_text_rows.specs.FirstWrongRow.{HasFound}
 use Rattle.hyd_text_rows.specs.WrongInSection.{IsWrongIn, IsFaultThen}
 use Rattle.hyd_judge_controls.specs.declared.controls.Controls.{Controls}
 

@@ -6,13 +6,13 @@ use Rattle.hyd_spec_lines.specs.Lines.{Row}
 use Rattle.hyd_spec_lines.specs.declared.section.Section.TheVariants.{Rules as InRules}
 use Rattle.hyd_net.specs.declared.refusal_cause.Cause.{Cause}
 use Rattle.hyd_option_and_rule_lines.specs.Meanings.{IsClauseLine, IsActionLine}
-use Rattle.hyd_spec_input.specs.Capacities.{IsRefusedSetting}
+use Rattle.hyd_spec_input.specs.CapacitiesOutOfRange.{IsRefusedSetting}
 use Rattle.hyd_spec_input.specs.Columns.{word}
 use Rattle.hyd_spec_input.specs.RuleRows.{begins_with, is_rule, is_acting, stage_after}
 use Rattle.hyd_spec_input.specs.Tables.{is_of, words_of, link_named}
 use Rattle.hyd_spec_input.specs.RowsTogether.{is_part_word, is_action_word, holds_action, has_rule, rules_in, parts_in}
 use Rattle.hyd_spec_input.specs.RowsTogether.{rule_line}
-use Rattle.hyd_text_rows.specs.Found.{HasFound}
+use Rattle.hyd_text_rows.specs.FirstWrongRow.{HasFound}
 use Rattle.hyd_text_rows.specs.WrongInSection.{IsWrongIn, IsFaultThen}
 use Rattle.hyd_judge_controls.specs.declared.rule_parts.Part.{Part}
 use Rattle.hyd_judge_controls.specs.declared.rule_parts.Part.TheVariants.{Name, Clause, Action, Priority}

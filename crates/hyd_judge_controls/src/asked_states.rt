@@ -4,7 +4,7 @@
 ghost use Rattle.std.specs.Prelude.{◌≡◌, ℕ, List, None, Some};
 ghost use Rattle.hyd_spec_lines.specs.Lines.{LiesIn, Row, row_of};
 ghost use Rattle.hyd_option_and_rule_lines.specs.Meanings.{IsAsked};
-ghost use Rattle.hyd_spec_input.specs.Capacities.{IsRefusedSetting};
+ghost use Rattle.hyd_spec_input.specs.CapacitiesOutOfRange.{IsRefusedSetting};
 ghost use Rattle.hyd_spec_input.specs.InForce as force;
 ghost use Rattle.hyd_spec_input.specs.RowsTogether as others;
 ghost use Rattle.hyd_asked_link_states.specs.AskedLinks.{IsRightLink, IsAllowed};

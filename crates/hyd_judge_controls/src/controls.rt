@@ -5,19 +5,19 @@ ghost use Rattle.std.specs.Prelude.{◌≡◌, ◌<◌, ◌+◌, ◌^◌, ◌==�
 ghost use Rattle.std.specs.List.{All};
 ghost use Rattle.hyd_spec_lines.specs.Lines.{LiesIn, Row, row_of};
 ghost use Rattle.hyd_spec_lines.specs.declared.section.Section.TheVariants.{Controls as InControls};
-ghost use Rattle.hyd_option_and_rule_lines.specs.FaultOrValue.{Judged, words_at};
+ghost use Rattle.hyd_row_words.specs.FaultOrValue.{Judged, words_at};
 ghost use Rattle.hyd_option_and_rule_lines.specs.Meanings.{IsControlLine, IsWhen};
 ghost use Rattle.hyd_spec_input.specs.SingleRows.{IsWrongByItself};
-ghost use Rattle.hyd_spec_input.specs.Capacities.{IsRefusedSetting};
+ghost use Rattle.hyd_spec_input.specs.CapacitiesOutOfRange.{IsRefusedSetting};
 ghost use Rattle.hyd_spec_input.specs.Columns.{word};
 ghost use Rattle.hyd_spec_input.specs.Faults.{NoneIs};
 ghost use Rattle.hyd_spec_input.specs.InForce as force;
 ghost use Rattle.hyd_spec_input.specs.Tables.{place as section_place, is_of, link_rows, node_rows};
 ghost use Rattle.hyd_spec_input.specs.RowsTogether as others;
 ghost use Rattle.hyd_asked_link_states.specs.AskedLinks.{IsRightLink};
-ghost use Rattle.hyd_text_rows.specs.Found.{HasFound, rows_at};
+ghost use Rattle.hyd_text_rows.specs.FirstWrongRow.{HasFound, rows_at};
 ghost use Rattle.hyd_text_rows.specs.WrongInSection.{IsWrongIn, IsFaultThen};
-ghost use Rattle.hyd_text_rows.specs.Tables.{IsTable, IsEven};
+ghost use Rattle.hyd_text_rows.specs.IdTables.{IsTable, IsEven};
 ghost use Rattle.hyd_judge_controls.specs.Controls.{AreControls, IsControlNode, IsControlFault};
 ghost use Rattle.hyd_judge_controls.specs.Controls.{commanded_fault as fault_of_commanded};
 
@@ -27,7 +27,8 @@ use hyd_asked_link_states::state_fault;
 use hyd_lex::{Line, Lines, Section};
 use hyd_net::Cause;
 use hyd_num::FlowUnit;
-use hyd_option_and_rule_lines::{ControlLine, WhenLine, or_empty, read_control};
+use hyd_option_and_rule_lines::{ControlLine, WhenLine, read_control};
+use hyd_row_words::or_empty;
 use hyd_text_rows::{Found, Table, head_fault, kept, limit};
 
 const MOST_CONTROLS: usize = 10_000;

@@ -3,13 +3,13 @@
 
 ghost use Rattle.std.specs.Prelude.{◌≡◌, ◌==◌, List, Some};
 ghost use Rattle.hyd_spec_lines.specs.Lines.{Row, row_of};
-ghost use Rattle.hyd_option_and_rule_lines.specs.FaultOrValue.{Judged};
+ghost use Rattle.hyd_row_words.specs.FaultOrValue.{Judged};
 ghost use Rattle.hyd_spec_input.specs.SingleRows.{IsWrongByItself};
 ghost use Rattle.hyd_spec_input.specs.Faults.{NoneIs};
 ghost use Rattle.hyd_spec_input.specs.Tables as table;
 ghost use Rattle.hyd_spec_input.specs.Tables.{place as section_place, link_rows, node_rows};
 ghost use Rattle.hyd_spec_input.specs.RowsTogether as others;
-ghost use Rattle.hyd_text_rows.specs.Tables.{IsTable, IsEven};
+ghost use Rattle.hyd_text_rows.specs.IdTables.{IsTable, IsEven};
 ghost use Rattle.hyd_judge_controls.specs.Names.{IsNamedLink, IsNamedNode};
 
 use hyd_lex::{Line, Lines, Section};

@@ -4,10 +4,10 @@
 ghost use Rattle.std.specs.Prelude.{◌≡◌, ◌<◌, ℕ, Bool, List, Some, None, length, slice_get};
 ghost use Rattle.std.specs.List.{All};
 ghost use Rattle.hyd_spec_lines.specs.Lines.{LiesIn, Row};
-ghost use Rattle.hyd_option_and_rule_lines.specs.FaultOrValue.{words_at};
+ghost use Rattle.hyd_row_words.specs.FaultOrValue.{words_at};
 ghost use Rattle.hyd_option_and_rule_lines.specs.Meanings.{IsClauseLine, IsActionLine, IsRuleLine};
 ghost use Rattle.hyd_spec_input.specs.SingleRows.{IsWrongByItself};
-ghost use Rattle.hyd_spec_input.specs.Capacities.{IsRefusedSetting};
+ghost use Rattle.hyd_spec_input.specs.CapacitiesOutOfRange.{IsRefusedSetting};
 ghost use Rattle.hyd_spec_input.specs.Columns.{word};
 ghost use Rattle.hyd_spec_input.specs.Faults.{NoneIs};
 ghost use Rattle.hyd_spec_input.specs.InForce as force;
@@ -16,9 +16,9 @@ ghost use Rattle.hyd_spec_input.specs.declared.ObjectWord.TheVariants as object;
 ghost use Rattle.hyd_spec_input.specs.RuleRows as form;
 ghost use Rattle.hyd_spec_input.specs.Tables.{link_rows, node_rows, link_named};
 ghost use Rattle.hyd_spec_input.specs.RowsTogether as others;
-ghost use Rattle.hyd_text_rows.specs.Found.{rows_at};
+ghost use Rattle.hyd_text_rows.specs.FirstWrongRow.{rows_at};
 ghost use Rattle.hyd_text_rows.specs.WrongInSection.{IsFaultThen};
-ghost use Rattle.hyd_text_rows.specs.Tables.{IsTable, IsEven};
+ghost use Rattle.hyd_text_rows.specs.IdTables.{IsTable, IsEven};
 ghost use Rattle.hyd_judge_controls.specs.Rules.{IsPart};
 
 use crate::asked_states::asked_fault;
@@ -27,9 +27,10 @@ use hyd_lex::{Line, Lines, Section};
 use hyd_net::Cause;
 use hyd_num::FlowUnit;
 use hyd_option_and_rule_lines::{
-    ActionLine, Attribute, ClauseLine, LinkWord, NodeWord, Object, RuleLine, asked_at, or_empty,
+    ActionLine, Attribute, ClauseLine, LinkWord, NodeWord, Object, RuleLine, asked_at,
     read_rule_line,
 };
+use hyd_row_words::or_empty;
 use hyd_text_rows::Table;
 
 /// What a line of a rule is.

@@ -9,9 +9,9 @@ ghost use Rattle.hyd_spec_input.specs.SingleRows.{IsWrongByItself};
 ghost use Rattle.hyd_spec_input.specs.Faults.{NoneIs};
 ghost use Rattle.hyd_spec_input.specs.InForce as force;
 ghost use Rattle.hyd_spec_input.specs.Tables.{place as section_place, link_rows};
-ghost use Rattle.hyd_text_rows.specs.Found.{HasFound, IsVerdict, rows_at};
+ghost use Rattle.hyd_text_rows.specs.FirstWrongRow.{HasFound, IsVerdict, rows_at};
 ghost use Rattle.hyd_text_rows.specs.WrongInSection.{IsWrongIn};
-ghost use Rattle.hyd_text_rows.specs.Tables.{IsTable};
+ghost use Rattle.hyd_text_rows.specs.IdTables.{IsTable};
 
 use crate::asked_states::asked_fault;
 use crate::names::named_link;

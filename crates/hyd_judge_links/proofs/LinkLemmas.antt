@@ -9,14 +9,14 @@ use Rattle.hyd_spec_lines.specs.declared.section.Section.TheVariants.{Pipes, Pum
 use Rattle.hyd_net.specs.declared.refusal_cause.Cause.{Cause}
 use Rattle.hyd_spec_input.specs.SingleRows as itself
 use Rattle.hyd_spec_input.specs.SingleRows.{IsWrongByItself}
-use Rattle.hyd_spec_input.specs.Capacities.{IsRefusedIn, IsRefusedRow}
+use Rattle.hyd_spec_input.specs.CapacitiesOutOfRange.{IsRefusedIn, IsRefusedRow}
 use Rattle.hyd_spec_input.specs.Faults.{NoneIs}
 use Rattle.hyd_spec_input.specs.InForce as force
 use Rattle.hyd_spec_input.specs.Tables.{place, is_of, is_link, link_rows, own_id, has_id}
 use Rattle.hyd_spec_input.specs.RowsTogether as others
-use Rattle.hyd_text_rows.specs.Found.{IsVerdict, kept}
+use Rattle.hyd_text_rows.specs.FirstWrongRow.{IsVerdict, kept}
 use Rattle.hyd_text_rows.specs.WrongInSection.{IsFaultThen, IsWrongIn}
-use Rattle.hyd_text_rows.specs.Tables.{AreFirsts}
+use Rattle.hyd_text_rows.specs.IdTables.{AreFirsts}
 use Rattle.hyd_text_rows.proofs.FoundLemmas.{filter_more, filter_same, found_skip, found_kept}
 use Rattle.hyd_text_rows.proofs.SectionLemmas.{none_of, verdict_with_capacity, fault_then_alike}
 use Rattle.hyd_judge_links.specs.LinksSoFar.{AreLinks, IsWrongLink}

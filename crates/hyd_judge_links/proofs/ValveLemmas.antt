@@ -3,7 +3,7 @@ use Rattle.std.proofs.Common.{◌≡◌, ℕ, Bool, true, false, List, Option, N
 use Rattle.hyd_num.specs.declared.flow_units.FlowUnit.{FlowUnit}
 use Rattle.hyd_spec_lines.specs.Lines.{Row}
 use Rattle.hyd_net.specs.declared.refusal_cause.Cause.{Cause}
-use Rattle.hyd_spec_input.specs.Capacities.{IsRefusedValve}
+use Rattle.hyd_spec_input.specs.CapacitiesOutOfRange.{IsRefusedValve}
 use Rattle.hyd_spec_input.specs.Columns.{or_else, amount}
 use Rattle.hyd_spec_input.specs.NetworkRows.{is_throttle, is_general, valve_minor}
 use Rattle.hyd_text_rows.proofs.SectionLemmas.{fault_then_alike}

@@ -8,11 +8,11 @@ use Rattle.hyd_net.specs.declared.refusal_cause.Cause.{Cause}
 use Rattle.hyd_net.specs.declared.refusal_cause.Cause.TheVariants.{DuplicateId}
 use Rattle.hyd_num.specs.declared.flow_units.FlowUnit.{FlowUnit}
 use Rattle.hyd_text_rows.specs.QuantityRanges.{flow_fault}
-use Rattle.hyd_text_rows.specs.Tables.{IsEven, IsTable}
+use Rattle.hyd_text_rows.specs.IdTables.{IsEven, IsTable}
 use Rattle.hyd_curves.specs.Judged.{AreVerdicts}
 use Rattle.hyd_judge_nodes_curves_and_options.specs.Patterns.{ArePatterns}
 use Rattle.hyd_judge_links.specs.declared.judged_against.LinkTables.{LinkTables}
-use Rattle.hyd_spec_input.specs.Capacities.{IsRefusedPipe, IsRefusedValve, IsRefusedCurve}
+use Rattle.hyd_spec_input.specs.CapacitiesOutOfRange.{IsRefusedPipe, IsRefusedValve, IsRefusedCurve}
 use Rattle.hyd_spec_input.specs.Columns.{or_else, first, unless, word, amount}
 use Rattle.hyd_spec_input.specs.InForce as force
 use Rattle.hyd_spec_input.specs.Tables.{node_rows, rows_of}

@@ -4,7 +4,7 @@
 ghost use Rattle.std.specs.Prelude.{◌≡◌, List};
 ghost use Rattle.hyd_spec_lines.specs.Lines.{Row};
 ghost use Rattle.hyd_spec_input.specs.Tables.{node_rows};
-ghost use Rattle.hyd_text_rows.specs.Tables.{IsTable, IsEven};
+ghost use Rattle.hyd_text_rows.specs.IdTables.{IsTable, IsEven};
 ghost use Rattle.hyd_judge_links.specs.LinkFaults as links;
 
 use hyd_lex::Lines;

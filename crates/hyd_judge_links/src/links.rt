@@ -4,13 +4,13 @@
 ghost use Rattle.std.specs.Prelude.{◌≡◌, ◌<◌, ◌+◌, ◌^◌, ◌==◌, ◌||◌, List, None, length, IfOk, OnOk};
 ghost use Rattle.std.specs.List.{All};
 ghost use Rattle.hyd_spec_lines.specs.Lines.{LiesIn, Row};
-ghost use Rattle.hyd_option_and_rule_lines.specs.FaultOrValue.{words_at};
+ghost use Rattle.hyd_row_words.specs.FaultOrValue.{words_at};
 ghost use Rattle.hyd_spec_input.specs.SingleRows.{IsWrongByItself};
 ghost use Rattle.hyd_spec_input.specs.Faults.{NoneIs};
 ghost use Rattle.hyd_spec_input.specs.Tables.{place as section_place, link_rows};
-ghost use Rattle.hyd_text_rows.specs.Found.{HasFound, rows_at};
+ghost use Rattle.hyd_text_rows.specs.FirstWrongRow.{HasFound, rows_at};
 ghost use Rattle.hyd_text_rows.specs.WrongInSection.{IsFaultThen};
-ghost use Rattle.hyd_text_rows.specs.Tables.{IsTable};
+ghost use Rattle.hyd_text_rows.specs.IdTables.{IsTable};
 ghost use Rattle.hyd_judge_links.specs.LinksSoFar.{AreLinks, IsWrongLink};
 ghost use Rattle.hyd_judge_links.specs.LinkFaults as among;
 ghost use Rattle.hyd_judge_links.specs.LinkFaults.{AreEven, AreTables, IsRefusedLink};

@@ -4,13 +4,13 @@
 ghost use Rattle.std.specs.Prelude.{◌≡◌, List, None};
 ghost use Rattle.hyd_spec_lines.specs.Lines.{LiesIn, Row};
 ghost use Rattle.hyd_num.specs.FileQuantity.{is_us_unit};
-ghost use Rattle.hyd_option_and_rule_lines.specs.FaultOrValue.{words_at};
+ghost use Rattle.hyd_row_words.specs.FaultOrValue.{words_at};
 ghost use Rattle.hyd_capacities.specs.Ranges.{IsLength, IsDiameter, IsRoughness, IsMinorCoefficient};
-ghost use Rattle.hyd_spec_input.specs.Capacities.{IsRefusedPipe};
+ghost use Rattle.hyd_spec_input.specs.CapacitiesOutOfRange.{IsRefusedPipe};
 ghost use Rattle.hyd_spec_input.specs.NetworkRows as row;
 ghost use Rattle.hyd_spec_input.specs.Tables.{node_rows};
 ghost use Rattle.hyd_text_rows.specs.WrongInSection.{IsCapacityFault, IsFaultThen};
-ghost use Rattle.hyd_text_rows.specs.Tables.{IsTable, IsEven};
+ghost use Rattle.hyd_text_rows.specs.IdTables.{IsTable, IsEven};
 ghost use Rattle.hyd_judge_links.specs.LinkFaults as links;
 ghost use Rattle.hyd_judge_links.specs.LinkFaults.{IsRefusedPipeOf};
 

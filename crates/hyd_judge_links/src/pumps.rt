@@ -2,17 +2,17 @@
 #![tactic(auto)]
 
 ghost use Rattle.std.specs.Prelude.{◌≡◌, [], ◌∷◌, ℕ, List, Some, None};
-ghost use Rattle.hyd_spec_lines.specs.Bytes.{text_of};
+ghost use Rattle.hyd_spec_lines.specs.WordsOfLines.{text_of};
 ghost use Rattle.hyd_spec_lines.specs.Lines.{LiesIn, Row};
 ghost use Rattle.hyd_spec_lines.specs.declared.section.Section.TheVariants.{Curves};
-ghost use Rattle.hyd_option_and_rule_lines.specs.FaultOrValue.{words_at};
-ghost use Rattle.hyd_spec_input.specs.Capacities.{IsRefusedCurve};
+ghost use Rattle.hyd_row_words.specs.FaultOrValue.{words_at};
+ghost use Rattle.hyd_spec_input.specs.CapacitiesOutOfRange.{IsRefusedCurve};
 ghost use Rattle.hyd_spec_input.specs.Columns.{first};
 ghost use Rattle.hyd_spec_input.specs.NetworkRows as row;
 ghost use Rattle.hyd_spec_input.specs.Tables.{node_rows, rows_of};
 ghost use Rattle.hyd_spec_input.specs.RowsTogether as others;
 ghost use Rattle.hyd_text_rows.specs.WrongInSection.{IsFaultThen};
-ghost use Rattle.hyd_text_rows.specs.Tables.{IsTable};
+ghost use Rattle.hyd_text_rows.specs.IdTables.{IsTable};
 ghost use Rattle.hyd_curves.specs.Judged.{AreVerdicts};
 ghost use Rattle.hyd_judge_nodes_curves_and_options.specs.Patterns.{ArePatterns};
 ghost use Rattle.hyd_judge_links.specs.LinkFaults as links;

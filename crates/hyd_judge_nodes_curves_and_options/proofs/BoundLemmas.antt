@@ -4,14 +4,14 @@ use Rattle.std.proofs.Common.{refl, sym, ◌∙◌, subst, inl, inr, ◌==◌, t
 use Rattle.std.specs.Prelude.{codes}
 use Rattle.std.proofs.lemmas.Bool.{cases_Bool}
 use Rattle.hyd_num.specs.declared.flow_units.FlowUnit.{FlowUnit}
-use Rattle.hyd_spec_lines.specs.Bytes.{is_keyword}
+use Rattle.hyd_spec_lines.specs.WordsOfLines.{is_keyword}
 use Rattle.hyd_spec_lines.specs.Lines.{Row, Reading, row_of}
 use Rattle.hyd_spec_lines.specs.declared.line.Line.{Line}
 use Rattle.hyd_spec_lines.specs.declared.section.Section.{Section}
 use Rattle.hyd_spec_lines.specs.declared.section.Section.TheVariants.{Options}
 use Rattle.hyd_spec_input.specs.SingleRows as itself
 use Rattle.hyd_spec_input.specs.SingleRows.{IsWrongByItself}
-use Rattle.hyd_spec_input.specs.Capacities.{IsRefusedIn}
+use Rattle.hyd_spec_input.specs.CapacitiesOutOfRange.{IsRefusedIn}
 use Rattle.hyd_spec_input.specs.Columns.{first, of_needed, needed, ends, one_of, number, not_negative, word, word_is}
 use Rattle.hyd_spec_input.specs.Columns.{is_option_of, is_option_keyword}
 use Rattle.hyd_spec_input.specs.Faults.{NoneIs}
@@ -28,15 +28,15 @@ use Rattle.hyd_spec_input.specs.RowsTogether as others
 use Rattle.hyd_net.specs.declared.refusal_cause.Cause.{Cause}
 use Rattle.hyd_theorems_on_input.proofs.Faultless.{or_none, all_none}
 use Rattle.hyd_theorems_on_input.proofs.InForce.{in_force, word_is_keyword, first_named_same, is_one_of_same}
-use Rattle.hyd_text_rows.specs.Found.{HasFound, kept}
+use Rattle.hyd_text_rows.specs.FirstWrongRow.{HasFound, kept}
 use Rattle.hyd_text_rows.specs.WrongInSection.{IsWrongIn}
 use Rattle.hyd_text_rows.specs.declared.first_wrong.Found.{Found}
 use Rattle.hyd_text_rows.proofs.FoundLemmas.{found_skip, found_kept}
 use Rattle.hyd_text_rows.proofs.SectionLemmas.{none_of, verdict_without_capacity, other_section}
-use Rattle.hyd_judge_nodes_curves_and_options.specs.OptionLines.{row_in}
-use Rattle.hyd_judge_nodes_curves_and_options.specs.DemandPressures.{ArePressures, HasAmount, IsBound, bound_words}
-use Rattle.hyd_judge_nodes_curves_and_options.specs.DemandPressures.{option_fault}
-use Rattle.hyd_judge_nodes_curves_and_options.specs.declared.demand_pressures.Pressures.{Pressures}
+use Rattle.hyd_judge_nodes_curves_and_options.specs.RowOfOptionalLine.{row_in}
+use Rattle.hyd_judge_nodes_curves_and_options.specs.Options.{ArePressures, HasAmount, IsBound, bound_words}
+use Rattle.hyd_judge_nodes_curves_and_options.specs.Options.{option_fault}
+use Rattle.hyd_judge_nodes_curves_and_options.specs.declared.options.Pressures.{Pressures}
 
 -- ---- a row of options that is right by itself
 

@@ -5,14 +5,14 @@ use Rattle.std.proofs.Common.{length-append}
 use Rattle.hyd_spec_lines.specs.Lines.{Row}
 use Rattle.hyd_spec_lines.specs.declared.section.Section.{Section}
 use Rattle.hyd_spec_lines.specs.declared.section.Section.TheVariants.{Curves as InCurves}
-use Rattle.hyd_spec_input.specs.Capacities.{IsRefusedIn}
+use Rattle.hyd_spec_input.specs.CapacitiesOutOfRange.{IsRefusedIn}
 use Rattle.hyd_spec_input.specs.Columns.{first}
 use Rattle.hyd_spec_input.specs.Tables.{place, is_of, rows_of, own_id, has_id, distinct}
 use Rattle.hyd_spec_input.specs.RowsTogether as others
 use Rattle.hyd_spec_input.specs.RowsTogether.{passes}
 use Rattle.hyd_net.specs.declared.refusal_cause.Cause.{Cause}
-use Rattle.hyd_text_rows.specs.Found.{kept}
-use Rattle.hyd_text_rows.specs.Tables.{AreFirsts}
+use Rattle.hyd_text_rows.specs.FirstWrongRow.{kept}
+use Rattle.hyd_text_rows.specs.IdTables.{AreFirsts}
 use Rattle.hyd_text_rows.proofs.FoundLemmas.{filter_more, filter_same, found_skip, found_kept}
 use Rattle.hyd_text_rows.proofs.TableLemmas.{even}
 use Rattle.hyd_judge_nodes_curves_and_options.specs.Curves.{AreCurves}

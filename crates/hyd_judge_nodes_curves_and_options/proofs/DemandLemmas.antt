@@ -7,14 +7,14 @@ use Rattle.hyd_spec_lines.specs.declared.section.Section.{Section}
 use Rattle.hyd_spec_lines.specs.declared.section.Section.TheVariants.{Demands as InDemands}
 use Rattle.hyd_spec_input.specs.SingleRows as itself
 use Rattle.hyd_spec_input.specs.SingleRows.{IsWrongByItself}
-use Rattle.hyd_spec_input.specs.Capacities.{IsRefusedIn}
+use Rattle.hyd_spec_input.specs.CapacitiesOutOfRange.{IsRefusedIn}
 use Rattle.hyd_spec_input.specs.DemandCurveAndStatusRows as row_form
 use Rattle.hyd_spec_input.specs.Faults.{NoneIs}
 use Rattle.hyd_spec_input.specs.InForce as force
 use Rattle.hyd_spec_input.specs.Tables.{place, is_of, rows_of}
 use Rattle.hyd_spec_input.specs.RowsTogether as others
 use Rattle.hyd_net.specs.declared.refusal_cause.Cause.{Cause}
-use Rattle.hyd_text_rows.specs.Found.{kept}
+use Rattle.hyd_text_rows.specs.FirstWrongRow.{kept}
 use Rattle.hyd_text_rows.proofs.FoundLemmas.{filter_more, filter_same, found_skip, found_kept}
 use Rattle.hyd_judge_nodes_curves_and_options.specs.Demands.{AreDemands, demand_fault}
 use Rattle.hyd_text_rows.specs.WrongInSection.{IsWrongIn}

@@ -7,7 +7,7 @@ use Rattle.hyd_spec_lines.specs.declared.section.Section.{Section}
 use Rattle.hyd_spec_lines.specs.declared.section.Section.TheVariants.{Emitters}
 use Rattle.hyd_spec_input.specs.SingleRows as itself
 use Rattle.hyd_spec_input.specs.SingleRows.{IsWrongByItself}
-use Rattle.hyd_spec_input.specs.Capacities.{IsRefusedIn, IsRefusedEmitter}
+use Rattle.hyd_spec_input.specs.CapacitiesOutOfRange.{IsRefusedIn, IsRefusedEmitter}
 use Rattle.hyd_spec_input.specs.Columns.{word, amount}
 use Rattle.hyd_spec_input.specs.DemandCurveAndStatusRows as row_form
 use Rattle.hyd_spec_input.specs.Faults.{NoneIs}
@@ -16,7 +16,7 @@ use Rattle.hyd_spec_input.specs.Tables.{place, is_of}
 use Rattle.hyd_spec_input.specs.RowsTogether as others
 use Rattle.hyd_spec_input.specs.RowsTogether.{known_junction}
 use Rattle.hyd_net.specs.declared.refusal_cause.Cause.{Cause}
-use Rattle.hyd_text_rows.specs.Found.{HasFound, IsVerdict, kept}
+use Rattle.hyd_text_rows.specs.FirstWrongRow.{HasFound, IsVerdict, kept}
 use Rattle.hyd_text_rows.specs.WrongInSection.{IsWrongIn, IsFaultThen}
 use Rattle.hyd_text_rows.specs.declared.first_wrong.Found.{Found}
 use Rattle.hyd_text_rows.proofs.FoundLemmas.{found_skip, found_kept}

@@ -35,17 +35,17 @@ use Rattle.hyd_spec_input.specs.Tables.{place, is_of, rows_of, rows_with, own_id
 use Rattle.hyd_spec_input.specs.Tables.{row_with, has_id}
 use Rattle.hyd_spec_input.specs.RowsTogether.{multipliers_of}
 use Rattle.hyd_theorems_on_input.proofs.Faultless.{all_none}
-use Rattle.hyd_text_rows.specs.Tables.{AreFirsts}
+use Rattle.hyd_text_rows.specs.IdTables.{AreFirsts}
 use Rattle.hyd_text_rows.proofs.FoundLemmas.{filter_more, filter_same}
 use Rattle.hyd_text_rows.proofs.SectionLemmas.{none_of, all_rows}
-use Rattle.hyd_text_rows.specs.Found.{rows_at}
+use Rattle.hyd_text_rows.specs.FirstWrongRow.{rows_at}
 use Rattle.hyd_text_rows.proofs.TableLemmas.{not_found, has_id-is, even}
 use Rattle.hyd_judge_nodes_curves_and_options.specs.Extremes.{Bounds, bounds, Enclose, AreExtremes, pass, is_between}
 use Rattle.hyd_judge_nodes_curves_and_options.specs.Extremes.{widened}
 use Rattle.hyd_judge_nodes_curves_and_options.specs.Extremes.{all_widened}
 use Rattle.hyd_judge_nodes_curves_and_options.specs.Extremes.{bounds_of, AreNone, AreWidened}
 use Rattle.hyd_judge_nodes_curves_and_options.specs.Patterns.{ArePatterns}
-use Rattle.hyd_judge_nodes_curves_and_options.specs.declared.extremes.Extremes.{Extremes}
+use Rattle.hyd_judge_nodes_curves_and_options.specs.declared.pattern_extremes.Extremes.{Extremes}
 use Rattle.hyd_judge_nodes_curves_and_options.specs.declared.patterns.Patterns.{Patterns}
 
 -- ---- the extremes of numbers

@@ -12,7 +12,7 @@ use Rattle.hyd_net.specs.declared.refusal_cause.Cause.{Cause}
 use Rattle.hyd_net.specs.declared.refusal_cause.Cause.TheVariants.{Range}
 use Rattle.hyd_spec_input.specs.SingleRows as itself
 use Rattle.hyd_spec_input.specs.SingleRows.{IsWrongByItself}
-use Rattle.hyd_spec_input.specs.Capacities.{IsRefusedIn}
+use Rattle.hyd_spec_input.specs.CapacitiesOutOfRange.{IsRefusedIn}
 use Rattle.hyd_spec_input.specs.Columns.{or_else, unless, amount, amount_or}
 use Rattle.hyd_spec_input.specs.Faults.{NoneIs}
 use Rattle.hyd_spec_input.specs.InForce as force
@@ -20,17 +20,17 @@ use Rattle.hyd_spec_input.specs.NetworkRows.{tank_curve}
 use Rattle.hyd_spec_input.specs.Tables.{place, is_of, is_node, rows_of, node_rows, own_id, has_id}
 use Rattle.hyd_spec_input.specs.RowsTogether as others
 use Rattle.hyd_spec_input.specs.RowsTogether.{multipliers_of}
-use Rattle.hyd_text_rows.specs.Found.{IsVerdict, kept}
+use Rattle.hyd_text_rows.specs.FirstWrongRow.{IsVerdict, kept}
 use Rattle.hyd_text_rows.specs.QuantityRanges.{head_fault, flow_fault}
 use Rattle.hyd_text_rows.specs.WrongInSection.{IsWrongIn}
-use Rattle.hyd_text_rows.specs.Tables.{AreFirsts}
+use Rattle.hyd_text_rows.specs.IdTables.{AreFirsts}
 use Rattle.hyd_text_rows.proofs.FoundLemmas.{filter_more, filter_same, found_skip, found_kept}
 use Rattle.hyd_text_rows.proofs.SectionLemmas.{none_of, verdict_without_capacity}
 use Rattle.hyd_judge_nodes_curves_and_options.specs.Extremes.{Bounds, AreExtremes}
-use Rattle.hyd_judge_nodes_curves_and_options.specs.Nodes.{junction_fault, is_head_times, times_fault, heads_fault}
-use Rattle.hyd_judge_nodes_curves_and_options.specs.Nodes.{reservoir_fault}
-use Rattle.hyd_judge_nodes_curves_and_options.specs.Nodes.{tank_fault}
-use Rattle.hyd_curves.specs.Asked.{tank_curve_fault}
+use Rattle.hyd_judge_nodes_curves_and_options.specs.NodeFaults.{junction_fault, is_head_times, times_fault, heads_fault}
+use Rattle.hyd_judge_nodes_curves_and_options.specs.NodeFaults.{reservoir_fault}
+use Rattle.hyd_judge_nodes_curves_and_options.specs.NodeFaults.{tank_fault}
+use Rattle.hyd_curves.specs.CurveFaults.{tank_curve_fault}
 use Rattle.hyd_judge_nodes_curves_and_options.specs.JudgedNodes.{IsWrongNode, counted, node_alone, fault_among}
 use Rattle.hyd_judge_nodes_curves_and_options.specs.JudgedNodes.{AreCounts}
 use Rattle.hyd_judge_nodes_curves_and_options.specs.JudgedNodes.{AreNodes}

@@ -7,7 +7,7 @@ use Rattle.hyd_spec_input.specs.Columns.{first, word, amount}
 use Rattle.hyd_spec_input.specs.Tables.{rows_of}
 use Rattle.hyd_spec_input.specs.RowsTogether.{passes, known_junction, known_pattern}
 use Rattle.hyd_net.specs.declared.refusal_cause.Cause.{Cause}
-use Rattle.hyd_text_rows.specs.Found.{HasFound}
+use Rattle.hyd_text_rows.specs.FirstWrongRow.{HasFound}
 use Rattle.hyd_text_rows.specs.QuantityRanges.{flow_fault}
 use Rattle.hyd_text_rows.specs.WrongInSection.{IsWrongIn}
 use Rattle.hyd_judge_nodes_curves_and_options.specs.declared.demands.Demands.{Demands}

@@ -7,7 +7,7 @@ use lib.Signed.{le_z, lt_z}
 use Rattle.hyd_spec_lines.specs.Lines.{Row}
 use Rattle.hyd_spec_input.specs.MeaningsAcrossRows.{number_in}
 use Rattle.hyd_spec_input.specs.Tables.{pattern_named}
-use Rattle.hyd_judge_nodes_curves_and_options.specs.declared.extremes.Extremes.{Extremes}
+use Rattle.hyd_judge_nodes_curves_and_options.specs.declared.pattern_extremes.Extremes.{Extremes}
 
 -- two numbers, in billionths
 pub record Bounds : Type 0 where

@@ -9,9 +9,9 @@ use Rattle.hyd_spec_input.specs.InForce as force
 use Rattle.hyd_spec_input.specs.NetworkRows as alone
 use Rattle.hyd_spec_input.specs.Tables.{is_node, rows_of, node_rows}
 use Rattle.hyd_net.specs.declared.refusal_cause.Cause.{Cause}
-use Rattle.hyd_text_rows.specs.Found.{HasFound, IsWrongAmong}
-use Rattle.hyd_text_rows.specs.Tables.{IsTable, IsEven}
-use Rattle.hyd_judge_nodes_curves_and_options.specs.Nodes.{junction_fault, reservoir_fault, tank_fault}
+use Rattle.hyd_text_rows.specs.FirstWrongRow.{HasFound, IsWrongAmong}
+use Rattle.hyd_text_rows.specs.IdTables.{IsTable, IsEven}
+use Rattle.hyd_judge_nodes_curves_and_options.specs.NodeFaults.{junction_fault, reservoir_fault, tank_fault}
 use Rattle.hyd_judge_nodes_curves_and_options.specs.Patterns.{ArePatterns}
 use Rattle.hyd_curves.specs.Points.{ArePoints}
 use Rattle.hyd_judge_nodes_curves_and_options.specs.declared.judged_against.NodeTables.{NodeTables}

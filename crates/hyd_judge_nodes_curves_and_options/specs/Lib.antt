@@ -1,8 +1,8 @@
 pub mod Patterns
 pub mod Curves
-pub mod OptionLines
-pub mod Nodes
+pub mod RowOfOptionalLine
+pub mod NodeFaults
 pub mod Demands
-pub mod DemandPressures
+pub mod Options
 pub mod Extremes
 pub mod JudgedNodes

@@ -8,8 +8,8 @@ ghost use Rattle.hyd_spec_lines.specs.declared.section.Section.TheVariants.{Curv
 ghost use Rattle.hyd_spec_input.specs.Columns.{first};
 ghost use Rattle.hyd_spec_input.specs.Tables.{place as section_place, rows_of};
 ghost use Rattle.hyd_spec_input.specs.RowsTogether as others;
-ghost use Rattle.hyd_text_rows.specs.Found.{HasFound, rows_at};
-ghost use Rattle.hyd_text_rows.specs.Tables.{IsTable};
+ghost use Rattle.hyd_text_rows.specs.FirstWrongRow.{HasFound, rows_at};
+ghost use Rattle.hyd_text_rows.specs.IdTables.{IsTable};
 ghost use Rattle.hyd_judge_nodes_curves_and_options.specs.Curves.{AreCurves};
 ghost use Rattle.hyd_text_rows.specs.WrongInSection.{IsWrongIn};
 

@@ -5,14 +5,14 @@ ghost use Rattle.std.specs.Prelude.{◌≡◌, ◌<◌, ◌+◌, ◌^◌, ◌==�
 ghost use Rattle.std.specs.List.{All};
 ghost use Rattle.hyd_spec_lines.specs.Lines.{LiesIn, Row};
 ghost use Rattle.hyd_spec_lines.specs.declared.section.Section.TheVariants.{Demands as InDemands, Patterns};
-ghost use Rattle.hyd_option_and_rule_lines.specs.FaultOrValue.{words_at};
+ghost use Rattle.hyd_row_words.specs.FaultOrValue.{words_at};
 ghost use Rattle.hyd_spec_input.specs.SingleRows.{IsWrongByItself};
 ghost use Rattle.hyd_spec_input.specs.DemandCurveAndStatusRows as row;
 ghost use Rattle.hyd_spec_input.specs.Faults.{NoneIs};
 ghost use Rattle.hyd_spec_input.specs.InForce as force;
 ghost use Rattle.hyd_spec_input.specs.Tables.{place as section_place, rows_of, node_rows};
-ghost use Rattle.hyd_text_rows.specs.Found.{HasFound, rows_at};
-ghost use Rattle.hyd_text_rows.specs.Tables.{IsTable, IsEven};
+ghost use Rattle.hyd_text_rows.specs.FirstWrongRow.{HasFound, rows_at};
+ghost use Rattle.hyd_text_rows.specs.IdTables.{IsTable, IsEven};
 ghost use Rattle.hyd_judge_nodes_curves_and_options.specs.Demands.{AreDemands, demand_fault as fault_of_demand};
 ghost use Rattle.hyd_text_rows.specs.WrongInSection.{IsWrongIn};
 

@@ -5,18 +5,18 @@ ghost use Rattle.std.specs.Prelude.{◌≡◌, ◌<◌, ◌^◌, ◌+◌, ◌*�
 ghost use Rattle.std.specs.List.{All};
 ghost use Rattle.hyd_spec_lines.specs.Lines.{LiesIn, Row};
 ghost use Rattle.hyd_spec_lines.specs.declared.section.Section.TheVariants.{Emitters};
-ghost use Rattle.hyd_option_and_rule_lines.specs.FaultOrValue.{words_at};
+ghost use Rattle.hyd_row_words.specs.FaultOrValue.{words_at};
 ghost use Rattle.hyd_spec_input.specs.SingleRows.{IsWrongByItself};
-ghost use Rattle.hyd_spec_input.specs.Capacities.{IsRefusedEmitter};
+ghost use Rattle.hyd_spec_input.specs.CapacitiesOutOfRange.{IsRefusedEmitter};
 ghost use Rattle.hyd_spec_input.specs.Columns.{word, amount};
 ghost use Rattle.hyd_spec_input.specs.DemandCurveAndStatusRows as row;
 ghost use Rattle.hyd_spec_input.specs.Faults.{NoneIs};
 ghost use Rattle.hyd_spec_input.specs.InForce as force;
 ghost use Rattle.hyd_spec_input.specs.Tables.{place as section_place, node_rows};
 ghost use Rattle.hyd_spec_input.specs.RowsTogether.{known_junction};
-ghost use Rattle.hyd_text_rows.specs.Found.{HasFound, rows_at};
+ghost use Rattle.hyd_text_rows.specs.FirstWrongRow.{HasFound, rows_at};
 ghost use Rattle.hyd_text_rows.specs.WrongInSection.{IsWrongIn, IsCapacityFault, IsFaultThen};
-ghost use Rattle.hyd_text_rows.specs.Tables.{IsTable, IsEven};
+ghost use Rattle.hyd_text_rows.specs.IdTables.{IsTable, IsEven};
 
 use hyd_capacities::emitter_capacity;
 use hyd_lex::{Line, Lines, Section};

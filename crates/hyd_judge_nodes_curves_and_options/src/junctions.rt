@@ -4,12 +4,12 @@
 ghost use Rattle.std.specs.Prelude.{◌≡◌, List, None};
 ghost use Rattle.hyd_spec_lines.specs.Lines.{LiesIn, Row};
 ghost use Rattle.hyd_spec_lines.specs.declared.section.Section.TheVariants.{Patterns};
-ghost use Rattle.hyd_option_and_rule_lines.specs.FaultOrValue.{words_at};
+ghost use Rattle.hyd_row_words.specs.FaultOrValue.{words_at};
 ghost use Rattle.hyd_spec_input.specs.NetworkRows as row;
 ghost use Rattle.hyd_spec_input.specs.Tables.{rows_of};
-ghost use Rattle.hyd_text_rows.specs.Tables.{IsTable, IsEven};
+ghost use Rattle.hyd_text_rows.specs.IdTables.{IsTable, IsEven};
 ghost use Rattle.hyd_text_rows.specs.QuantityRanges as range;
-ghost use Rattle.hyd_judge_nodes_curves_and_options.specs.Nodes.{junction_fault as fault_of_junction};
+ghost use Rattle.hyd_judge_nodes_curves_and_options.specs.NodeFaults.{junction_fault as fault_of_junction};
 
 use hyd_lex::{Line, Lines};
 use hyd_net::Cause;

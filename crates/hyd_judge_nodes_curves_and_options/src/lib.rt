@@ -3,24 +3,24 @@
 #![tactic(auto)]
 
 mod curves;
-mod demand_pressures;
 mod demands;
 mod emitters;
-mod extremes;
 mod judged_against;
 mod junctions;
 mod nodes;
+mod options;
 mod options_in_force;
+mod pattern_extremes;
 mod patterns;
 mod reservoirs;
 mod tanks;
 
 pub use curves::{Curves, judge_curves};
-pub use demand_pressures::{Pressures, judge_options, last_option_of, pressures_in_force};
 pub use demands::{Demands, judge_demands};
 pub use emitters::judge_emitters;
-pub use extremes::Extremes;
 pub use judged_against::NodeTables;
 pub use nodes::{Nodes, judge_nodes};
+pub use options::{Pressures, judge_options, last_option_of, pressures_in_force};
 pub use options_in_force::{last_option, unit_in_force};
+pub use pattern_extremes::Extremes;
 pub use patterns::{Patterns, judge_patterns};

@@ -3,10 +3,10 @@
 
 ghost use Rattle.std.specs.Prelude.{◌≡◌, ◌<◌, ◌+◌, ◌^◌, [], ◌∷◌, List, ℕ, ℤ, length, min, IfOk, OnOk};
 ghost use Rattle.std.specs.List.{All, list_all};
-ghost use Rattle.hyd_spec_lines.specs.Bytes.{text_of};
+ghost use Rattle.hyd_spec_lines.specs.WordsOfLines.{text_of};
 ghost use Rattle.hyd_spec_lines.specs.Lines.{LiesIn, Row};
 ghost use Rattle.hyd_spec_lines.specs.declared.section.Section.TheVariants.{Patterns as InPatterns};
-ghost use Rattle.hyd_option_and_rule_lines.specs.FaultOrValue.{words_at};
+ghost use Rattle.hyd_row_words.specs.FaultOrValue.{words_at};
 ghost use Rattle.hyd_spec_input.specs.SingleRows.{IsWrongByItself};
 ghost use Rattle.hyd_spec_input.specs.Columns.{first};
 ghost use Rattle.hyd_spec_input.specs.DemandCurveAndStatusRows as row;
@@ -14,13 +14,13 @@ ghost use Rattle.hyd_spec_input.specs.Faults.{NoneIs};
 ghost use Rattle.hyd_spec_input.specs.Tables.{rows_of};
 ghost use Rattle.hyd_spec_input.specs.RowsTogether as others;
 ghost use Rattle.hyd_spec_input.specs.RowsTogether.{multipliers_of};
-ghost use Rattle.hyd_text_rows.specs.Found.{HasFound, rows_at};
-ghost use Rattle.hyd_text_rows.specs.Tables.{IsTable};
+ghost use Rattle.hyd_text_rows.specs.FirstWrongRow.{HasFound, rows_at};
+ghost use Rattle.hyd_text_rows.specs.IdTables.{IsTable};
 ghost use Rattle.hyd_judge_nodes_curves_and_options.specs.Patterns.{AreCounted, ArePatterns, most_counted};
 ghost use Rattle.hyd_judge_nodes_curves_and_options.specs.Extremes.{AreExtremes, bounds, bounds_of, is_between, pass};
 ghost use Rattle.hyd_text_rows.specs.WrongInSection.{IsWrongIn};
 
-use crate::extremes::{Extremes, gather_extremes, is_patterns};
+use crate::pattern_extremes::{Extremes, gather_extremes, is_patterns};
 use hyd_lex::{Line, Lines};
 use hyd_net::{Cause, OutOfMemory};
 use hyd_text_rows::{Found, Table, count_words, kept, limit};

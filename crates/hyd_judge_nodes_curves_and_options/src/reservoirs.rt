@@ -2,17 +2,17 @@
 #![tactic(auto)]
 
 ghost use Rattle.std.specs.Prelude.{◌≡◌, ℕ, List, None};
-ghost use Rattle.hyd_spec_lines.specs.Bytes.{text_of};
+ghost use Rattle.hyd_spec_lines.specs.WordsOfLines.{text_of};
 ghost use Rattle.hyd_spec_lines.specs.Lines.{LiesIn, Row};
-ghost use Rattle.hyd_option_and_rule_lines.specs.FaultOrValue.{words_at};
+ghost use Rattle.hyd_row_words.specs.FaultOrValue.{words_at};
 ghost use Rattle.hyd_spec_input.specs.NetworkRows as row;
 ghost use Rattle.hyd_text_rows.specs.QuantityRanges as range;
-ghost use Rattle.hyd_text_rows.specs.Tables.{IsEven};
+ghost use Rattle.hyd_text_rows.specs.IdTables.{IsEven};
 ghost use Rattle.hyd_judge_nodes_curves_and_options.specs.Extremes.{bounds};
-ghost use Rattle.hyd_judge_nodes_curves_and_options.specs.Nodes as node;
+ghost use Rattle.hyd_judge_nodes_curves_and_options.specs.NodeFaults as node;
 ghost use Rattle.hyd_judge_nodes_curves_and_options.specs.Patterns.{ArePatterns};
 
-use crate::extremes::Extremes;
+use crate::pattern_extremes::Extremes;
 use crate::patterns::Patterns;
 use hyd_lex::{Line, Lines};
 use hyd_net::Cause;

@@ -4,18 +4,18 @@
 ghost use Rattle.std.specs.Prelude.{◌≡◌, ℕ, ◌≤◌, ◌*◌, ◌^◌, ◌+ℤ◌, ◌-ℤ◌, ◌≤ℤ◌, List, None, unsigned_abs, pos};
 ghost use lib.Signed.{le_z};
 ghost use Rattle.hyd_num.specs.FileQuantity as quantity;
-ghost use Rattle.hyd_spec_lines.specs.Bytes.{text_of};
+ghost use Rattle.hyd_spec_lines.specs.WordsOfLines.{text_of};
 ghost use Rattle.hyd_spec_lines.specs.Lines.{LiesIn, Row};
 ghost use Rattle.hyd_spec_lines.specs.declared.section.Section.TheVariants.{Curves};
-ghost use Rattle.hyd_option_and_rule_lines.specs.FaultOrValue.{words_at};
+ghost use Rattle.hyd_row_words.specs.FaultOrValue.{words_at};
 ghost use Rattle.hyd_net.specs.declared.refusal_cause.Cause.TheVariants.{Range};
 ghost use Rattle.hyd_spec_input.specs.Columns.{unless};
 ghost use Rattle.hyd_spec_input.specs.Curves.{is_head};
 ghost use Rattle.hyd_spec_input.specs.NetworkRows as row;
 ghost use Rattle.hyd_spec_input.specs.Tables.{rows_of};
 ghost use Rattle.hyd_text_rows.specs.QuantityRanges as range;
-ghost use Rattle.hyd_text_rows.specs.Tables.{IsTable, IsEven};
-ghost use Rattle.hyd_judge_nodes_curves_and_options.specs.Nodes as node;
+ghost use Rattle.hyd_text_rows.specs.IdTables.{IsTable, IsEven};
+ghost use Rattle.hyd_judge_nodes_curves_and_options.specs.NodeFaults as node;
 ghost use Rattle.hyd_curves.specs.Points.{ArePoints};
 
 use crate::judged_against::NodeTables;

@@ -7,7 +7,7 @@ use Rattle.hyd_spec_lines.specs.declared.line.Line.{Line}
 use Rattle.hyd_spec_lines.specs.declared.section.Section.TheVariants.{Rules}
 use Rattle.hyd_spec_input.specs.RuleRows.{begins_with, is_rule, is_then, some_then, until_rule}
 use Rattle.hyd_spec_input.specs.Tables.{is_of, words_of}
-use Rattle.hyd_text_rows.specs.Found.{rows_at}
+use Rattle.hyd_text_rows.specs.FirstWrongRow.{rows_at}
 
 abbrev pub then_in : List Row → Bool
 then_in rows = some_then (until_rule (words_of Rules rows))

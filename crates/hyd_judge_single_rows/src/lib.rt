@@ -2,10 +2,10 @@
 //! appendix C).
 #![tactic(auto)]
 
-mod first;
+mod fault_by_section;
+mod first_wrong_row;
 mod rule_line_order;
 mod rules;
-mod sections;
 
-pub use first::first_by_itself;
+pub use first_wrong_row::first_by_itself;
 pub use rule_line_order::{first_word, is_acting, is_rule, is_rules, next_stage, stage_by};

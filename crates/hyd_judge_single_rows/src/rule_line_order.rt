@@ -3,16 +3,17 @@
 
 ghost use Rattle.std.specs.Prelude.{◌≡◌};
 ghost use Rattle.hyd_spec_lines.specs.Lines.{LiesIn, row_of};
-ghost use Rattle.hyd_option_and_rule_lines.specs.FaultOrValue.{Judged, words_at};
+ghost use Rattle.hyd_row_words.specs.FaultOrValue.{Judged, words_at};
 ghost use Rattle.hyd_spec_input.specs.RuleRows as rules;
 ghost use Rattle.hyd_spec_input.specs.RuleRows.{begins_with};
 ghost use Rattle.hyd_spec_input.specs.Tables.{is_of};
 ghost use Rattle.hyd_spec_lines.specs.declared.section.Section.TheVariants.{Rules};
-ghost use Rattle.hyd_judge_single_rows.specs.Stages.{stage_with};
+ghost use Rattle.hyd_judge_single_rows.specs.RuleLineStages.{stage_with};
 
 use hyd_lex::{Line, Lines, Section};
 use hyd_net::Cause;
-use hyd_option_and_rule_lines::{or_empty, rule_word};
+use hyd_option_and_rule_lines::rule_word;
+use hyd_row_words::or_empty;
 use hyd_spec_input::{RuleWord, Stage};
 
 /// What a line of a rule is, by its first word.

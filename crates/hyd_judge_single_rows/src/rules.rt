@@ -4,9 +4,9 @@
 ghost use Rattle.std.specs.Prelude.{◌≡◌};
 ghost use Rattle.std.specs.List.{All};
 ghost use Rattle.hyd_spec_lines.specs.Lines.{LiesIn};
-ghost use Rattle.hyd_option_and_rule_lines.specs.FaultOrValue.{Judged, words_at};
+ghost use Rattle.hyd_row_words.specs.FaultOrValue.{Judged, words_at};
 ghost use Rattle.hyd_spec_input.specs.RuleRows as rules;
-ghost use Rattle.hyd_judge_single_rows.specs.Stages.{line_fault, rule_lines};
+ghost use Rattle.hyd_judge_single_rows.specs.RuleLineStages.{line_fault, rule_lines};
 
 use crate::rule_line_order::{check_order, first_word, is_acting, is_rule, is_rules, is_then};
 use hyd_lex::{Line, Lines};

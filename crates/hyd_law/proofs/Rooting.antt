@@ -7,7 +7,7 @@ use Rattle.std.proofs.lemmas.Int.{ints}
 use borrow.Author.Differences.{down}
 use Rattle.hyd_num.specs.declared.binary.Scaled.{Scaled}
 use Rattle.hyd_num.specs.BinaryNumbers.{numerator, denominator}
-use Rattle.hyd_num.specs.Roots.{IsSquareRootDown, IsSquareRootUp}
+use Rattle.hyd_num.specs.QuotientsAndRoots.{IsSquareRootDown, IsSquareRootUp}
 use Rattle.hyd_spec.specs.ProgramTypes.{Capacity}
 use Rattle.hyd_spec_certificates.specs.EnclosingFunctions.{root_down, root_up, quadratic_low, quadratic_high}
 use Rattle.hyd_theorems_on_definitions.proofs.Roots.{down_is, up_is}

@@ -6,9 +6,9 @@ use Rattle.std.proofs.lemmas.Int.{ints}
 use Rattle.hyd_num.specs.Rational.{floor, ceiling}
 use Rattle.hyd_num.specs.declared.decimals.Decimal.{Decimal}
 use Rattle.hyd_num.specs.declared.decimals.Span.{Span}
-use Rattle.hyd_spec.specs.Quantity.{pressure_value}
+use Rattle.hyd_spec.specs.DemandsReservoirHeadsAndCurves.{pressure_value}
 use Rattle.hyd_lemmas.proofs.Integers.{floor_greatest, floor_at_most_ceiling}
-use Rattle.hyd_law.specs.LawsOfLaws.{IsLift}
+use Rattle.hyd_law.specs.ComposedLaws.{IsLift}
 use Rattle.hyd_law.specs.DemandLaws.{stepped}
 
 not_up_to : (a p : ℤ) → a <ℤ p → int_le p a ≡ false

@@ -5,13 +5,13 @@ use Rattle.std.specs.Int.{int_min}
 use Rattle.std.proofs.Common.{subst, sym}
 use Rattle.hyd_num.specs.Rational.{negated, floor, ceiling}
 use Rattle.hyd_spec.specs.ProgramTypes.{PressureDemand}
-use Rattle.hyd_spec.specs.Quantity.{pressure_value}
+use Rattle.hyd_spec.specs.DemandsReservoirHeadsAndCurves.{pressure_value}
 use Rattle.hyd_spec.specs.Law.{Relation, QuadraticLaw, lifted, flow_at_least, flow_at_most}
 use Rattle.hyd_spec_certificates.specs.EnclosingFunctions.{quadratic_low, quadratic_high}
-use Rattle.hyd_theorems_on_definitions.specs.Laws.{IsLaw, IsSoundCapacity}
+use Rattle.hyd_theorems_on_definitions.specs.TermsOfTheorems.{IsLaw, IsSoundCapacity}
 use Rattle.hyd_theorems_on_definitions.specs.PressureDrivenDemand.{steps_at_least, steps_at_most}
 use Rattle.hyd_theorems_on_definitions.proofs.DemandLaws.{IsLaw-fixed, IsLaw-driven}
-use Rattle.hyd_law.specs.LawsOfLaws.{IsDifference, IsLift}
+use Rattle.hyd_law.specs.ComposedLaws.{IsDifference, IsLift}
 use Rattle.hyd_law.specs.declared.demand_kinds.Pda.{Pda}
 use Rattle.hyd_law.specs.declared.demand_kinds.OutLaw.{OutLaw}
 use Rattle.hyd_law.specs.declared.demand_kinds.OutLaw.TheVariants.{Fixed as FixedOut, Pda as PdaOut}

@@ -1,5 +1,5 @@
-pub mod LawsOfLaws
-pub mod LawsOfLawsAreLaws
+pub mod ComposedLaws
+pub mod ComposedLawsAreLaws
 pub mod Curves
 pub mod LinkLaws
 pub mod DemandLaws

@@ -5,7 +5,7 @@ ghost use Rattle.std.specs.Prelude.{◌≡◌, ◌+◌, ◌*◌, ◌^◌, ◌≤
 ghost use Rattle.std.specs.Bool.{OnTrue, OnFalse};
 ghost use Rattle.std.specs.Int.{int_min};
 ghost use Rattle.hyd_theorems_on_definitions.proofs.DemandLaws.{IsLaw-fixed};
-ghost use Rattle.hyd_law.specs.LawsOfLaws.{IsDifference};
+ghost use Rattle.hyd_law.specs.ComposedLaws.{IsDifference};
 ghost use Rattle.hyd_law.specs.DemandLaws.{out_at_least, out_at_most, out_low, out_high, IsSoundOut, OutAccepts};
 ghost use Rattle.hyd_law.specs.DemandLaws.{IsLaw-out, pda_at_least, pda_at_most, pda_low, pda_high, IsSoundPda};
 ghost use Rattle.hyd_law.specs.DemandLaws.{IsLaw-pda};

@@ -2,11 +2,11 @@
 //! ticks.
 #![tactic(auto)]
 
+mod composed_laws;
 mod demand_kinds;
 mod demand_laws;
 mod law;
 mod law_kinds;
-mod laws_of_laws;
 mod link_law;
 mod link_law_by_kind;
 mod plain_laws;

@@ -5,10 +5,10 @@ ghost use Rattle.std.specs.Prelude.{◌*◌, ◌^◌, ◌≤◌, pos, ⊤, unsig
 ghost use Rattle.hyd_num.specs.Rational.{floor, ceiling};
 ghost use Rattle.hyd_spec.specs.Law as exact;
 ghost use Rattle.hyd_spec_certificates.specs.EnclosingFunctions as enclosing;
-ghost use Rattle.hyd_theorems_on_definitions.specs.Laws.{IsSoundCapacity};
+ghost use Rattle.hyd_theorems_on_definitions.specs.TermsOfTheorems.{IsSoundCapacity};
 ghost use Rattle.hyd_theorems_on_definitions.proofs.LinkLaws.{IsLaw-shut};
 ghost use Rattle.hyd_theorems_on_definitions.proofs.EachLaw.{IsLaw-quad, IsLaw-straight};
-ghost use Rattle.hyd_law.specs.LawsOfLaws.{IsDifference};
+ghost use Rattle.hyd_law.specs.ComposedLaws.{IsDifference};
 
 use crate::law::Law;
 use crate::law_kinds::{Linear, Quad, Shut};

@@ -5,7 +5,7 @@ ghost use Rattle.std.specs.Prelude.{◌≡◌, ◌<◌, ◌≤◌, ◌*◌, ◌^
 ghost use Rattle.std.specs.List.{All};
 ghost use Rattle.std.specs.Bool.{OnTrue, OnFalse};
 ghost use Rattle.hyd_net.specs.Curves.{on_line, between, value_at};
-ghost use Rattle.hyd_law.specs.LawsOfLaws.{IsDifference};
+ghost use Rattle.hyd_law.specs.ComposedLaws.{IsDifference};
 ghost use Rattle.hyd_law.specs.Curves.{place_of, places, IsKnot, IsValue};
 
 use crate::law_kinds::Knot;

@@ -9,7 +9,7 @@ use Rattle.std.proofs.lemmas.Bool.Decides.{nat_tests}
 use Rattle.std.proofs.lemmas.List.{length-map}
 use Rattle.std.proofs.lemmas.Option.{slice_get_within}
 use denote.Ref.{Bor}
-use Rattle.hyd_spec_lines.specs.Bytes.{is_line_feed, is_blank, without_empty_end, text_lines, words_in, text_of}
+use Rattle.hyd_spec_lines.specs.WordsOfLines.{is_line_feed, is_blank, without_empty_end, text_lines, words_in, text_of}
 use Rattle.hyd_spec_lines.specs.Lines.{given, kind_of}
 use Rattle.hyd_lex.specs.RemainingRows.{items, region_after}
 use Rattle.hyd_spec_lines.specs.declared.section.Region.{Region}

@@ -7,7 +7,7 @@ use Rattle.std.proofs.Math.Seq.{drop-length}
 use Rattle.std.proofs.lemmas.Bool.{cases_Bool}
 use Rattle.std.proofs.lemmas.Bool.Decides.{nat_tests}
 use Rattle.std.proofs.lemmas.List.Splits.{slice_split_first}
-use Rattle.hyd_spec_lines.specs.Bytes.{is_line_feed, without_empty_end, text_lines}
+use Rattle.hyd_spec_lines.specs.WordsOfLines.{is_line_feed, without_empty_end, text_lines}
 
 -- a text without a line feed is one piece
 pub one_piece : (p : ℕ → Bool) (xs : List ℕ) → position_or_len p xs ≡ length xs → slice_split p xs ≡ xs ∷ []

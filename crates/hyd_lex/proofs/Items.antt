@@ -3,7 +3,7 @@ use Rattle.std.proofs.Common.{◌≡◌, ℕ, ◌+◌, ◌-◌, ◌^◌, ◌<◌
 use Rattle.std.proofs.Common.{take, drop, refl, sym, ap, ◌∙◌}
 use Rattle.std.proofs.lemmas.List.{take_rest, drop-drop, take-take, length-drop}
 use Rattle.std.specs.List.{position_or_len}
-use Rattle.hyd_spec_lines.specs.Bytes.{text_lines, body, is_line_feed}
+use Rattle.hyd_spec_lines.specs.WordsOfLines.{text_lines, body, is_line_feed}
 use Rattle.hyd_spec_lines.specs.Lines.{IsLineOf, kind_of, given, Reading, Row}
 use Rattle.hyd_lex.specs.RemainingRows.{Stands, items, region_after}
 use Rattle.hyd_spec_lines.specs.declared.line.Line.{Line}

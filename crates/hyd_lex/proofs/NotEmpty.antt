@@ -4,7 +4,7 @@ use Rattle.std.specs.Prelude.{Result}
 use Rattle.std.specs.List.{All, AllByRecursion, slice_split}
 use Rattle.std.proofs.lemmas.Bool.{leb-true}
 use Rattle.std.proofs.lemmas.List.Elements.{filter_passes}
-use Rattle.hyd_spec_lines.specs.Bytes.{words_in, text_lines, body, is_blank}
+use Rattle.hyd_spec_lines.specs.WordsOfLines.{words_in, text_lines, body, is_blank}
 use Rattle.hyd_spec_lines.specs.Lines.{Row, items_of, rows_in, given, kind_of}
 use Rattle.hyd_lex.specs.RemainingRows.{items, region_after}
 use Rattle.hyd_spec_lines.specs.declared.fault.LexFault.{LexFault}

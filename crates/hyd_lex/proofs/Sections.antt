@@ -5,7 +5,7 @@ use Rattle.std.proofs.Common.{inr, one-add}
 use Rattle.std.specs.Prelude.{⊤}
 use Rattle.std.specs.List.{list_all, before_first}
 use Rattle.std.proofs.lemmas.Bool.{cases_Bool}
-use Rattle.hyd_spec_lines.specs.Bytes.{text_lines, body, words_in, is_plain, is_keyword}
+use Rattle.hyd_spec_lines.specs.WordsOfLines.{text_lines, body, words_in, is_plain, is_keyword}
 use Rattle.hyd_spec_lines.specs.Headings.{heading_kind, kind_by_section, read_section, unread_kind, is_passed_over}
 use Rattle.hyd_spec_lines.specs.Lines.{Row, items_of, kind_of, line_kind, body_kind, row_kind, only_kind, given}
 use Rattle.hyd_spec_lines.specs.Lines.{begin_heading, is_heading, heading, ends_text, is_end, given_under, section_of}

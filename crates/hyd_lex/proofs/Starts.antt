@@ -8,7 +8,7 @@ use Rattle.std.proofs.lemmas.Bool.{cases_Bool}
 use Rattle.std.proofs.lemmas.List.{drop-drop, length-drop, get_or-drop}
 use Rattle.std.proofs.lemmas.List.Elements.{filter-append}
 use Rattle.std.proofs.lemmas.List.Sums.{passes_at_first}
-use Rattle.hyd_spec_lines.specs.Bytes.{text_lines, body, is_line_feed}
+use Rattle.hyd_spec_lines.specs.WordsOfLines.{text_lines, body, is_line_feed}
 use Rattle.hyd_spec_lines.specs.Lines.{Begins, IsLineOf}
 use Rattle.hyd_spec_lines.specs.declared.line.Line.{Line}
 use Rattle.hyd_lex.specs.RemainingRows.{Stands}

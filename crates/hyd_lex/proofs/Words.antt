@@ -7,7 +7,7 @@ use Rattle.std.proofs.lemmas.Bool.{cases_Bool}
 use Rattle.std.proofs.lemmas.Bool.Decides.{nat_tests}
 use Rattle.std.proofs.lemmas.List.Splits.{slice_split_first}
 use Rattle.std.proofs.lemmas.List.Sums.{prefix_len-le-length}
-use Rattle.hyd_spec_lines.specs.Bytes.{is_blank, words_in}
+use Rattle.hyd_spec_lines.specs.WordsOfLines.{is_blank, words_in}
 use Rattle.std.proofs.Math.Seq.{take-length, drop-length}
 use Rattle.std.proofs.lemmas.List.{length-take, length-drop}
 use Rattle.hyd_lex.proofs.FirstLine.{one_piece}

@@ -1,7 +1,7 @@
 -- What the reader still gives from a line on, by the region that it stands in there. That this is what the definition
 -- of a text's rows says from its first line on is proved beside the code.
 use Rattle.std.specs.Prelude.{ℕ, ◌≡◌, ◌+◌, ◌<◌, List, [], ◌∷◌, ◌++◌, length, drop, Result}
-use Rattle.hyd_spec_lines.specs.Bytes.{text_lines}
+use Rattle.hyd_spec_lines.specs.WordsOfLines.{text_lines}
 use Rattle.hyd_spec_lines.specs.Lines.{Row, Begins, kind_of, given}
 use Rattle.hyd_spec_lines.specs.declared.section.Region.{Region}
 use Rattle.hyd_spec_lines.specs.declared.section.Region.TheVariants.{Ended}

@@ -3,8 +3,8 @@
 
 ghost use Rattle.std.specs.Prelude.{◌≡◌, ◌+◌, ◌-◌, ◌<◌, ◌≤◌, ◌^◌, [], ◌∷◌, length, drop, slice_get, IfSome, IfNone};
 ghost use Rattle.std.specs.Prelude.{IfOk, IfErr};
-ghost use Rattle.hyd_spec_lines.specs.Bytes as form;
-ghost use Rattle.hyd_spec_lines.specs.Bytes.{words_in, text_of};
+ghost use Rattle.hyd_spec_lines.specs.WordsOfLines as form;
+ghost use Rattle.hyd_spec_lines.specs.WordsOfLines.{words_in, text_of};
 ghost use Rattle.hyd_spec_lines.specs.Lines.{items_of, item_of, row_of, LiesIn, IsLineOf};
 ghost use Rattle.hyd_spec_lines.specs.Lines as lines_form;
 ghost use Rattle.hyd_lex.specs.RemainingRows as walk;
@@ -31,7 +31,7 @@ impl<'a> Model for Lines<'a> {
     ghost use Rattle.std.specs.Prelude.{◌≤◌, ◌^◌, ◌+◌, length, drop};
     ghost use Rattle.hyd_spec_lines.specs.Lines.{Reading};
     ghost use Rattle.hyd_lex.specs.RemainingRows.{Stands, items};
-    ghost use Rattle.hyd_spec_lines.specs.Bytes.{text_lines};
+    ghost use Rattle.hyd_spec_lines.specs.WordsOfLines.{text_lines};
 
     ghost Value = { Reading };
 

@@ -5,8 +5,9 @@ ghost use Rattle.std.specs.Prelude.{not, [], ◌≡◌, ◌+◌, ◌-◌, ◌<�
 ghost use Rattle.std.specs.Prelude.{slice_get, slice_index, position, unwrap_or, IfSome, IfNone};
 ghost use Rattle.std.specs.List.{before_first, list_all, slice_split, position_or_len};
 ghost use Rattle.std.specs.Str.Lines.{strip_carriage_return};
-ghost use Rattle.hyd_spec_lines.specs.Bytes as form;
-ghost use Rattle.hyd_spec_lines.specs.Bytes.{is_line_feed, is_semicolon, is_blank, words_in, text_of, text_lines};
+ghost use Rattle.hyd_spec_lines.specs.WordsOfLines as form;
+ghost use Rattle.hyd_spec_lines.specs.WordsOfLines.{is_line_feed, is_semicolon, is_blank, words_in, text_of};
+ghost use Rattle.hyd_spec_lines.specs.WordsOfLines.{text_lines};
 
 /// Whether a word is a keyword, in any letter case.
 pub fn is_keyword(word: &[u8], keyword: &[u8]) -> bool

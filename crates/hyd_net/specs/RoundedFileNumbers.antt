@@ -2,7 +2,7 @@
 use Rattle.std.specs.Prelude.{◌≡◌, ℕ, ◌*◌, ◌^◌, ◌<◌, length, IfSome, ℤ, pos, ◌*ℤ◌, ⊤}
 use Rattle.std.specs.List.{All, HoldsAt}
 use Rattle.hyd_num.specs.CapacityPairs.{IsMade}
-use Rattle.hyd_num.specs.Roots.{IsFloor, IsCeiling}
+use Rattle.hyd_num.specs.QuotientsAndRoots.{IsFloor, IsCeiling}
 use Rattle.hyd_num.specs.FileQuantity.{is_us_unit, head_ticks, flow_ticks, pressure_numerator, pressure_denominator}
 use Rattle.hyd_num.specs.declared.flow_units.FlowUnit.{FlowUnit}
 use Rattle.hyd_num.specs.declared.decimals.Span.{Span}

@@ -1,6 +1,6 @@
 -- What the rows of nodes, links and what belongs to them say, as the results of their readers.
 use Rattle.std.specs.Prelude.{◌≡◌, ℕ, true, false, List, drop, Some, slice_get, if◌then◌else◌, pos}
-use Rattle.hyd_spec_lines.specs.Bytes.{text_of, words_in}
+use Rattle.hyd_spec_lines.specs.WordsOfLines.{text_of, words_in}
 use Rattle.hyd_option_and_rule_lines.specs.Meanings.{IsAsked}
 use Rattle.hyd_spec_input.specs.Columns.{word, amount, amount_or}
 use Rattle.hyd_spec_input.specs.NetworkRows.{tank_curve, tank_overflows, has_check_valve, is_closed_pipe, pipe_minor}

@@ -3,7 +3,7 @@
 
 ghost use Rattle.std.specs.Prelude.{◌≡◌};
 ghost use Rattle.hyd_spec_lines.specs.Lines.{LiesIn};
-ghost use Rattle.hyd_option_and_rule_lines.specs.FaultOrValue.{Judged, words_at};
+ghost use Rattle.hyd_row_words.specs.FaultOrValue.{Judged, words_at};
 ghost use Rattle.hyd_spec_input.specs.DemandCurveAndStatusRows as row;
 ghost use Rattle.hyd_network_rows.specs.Rows.{IsCurveRow, IsDemandRow, IsEmitterRow, IsStatusRow};
 
@@ -11,7 +11,8 @@ use crate::columns::optional_id;
 use hyd_lex::{Line, Lines};
 use hyd_net::Cause;
 use hyd_num::Decimal;
-use hyd_option_and_rule_lines::{Asked, asked_at, ends, id, number, number_within};
+use hyd_option_and_rule_lines::{Asked, asked_at};
+use hyd_row_words::{ends, id, number, number_within};
 
 const GREATEST_COEFFICIENT: i128 = 1_000_000 * 1_000_000_000;
 

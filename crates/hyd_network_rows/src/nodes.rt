@@ -3,7 +3,7 @@
 
 ghost use Rattle.std.specs.Prelude.{◌≡◌};
 ghost use Rattle.hyd_spec_lines.specs.Lines.{LiesIn};
-ghost use Rattle.hyd_option_and_rule_lines.specs.FaultOrValue.{Judged, words_at};
+ghost use Rattle.hyd_row_words.specs.FaultOrValue.{Judged, words_at};
 ghost use Rattle.hyd_spec_input.specs.NetworkRows as row;
 ghost use Rattle.hyd_network_rows.specs.Rows.{IsJunctionRow, IsReservoirRow};
 
@@ -11,7 +11,7 @@ use crate::columns::{number_or_0, optional_id};
 use hyd_lex::{Line, Lines};
 use hyd_net::Cause;
 use hyd_num::Decimal;
-use hyd_option_and_rule_lines::{ends, id, number};
+use hyd_row_words::{ends, id, number};
 
 /// A row of [JUNCTIONS], in the file's units.
 #[derive(Debug, Clone, Copy, PartialEq, Eq, Drop)]

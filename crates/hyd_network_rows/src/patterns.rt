@@ -2,9 +2,9 @@
 #![tactic(auto)]
 
 ghost use Rattle.std.specs.Prelude.{◌≡◌, ◌^◌};
-ghost use Rattle.hyd_spec_lines.specs.Bytes.{words_in};
+ghost use Rattle.hyd_spec_lines.specs.WordsOfLines.{words_in};
 ghost use Rattle.hyd_spec_lines.specs.Lines.{LiesIn};
-ghost use Rattle.hyd_option_and_rule_lines.specs.FaultOrValue.{Judged, words_at};
+ghost use Rattle.hyd_row_words.specs.FaultOrValue.{Judged, words_at};
 ghost use Rattle.hyd_spec_input.specs.Columns as column;
 ghost use Rattle.hyd_spec_input.specs.DemandCurveAndStatusRows as row;
 ghost use Rattle.hyd_network_rows.specs.Rows.{IsPatternRow};
@@ -12,7 +12,7 @@ ghost use Rattle.hyd_network_rows.specs.Rows.{IsPatternRow};
 use crate::columns::{behind_first, within};
 use hyd_lex::{Line, Lines, split_word};
 use hyd_net::Cause;
-use hyd_option_and_rule_lines::{id, needed};
+use hyd_row_words::{id, needed};
 
 const GREATEST_MULTIPLIER: i128 = 1_000_000 * 1_000_000_000;
 

@@ -2,10 +2,10 @@
 #![tactic(auto)]
 
 ghost use Rattle.std.specs.Prelude.{◌≡◌, [], ◌∷◌, None, codes, drop};
-ghost use Rattle.hyd_spec_lines.specs.Bytes.{text_of, words_in};
+ghost use Rattle.hyd_spec_lines.specs.WordsOfLines.{text_of, words_in};
 ghost use Rattle.hyd_spec_lines.specs.Headings.{is_one_of};
 ghost use Rattle.hyd_spec_lines.specs.Lines.{LiesIn};
-ghost use Rattle.hyd_option_and_rule_lines.specs.FaultOrValue.{Judged, words_at};
+ghost use Rattle.hyd_row_words.specs.FaultOrValue.{Judged, words_at};
 ghost use Rattle.hyd_spec_input.specs.NetworkRows as row;
 ghost use Rattle.hyd_network_rows.specs.Rows.{IsPumpRow};
 
@@ -14,7 +14,7 @@ use crate::end_nodes::{LinkEnds, read_ends};
 use hyd_lex::{Line, Lines, is_keyword, split_word};
 use hyd_net::Cause;
 use hyd_num::Decimal;
-use hyd_option_and_rule_lines::{check_id, number_of};
+use hyd_row_words::{check_id, number_of};
 use hyd_spec_input::EarlierKeys;
 
 const GREATEST_SPEED: i128 = 10 * 1_000_000_000;

@@ -8,7 +8,7 @@ use Rattle.std.proofs.lemmas.Bool.{cases_lt}
 use borrow.Author.Differences.{up, down}
 use Rattle.hyd_num.specs.declared.binary.Scaled.{Scaled}
 use Rattle.hyd_num.specs.BinaryNumbers.{numerator, denominator}
-use Rattle.hyd_num.specs.Roots.{IsSquareRootDown, IsSquareRootUp}
+use Rattle.hyd_num.specs.QuotientsAndRoots.{IsSquareRootDown, IsSquareRootUp}
 use Rattle.hyd_num.proofs.RoundingLemmas.{power_below}
 
 -- an integer is its positive part or its negative part

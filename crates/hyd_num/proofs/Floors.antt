@@ -6,7 +6,7 @@ use Rattle.std.proofs.Math.IntN.{*ℤ_comm}
 use Rattle.std.proofs.lemmas.Int.{ints, by_lt_z}
 use Rattle.std.specs.Int.{int_div_euclid}
 use Rattle.hyd_num.proofs.Integers.{times_neg, times_plus, times_rises, times_one}
-use Rattle.hyd_num.specs.Roots.{IsFloor, IsCeiling}
+use Rattle.hyd_num.specs.QuotientsAndRoots.{IsFloor, IsCeiling}
 
 -- n lies between r and the next multiple of d
 record Euclid (n : ℤ) (d : ℕ) (r : ℤ) : Type 0 where

@@ -5,7 +5,7 @@ pub mod Numeral
 pub mod FileQuantity
 pub mod CapacityPairs
 pub mod Rounding
-pub mod Roots
+pub mod QuotientsAndRoots
 pub mod PrintedDecimals
 pub mod Rational
 pub mod CapacityRange

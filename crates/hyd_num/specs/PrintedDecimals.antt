@@ -7,7 +7,7 @@ use Rattle.std.specs.Int.{is_negative}
 use Rattle.std.specs.Fmt.{decimal, sign_text}
 use Rattle.hyd_num.specs.FileQuantity.{flow_factor}
 use Rattle.hyd_num.specs.Rational.{Rational}
-use Rattle.hyd_num.specs.Roots.{IsFloor, IsCeiling}
+use Rattle.hyd_num.specs.QuotientsAndRoots.{IsFloor, IsCeiling}
 use Rattle.hyd_num.specs.declared.flow_units.FlowUnit.{FlowUnit}
 
 -- ---- quantities in the file's units

@@ -2,7 +2,7 @@
 use Rattle.std.specs.Prelude.{◌≡◌, ℕ, ◌+◌, ◌*◌, ◌^◌, ◌<◌}
 use Rattle.std.specs.declared.cmp.Ordering.{Ordering}
 use Rattle.std.specs.declared.cmp.Ordering.TheVariants.{Less, Equal, Greater}
-use Rattle.hyd_num.specs.declared.wide.Wide.{Wide}
+use Rattle.hyd_num.specs.declared.square_comparison.Wide.{Wide}
 
 -- the number of three parts of 56 bits
 abbrev pub value : Wide → ℕ

@@ -2,7 +2,7 @@
 #![tactic(auto)]
 
 ghost use Rattle.std.specs.Prelude.{◌^◌, ◌<◌, pos, ◌*ℤ◌, ◌<ℤ◌, unsigned_abs};
-ghost use Rattle.hyd_num.specs.Roots.{IsFloor, IsCeiling};
+ghost use Rattle.hyd_num.specs.QuotientsAndRoots.{IsFloor, IsCeiling};
 
 /// The greatest whole number at most `a * b / c`.
 pub fn mul_div_floor(a: i128, b: i128, c: i128) -> i128

@@ -3,7 +3,7 @@
 
 ghost use Rattle.std.specs.Prelude.{◌+◌, ◌*◌, ◌^◌, ◌<◌, ◌≤◌, ◌≡◌};
 ghost use Rattle.hyd_num.specs.BinaryNumbers.{numerator, denominator};
-ghost use Rattle.hyd_num.specs.Roots.{IsSquareRootDown, IsSquareRootUp};
+ghost use Rattle.hyd_num.specs.QuotientsAndRoots.{IsSquareRootDown, IsSquareRootUp};
 
 use crate::binary::Scaled;
 use crate::roots::isqrt;

@@ -1,4 +1,3 @@
-pub mod FaultOrValue
 pub mod Hours
 pub mod Moments
 pub mod Meanings

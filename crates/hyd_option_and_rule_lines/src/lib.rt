@@ -2,7 +2,6 @@
 //! itself: what it says, or the first thing that is wrong with it, word by word from the left.
 #![tactic(auto)]
 
-mod columns;
 mod controls;
 mod hours;
 mod keywords;
@@ -11,9 +10,6 @@ mod options;
 mod rules;
 mod times;
 
-pub use columns::{
-    check_id, ends, id, needed, not_negative, number, number_of, number_within, or_empty, word_is,
-};
 pub use controls::{Asked, ControlLine, WhenLine, asked_at, read_control};
 pub use hyd_net::Relation;
 pub use hyd_spec_input::{Attribute, LinkWord, NodeWord};

@@ -8,17 +8,17 @@ ghost use Rattle.hyd_spec_input.specs.Columns as column;
 ghost use Rattle.hyd_spec_input.specs.Columns.{amount};
 ghost use Rattle.hyd_spec_input.specs.Keywords as keyword_form;
 ghost use Rattle.hyd_spec_input.specs.OptionRows as form;
-ghost use Rattle.hyd_option_and_rule_lines.specs.FaultOrValue.{Judged, words_at};
+ghost use Rattle.hyd_row_words.specs.FaultOrValue.{Judged, words_at};
 ghost use Rattle.hyd_option_and_rule_lines.specs.Meanings.{IsDemandSet, IsOptionSet};
 
-use crate::columns::{
-    either_keyword, ends, id, keyword, needed, not_negative, number, number_within, or_empty,
-    word_is,
-};
 use crate::keywords::{flow_unit, option_word};
 use hyd_lex::{Line, Lines, is_keyword};
 use hyd_net::Cause;
 use hyd_num::{Decimal, FlowUnit};
+use hyd_row_words::{
+    either_keyword, ends, id, keyword, needed, not_negative, number, number_within, or_empty,
+    word_is,
+};
 use hyd_spec_input::OptionWord;
 
 const GREATEST_MULTIPLIER: i128 = 1_000_000 * 1_000_000_000;

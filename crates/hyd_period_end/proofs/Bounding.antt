@@ -13,29 +13,29 @@ use Rattle.hyd_spec.specs.NodeNumbers.{tank_count, nodes_before_tanks}
 use Rattle.hyd_spec_certificates.specs.declared.Problem.TheVariants.{Main, Pinned}
 use Rattle.hyd_spec_certificates.specs.declared.Side.TheVariants.{Upper, Lower}
 use Rattle.hyd_spec_certificates.specs.Interval.{Interval}
-use Rattle.hyd_spec_certificates.specs.Grid.{Grid}
+use Rattle.hyd_spec_certificates.specs.PeriodNetwork.{Grid}
 use Rattle.hyd_spec_certificates.specs.Certificate.{IsCertificate}
-use Rattle.hyd_spec_certificates.specs.Record.{Record, Standing}
+use Rattle.hyd_spec_certificates.specs.RecordAndStanding.{Record, Standing}
 use Rattle.hyd_spec_certificates.specs.Decided.{heads_below, heads_above, inflow_of_tank}
 use Rattle.hyd_spec_certificates.specs.Valid.{AreCertificates}
-use Rattle.hyd_theorems_on_definitions.specs.Laws.{IsSteady}
+use Rattle.hyd_theorems_on_definitions.specs.TermsOfTheorems.{IsSteady}
 use Rattle.hyd_theorems_on_nesting.proofs.TwoSides.{heads_below_plus}
 use Rattle.hyd_cert.specs.RecordView.{row_of}
 use Rattle.hyd_cert.specs.declared.record.Record.{Record as Row}
-use Rattle.hyd_controls_and_rules.specs.Instants.{flow_interval}
-use Rattle.hyd_period_network.specs.GridOf.{grid_of, interval_of}
+use Rattle.hyd_controls_and_rules.specs.RuleReadings.{flow_interval}
+use Rattle.hyd_period_network.specs.NetAsPeriodNetwork.{grid_of, interval_of}
 use Rattle.hyd_period_network.specs.NetView.{NetView}
 use Rattle.hyd_period_network.specs.Periods.{IsNetOf, ends_of}
 use Rattle.hyd_period_network.proofs.Counts.{junctions_count, links_count}
 use Rattle.hyd_period_network.proofs.Sounding.{long_zipped}
-use Rattle.hyd_bounds.specs.Bounds.{TanksInOrder, IsVector, AreInOrder}
-use Rattle.hyd_tank.specs.Spans.{IsInflow}
-use Rattle.hyd_period_facts.specs.OfPeriod.{flows_of}
+use Rattle.hyd_bounds.specs.VectorsInOrder.{TanksInOrder, IsVector, AreInOrder}
+use Rattle.hyd_tank.specs.StockIntervals.{IsInflow}
+use Rattle.hyd_period_facts.specs.FactsOfPeriod.{flows_of}
 use Rattle.hyd_period_facts.specs.declared.facts.Facts.{Facts}
 use Rattle.hyd_tank_inflows.specs.Inflows.{ArePinned}
 use Rattle.hyd_tank_inflows.proofs.Numbered.{as_long}
 use Rattle.hyd_rules_in_period.specs.Trial.{AreRead}
-use Rattle.hyd_watched_levels.specs.FactsAtStart.{AreStarted, HaveTanks}
+use Rattle.hyd_watched_levels.specs.FactsBeforeEnd.{AreStarted, HaveTanks}
 use Rattle.hyd_period_end.specs.FactsBeforeVectors.{AreBegun, AreReady}
 
 -- ---- vectors

@@ -6,8 +6,8 @@ use Rattle.hyd_spec.specs.ProgramTypes.{Project, Tank, LinkState}
 use Rattle.hyd_spec.specs.Lists.{map_from}
 use Rattle.hyd_spec.specs.declared.Change.{Change}
 use Rattle.hyd_spec_certificates.specs.Interval.{Interval}
-use Rattle.hyd_spec_certificates.specs.Grid.{Grid}
-use Rattle.hyd_spec_certificates.specs.Record.{Record, Standing, Vectors}
+use Rattle.hyd_spec_certificates.specs.PeriodNetwork.{Grid}
+use Rattle.hyd_spec_certificates.specs.RecordAndStanding.{Record, Standing, Vectors}
 use Rattle.hyd_spec_certificates.specs.Decided.{EndsBy, ByRules, WithoutRules, decided_changes, flow_boxes}
 use Rattle.hyd_spec_certificates.specs.Decided.{inflow_of_tank}
 use Rattle.hyd_spec_certificates.specs.Valid.{LeavesLinks, levels_next, volumes_next, AreStates, ControlsAreDecided}
@@ -16,15 +16,15 @@ use Rattle.hyd_spec_reports.specs.declared.Event.{Event}
 use Rattle.hyd_spec_reports.specs.Report.{EndBrings, by_rules as brings_by_rules, by_clock as brings_by_clock}
 use Rattle.hyd_spec_reports.specs.Report.{events_of}
 use Rattle.hyd_spec_reports.specs.Stops.{open_states}
-use Rattle.hyd_period_facts.specs.OfPeriod.{levels_of, volumes_of, flows_of}
+use Rattle.hyd_period_facts.specs.FactsOfPeriod.{levels_of, volumes_of, flows_of}
 use Rattle.hyd_period_facts.specs.declared.facts.Facts.{Facts}
-use Rattle.hyd_controls_and_rules.specs.Instants.{flow_interval}
-use Rattle.hyd_controls_and_rules.specs.Starts.{IsFirstOpen as IsFirstUnsure}
-use Rattle.hyd_controls_and_rules.specs.declared.period_start.LevelOpen.{LevelOpen}
+use Rattle.hyd_controls_and_rules.specs.RuleReadings.{flow_interval}
+use Rattle.hyd_controls_and_rules.specs.PumpPatternsAndSimpleControls.{IsFirstOpen as IsFirstUnsure}
+use Rattle.hyd_controls_and_rules.specs.declared.pump_patterns_and_simple_controls.LevelOpen.{LevelOpen}
 use Rattle.hyd_period_stocks.specs.TankStart.{IsFirstOpen}
 use Rattle.hyd_period_stocks.specs.declared.states.TankOpen.{TankOpen}
 use Rattle.hyd_rules_in_period.specs.Trial.{AreRead}
-use Rattle.hyd_watched_levels.specs.FactsAtStart.{AreStarted, HaveTanks}
+use Rattle.hyd_watched_levels.specs.FactsBeforeEnd.{AreStarted, HaveTanks}
 use Rattle.hyd_period_end.specs.FactsBeforeVectors.{AreBegun}
 use Rattle.hyd_period_end.specs.EndOfPeriod.{Decides, EndsAfter, by_rules, by_clock, IsClosed}
 use Rattle.hyd_period_end.specs.declared.period_end.PeriodEnd.{PeriodEnd}

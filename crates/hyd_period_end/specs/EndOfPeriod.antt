@@ -5,12 +5,12 @@ use Rattle.hyd_spec.specs.ProgramTypes.{Project, LinkState, Tank}
 use Rattle.hyd_spec.specs.NodeNumbers.{tank_count}
 use Rattle.hyd_spec.specs.Tank.{walls_of}
 use Rattle.hyd_spec.specs.declared.Change.{Change}
-use Rattle.hyd_spec_certificates.specs.Grid.{Grid}
-use Rattle.hyd_spec_certificates.specs.Record.{Record, Standing}
+use Rattle.hyd_spec_certificates.specs.PeriodNetwork.{Grid}
+use Rattle.hyd_spec_certificates.specs.RecordAndStanding.{Record, Standing}
 use Rattle.hyd_spec_certificates.specs.Decided.{EndsBy, ByRules, WithoutRules, decided_changes}
 use Rattle.hyd_spec_certificates.specs.Valid.{LeavesLinks, levels_next, volumes_next, AreStates, ControlsAreDecided}
-use Rattle.hyd_tank.specs.Spans.{AreHeld}
-use Rattle.hyd_period_facts.specs.OfPeriod.{AreFacts, levels_of, volumes_of}
+use Rattle.hyd_tank.specs.StockIntervals.{AreHeld}
+use Rattle.hyd_period_facts.specs.FactsOfPeriod.{AreFacts, levels_of, volumes_of}
 use Rattle.hyd_period_facts.specs.ReservedMemory.{Takes}
 use Rattle.hyd_period_facts.specs.declared.facts.Facts.{Facts}
 use Rattle.hyd_rule_operands.specs.ReservedMemory.{HasRoom as HasReadingsRoom}

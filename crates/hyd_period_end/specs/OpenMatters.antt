@@ -3,12 +3,12 @@
 use Rattle.std.specs.Prelude.{◌≡◌, ℕ, ℤ, Bool, List, Some, None, position, slice_get}
 use Rattle.hyd_spec.specs.ProgramTypes.{Project, LinkState, Control as Command, AtLevel}
 use Rattle.hyd_spec_certificates.specs.Interval.{Interval}
-use Rattle.hyd_spec_certificates.specs.Grid.{Grid}
-use Rattle.hyd_spec_certificates.specs.Record.{Record, Standing}
+use Rattle.hyd_spec_certificates.specs.PeriodNetwork.{Grid}
+use Rattle.hyd_spec_certificates.specs.RecordAndStanding.{Record, Standing}
 use Rattle.hyd_spec_certificates.specs.Decided.{EndsBy, RuleIsOpen, EventIsOpen}
 use Rattle.hyd_spec_certificates.specs.Valid.{LeavesLinks, levels_next}
 use Rattle.hyd_spec_reports.specs.Stops.{open_states, is_open_control}
-use Rattle.hyd_controls_and_rules.specs.declared.period_start.LevelOpen.{LevelOpen}
+use Rattle.hyd_controls_and_rules.specs.declared.pump_patterns_and_simple_controls.LevelOpen.{LevelOpen}
 use Rattle.hyd_period_stocks.specs.TankStart.{IsFirstOpen}
 use Rattle.hyd_rules_in_period.specs.Trial.{open_rule}
 use Rattle.hyd_period_end.specs.declared.undecided.Open.{Open}

@@ -4,17 +4,17 @@
 ghost use Rattle.std.specs.Prelude.{◌≡◌, ◌≤◌, ◌+◌, length, All};
 ghost use Rattle.hyd_net.specs.Sound.{Sound};
 ghost use Rattle.hyd_spec.specs.NodeNumbers.{nodes_before_tanks, tank_count};
-ghost use Rattle.hyd_spec_certificates.specs.Record.{Standing};
+ghost use Rattle.hyd_spec_certificates.specs.RecordAndStanding.{Standing};
 ghost use Rattle.hyd_spec_certificates.specs.Valid.{AreCertificates};
 ghost use Rattle.hyd_cert.specs.RecordView.{row_of};
-ghost use Rattle.hyd_controls_and_rules.specs.Instants.{IsBounded};
-ghost use Rattle.hyd_period_network.specs.GridOf.{grid_of};
+ghost use Rattle.hyd_controls_and_rules.specs.RuleReadings.{IsBounded};
+ghost use Rattle.hyd_period_network.specs.NetAsPeriodNetwork.{grid_of};
 ghost use Rattle.hyd_period_network.specs.Periods.{IsNetOf};
-ghost use Rattle.hyd_bounds.specs.Bounds.{TanksInOrder};
+ghost use Rattle.hyd_bounds.specs.VectorsInOrder.{TanksInOrder};
 ghost use Rattle.hyd_period_facts.specs.ReservedMemory.{Takes};
 ghost use Rattle.hyd_rule_operands.specs.ReservedMemory.{HasRoom};
 ghost use Rattle.hyd_rules_in_period.specs.Trial.{AreRead};
-ghost use Rattle.hyd_watched_levels.specs.FactsAtStart.{AreStarted, HaveTanks};
+ghost use Rattle.hyd_watched_levels.specs.FactsBeforeEnd.{AreStarted, HaveTanks};
 ghost use Rattle.hyd_period_end.specs.FactsBeforeVectors.{AreBegun, AreReady};
 
 use hyd_cert::Record;

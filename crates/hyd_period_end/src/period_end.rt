@@ -4,14 +4,14 @@
 ghost use Rattle.std.specs.Prelude.{◌≡◌, ◌<◌, ◌≤◌, ◌+◌, length, IfOk, IfErr, OnOk, OnErr};
 ghost use Rattle.hyd_net.specs.Sound.{Sound};
 ghost use Rattle.hyd_spec.specs.NodeNumbers.{tank_count};
-ghost use Rattle.hyd_spec_certificates.specs.Record.{Record as Row, Standing};
+ghost use Rattle.hyd_spec_certificates.specs.RecordAndStanding.{Record as Row, Standing};
 ghost use Rattle.hyd_spec_certificates.specs.Valid.{AreCertificates};
 ghost use Rattle.hyd_cert.specs.RecordView.{row_of};
 ghost use Rattle.hyd_period_facts.specs.ReservedMemory.{HasRoom as HasFactsRoom};
-ghost use Rattle.hyd_period_network.specs.GridOf.{grid_of};
+ghost use Rattle.hyd_period_network.specs.NetAsPeriodNetwork.{grid_of};
 ghost use Rattle.hyd_period_network.specs.Periods.{IsNetOf};
-ghost use Rattle.hyd_bounds.specs.Bounds.{TanksInOrder};
-ghost use Rattle.hyd_watched_levels.specs.FactsAtStart.{HaveTanks};
+ghost use Rattle.hyd_bounds.specs.VectorsInOrder.{TanksInOrder};
+ghost use Rattle.hyd_watched_levels.specs.FactsBeforeEnd.{HaveTanks};
 ghost use Rattle.hyd_period_end.specs.FactsBeforeVectors.{AreBegun, AreReady};
 ghost use Rattle.hyd_period_end.specs.EndOfPeriod.{HasRoom, AreKeptIn, IsClosed};
 ghost use Rattle.hyd_period_end.specs.OpenMatters.{IsOpenAt, SharesVectors};

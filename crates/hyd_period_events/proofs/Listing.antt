@@ -7,13 +7,13 @@ use Rattle.hyd_spec.specs.ProgramTypes.{Project, Tank, Control}
 use Rattle.hyd_spec.specs.declared.TankState.{TankState}
 use Rattle.hyd_spec.specs.Lists.{map_from, present}
 use Rattle.hyd_spec_certificates.specs.Interval.{Interval}
-use Rattle.hyd_spec_certificates.specs.Grid.{Grid}
-use Rattle.hyd_spec_certificates.specs.Record.{Record, Standing}
+use Rattle.hyd_spec_certificates.specs.PeriodNetwork.{Grid}
+use Rattle.hyd_spec_certificates.specs.RecordAndStanding.{Record, Standing}
 use Rattle.hyd_spec_certificates.specs.Decided.{carried_at}
 use Rattle.hyd_spec_certificates.specs.declared.LevelSpan.{LevelSpan}
 use Rattle.hyd_spec_reports.specs.declared.Event.{Event}
 use Rattle.hyd_spec_reports.specs.Report.{tank_event, tank_events, events_of}
-use Rattle.hyd_period_facts.specs.OfPeriod.{levels_of}
+use Rattle.hyd_period_facts.specs.FactsOfPeriod.{levels_of}
 use Rattle.hyd_period_events.specs.Events.{events_by}
 
 append_nil : {X : Type 0} (xs : List X) → xs ++ [] ≡ xs

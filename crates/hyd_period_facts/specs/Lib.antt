@@ -1,2 +1,2 @@
-pub mod OfPeriod
+pub mod FactsOfPeriod
 pub mod ReservedMemory

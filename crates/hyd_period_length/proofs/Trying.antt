@@ -7,14 +7,14 @@ use Rattle.hyd_net.specs.ListView.{ListView}
 use Rattle.hyd_spec.specs.ProgramTypes.{Project, LinkState}
 use Rattle.hyd_spec.specs.declared.Change.{Change}
 use Rattle.hyd_spec.specs.Rules.{acted, rule_changes}
-use Rattle.hyd_spec_certificates.specs.Grid.{Grid}
-use Rattle.hyd_spec_certificates.specs.Record.{Record, Standing}
-use Rattle.hyd_spec_certificates.specs.Verdict.{No, is_yes, is_unknown}
+use Rattle.hyd_spec_certificates.specs.PeriodNetwork.{Grid}
+use Rattle.hyd_spec_certificates.specs.RecordAndStanding.{Record, Standing}
+use Rattle.hyd_spec_certificates.specs.ThreeValuedLogic.{No, is_yes, is_unknown}
 use Rattle.hyd_spec_certificates.specs.Decided.{links_at, rule_truths, decided_changes, IsTried, RulesMatter, OpenRule}
 use Rattle.hyd_spec_certificates.specs.Decided.{IsOpenRule}
 use Rattle.hyd_theorems_on_nesting.specs.Nesting.{IsWalked}
 use Rattle.hyd_period_facts.specs.declared.facts.Facts.{Facts}
-use Rattle.hyd_watched_levels.specs.FactsAtStart.{AreStarted}
+use Rattle.hyd_watched_levels.specs.FactsBeforeEnd.{AreStarted}
 use Rattle.hyd_rules_in_period.specs.Trial.{AreDecided, open_rule}
 use Rattle.hyd_period_length.specs.declared.end_kinds.Ending.{Ending}
 use Rattle.hyd_period_length.specs.declared.end_kinds.Ending.TheVariants.{ByRules, WithoutRules, RuleOpen, EventOpen}

@@ -5,16 +5,16 @@ ghost use Rattle.std.specs.Prelude.{◌≡◌, ◌≢◌, ◌+◌, ◌<◌, ◌�
 ghost use Rattle.std.specs.List.{All};
 ghost use Rattle.hyd_net.specs.Sound.{Sound};
 ghost use Rattle.hyd_spec.specs.NodeNumbers.{nodes_before_tanks, tank_count};
-ghost use Rattle.hyd_spec_certificates.specs.Grid.{Grid};
-ghost use Rattle.hyd_spec_certificates.specs.Record.{Record, Standing};
+ghost use Rattle.hyd_spec_certificates.specs.PeriodNetwork.{Grid};
+ghost use Rattle.hyd_spec_certificates.specs.RecordAndStanding.{Record, Standing};
 ghost use Rattle.hyd_spec_certificates.specs.Decided.{IsEarliestEnd, IsLatestEnd, EndsBy};
 ghost use Rattle.hyd_spec_certificates.specs.Valid.{LeavesLinks};
-ghost use Rattle.hyd_controls_and_rules.specs.Instants.{IsBounded};
-ghost use Rattle.hyd_watched_levels.specs.FactsAtStart.{HaveTanks, AreStarted};
+ghost use Rattle.hyd_controls_and_rules.specs.RuleReadings.{IsBounded};
+ghost use Rattle.hyd_watched_levels.specs.FactsBeforeEnd.{HaveTanks, AreStarted};
 ghost use Rattle.hyd_period_length.specs.Endings.{ForPeriod, IfDecided, UnlessByRules, end_of, changes_by};
 
 use crate::end_kinds::Ending;
-use crate::instants::end_by_rules;
+use crate::rule_instants::end_by_rules;
 use hyd_net::{LinkState, List, Project};
 use hyd_num::Span;
 use hyd_period_facts::Facts;

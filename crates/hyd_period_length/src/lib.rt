@@ -3,7 +3,7 @@
 
 mod end_kinds;
 mod finding_the_end;
-mod instants;
+mod rule_instants;
 
 pub use end_kinds::Ending;
 pub use finding_the_end::find_end;

@@ -3,11 +3,11 @@ use Rattle.std.proofs.Common.{◌≡◌, ℕ, ℤ, Bool, true, false, MatchBool,
 use Rattle.std.specs.List.{AllZip}
 use Rattle.hyd_spec.specs.ProgramTypes.{Project, Junction, Capacity, LinkState}
 use Rattle.hyd_spec.specs.declared.TankState.{TankState}
-use Rattle.hyd_spec.specs.Quantity.{demand_of, minimum_pressure, required_pressure}
+use Rattle.hyd_spec.specs.DemandsReservoirHeadsAndCurves.{demand_of, minimum_pressure, required_pressure}
 use Rattle.hyd_spec.specs.Outflow.{is_pressure_driven}
 use Rattle.hyd_spec_certificates.specs.EnclosingFunctions.{DemandLaw, Fixed, Driven}
 use Rattle.hyd_spec_certificates.specs.Interval.{Interval}
-use Rattle.hyd_spec_certificates.specs.Grid.{Grid, GridJunction, IsGrid, IsDriven, IsDemandLaw, IsJunctionOf}
+use Rattle.hyd_spec_certificates.specs.PeriodNetwork.{Grid, GridJunction, IsGrid, IsDriven, IsDemandLaw, IsJunctionOf}
 use Rattle.hyd_theorems_on_definitions.proofs.OneCapacity.{one_capacity}
 
 one_law : (project : Project) (demand : ℤ) (x y : DemandLaw) → IsDemandLaw project demand x

@@ -5,10 +5,11 @@ use Rattle.hyd_net.specs.ListView.{ListView}
 use Rattle.hyd_net.specs.declared.curves.HeadPoint.{HeadPoint}
 use Rattle.hyd_spec.specs.ProgramTypes.{Project, Link, LinkKind}
 use Rattle.hyd_spec.specs.Law.{Law}
-use Rattle.hyd_spec.specs.Quantity.{is_us}
+use Rattle.hyd_spec.specs.DemandsReservoirHeadsAndCurves.{is_us}
 use Rattle.hyd_law.specs.declared.link_law.LinkLaw.{LinkLaw}
-use Rattle.hyd_period_network.specs.declared.junctions_ties_and_settings.Setting.{Setting}
-use Rattle.hyd_period_network.specs.Settings.{Represents, AreLawsOf, AreLaws, IsClosedLaw, AreClosed, closed_setting}
+use Rattle.hyd_period_network.specs.declared.net_types.Setting.{Setting}
+use Rattle.hyd_period_network.specs.LawsInSettings.{Represents, AreLawsOf, AreLaws, IsClosedLaw, AreClosed}
+use Rattle.hyd_period_network.specs.LawsInSettings.{closed_setting}
 use Rattle.hyd_period_network.proofs.Ranging.{closed_is}
 use Rattle.hyd_period_network.proofs.SettingOne.{same_or, any_default}
 use Rattle.std.proofs.lemmas.List.{get_or_append_left, get_or-append_right}

@@ -8,19 +8,19 @@ use Rattle.std.proofs.lemmas.Int.{ints}
 use Rattle.std.proofs.lemmas.Option.{slice_get-get_or, get_or_from_slice_get}
 use Rattle.hyd_num.specs.CapacityPairs.{IsMade}
 use Rattle.hyd_num.specs.FileQuantity.{pressure_numerator, pressure_denominator}
-use Rattle.hyd_num.specs.Roots.{IsFloor, IsCeiling}
+use Rattle.hyd_num.specs.QuotientsAndRoots.{IsFloor, IsCeiling}
 use Rattle.hyd_num.specs.declared.decimals.Decimal.{Decimal}
 use Rattle.hyd_num.specs.declared.decimals.Span.{Span}
 use Rattle.hyd_net.specs.NetworkRanges.{IsPressure}
 use Rattle.hyd_spec.specs.ProgramTypes.{Project, Junction, Capacity, PressureDemand}
-use Rattle.hyd_spec.specs.Quantity.{is_us, demand_of, pressure_value}
+use Rattle.hyd_spec.specs.DemandsReservoirHeadsAndCurves.{is_us, demand_of, pressure_value}
 use Rattle.hyd_spec.specs.Outflow.{is_pressure_driven}
 use Rattle.hyd_spec_certificates.specs.EnclosingFunctions.{Driven}
 use Rattle.hyd_spec_certificates.specs.Valid.{DemandsAreInRange}
 use Rattle.hyd_spec_reports.specs.Stops.{IsFirstDemand}
 use Rattle.hyd_theorems_on_definitions.proofs.EachLaw.{IsSoundCapacity-made}
-use Rattle.hyd_demand.specs.Numbered.{junction_demand}
-use Rattle.hyd_law.specs.LawsOfLaws.{IsLift}
+use Rattle.hyd_demand.specs.DemandsAndHeadsByNumber.{junction_demand}
+use Rattle.hyd_law.specs.ComposedLaws.{IsLift}
 use Rattle.hyd_law.specs.declared.demand_kinds.OutLaw.{OutLaw}
 use Rattle.hyd_law.specs.declared.demand_kinds.OutLaw.TheVariants.{Fixed as FixedOut, Pda as PdaOut}
 use Rattle.hyd_units.proofs.Wholes.{IsFloor-floor, IsCeiling-ceiling}

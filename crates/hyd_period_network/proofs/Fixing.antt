@@ -7,11 +7,11 @@ use Rattle.hyd_spec.specs.Lists.{map_from}
 use Rattle.hyd_spec_certificates.specs.declared.Problem.{Problem}
 use Rattle.hyd_spec_certificates.specs.declared.Side.{Side}
 use Rattle.hyd_spec_certificates.specs.declared.Side.TheVariants.{Upper, Lower}
-use Rattle.hyd_spec_certificates.specs.Grid.{end_on, tank_side, all_heads, fixed_heads}
+use Rattle.hyd_spec_certificates.specs.PeriodNetwork.{end_on, tank_side, all_heads, fixed_heads}
 use Rattle.hyd_spec_certificates.specs.declared.LevelSpan.{LevelSpan}
 use Rattle.hyd_period_network.specs.NetView.{NetView}
-use Rattle.hyd_period_network.specs.GridOf.{grid_of, interval_of}
-use Rattle.hyd_period_network.specs.Nets.{is_upper}
+use Rattle.hyd_period_network.specs.NetAsPeriodNetwork.{grid_of, interval_of}
+use Rattle.hyd_period_network.specs.NetInvariant.{is_upper}
 
 tank_end : (problem : Problem) (side : Side) (k : ℕ) (tanks : List LevelSpan) (t : ℕ) (d : LevelSpan) → t < length tanks
     → head_at (map_from (λ k tank. end_on (tank_side problem side k) tank) k (map interval_of tanks)) t

@@ -5,19 +5,20 @@ use Rattle.hyd_spec.specs.ProgramTypes.{Project, Junction, Link, LinkState, Clos
 use Rattle.hyd_spec.specs.declared.TankState.{TankState}
 use Rattle.hyd_spec.specs.Law.{Law}
 use Rattle.hyd_spec.specs.LinkLaw.{own_law, law_of}
-use Rattle.hyd_spec.specs.Quantity.{is_us, demand_of, reservoir_head}
-use Rattle.hyd_spec_certificates.specs.Grid.{IsGrid, IsJunctionOf, grid_links, tank_intervals}
+use Rattle.hyd_spec.specs.DemandsReservoirHeadsAndCurves.{is_us, demand_of, reservoir_head}
+use Rattle.hyd_spec_certificates.specs.PeriodNetwork.{IsGrid, IsJunctionOf, grid_links, tank_intervals}
 use Rattle.hyd_law.specs.declared.link_law.LinkLaw.{LinkLaw}
 use Rattle.hyd_law.specs.declared.demand_kinds.OutLaw.{OutLaw}
-use Rattle.hyd_period_network.specs.declared.junctions_ties_and_settings.NetJunction.{NetJunction}
+use Rattle.hyd_period_network.specs.declared.net_types.NetJunction.{NetJunction}
 use Rattle.hyd_spec_certificates.specs.declared.LevelSpan.{LevelSpan}
-use Rattle.hyd_period_network.specs.declared.junctions_ties_and_settings.Setting.{Setting}
+use Rattle.hyd_period_network.specs.declared.net_types.Setting.{Setting}
 use Rattle.hyd_period_network.specs.NetView.{NetView}
 use Rattle.hyd_period_network.specs.ExactLaw.{exact_law}
-use Rattle.hyd_period_network.specs.Settings.{restricted, AreLaws, AreLawsOf, AreSet, setting_of, closed_setting}
+use Rattle.hyd_period_network.specs.LawsInSettings.{restricted, AreLaws, AreLawsOf, AreSet, setting_of, closed_setting}
 use Rattle.hyd_period_network.specs.Demands.{IsNetJunction, IsOutLawOf, AreDemandsAt}
-use Rattle.hyd_period_network.specs.GridOf.{grid_of, junctions_of, link_of, links_of, interval_of, state_of, states_of}
-use Rattle.hyd_period_network.specs.GridOf.{own_laws}
+use Rattle.hyd_period_network.specs.NetAsPeriodNetwork.{grid_of, junctions_of, link_of, links_of, interval_of, state_of}
+use Rattle.hyd_period_network.specs.NetAsPeriodNetwork.{states_of}
+use Rattle.hyd_period_network.specs.NetAsPeriodNetwork.{own_laws}
 use Rattle.hyd_period_network.specs.Periods.{ends_of, IsNetOf, AreShut, own_laws_of}
 
 junctions_are : (project : Project) (time : ℕ) (junctions : List Junction) (here : List NetJunction)

@@ -2,7 +2,7 @@
 use Rattle.std.proofs.Common.{◌≡◌, ℤ, pos, refl}
 use Rattle.hyd_num.specs.Rational.{floor, ceiling}
 use Rattle.hyd_spec.specs.ProgramTypes.{Project}
-use Rattle.hyd_spec.specs.Quantity.{pressure_value}
+use Rattle.hyd_spec.specs.DemandsReservoirHeadsAndCurves.{pressure_value}
 use Rattle.hyd_spec_certificates.specs.EnclosingFunctions.{demand_low, demand_high, quadratic_low, quadratic_high}
 use Rattle.hyd_law.specs.DemandLaws.{out_low, out_high, IsSoundOut, stepped}
 use Rattle.hyd_law.specs.declared.demand_kinds.OutLaw.{OutLaw}

@@ -9,7 +9,7 @@ use Rattle.hyd_num.specs.declared.decimals.Span.{Span}
 use Rattle.hyd_spec.specs.ProgramTypes.{Capacity, ShutoffHead}
 use Rattle.hyd_num.specs.Rational.{floor, ceiling}
 use Rattle.hyd_net.specs.Curves.{Knot as Place, value_at}
-use Rattle.hyd_spec.specs.Quantity.{lift_of}
+use Rattle.hyd_spec.specs.DemandsReservoirHeadsAndCurves.{lift_of}
 use Rattle.hyd_spec.specs.LinkLaw.{greatest_flow}
 use Rattle.hyd_spec.specs.Scale.{at_scale}
 use Rattle.hyd_spec.specs.Law.{Relation, flow_at_least, flow_at_most, Law, Shut as ShutLaw, QuadraticLaw, LinearLaw}
@@ -17,8 +17,8 @@ use Rattle.hyd_spec.specs.Law.{Lifted, ForwardOnly, ReverseOnly, Capped as Cappe
 use Rattle.hyd_spec_certificates.specs.EnclosingFunctions.{quadratic_low, quadratic_high, low, high}
 use Rattle.hyd_lemmas.proofs.Integers.{max_left, max_right, max_is, min_left, min_right, min_is}
 use Rattle.hyd_theorems_on_definitions.proofs.EachLaw.{IsSoundCapacity-made}
-use Rattle.hyd_law.specs.LawsOfLaws.{IsLift, directed, directed_at_least, directed_at_most, held, held_at_least}
-use Rattle.hyd_law.specs.LawsOfLaws.{held_at_most}
+use Rattle.hyd_law.specs.ComposedLaws.{IsLift, directed, directed_at_least, directed_at_most, held, held_at_least}
+use Rattle.hyd_law.specs.ComposedLaws.{held_at_most}
 use Rattle.hyd_law.specs.Curves.{IsCurve, places}
 use Rattle.hyd_law.specs.LinkLaws.{link_at_least, link_at_most, link_low, link_high, IsSoundLink, LinkAccepts}
 use Rattle.hyd_law.specs.declared.law_kinds.Shut.{Shut as ShutValue}
@@ -35,7 +35,7 @@ use Rattle.hyd_law.specs.declared.link_law.LinkLaw.TheVariants.{Limit, LinearLim
 use Rattle.hyd_law.specs.declared.link_law.LinkLaw.TheVariants.{Bent}
 use Rattle.hyd_period_network.specs.ExactLaw.{one_way_law, is_nothing}
 use Rattle.std.specs.Prelude.{◌↔◌, if◌then◌else◌}
-use Rattle.hyd_period_network.specs.Settings.{Stands, Represents}
+use Rattle.hyd_period_network.specs.LawsInSettings.{Stands, Represents}
 
 -- ---- two truths that are the same
 

@@ -15,7 +15,7 @@ use Rattle.hyd_spec.specs.ProgramTypes.{ShutoffHead}
 use Rattle.hyd_spec.specs.ProgramTypes.{FourThirds, Given}
 use Rattle.hyd_spec.specs.Law.{Shut}
 use Rattle.hyd_spec.specs.LinkLaw.{own_law}
-use Rattle.hyd_period_network.specs.Settings.{IsShutoff, HasShutoff}
+use Rattle.hyd_period_network.specs.LawsInSettings.{IsShutoff, HasShutoff}
 
 pub speed_of : (kind : LinkKind) (nano : ℤ) → CanHave kind (Speed nano) → IsSpeed nano
 speed_of (PipeLink cap) nano can = absurd can

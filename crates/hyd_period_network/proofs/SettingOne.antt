@@ -4,10 +4,10 @@ use Rattle.std.proofs.Common.{slice_set, refl, ap, sym, ◌∙◌, subst, arith}
 use Rattle.std.proofs.lemmas.List.{get_or-set_same, get_or-set_other}
 use Rattle.hyd_spec.specs.ProgramTypes.{Project, Link, LinkState}
 use Rattle.hyd_spec.specs.declared.TankState.{TankState}
-use Rattle.hyd_spec.specs.Quantity.{is_us}
+use Rattle.hyd_spec.specs.DemandsReservoirHeadsAndCurves.{is_us}
 use Rattle.hyd_law.specs.declared.link_law.LinkLaw.{LinkLaw}
-use Rattle.hyd_period_network.specs.declared.junctions_ties_and_settings.Setting.{Setting}
-use Rattle.hyd_period_network.specs.Settings.{AreLawsOf, AreLaws, AreSet, setting_of}
+use Rattle.hyd_period_network.specs.declared.net_types.Setting.{Setting}
+use Rattle.hyd_period_network.specs.LawsInSettings.{AreLawsOf, AreLaws, AreSet, setting_of}
 
 pub same_or : (k i : ℕ) → (k ≡ i) ⊎ (k ≢ i)
 same_or zero zero = inl refl

@@ -3,7 +3,7 @@ use Rattle.std.proofs.Common.{ℕ, ◌<◌, length, slice_index_or, sym, subst}
 use Rattle.hyd_net.specs.Sound.{Sound}
 use Rattle.hyd_spec.specs.ProgramTypes.{Project, Link, LinkState}
 use Rattle.std.specs.Prelude.{List}
-use Rattle.hyd_period_network.specs.Settings.{AreStates, CanStand}
+use Rattle.hyd_period_network.specs.LawsInSettings.{AreStates, CanStand}
 
 pub standing_of : (project : Project) (states : List LinkState) → Sound project → AreStates project states
     → (k : ℕ) (link : Link) (state : LinkState) → k < length project.links.list

@@ -6,11 +6,12 @@ use Rattle.std.specs.Option.{option_map}
 use Rattle.std.proofs.lemmas.Int.{ints}
 use Rattle.std.proofs.lemmas.Bool.{cond_both}
 use Rattle.hyd_spec.specs.ProgramTypes.{ShutoffHead, FourThirds, Given, Decimal}
-use Rattle.hyd_spec.specs.Quantity.{lift_of, pressure_value}
+use Rattle.hyd_spec.specs.DemandsReservoirHeadsAndCurves.{lift_of, pressure_value}
 use Rattle.hyd_spec.specs.Law.{Law, Shut as ShutLaw, Held as HeldLaw, Bent as BentLaw}
-use Rattle.hyd_spec_certificates.specs.Grid.{GridLink, GridJunction}
-use Rattle.hyd_theorems_on_definitions.specs.Laws.{IsSoundLaw, IsSoundCapacity, IsSoundDemand as IsSoundDemandLaw}
-use Rattle.hyd_theorems_on_definitions.specs.Laws.{IsSteady}
+use Rattle.hyd_spec_certificates.specs.PeriodNetwork.{GridLink, GridJunction}
+use Rattle.hyd_theorems_on_definitions.specs.TermsOfTheorems.{IsSoundLaw, IsSoundCapacity}
+use Rattle.hyd_theorems_on_definitions.specs.TermsOfTheorems.{IsSoundDemand as IsSoundDemandLaw}
+use Rattle.hyd_theorems_on_definitions.specs.TermsOfTheorems.{IsSteady}
 use Rattle.hyd_law.specs.Curves.{places}
 use Rattle.hyd_law.specs.LinkLaws.{IsSoundLink}
 use Rattle.hyd_law.specs.declared.law_kinds.Quad.{Quad as QuadValue}
@@ -20,15 +21,15 @@ use Rattle.hyd_law.specs.declared.link_law.LinkLaw.TheVariants.{Limit, LinearLim
 use Rattle.hyd_law.specs.declared.link_law.LinkLaw.TheVariants.{Bent}
 use Rattle.hyd_law.specs.declared.demand_kinds.OutLaw.{OutLaw}
 use Rattle.hyd_law.specs.declared.demand_kinds.OutLaw.TheVariants.{Fixed, Pda}
-use Rattle.hyd_period_network.specs.declared.junctions_ties_and_settings.NetJunction.{NetJunction}
-use Rattle.hyd_period_network.specs.declared.junctions_ties_and_settings.Ends.{Ends}
-use Rattle.hyd_period_network.specs.declared.junctions_ties_and_settings.Setting.{Setting}
+use Rattle.hyd_period_network.specs.declared.net_types.NetJunction.{NetJunction}
+use Rattle.hyd_period_network.specs.declared.net_types.Ends.{Ends}
+use Rattle.hyd_period_network.specs.declared.net_types.Setting.{Setting}
 use Rattle.hyd_period_network.specs.NetView.{NetView}
 use Rattle.hyd_period_network.specs.Demands.{demand_of_law}
 use Rattle.hyd_period_network.specs.ExactLaw.{exact_law, is_nothing, one_way_law}
-use Rattle.hyd_period_network.specs.Settings.{restricted}
-use Rattle.hyd_period_network.specs.GridOf.{grid_of, junctions_of, links_of, capacity_of}
-use Rattle.hyd_period_network.specs.Nets.{IsSoundJunction, IsSoundDemand, HaveLaws, IsSoundNet}
+use Rattle.hyd_period_network.specs.LawsInSettings.{restricted}
+use Rattle.hyd_period_network.specs.NetAsPeriodNetwork.{grid_of, junctions_of, links_of, capacity_of}
+use Rattle.hyd_period_network.specs.NetInvariant.{IsSoundJunction, IsSoundDemand, HaveLaws, IsSoundNet}
 
 lift_above : (us : Bool) (head : ShutoffHead) (speed : ℤ) → 0 < (lift_of us head speed).den
 lift_above us (FourThirds head) speed = lit< tt

@@ -3,8 +3,8 @@ use Rattle.std.proofs.Common.{ℕ, zero, suc, ◌+◌, ◌*◌, ◌≤◌, Bool,
 use Rattle.std.proofs.Math.ListN.{length-append}
 use Rattle.std.proofs.lemmas.List.Elements.{All-append, All-nil}
 use Rattle.std.specs.List.{All}
-use Rattle.hyd_period_network.specs.declared.junctions_ties_and_settings.Ends.{Ends}
-use Rattle.hyd_period_network.specs.declared.junctions_ties_and_settings.Tie.{Tie}
+use Rattle.hyd_period_network.specs.declared.net_types.Ends.{Ends}
+use Rattle.hyd_period_network.specs.declared.net_types.Tie.{Tie}
 use Rattle.hyd_period_network.specs.LinkEnds.{tie_if, ties_from, HasEnds, IsTie}
 
 at_most_one : (b : Bool) (t : Tie) → length (tie_if b t) ≤ 1

@@ -3,14 +3,14 @@
 use Rattle.std.specs.Prelude.{◌≡◌, ◌<◌, ◌≤◌, ◌*◌, ◌^◌, ℕ, ℤ, unsigned_abs, List, length, slice_index_or}
 use Rattle.std.specs.Option.{option_map}
 use Rattle.hyd_spec.specs.ProgramTypes.{Project, Junction}
-use Rattle.hyd_spec.specs.Quantity.{demand_of, pressure_value}
+use Rattle.hyd_spec.specs.DemandsReservoirHeadsAndCurves.{demand_of, pressure_value}
 use Rattle.hyd_spec_certificates.specs.EnclosingFunctions.{DemandLaw, Fixed, Driven}
-use Rattle.hyd_spec_certificates.specs.Grid.{IsDemandLaw}
+use Rattle.hyd_spec_certificates.specs.PeriodNetwork.{IsDemandLaw}
 use Rattle.hyd_law.specs.DemandLaws.{IsSoundOut, OutAccepts}
 use Rattle.hyd_law.specs.declared.law_kinds.Quad.{Quad}
 use Rattle.hyd_law.specs.declared.demand_kinds.OutLaw.{OutLaw}
 use Rattle.hyd_law.specs.declared.demand_kinds.OutLaw.TheVariants.{Fixed as FixedOut, Pda as PdaOut}
-use Rattle.hyd_period_network.specs.declared.junctions_ties_and_settings.NetJunction.{NetJunction}
+use Rattle.hyd_period_network.specs.declared.net_types.NetJunction.{NetJunction}
 
 -- the law of a demand that a law of the program stands for
 abbrev pub demand_of_law : OutLaw → DemandLaw

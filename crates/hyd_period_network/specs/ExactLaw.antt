@@ -2,7 +2,7 @@
 -- Source: EPANET 2.2 User Manual, chapter 3 (the network model).
 use Rattle.std.specs.Prelude.{ℤ, pos, Bool, true, false, ◌&&◌, if◌then◌else◌}
 use Rattle.hyd_spec.specs.Scale.{is_same_number}
-use Rattle.hyd_spec.specs.Quantity.{lift_of}
+use Rattle.hyd_spec.specs.DemandsReservoirHeadsAndCurves.{lift_of}
 use Rattle.hyd_spec.specs.Law.{Law, Shut as ShutLaw, QuadraticLaw, LinearLaw, Lifted, ForwardOnly, ReverseOnly, Capped}
 use Rattle.hyd_spec.specs.Law.{Bent as BentLaw, Held}
 use Rattle.hyd_law.specs.Curves.{places}

@@ -2,7 +2,7 @@ pub mod NetView
 pub mod LinkEnds
 pub mod Demands
 pub mod ExactLaw
-pub mod Settings
-pub mod GridOf
-pub mod Nets
+pub mod LawsInSettings
+pub mod NetAsPeriodNetwork
+pub mod NetInvariant
 pub mod Periods

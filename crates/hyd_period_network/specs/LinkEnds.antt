@@ -5,9 +5,9 @@ use Rattle.std.specs.Option.{option_map_or}
 use Rattle.smallvec.specs.SmallVec.{SmallVec}
 use Rattle.hyd_spec.specs.Assignment.{head_at}
 use Rattle.hyd_spec.specs.Law.{Law}
-use Rattle.hyd_spec_certificates.specs.Grid.{GridLink}
-use Rattle.hyd_period_network.specs.declared.junctions_ties_and_settings.Ends.{Ends}
-use Rattle.hyd_period_network.specs.declared.junctions_ties_and_settings.Tie.{Tie}
+use Rattle.hyd_spec_certificates.specs.PeriodNetwork.{GridLink}
+use Rattle.hyd_period_network.specs.declared.net_types.Ends.{Ends}
+use Rattle.hyd_period_network.specs.declared.net_types.Tie.{Tie}
 
 -- a link end where the test holds, else none
 abbrev pub tie_if : Bool → Tie → List Tie

@@ -1,9 +1,9 @@
 -- What contracts see of a `Net`.
 use Rattle.std.specs.Prelude.{ℤ, List}
-use Rattle.hyd_period_network.specs.declared.junctions_ties_and_settings.NetJunction.{NetJunction}
-use Rattle.hyd_period_network.specs.declared.junctions_ties_and_settings.Ends.{Ends}
+use Rattle.hyd_period_network.specs.declared.net_types.NetJunction.{NetJunction}
+use Rattle.hyd_period_network.specs.declared.net_types.Ends.{Ends}
 use Rattle.hyd_spec_certificates.specs.declared.LevelSpan.{LevelSpan}
-use Rattle.hyd_period_network.specs.declared.junctions_ties_and_settings.Setting.{Setting}
+use Rattle.hyd_period_network.specs.declared.net_types.Setting.{Setting}
 use Rattle.hyd_law.specs.declared.link_law.LinkLaw.{LinkLaw}
 use Rattle.hyd_law.specs.declared.demand_kinds.OutLaw.{OutLaw}
 

@@ -13,10 +13,10 @@ ghost use Rattle.hyd_net.specs.declared.curves.HeadPoint.{HeadPoint};
 ghost use Rattle.hyd_spec.specs.ProgramTypes.{CurvePump, Gpv};
 ghost use Rattle.hyd_spec.specs.Law as exact;
 ghost use Rattle.hyd_spec.specs.LinkLaw as spec;
-ghost use Rattle.hyd_spec.specs.Quantity.{points_of, pump_knots, valve_knots};
+ghost use Rattle.hyd_spec.specs.DemandsReservoirHeadsAndCurves.{points_of, pump_knots, valve_knots};
 ghost use Rattle.hyd_law.specs.Curves.{IsCurve, IsKnot, place_of, places};
 ghost use Rattle.hyd_law.specs.LinkLaws.{IsSoundLink};
-ghost use Rattle.hyd_period_network.specs.Settings.{HasRoom, Represents};
+ghost use Rattle.hyd_period_network.specs.LawsInSettings.{HasRoom, Represents};
 
 use crate::pumps::{SQUARED_BILLION, product, squared_times};
 use hyd_law::{Bent, Held, Knot, LinkLaw};

@@ -6,7 +6,7 @@ ghost use Rattle.hyd_net.specs.NetworkRanges.{HasOptions};
 ghost use Rattle.hyd_net.specs.Sound.{Sound};
 ghost use Rattle.hyd_spec_certificates.specs.Valid.{DemandsAreInRange};
 ghost use Rattle.hyd_spec_reports.specs.Stops.{IsFirstDemand};
-ghost use Rattle.hyd_demand.specs.Numbered.{junction_demand, IsInRange, IsOutOfRange};
+ghost use Rattle.hyd_demand.specs.DemandsAndHeadsByNumber.{junction_demand, IsInRange, IsOutOfRange};
 ghost use Rattle.hyd_period_network.specs.Demands.{demand_held, IsOutLawOf, IsHeld, AreHeld, AreDemandsAt};
 
 use crate::fault::PeriodDemand;

@@ -4,10 +4,10 @@
 ghost use Rattle.std.specs.Prelude.{◌≡◌, pos, ◌+ℤ◌, ◌≤ℤ◌, length, map, All};
 ghost use Rattle.hyd_net.specs.NumberRanges.{IsHead};
 ghost use Rattle.hyd_net.specs.Sound.{Sound};
-ghost use Rattle.hyd_spec.specs.Quantity.{reservoir_head};
-ghost use Rattle.hyd_spec_certificates.specs.Grid.{tank_intervals};
-ghost use Rattle.hyd_period_network.specs.GridOf.{interval_of};
-ghost use Rattle.hyd_period_network.specs.Nets.{AreHeads};
+ghost use Rattle.hyd_spec.specs.DemandsReservoirHeadsAndCurves.{reservoir_head};
+ghost use Rattle.hyd_spec_certificates.specs.PeriodNetwork.{tank_intervals};
+ghost use Rattle.hyd_period_network.specs.NetAsPeriodNetwork.{interval_of};
+ghost use Rattle.hyd_period_network.specs.NetInvariant.{AreHeads};
 ghost use Rattle.hyd_period_network.specs.Periods.{AreLevels, IsSpanOf, HasHeads};
 
 use hyd_demand::head_at;

@@ -3,7 +3,7 @@
 
 ghost use Rattle.std.specs.Prelude.{◌≡◌, ℕ, ℤ, Bool, true, not, List, if◌then◌else◌};
 ghost use Rattle.std.specs.Bool.{OnTrue, OnFalse};
-ghost use Rattle.hyd_law.specs.LawsOfLaws.{directed};
+ghost use Rattle.hyd_law.specs.ComposedLaws.{directed};
 ghost use Rattle.hyd_law.specs.LinkLaws.{IsSoundLink};
 ghost use Rattle.hyd_net.specs.ListView.{ListView};
 ghost use Rattle.hyd_net.specs.RoundedFileNumbers.{IsValveMade};
@@ -13,14 +13,14 @@ ghost use Rattle.hyd_spec.specs.ProgramTypes.{Open, Closed, Speed, Throttle, Lim
 ghost use Rattle.hyd_spec.specs.Law.{Law};
 ghost use Rattle.hyd_spec.specs.Law as exact;
 ghost use Rattle.hyd_spec.specs.LinkLaw as spec;
-ghost use Rattle.hyd_spec.specs.Quantity.{is_us};
+ghost use Rattle.hyd_spec.specs.DemandsReservoirHeadsAndCurves.{is_us};
 ghost use Rattle.hyd_period_network.specs.ExactLaw.{one_way_law};
-ghost use Rattle.hyd_period_network.specs.Settings.{Stands, Represents, HasRoom, HasRoomFor, IsPlain, IsLawMade};
-ghost use Rattle.hyd_period_network.specs.Settings.{HasShutoff};
-ghost use Rattle.hyd_period_network.specs.Settings.{CanStand, AreLawsOf, IsShutBetween, restricted};
+ghost use Rattle.hyd_period_network.specs.LawsInSettings.{Stands, Represents, HasRoom, HasRoomFor, IsPlain, IsLawMade};
+ghost use Rattle.hyd_period_network.specs.LawsInSettings.{HasShutoff};
+ghost use Rattle.hyd_period_network.specs.LawsInSettings.{CanStand, AreLawsOf, IsShutBetween, restricted};
 
 use crate::curves::{closed_curve, curve_pump_law, curve_valve_law, knots_of, points_of};
-use crate::junctions_ties_and_settings::Setting;
+use crate::net_types::Setting;
 use crate::pumps::pump_law;
 use hyd_law::{Bent, Capped, Held, Linear, LinkLaw, OneWay, Quad, Shut};
 use hyd_net::{LinkKind, LinkState, OpenValve, Project};

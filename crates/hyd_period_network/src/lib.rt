@@ -2,15 +2,15 @@
 #![tactic(auto)]
 
 mod accessors;
-mod closed;
+mod closed_link_laws;
 mod curves;
 mod demands;
 mod fault;
 mod fixed_heads;
-mod junctions_ties_and_settings;
 mod laws;
 mod link_ends;
 mod net;
+mod net_types;
 mod parts_of_new_net;
 mod period;
 mod pumps;
@@ -18,6 +18,6 @@ mod settings;
 mod theorems;
 
 pub use fault::PeriodDemand;
-pub use junctions_ties_and_settings::{Ends, NetJunction, Setting, Tie};
 pub use net::Net;
+pub use net_types::{Ends, NetJunction, Setting, Tie};
 pub use theorems::periods;

@@ -6,7 +6,7 @@ ghost use Rattle.std.specs.List.{AllZip};
 ghost use Rattle.hyd_period_network.specs.Demands.{IsNetJunction};
 ghost use Rattle.hyd_period_network.specs.Periods.{ends_of};
 
-use crate::junctions_ties_and_settings::{Ends, NetJunction};
+use crate::net_types::{Ends, NetJunction};
 use hyd_law::Quad;
 use hyd_net::{Junction, Link};
 use std::alloc::{AllocError as OutOfMemory, Global};

@@ -3,20 +3,20 @@
 
 ghost use Rattle.std.specs.Prelude.{◌≡◌, ◌≤◌, ◌^◌, length, map, IfOk, IfErr, OnOk, OnErr};
 ghost use Rattle.hyd_net.specs.Sound.{Sound};
-ghost use Rattle.hyd_spec_certificates.specs.Grid.{IsGrid};
+ghost use Rattle.hyd_spec_certificates.specs.PeriodNetwork.{IsGrid};
 ghost use Rattle.hyd_spec_certificates.specs.Valid.{DemandsAreInRange};
 ghost use Rattle.hyd_spec_reports.specs.Stops.{IsFirstDemand};
-ghost use Rattle.hyd_period_network.specs.Settings.{AreStates};
-ghost use Rattle.hyd_period_network.specs.GridOf.{grid_of, interval_of, states_of, own_laws};
+ghost use Rattle.hyd_period_network.specs.LawsInSettings.{AreStates};
+ghost use Rattle.hyd_period_network.specs.NetAsPeriodNetwork.{grid_of, interval_of, states_of, own_laws};
 ghost use Rattle.hyd_period_network.specs.Periods.{IsNetOf, IsFresh, AreLevels, AreShut, own_laws_of};
 
-use crate::closed::closed_laws;
+use crate::closed_link_laws::closed_laws;
 use crate::demands::{kept_demands, set_demands};
 use crate::fault::PeriodDemand;
 use crate::fixed_heads::{set_reservoirs, set_tanks};
-use crate::junctions_ties_and_settings::Setting;
 use crate::link_ends::rows_of;
 use crate::net::Net;
+use crate::net_types::Setting;
 use crate::parts_of_new_net::{all_ends, copies, net_junctions};
 use crate::settings::set_links;
 use hyd_law::{Fixed, OutLaw};

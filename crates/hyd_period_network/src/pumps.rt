@@ -6,10 +6,10 @@ ghost use Rattle.hyd_num.specs.Rational.{Rational};
 ghost use Rattle.hyd_num.specs.CapacityPairs.{IsMade};
 ghost use Rattle.hyd_net.specs.States.{IsSpeed};
 ghost use Rattle.hyd_spec.specs.Law as exact;
-ghost use Rattle.hyd_spec.specs.Quantity.{shutoff_head, lift_of};
-ghost use Rattle.hyd_law.specs.LawsOfLaws.{IsLift};
+ghost use Rattle.hyd_spec.specs.DemandsReservoirHeadsAndCurves.{shutoff_head, lift_of};
+ghost use Rattle.hyd_law.specs.ComposedLaws.{IsLift};
 ghost use Rattle.hyd_law.specs.Curves.{IsValue};
-ghost use Rattle.hyd_period_network.specs.Settings.{Represents, IsShutoff};
+ghost use Rattle.hyd_period_network.specs.LawsInSettings.{Represents, IsShutoff};
 
 use hyd_law::{Lifted, LinkLaw, OneWay, Quad};
 use hyd_net::ShutoffHead;

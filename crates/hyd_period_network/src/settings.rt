@@ -6,10 +6,10 @@ ghost use Rattle.std.specs.List.{All};
 ghost use Rattle.std.specs.Option.{option_map_or};
 ghost use Rattle.hyd_spec.specs.LinkLaw.{is_full, is_empty, overflows};
 ghost use Rattle.hyd_net.specs.Sound.{Sound};
-ghost use Rattle.hyd_period_network.specs.Settings.{tank_state, setting_of, AreLaws, AreSet, AreStates};
+ghost use Rattle.hyd_period_network.specs.LawsInSettings.{tank_state, setting_of, AreLaws, AreSet, AreStates};
 
-use crate::junctions_ties_and_settings::Setting;
 use crate::laws::set_link;
+use crate::net_types::Setting;
 use hyd_law::LinkLaw;
 use hyd_net::{Link, LinkState, Project};
 use hyd_spec::TankState;

@@ -6,7 +6,7 @@ ghost use Rattle.hyd_spec.specs.ProgramTypes.{Project, LinkState};
 ghost use Rattle.hyd_spec.specs.declared.TankState.{TankState};
 ghost use Rattle.hyd_spec_certificates.specs.declared.LevelSpan.{LevelSpan};
 ghost use Rattle.hyd_period_network.specs.NetView.{NetView};
-ghost use Rattle.hyd_period_network.specs.Nets.{IsSoundNet};
+ghost use Rattle.hyd_period_network.specs.NetInvariant.{IsSoundNet};
 ghost use Rattle.hyd_period_network.specs.Periods.{IsSetTo, AnswerAlike};
 
 /// Two nets that were set to the same period answer alike, whatever each was set to before. So one that was set to many

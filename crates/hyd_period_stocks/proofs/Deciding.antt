@@ -14,7 +14,7 @@ use Rattle.hyd_spec_certificates.specs.Stocks.{state_of}
 use Rattle.hyd_spec_certificates.specs.Decided.{nowhere}
 use Rattle.hyd_spec_certificates.specs.Valid.{AreStates}
 use Rattle.hyd_spec_reports.specs.Stops.{open_states}
-use Rattle.hyd_tank.specs.Spans.{IsTankOfRange}
+use Rattle.hyd_tank.specs.StockIntervals.{IsTankOfRange}
 use Rattle.hyd_controls_and_rules.proofs.Positions as places
 use Rattle.hyd_tank_inflows.proofs.Numbered.{placed_first, item_there, item_is, as_long}
 

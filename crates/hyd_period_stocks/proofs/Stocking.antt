@@ -7,18 +7,18 @@ use Rattle.hyd_spec.specs.ProgramTypes.{Project, Tank}
 use Rattle.hyd_spec.specs.Lists.{map_from}
 use Rattle.hyd_spec.specs.Tank.{walls_of}
 use Rattle.hyd_spec_certificates.specs.Interval.{Interval}
-use Rattle.hyd_spec_certificates.specs.Grid.{Grid}
-use Rattle.hyd_spec_certificates.specs.Record.{Record, Standing}
+use Rattle.hyd_spec_certificates.specs.PeriodNetwork.{Grid}
+use Rattle.hyd_spec_certificates.specs.RecordAndStanding.{Record, Standing}
 use Rattle.hyd_spec_certificates.specs.Stocks.{Stocks, next_stocks}
 use Rattle.hyd_spec_certificates.specs.Decided.{stocks_of_tank, nowhere}
 use Rattle.hyd_spec_certificates.specs.Valid.{stocks_next, levels_next, volumes_next}
 use Rattle.hyd_spec_certificates.specs.declared.LevelSpan.{LevelSpan}
-use Rattle.hyd_tank.specs.Spans.{AreHeld}
-use Rattle.hyd_tank.specs.declared.spans.VolumeSpan.{VolumeSpan}
-use Rattle.hyd_period_facts.specs.OfPeriod.{levels_of, volumes_of}
+use Rattle.hyd_tank.specs.StockIntervals.{AreHeld}
+use Rattle.hyd_tank.specs.declared.stock_intervals.VolumeSpan.{VolumeSpan}
+use Rattle.hyd_period_facts.specs.FactsOfPeriod.{levels_of, volumes_of}
 use Rattle.hyd_period_facts.specs.declared.facts.Facts.{Facts}
 use Rattle.hyd_tank_inflows.proofs.Numbered.{placed_first, item_is}
-use Rattle.hyd_watched_levels.specs.FactsAtStart.{AreStarted, inflow_in}
+use Rattle.hyd_watched_levels.specs.FactsBeforeEnd.{AreStarted, inflow_in}
 use Rattle.hyd_watched_levels.proofs.Reaching.{stocks_are, inflow_is}
 use Rattle.hyd_period_stocks.specs.TankStart.{next_in, stocks_among}
 

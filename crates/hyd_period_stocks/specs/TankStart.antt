@@ -8,15 +8,15 @@ use Rattle.hyd_spec_certificates.specs.Stocks.{Stocks, next_stocks}
 use Rattle.hyd_spec_certificates.specs.Decided.{nowhere}
 use Rattle.hyd_spec_certificates.specs.declared.LevelSpan.{LevelSpan}
 use Rattle.hyd_spec_reports.specs.Stops.{open_states}
-use Rattle.hyd_tank.specs.declared.spans.VolumeSpan.{VolumeSpan}
-use Rattle.hyd_period_facts.specs.OfPeriod.{levels_of, volumes_of}
+use Rattle.hyd_tank.specs.declared.stock_intervals.VolumeSpan.{VolumeSpan}
+use Rattle.hyd_period_facts.specs.FactsOfPeriod.{levels_of, volumes_of}
 use Rattle.hyd_period_facts.specs.declared.facts.Facts.{Facts}
-use Rattle.hyd_watched_levels.specs.FactsAtStart.{stocks_in, inflow_in}
-use Rattle.hyd_controls_and_rules.specs.Starts.{IsFirstOpen as IsFirstControl}
+use Rattle.hyd_watched_levels.specs.FactsBeforeEnd.{stocks_in, inflow_in}
+use Rattle.hyd_controls_and_rules.specs.PumpPatternsAndSimpleControls.{IsFirstOpen as IsFirstControl}
 use Rattle.hyd_period_stocks.specs.declared.states.TankOpen.{TankOpen}
-use Rattle.hyd_period_stocks.specs.declared.decided_or_open.Unsettled.{Unsettled}
-use Rattle.hyd_period_stocks.specs.declared.decided_or_open.Unsettled.TheVariants.{Tank as TankIsOpen}
-use Rattle.hyd_period_stocks.specs.declared.decided_or_open.Unsettled.TheVariants.{Control as ControlIsOpen}
+use Rattle.hyd_period_stocks.specs.declared.unsettled_at_levels.Unsettled.{Unsettled}
+use Rattle.hyd_period_stocks.specs.declared.unsettled_at_levels.Unsettled.TheVariants.{Tank as TankIsOpen}
+use Rattle.hyd_period_stocks.specs.declared.unsettled_at_levels.Unsettled.TheVariants.{Control as ControlIsOpen}
 
 -- the stocks of a tank some seconds after the start of the period of some facts
 abbrev pub next_in : Project → Facts → ℕ → ℕ → Tank → Stocks

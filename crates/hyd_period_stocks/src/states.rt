@@ -9,7 +9,7 @@ ghost use Rattle.hyd_spec.specs.NodeNumbers.{tank_count};
 ghost use Rattle.hyd_spec_certificates.specs.Stocks.{state_of};
 ghost use Rattle.hyd_spec_certificates.specs.Decided.{nowhere};
 ghost use Rattle.hyd_spec_certificates.specs.Valid.{AreStates};
-ghost use Rattle.hyd_period_facts.specs.OfPeriod.{levels_of};
+ghost use Rattle.hyd_period_facts.specs.FactsOfPeriod.{levels_of};
 ghost use Rattle.hyd_period_stocks.specs.TankStart.{IsFirstOpen};
 
 use hyd_net::{List, Project, Tank};

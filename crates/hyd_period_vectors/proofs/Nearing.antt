@@ -4,10 +4,10 @@ use Rattle.std.specs.Prelude.{None}
 use Rattle.hyd_spec_certificates.specs.declared.Problem.{Problem}
 use Rattle.hyd_spec_certificates.specs.declared.Problem.TheVariants.{Main}
 use Rattle.hyd_spec_certificates.specs.declared.Side.{Side}
-use Rattle.hyd_spec_certificates.specs.Grid.{Grid, opposite}
+use Rattle.hyd_spec_certificates.specs.PeriodNetwork.{Grid, opposite}
 use Rattle.hyd_spec_certificates.specs.Certificate.{IsCertificate}
 use Rattle.hyd_spec_certificates.specs.SearchSteps.{IsStart}
-use Rattle.hyd_theorems_on_definitions.specs.Laws.{IsSteady}
+use Rattle.hyd_theorems_on_definitions.specs.TermsOfTheorems.{IsSteady}
 use Rattle.hyd_theorems_on_raises.proofs.Beginnings.{start-other, main-fixed}
 use Rattle.hyd_period_vectors.specs.Vectors.{InOrder}
 

@@ -9,16 +9,16 @@ use Rattle.hyd_spec.specs.Assignment.{head_at}
 use Rattle.hyd_spec_certificates.specs.declared.Problem.{Problem}
 use Rattle.hyd_spec_certificates.specs.declared.Side.{Side}
 use Rattle.hyd_spec_certificates.specs.declared.Side.TheVariants.{Upper, Lower}
-use Rattle.hyd_spec_certificates.specs.Grid.{Grid, GridJunction}
+use Rattle.hyd_spec_certificates.specs.PeriodNetwork.{Grid, GridJunction}
 use Rattle.hyd_spec_certificates.specs.Certificate.{IsInBox, IsBeyond, IsCertificate}
 use Rattle.hyd_spec_certificates.specs.SearchSteps.{IsStart, Fails}
-use Rattle.hyd_theorems_on_definitions.specs.Laws.{IsSteady}
+use Rattle.hyd_theorems_on_definitions.specs.TermsOfTheorems.{IsSteady}
 use Rattle.hyd_theorems_on_definitions.specs.Sides.{along}
 use Rattle.hyd_theorems_on_raises.proofs.Leading.{is-beyond, lead, fails-leading}
 use Rattle.hyd_theorems_on_raises.proofs.Raising.{beyond-self, set-here, set-there, set-in-box}
 use Rattle.hyd_theorems_on_raises.proofs.Sweeping.{one-vector}
 use Rattle.hyd_sweep.specs.Leaps.{nearer}
-use Rattle.hyd_period_vectors.specs.JunctionTurns.{no_turn, one_turn, ComesInTurn, Leads, AreInTurn}
+use Rattle.hyd_period_vectors.specs.TurnsTowardProposedHeads.{no_turn, one_turn, ComesInTurn, Leads, AreInTurn}
 
 along-nearer : (side : Side) (h : ℤ) → along side (nearer side h) ≡ along side h -ℤ pos 1
 along-nearer Upper h = refl

@@ -6,10 +6,10 @@ use Rattle.hyd_spec.specs.Assignment.{head_at}
 use Rattle.hyd_spec_certificates.specs.declared.Problem.{Problem}
 use Rattle.hyd_spec_certificates.specs.declared.Side.{Side}
 use Rattle.hyd_spec_certificates.specs.declared.Side.TheVariants.{Upper, Lower}
-use Rattle.hyd_spec_certificates.specs.Grid.{Grid}
+use Rattle.hyd_spec_certificates.specs.PeriodNetwork.{Grid}
 use Rattle.hyd_spec_certificates.specs.Certificate.{box_limit, IsInBox}
 use Rattle.hyd_spec_certificates.specs.SearchSteps.{LiesBeyond, IsStart}
-use Rattle.hyd_theorems_on_definitions.specs.Laws.{IsSteady}
+use Rattle.hyd_theorems_on_definitions.specs.TermsOfTheorems.{IsSteady}
 use Rattle.hyd_theorems_on_definitions.specs.Sides.{along}
 use Rattle.hyd_spec_reports.specs.Stops.{beginning}
 use Rattle.hyd_theorems_on_raises.proofs.Leading.{is-beyond}

@@ -3,11 +3,11 @@ use Rattle.std.proofs.Common.{◌≡◌, ℕ, ◌≤◌, ℤ, Bool, true, false,
 use Rattle.std.specs.Prelude.{Option, Some, None, Result, Ok, Err, OnOk}
 use Rattle.hyd_spec_certificates.specs.declared.Problem.{Problem}
 use Rattle.hyd_spec_certificates.specs.declared.Side.{Side}
-use Rattle.hyd_spec_certificates.specs.Grid.{Grid}
+use Rattle.hyd_spec_certificates.specs.PeriodNetwork.{Grid}
 use Rattle.hyd_spec_certificates.specs.Certificate.{IsCertificate, IsTight}
 use Rattle.hyd_period_network.specs.NetView.{NetView}
-use Rattle.hyd_finders.specs.ToldVectors.{Leaves, IsOfSize, told_vector}
-use Rattle.hyd_sweep.specs.Strides.{AreLeapingRounds}
+use Rattle.hyd_finders.specs.ProposedVectors.{Leaves, IsOfSize, told_vector}
+use Rattle.hyd_sweep.specs.LeapingRounds.{AreLeapingRounds}
 use Rattle.hyd_period_vectors.specs.Vectors.{IsTold, IsFound, IsSought, IsAtHand, IsBegun, IsReached, Tells, Comes}
 
 -- what holds of an answer that is there

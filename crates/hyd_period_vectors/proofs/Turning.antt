@@ -5,7 +5,7 @@ use Rattle.hyd_spec_certificates.specs.declared.Problem.{Problem}
 use Rattle.hyd_spec_certificates.specs.declared.Problem.TheVariants.{Main, Pinned}
 use Rattle.hyd_spec_certificates.specs.declared.Side.{Side}
 use Rattle.hyd_spec_certificates.specs.declared.Side.TheVariants.{Upper, Lower}
-use Rattle.hyd_spec_certificates.specs.Record.{Record, vector_of}
+use Rattle.hyd_spec_certificates.specs.RecordAndStanding.{Record, vector_of}
 use Rattle.hyd_spec_reports.specs.Stops.{turn}
 use Rattle.hyd_cert.specs.RecordView.{IsProblemOf}
 use Rattle.hyd_cert.specs.Vectors.{place_in}

@@ -1,3 +1,3 @@
 pub mod OpenedSearch
-pub mod JunctionTurns
+pub mod TurnsTowardProposedHeads
 pub mod Vectors

@@ -6,19 +6,19 @@ use Rattle.hyd_spec_certificates.specs.declared.Problem.{Problem}
 use Rattle.hyd_spec_certificates.specs.declared.Side.{Side}
 use Rattle.hyd_spec_certificates.specs.declared.Problem.TheVariants.{Main}
 use Rattle.hyd_spec_certificates.specs.Interval.{Interval}
-use Rattle.hyd_spec_certificates.specs.Grid.{Grid, opposite}
+use Rattle.hyd_spec_certificates.specs.PeriodNetwork.{Grid, opposite}
 use Rattle.hyd_spec_certificates.specs.Certificate.{IsCertificate, AreRounds, IsTight}
-use Rattle.hyd_spec_certificates.specs.Record.{Record, vector_of}
+use Rattle.hyd_spec_certificates.specs.RecordAndStanding.{Record, vector_of}
 use Rattle.hyd_spec_reports.specs.Stops.{beginning, turn}
 use Rattle.hyd_cert.specs.RecordView.{header_of, IsProblemOf}
 use Rattle.hyd_cert.specs.Lines.{Header}
 use Rattle.hyd_cert.specs.declared.record.Record.{Record as Row}
 use Rattle.hyd_period_network.specs.NetView.{NetView}
-use Rattle.hyd_finders.specs.ToldVectors.{IsOfSize, told_vector}
-use Rattle.hyd_sweep.specs.Strides.{AreLeapingRounds}
-use Rattle.hyd_period_vectors.specs.JunctionTurns.{ComesInTurn}
-use Rattle.hyd_period_vectors.specs.declared.lack.Lack.{Lack}
-use Rattle.hyd_period_vectors.specs.declared.lack.Lack.TheVariants.{NoCertificate, RoundsSpent}
+use Rattle.hyd_finders.specs.ProposedVectors.{IsOfSize, told_vector}
+use Rattle.hyd_sweep.specs.LeapingRounds.{AreLeapingRounds}
+use Rattle.hyd_period_vectors.specs.TurnsTowardProposedHeads.{ComesInTurn}
+use Rattle.hyd_period_vectors.specs.declared.missing_vector.Lack.{Lack}
+use Rattle.hyd_period_vectors.specs.declared.missing_vector.Lack.TheVariants.{NoCertificate, RoundsSpent}
 
 -- ---- one vector
 

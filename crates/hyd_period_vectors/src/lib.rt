@@ -2,10 +2,10 @@
 //! a tight vector begin where the finder says, if every certificate lies beyond that.
 #![tactic(auto)]
 
-mod lack;
+mod missing_vector;
 mod one_vector;
 mod search;
 mod starting;
 
-pub use lack::Lack;
+pub use missing_vector::Lack;
 pub use search::Search;

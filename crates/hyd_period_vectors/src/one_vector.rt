@@ -5,14 +5,14 @@ ghost use Rattle.std.specs.Prelude.{◌≡◌, ◌≤◌, ℕ, ℤ, List, length
 ghost use Rattle.hyd_spec_certificates.specs.Certificate.{IsTight};
 ghost use Rattle.hyd_spec_certificates.specs.SearchSteps.{IsStart};
 ghost use Rattle.hyd_cert.specs.RecordView.{header_of, row_of};
-ghost use Rattle.hyd_period_network.specs.GridOf.{grid_of};
-ghost use Rattle.hyd_period_network.specs.Nets.{HasProblem};
-ghost use Rattle.hyd_sweep.specs.Strides.{AreLeapingRounds};
+ghost use Rattle.hyd_period_network.specs.NetAsPeriodNetwork.{grid_of};
+ghost use Rattle.hyd_period_network.specs.NetInvariant.{HasProblem};
+ghost use Rattle.hyd_sweep.specs.LeapingRounds.{AreLeapingRounds};
 ghost use Rattle.hyd_period_vectors.specs.Vectors.{HasOther, InOrder, Fits, IsFound, IsTold};
 ghost use Rattle.hyd_period_vectors.specs.Vectors.{IsSought, IsOffered, Tells};
 ghost use Rattle.hyd_period_vectors.specs.Vectors.{Comes, Lacks};
 
-use crate::lack::Lack;
+use crate::missing_vector::Lack;
 use crate::starting::{Starter, begin_near};
 use hyd_cert::Record;
 use hyd_finders::Finder;

@@ -5,12 +5,12 @@ ghost use Rattle.std.specs.Prelude.{◌≡◌, ◌+◌, ◌*◌, ℤ, List, leng
 ghost use Rattle.hyd_spec_certificates.specs.declared.Side.TheVariants.{Upper};
 ghost use Rattle.hyd_spec_reports.specs.Stops.{turn};
 ghost use Rattle.hyd_cert.specs.RecordView.{header_of, row_of};
-ghost use Rattle.hyd_period_network.specs.GridOf.{grid_of};
-ghost use Rattle.hyd_period_network.specs.Nets.{HasProblem};
+ghost use Rattle.hyd_period_network.specs.NetAsPeriodNetwork.{grid_of};
+ghost use Rattle.hyd_period_network.specs.NetInvariant.{HasProblem};
 ghost use Rattle.hyd_period_vectors.specs.Vectors.{IsSought, Comes, LacksFirst, EachBefore};
 ghost use Rattle.hyd_period_vectors.specs.Vectors.{OfEach, InOrder, Stays, Fits};
 
-use crate::lack::Lack;
+use crate::missing_vector::Lack;
 use crate::one_vector::find;
 use crate::starting::Starter;
 use hyd_cert::Record;

@@ -6,15 +6,15 @@
 ghost use Rattle.std.specs.Prelude.{◌≡◌, ◌<◌, ◌↔◌, ℕ, length, All, None, false, IfSome, IfOk, IsTrue};
 ghost use Rattle.hyd_spec.specs.Assignment.{head_at};
 ghost use Rattle.hyd_spec_certificates.specs.declared.Problem.TheVariants.{Main};
-ghost use Rattle.hyd_spec_certificates.specs.Grid.{opposite};
+ghost use Rattle.hyd_spec_certificates.specs.PeriodNetwork.{opposite};
 ghost use Rattle.hyd_spec_certificates.specs.Certificate.{IsInBox};
 ghost use Rattle.hyd_spec_certificates.specs.SearchSteps.{IsStart};
 ghost use Rattle.hyd_spec_reports.specs.Stops.{turn};
 ghost use Rattle.hyd_cert.specs.RecordView.{header_of, row_of};
-ghost use Rattle.hyd_period_network.specs.GridOf.{grid_of};
-ghost use Rattle.hyd_period_network.specs.Nets.{HasProblem};
+ghost use Rattle.hyd_period_network.specs.NetAsPeriodNetwork.{grid_of};
+ghost use Rattle.hyd_period_network.specs.NetInvariant.{HasProblem};
 ghost use Rattle.hyd_sweep.specs.Leaps.{nearer};
-ghost use Rattle.hyd_period_vectors.specs.JunctionTurns.{ComesInTurn, AreInTurn};
+ghost use Rattle.hyd_period_vectors.specs.TurnsTowardProposedHeads.{ComesInTurn, AreInTurn};
 ghost use Rattle.hyd_period_vectors.specs.Vectors.{HasOther, InOrder, IsAtHand, IsBegun, Fits};
 
 use hyd_cert::Record;

@@ -7,15 +7,15 @@ use Rattle.std.specs.Option.{option_and_then}
 use Rattle.hyd_spec.specs.ProgramTypes.{Project, Control, LinkState}
 use Rattle.hyd_spec.specs.Lists.{map_from, present}
 use Rattle.hyd_spec.specs.declared.Source.TheVariants.{Control as ByControl, Rule as ByRule}
-use Rattle.hyd_spec.specs.PeriodStart.{patterned, control_acts}
+use Rattle.hyd_spec.specs.PumpPatternsAndSimpleControls.{patterned, control_acts}
 use Rattle.hyd_spec.specs.Rules.{is_same_state, state_of_link, Offer, change_by, change_of, best_offer, offers_from}
-use Rattle.hyd_spec_certificates.specs.Grid.{Grid}
-use Rattle.hyd_spec_certificates.specs.Record.{Record, Standing}
-use Rattle.hyd_spec_certificates.specs.Verdict.{is_yes}
+use Rattle.hyd_spec_certificates.specs.PeriodNetwork.{Grid}
+use Rattle.hyd_spec_certificates.specs.RecordAndStanding.{Record, Standing}
+use Rattle.hyd_spec_certificates.specs.ThreeValuedLogic.{is_yes}
 use Rattle.hyd_spec_certificates.specs.Decided.{acts_on, links_at, rule_truths}
 use Rattle.hyd_spec_reports.specs.declared.Event.{Event}
 use Rattle.hyd_spec_reports.specs.Report.{control_changes, changes_at, EndBrings, at_end, by_rules, by_clock}
-use Rattle.hyd_report.specs.Words.{is_by_rule, before_rules}
+use Rattle.hyd_report.specs.EventTextsAndChangesByRules.{is_by_rule, before_rules}
 
 -- one that isn't by a rule is counted
 pub before-step : (xs : List Change) (i : ℕ) (x : Change) → i < length xs → x ≡ get_or xs i x → is_by_rule x ≡ false

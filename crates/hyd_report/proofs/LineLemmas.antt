@@ -11,23 +11,24 @@ use Rattle.hyd_spec.specs.declared.TankState.TheVariants.{Between}
 use Rattle.hyd_spec_certificates.specs.declared.LevelSpan.{LevelSpan}
 use Rattle.hyd_spec_certificates.specs.Decided.{nowhere}
 use Rattle.hyd_spec.specs.Assignment.{head_at}
-use Rattle.hyd_spec.specs.Quantity.{is_us}
+use Rattle.hyd_spec.specs.DemandsReservoirHeadsAndCurves.{is_us}
 use Rattle.hyd_spec.specs.Rules.{state_of_link}
 use Rattle.hyd_spec.specs.Lists.{joined, map_from}
 use Rattle.hyd_spec_certificates.specs.Interval.{Interval, shifted}
-use Rattle.hyd_spec_certificates.specs.Grid.{Grid, GridLink, GridJunction, all_heads}
+use Rattle.hyd_spec_certificates.specs.PeriodNetwork.{Grid, GridLink, GridJunction, all_heads}
 use Rattle.hyd_spec_certificates.specs.declared.Problem.TheVariants.{Main}
 use Rattle.hyd_spec_certificates.specs.declared.Side.TheVariants.{Upper, Lower}
-use Rattle.hyd_spec_certificates.specs.Boxes.{difference, flow_box, out_box}
+use Rattle.hyd_spec_certificates.specs.FlowIntervals.{difference, flow_box, out_box}
 use Rattle.hyd_spec_reports.specs.ReportLine.{ReportLine, JunctionLine, ReservoirLine, TankLine, LinkLine, line_text}
 use Rattle.hyd_spec_reports.specs.Report.{status_of}
 use Rattle.hyd_spec_reports.specs.declared.StatusWord.{StatusWord}
-use Rattle.hyd_period_facts.specs.OfPeriod.{levels_of, flows_of}
-use Rattle.hyd_bounds.specs.Bounds.{IsSpan, AreInOrder}
+use Rattle.hyd_period_facts.specs.FactsOfPeriod.{levels_of, flows_of}
+use Rattle.hyd_bounds.specs.VectorsInOrder.{IsSpan, AreInOrder}
 use Rattle.hyd_report.specs.Printing.{printed, quantity_in, ArePrinted}
-use Rattle.hyd_report.specs.LinesOfParts.{texts, junction_between, junction_line, reservoir_line, tank_at, tank_line}
-use Rattle.hyd_report.specs.LinesOfParts.{no_link}
-use Rattle.hyd_report.specs.LinesOfParts.{link_line}
+use Rattle.hyd_report.specs.NodeAndLinkLines.{texts, junction_between, junction_line, reservoir_line, tank_at}
+use Rattle.hyd_report.specs.NodeAndLinkLines.{tank_line}
+use Rattle.hyd_report.specs.NodeAndLinkLines.{no_link}
+use Rattle.hyd_report.specs.NodeAndLinkLines.{link_line}
 use Rattle.hyd_report.proofs.Joining.{map-append, joined-append}
 use Rattle.hyd_report.specs.declared.printed_intervals.Ends.{Ends}
 use Rattle.hyd_report.specs.declared.printed_intervals.Quantity.TheVariants.{Head, Pressure, Flow}

@@ -9,19 +9,19 @@ use Rattle.hyd_net.specs.declared.curves.HeadPoint.{HeadPoint}
 use Rattle.hyd_spec.specs.ProgramTypes.{Project, Link, LinkKind, LinkState, Closed}
 use Rattle.hyd_spec.specs.Law.{Law}
 use Rattle.hyd_spec.specs.LinkLaw.{own_law}
-use Rattle.hyd_spec.specs.Quantity.{is_us}
+use Rattle.hyd_spec.specs.DemandsReservoirHeadsAndCurves.{is_us}
 use Rattle.hyd_spec.specs.Rules.{state_of_link}
-use Rattle.hyd_spec_certificates.specs.Grid.{GridLink}
-use Rattle.hyd_spec_certificates.specs.Boxes.{difference}
+use Rattle.hyd_spec_certificates.specs.PeriodNetwork.{GridLink}
+use Rattle.hyd_spec_certificates.specs.FlowIntervals.{difference}
 use Rattle.hyd_spec_reports.specs.Report.{status_of}
 use Rattle.hyd_spec_reports.specs.declared.StatusWord.{StatusWord}
 use Rattle.hyd_law.specs.declared.link_law.LinkLaw.{LinkLaw}
-use Rattle.hyd_period_network.specs.declared.junctions_ties_and_settings.Setting.{Setting}
+use Rattle.hyd_period_network.specs.declared.net_types.Setting.{Setting}
 use Rattle.hyd_period_network.specs.ExactLaw.{exact_law}
 use Rattle.hyd_period_network.specs.NetView.{NetView}
-use Rattle.hyd_period_network.specs.GridOf.{grid_of, state_of, states_of, own_laws}
+use Rattle.hyd_period_network.specs.NetAsPeriodNetwork.{grid_of, state_of, states_of, own_laws}
 use Rattle.hyd_period_network.specs.Periods.{IsNetOf}
-use Rattle.hyd_period_network.specs.Settings.{AreStates}
+use Rattle.hyd_period_network.specs.LawsInSettings.{AreStates}
 use Rattle.hyd_report.proofs.LineLemmas.{found}
 
 -- what a status word says of each kind, state and place of a link

@@ -4,13 +4,13 @@ use Rattle.std.specs.Prelude.{Ok, Err, IfSome, slice_get}
 use Rattle.hyd_io.specs.declared.desk.Faults.{Faults}
 use Rattle.hyd_io.specs.declared.desk.Openings.{Openings}
 use Rattle.hyd_io.specs.declared.output.OutFault.{OutFault}
-use Rattle.hyd_io.specs.ToldBytes.{Files}
+use Rattle.hyd_io.specs.DeskBytes.{Files}
 use Rattle.hyd_io.specs.Output.{PenState}
 use Rattle.hyd_spec.specs.ProgramTypes.{Project}
 use Rattle.hyd_spec.specs.Lists.{map_from}
 use Rattle.hyd_spec_reports.specs.ReportLine.{ReportLine, line_text}
 use Rattle.hyd_report.specs.Putting.{Puts}
-use Rattle.hyd_report.specs.LinesOfParts.{texts}
+use Rattle.hyd_report.specs.NodeAndLinkLines.{texts}
 use Rattle.hyd_report.proofs.LineLemmas.{there, lines_more, lines_rest, lines_split}
 use Rattle.hyd_report.proofs.PutLemmas.{puts_then, puts_cut, puts_same}
 

@@ -8,7 +8,7 @@ use Rattle.hyd_num.specs.declared.flow_units.FlowUnit.{FlowUnit}
 use Rattle.hyd_num.specs.declared.flow_units.FlowUnit.TheVariants.{Cfs, Gpm, Mgd, Imgd, Afd, Lps, Lpm, Mld, Cmh, Cmd}
 use Rattle.hyd_units.proofs.Wholes.{IsFloor-floor, IsCeiling-ceiling}
 use Rattle.hyd_spec.specs.ProgramTypes.{Project}
-use Rattle.hyd_spec.specs.Quantity.{is_us}
+use Rattle.hyd_spec.specs.DemandsReservoirHeadsAndCurves.{is_us}
 use Rattle.hyd_spec_certificates.specs.Interval.{Interval}
 use Rattle.hyd_spec_reports.specs.Report.{Prints}
 use Rattle.hyd_report.specs.Printing.{in_ten_thousandths, printed, quantity_in}

@@ -7,8 +7,8 @@ use Rattle.hyd_io.specs.declared.desk.Openings.{Openings}
 use Rattle.hyd_io.specs.declared.output.OutFault.{OutFault}
 use Rattle.hyd_io.specs.declared.output.Channel.{Channel}
 use Rattle.hyd_io.specs.declared.output.Channel.TheVariants.{Cert, Report}
-use Rattle.hyd_io.specs.ToldBytes.{Files, Moves, PutOut}
-use Rattle.hyd_io.specs.Counts.{NeverFall}
+use Rattle.hyd_io.specs.DeskBytes.{Files, Moves, PutOut}
+use Rattle.hyd_io.specs.FailureCounts.{NeverFall}
 use Rattle.hyd_io.specs.Output.{by_channel, OnCert, OnReport, HasOutCause, PenState}
 use Rattle.hyd_io.proofs.ToldLemmas.{moves_then, put_out_then, put_out_more, moves_nothing}
 use Rattle.hyd_report.specs.Putting.{Puts}

@@ -6,30 +6,30 @@ use Rattle.std.specs.Option.{option_map}
 use Rattle.std.proofs.lemmas.Option.{slice_get_within, slice_get-get_or, slice_get-map}
 use Rattle.hyd_spec.specs.ProgramTypes.{Project, Tank, Link, LinkState}
 use Rattle.hyd_spec.specs.Lists.{map_from}
-use Rattle.hyd_spec.specs.Quantity.{is_us}
+use Rattle.hyd_spec.specs.DemandsReservoirHeadsAndCurves.{is_us}
 use Rattle.hyd_spec.specs.Assignment.{head_at}
 use Rattle.hyd_spec.specs.Rules.{state_of_link}
 use Rattle.hyd_spec.specs.declared.TankState.{TankState}
 use Rattle.hyd_spec.specs.declared.TankState.TheVariants.{Between}
 use Rattle.hyd_spec_certificates.specs.Interval.{Interval, shifted}
-use Rattle.hyd_spec_certificates.specs.Grid.{Grid, GridLink, GridJunction}
-use Rattle.hyd_spec_certificates.specs.Boxes.{difference, flow_box}
-use Rattle.hyd_spec_certificates.specs.Record.{Record, Standing}
+use Rattle.hyd_spec_certificates.specs.PeriodNetwork.{Grid, GridLink, GridJunction}
+use Rattle.hyd_spec_certificates.specs.FlowIntervals.{difference, flow_box}
+use Rattle.hyd_spec_certificates.specs.RecordAndStanding.{Record, Standing}
 use Rattle.hyd_spec_certificates.specs.Decided.{heads_below, heads_above, nowhere, inflow_of_tank, level_of_tank}
 use Rattle.hyd_spec_reports.specs.ReportLine.{ReportLine, TimeLine, LinkLine}
 use Rattle.hyd_spec_reports.specs.Report.{Prints, LineEach, IsJunctionLine, IsReservoirLine, IsTankLine, IsLinkLine}
 use Rattle.hyd_spec_reports.specs.Report.{AreStateLines, AreEndLines, IsReport, is_report_time, change_line, event_line}
 use Rattle.hyd_spec_reports.specs.Report.{changes_at, status_of}
 use Rattle.hyd_period_facts.specs.declared.facts.Facts.{Facts}
-use Rattle.hyd_period_facts.specs.OfPeriod.{AreFacts, levels_of, flows_of}
-use Rattle.hyd_period_network.specs.GridOf.{links_of}
-use Rattle.hyd_period_network.specs.declared.junctions_ties_and_settings.Ends.{Ends}
-use Rattle.hyd_period_network.specs.declared.junctions_ties_and_settings.Setting.{Setting}
+use Rattle.hyd_period_facts.specs.FactsOfPeriod.{AreFacts, levels_of, flows_of}
+use Rattle.hyd_period_network.specs.NetAsPeriodNetwork.{links_of}
+use Rattle.hyd_period_network.specs.declared.net_types.Ends.{Ends}
+use Rattle.hyd_period_network.specs.declared.net_types.Setting.{Setting}
 use Rattle.hyd_law.specs.declared.link_law.LinkLaw.{LinkLaw}
 use Rattle.hyd_report.specs.Printing.{printed, quantity_in}
 use Rattle.hyd_report.specs.declared.printed_intervals.Quantity.TheVariants.{Head, Pressure, Flow}
-use Rattle.hyd_report.specs.Words.{before_rules}
-use Rattle.hyd_report.specs.LinesOfParts.{junction_line, reservoir_line, tank_line, no_link, link_line}
+use Rattle.hyd_report.specs.EventTextsAndChangesByRules.{before_rules}
+use Rattle.hyd_report.specs.NodeAndLinkLines.{junction_line, reservoir_line, tank_line, no_link, link_line}
 use Rattle.hyd_report.specs.PeriodLines.{AreTankFacts, state_lines, middle_lines, end_lines, lines_of}
 use Rattle.hyd_report.proofs.PrintLemmas.{prints}
 use Rattle.hyd_report.proofs.ChangeLemmas.{changes_apart}

@@ -1,6 +1,6 @@
-pub mod LinesOfParts
+pub mod NodeAndLinkLines
 pub mod PeriodLines
 pub mod Printing
 pub mod Putting
-pub mod Words
+pub mod EventTextsAndChangesByRules
 pub mod RefusedText

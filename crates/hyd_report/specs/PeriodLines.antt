@@ -3,18 +3,18 @@ use Rattle.std.specs.Prelude.{◌≡◌, ◌+◌, pos, List, [], ◌∷◌, ◌+
 use Rattle.hyd_spec.specs.ProgramTypes.{Project, LinkState}
 use Rattle.hyd_spec.specs.Lists.{map_from}
 use Rattle.hyd_spec.specs.NodeNumbers.{tank_count}
-use Rattle.hyd_spec_certificates.specs.Grid.{Grid}
-use Rattle.hyd_spec_certificates.specs.Record.{Record}
+use Rattle.hyd_spec_certificates.specs.PeriodNetwork.{Grid}
+use Rattle.hyd_spec_certificates.specs.RecordAndStanding.{Record}
 use Rattle.hyd_spec_certificates.specs.Decided.{heads_below, heads_above}
 use Rattle.hyd_spec_reports.specs.Report.{is_report_time, change_line, event_line}
 use Rattle.hyd_spec_reports.specs.ReportLine.{ReportLine, TimeLine}
 use Rattle.hyd_period_network.specs.NetView.{NetView}
-use Rattle.hyd_period_network.specs.GridOf.{grid_of}
-use Rattle.hyd_bounds.specs.Bounds.{IsVector, AreInOrder}
+use Rattle.hyd_period_network.specs.NetAsPeriodNetwork.{grid_of}
+use Rattle.hyd_bounds.specs.VectorsInOrder.{IsVector, AreInOrder}
 use Rattle.hyd_period_facts.specs.declared.facts.Facts.{Facts}
 use Rattle.hyd_report.specs.Printing.{IsSmall}
-use Rattle.hyd_report.specs.Words.{before_rules}
-use Rattle.hyd_report.specs.LinesOfParts.{junction_line, reservoir_line, tank_line, link_line}
+use Rattle.hyd_report.specs.EventTextsAndChangesByRules.{before_rules}
+use Rattle.hyd_report.specs.NodeAndLinkLines.{junction_line, reservoir_line, tank_line, link_line}
 
 -- ---- what is needed
 

@@ -5,7 +5,7 @@ use Rattle.hyd_num.specs.declared.decimals.Span.{Span}
 use Rattle.hyd_num.specs.Rational.{Rational, floor, ceiling}
 use Rattle.hyd_num.specs.PrintedDecimals.{head_quantity, pressure_quantity, flow_quantity, decimal_text}
 use Rattle.hyd_spec.specs.ProgramTypes.{Project}
-use Rattle.hyd_spec.specs.Quantity.{is_us}
+use Rattle.hyd_spec.specs.DemandsReservoirHeadsAndCurves.{is_us}
 use Rattle.hyd_spec_certificates.specs.Interval.{Interval}
 use Rattle.hyd_report.specs.declared.printed_intervals.Ends.{Ends}
 use Rattle.hyd_report.specs.declared.printed_intervals.Quantity.{Quantity}

@@ -6,8 +6,8 @@ use Rattle.std.specs.Prelude.{IfErr, OnOk, OnErr}
 use Rattle.hyd_io.specs.declared.desk.Faults.{Faults}
 use Rattle.hyd_io.specs.declared.desk.Openings.{Openings}
 use Rattle.hyd_io.specs.declared.output.OutFault.{OutFault}
-use Rattle.hyd_io.specs.ToldBytes.{Files, file_at, Moves, PutOut}
-use Rattle.hyd_io.specs.Counts.{NeverFall}
+use Rattle.hyd_io.specs.DeskBytes.{Files, file_at, Moves, PutOut}
+use Rattle.hyd_io.specs.FailureCounts.{NeverFall}
 use Rattle.hyd_io.specs.Output.{by_channel, OnCert, OnReport, HasOutCause, PenState}
 
 -- A text is put in at a pen. A front of what the pen held and of the text goes out, and the pen holds the rest; after

@@ -7,7 +7,7 @@ ghost use Rattle.hyd_net.specs.Sound.{Sound};
 ghost use Rattle.hyd_spec_reports.specs.ReportLine.{line_text};
 ghost use Rattle.hyd_spec_reports.specs.Report.{event_line};
 ghost use Rattle.hyd_report.specs.Putting.{Puts};
-ghost use Rattle.hyd_report.specs.Words.{event_text};
+ghost use Rattle.hyd_report.specs.EventTextsAndChangesByRules.{event_text};
 
 use crate::ids::tank_id;
 use crate::numbers::{clock, number};

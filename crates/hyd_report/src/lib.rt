@@ -2,10 +2,10 @@
 #![tactic(auto)]
 
 mod changes;
+mod done_partial_and_refused_end;
 mod events;
 mod ids;
 mod junctions;
-mod last;
 mod links;
 mod numbers;
 mod pieces;
@@ -20,7 +20,7 @@ mod stops;
 mod tanks;
 mod times;
 
-pub use last::{put_done, put_partial, put_refused_end};
+pub use done_partial_and_refused_end::{put_done, put_partial, put_refused_end};
 pub use refused_records::put_refused;
 pub use refused_text::put_refused_text;
 pub use report::put_report;

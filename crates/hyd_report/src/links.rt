@@ -4,18 +4,18 @@ ghost use Rattle.std.specs.Prelude.{◌≡◌, ◌<◌, pos, length, slice_get, 
 ghost use Rattle.hyd_io.specs.Output.{OnCert};
 ghost use Rattle.hyd_net.specs.Sound.{Sound};
 ghost use Rattle.hyd_spec.specs.Lists.{map_from};
-ghost use Rattle.hyd_spec_certificates.specs.Grid.{all_heads};
+ghost use Rattle.hyd_spec_certificates.specs.PeriodNetwork.{all_heads};
 ghost use Rattle.hyd_spec_certificates.specs.Interval.{Interval};
 ghost use Rattle.hyd_spec_certificates.specs.declared.Problem.TheVariants.{Main};
 ghost use Rattle.hyd_spec_certificates.specs.declared.Side.TheVariants.{Upper, Lower};
 ghost use Rattle.hyd_spec_reports.specs.ReportLine.{LinkLine, line_text};
-ghost use Rattle.hyd_period_network.specs.GridOf.{grid_of, states_of};
+ghost use Rattle.hyd_period_network.specs.NetAsPeriodNetwork.{grid_of, states_of};
 ghost use Rattle.hyd_period_network.specs.Periods.{IsNetOf};
-ghost use Rattle.hyd_period_network.specs.Settings.{AreStates};
-ghost use Rattle.hyd_bounds.specs.Bounds.{IsVector, AreInOrder};
+ghost use Rattle.hyd_period_network.specs.LawsInSettings.{AreStates};
+ghost use Rattle.hyd_bounds.specs.VectorsInOrder.{IsVector, AreInOrder};
 ghost use Rattle.hyd_report.specs.Putting.{Puts};
 ghost use Rattle.hyd_report.specs.Printing.{ArePrinted};
-ghost use Rattle.hyd_report.specs.LinesOfParts.{texts, link_line};
+ghost use Rattle.hyd_report.specs.NodeAndLinkLines.{texts, link_line};
 
 use crate::ids::link_id;
 use crate::pieces::put_pieces;

@@ -6,10 +6,10 @@ ghost use Rattle.hyd_net.specs.Sound.{Sound};
 ghost use Rattle.hyd_spec.specs.Lists.{map_from};
 ghost use Rattle.hyd_spec_certificates.specs.Interval.{Interval};
 ghost use Rattle.hyd_spec_reports.specs.ReportLine.{ReservoirLine, line_text};
-ghost use Rattle.hyd_period_network.specs.GridOf.{grid_of};
+ghost use Rattle.hyd_period_network.specs.NetAsPeriodNetwork.{grid_of};
 ghost use Rattle.hyd_report.specs.Putting.{Puts};
 ghost use Rattle.hyd_report.specs.Printing.{ArePrinted};
-ghost use Rattle.hyd_report.specs.LinesOfParts.{texts, reservoir_line};
+ghost use Rattle.hyd_report.specs.NodeAndLinkLines.{texts, reservoir_line};
 
 use crate::ids::reservoir_id;
 use crate::pieces::put_pieces;

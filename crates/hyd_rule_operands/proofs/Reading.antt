@@ -9,13 +9,13 @@ use Rattle.hyd_spec.specs.ProgramTypes.{Project}
 use Rattle.hyd_spec.specs.Assignment.{head_at}
 use Rattle.hyd_spec.specs.NodeNumbers.{nodes_before_tanks}
 use Rattle.hyd_spec_certificates.specs.Interval.{Interval}
-use Rattle.hyd_spec_certificates.specs.Grid.{GridLink}
+use Rattle.hyd_spec_certificates.specs.PeriodNetwork.{GridLink}
 use Rattle.hyd_period_network.specs.NetView.{NetView}
 use Rattle.hyd_period_network.specs.Demands.{IsNetJunction}
 use Rattle.hyd_period_network.specs.Periods.{IsNetOf, ends_of}
 use Rattle.hyd_period_network.proofs.Sounding.{long_zipped}
-use Rattle.hyd_bounds.specs.Bounds.{IsSpan}
-use Rattle.hyd_controls_and_rules.specs.Instants.{flow_interval}
+use Rattle.hyd_bounds.specs.VectorsInOrder.{IsSpan}
+use Rattle.hyd_controls_and_rules.specs.RuleReadings.{flow_interval}
 use Rattle.hyd_tank_inflows.proofs.Numbered.{item_there, item_is}
 
 -- ---- counts of a net of a project

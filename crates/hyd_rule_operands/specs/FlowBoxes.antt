@@ -3,8 +3,8 @@ use Rattle.std.specs.Prelude.{ℤ, List, map}
 use Rattle.hyd_spec_certificates.specs.declared.Problem.TheVariants.{Main}
 use Rattle.hyd_spec_certificates.specs.declared.Side.TheVariants.{Upper, Lower}
 use Rattle.hyd_spec_certificates.specs.Interval.{Interval}
-use Rattle.hyd_spec_certificates.specs.Grid.{Grid, GridLink, all_heads}
-use Rattle.hyd_spec_certificates.specs.Boxes.{flow_box}
+use Rattle.hyd_spec_certificates.specs.PeriodNetwork.{Grid, GridLink, all_heads}
+use Rattle.hyd_spec_certificates.specs.FlowIntervals.{flow_box}
 
 -- The flow box of a link between heads of junctions below and above.
 abbrev pub box_between : Grid → List ℤ → List ℤ → GridLink → Interval

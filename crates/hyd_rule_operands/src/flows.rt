@@ -4,10 +4,10 @@
 ghost use Rattle.std.specs.Prelude.{◌≡◌, ◌<◌, ◌≤◌, ◌+◌, ◌++◌, ◌∷◌, [], pos, length, map, All};
 ghost use Rattle.hyd_spec_certificates.specs.declared.Problem.TheVariants.{Main};
 ghost use Rattle.hyd_spec_certificates.specs.declared.Side.TheVariants.{Upper, Lower};
-ghost use Rattle.hyd_spec_certificates.specs.Grid.{all_heads};
-ghost use Rattle.hyd_period_network.specs.GridOf.{grid_of};
-ghost use Rattle.hyd_bounds.specs.Bounds.{IsVector, AreInOrder};
-ghost use Rattle.hyd_controls_and_rules.specs.Instants.{flow_interval, IsBounded};
+ghost use Rattle.hyd_spec_certificates.specs.PeriodNetwork.{all_heads};
+ghost use Rattle.hyd_period_network.specs.NetAsPeriodNetwork.{grid_of};
+ghost use Rattle.hyd_bounds.specs.VectorsInOrder.{IsVector, AreInOrder};
+ghost use Rattle.hyd_controls_and_rules.specs.RuleReadings.{flow_interval, IsBounded};
 ghost use Rattle.hyd_rule_operands.specs.FlowBoxes.{boxes_between};
 
 use hyd_bounds::flow_box;

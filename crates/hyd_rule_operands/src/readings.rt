@@ -37,10 +37,10 @@ fn with_room<T: Drop>(alloc: Global, items: usize) -> Result<List<T>, OutOfMemor
 impl Readings {
     ghost use Rattle.hyd_spec_certificates.specs.Decided.{heads_below, heads_above};
     ghost use Rattle.hyd_cert.specs.RecordView.{row_of};
-    ghost use Rattle.hyd_period_network.specs.GridOf.{grid_of};
+    ghost use Rattle.hyd_period_network.specs.NetAsPeriodNetwork.{grid_of};
     ghost use Rattle.hyd_period_network.specs.Periods.{IsNetOf};
-    ghost use Rattle.hyd_bounds.specs.Bounds.{IsVector, AreInOrder};
-    ghost use Rattle.hyd_controls_and_rules.specs.Instants.{IsBounded};
+    ghost use Rattle.hyd_bounds.specs.VectorsInOrder.{IsVector, AreInOrder};
+    ghost use Rattle.hyd_controls_and_rules.specs.RuleReadings.{IsBounded};
     ghost use Rattle.hyd_rules_in_period.specs.Trial.{AreRead};
     ghost use Rattle.hyd_rule_operands.specs.ReservedMemory.{HasRoom, AreNone};
 

@@ -1,6 +1,6 @@
 //! What is known of all rules at an instant.
 #![tactic(auto)]
 
-mod values;
+mod truth_of_rules;
 
-pub use values::{RuleOpen, decide_all};
+pub use truth_of_rules::{RuleOpen, decide_all};

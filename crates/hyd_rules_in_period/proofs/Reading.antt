@@ -12,17 +12,17 @@ use Rattle.hyd_spec_certificates.specs.declared.Side.{Side}
 use Rattle.hyd_spec_certificates.specs.declared.Side.TheVariants.{Upper, Lower}
 use Rattle.hyd_spec_certificates.specs.declared.LevelSpan.{LevelSpan}
 use Rattle.hyd_spec_certificates.specs.Interval.{Interval}
-use Rattle.hyd_spec_certificates.specs.Grid.{Grid, end_on, tank_side}
-use Rattle.hyd_spec_certificates.specs.Record.{Record, Standing}
+use Rattle.hyd_spec_certificates.specs.PeriodNetwork.{Grid, end_on, tank_side}
+use Rattle.hyd_spec_certificates.specs.RecordAndStanding.{Record, Standing}
 use Rattle.hyd_spec_certificates.specs.Decided.{IsOpenRule, carried_at, readings_below, readings_above, least_magnitude}
 use Rattle.hyd_spec_certificates.specs.Decided.{greatest_magnitude}
 use Rattle.hyd_controls_and_rules.specs.AlikeButTankHeads.{AreAlike}
-use Rattle.hyd_controls_and_rules.specs.Instants.{flow_interval, level_interval, lower_readings, upper_readings}
+use Rattle.hyd_controls_and_rules.specs.RuleReadings.{flow_interval, level_interval, lower_readings, upper_readings}
 use Rattle.hyd_controls_and_rules.proofs.Unseen.{heads_behind}
 use Rattle.hyd_period_facts.specs.declared.facts.Facts.{Facts}
-use Rattle.hyd_rule_values.specs.declared.values.RuleOpen.{RuleOpen}
-use Rattle.hyd_rule_values.specs.Values.{AreKnown, IsFirstOpen}
-use Rattle.hyd_watched_levels.specs.FactsAtStart.{AreStarted}
+use Rattle.hyd_rule_values.specs.declared.truth_of_rules.RuleOpen.{RuleOpen}
+use Rattle.hyd_rule_values.specs.TruthOfRules.{AreKnown, IsFirstOpen}
+use Rattle.hyd_watched_levels.specs.FactsBeforeEnd.{AreStarted}
 use Rattle.hyd_rules_in_period.specs.Trial.{AreRead, AreDecided, open_rule}
 
 -- what follows from an answer

@@ -4,12 +4,12 @@ use Rattle.std.specs.Prelude.{◌≡◌, ℕ, ℤ, Bool, false, List, ◌++◌, 
 use Rattle.std.specs.List.{list_any}
 use Rattle.hyd_num.specs.declared.decimals.Span.{Span}
 use Rattle.hyd_spec.specs.ProgramTypes.{Project}
-use Rattle.hyd_spec_certificates.specs.Grid.{Grid}
-use Rattle.hyd_spec_certificates.specs.Record.{Record, Standing}
-use Rattle.hyd_spec_certificates.specs.Verdict.{is_yes, is_unknown}
+use Rattle.hyd_spec_certificates.specs.PeriodNetwork.{Grid}
+use Rattle.hyd_spec_certificates.specs.RecordAndStanding.{Record, Standing}
+use Rattle.hyd_spec_certificates.specs.ThreeValuedLogic.{is_yes, is_unknown}
 use Rattle.hyd_spec_certificates.specs.Decided.{OpenRule, rule_truths, flow_boxes}
-use Rattle.hyd_controls_and_rules.specs.Instants.{flow_interval}
-use Rattle.hyd_rule_values.specs.declared.values.RuleOpen.{RuleOpen}
+use Rattle.hyd_controls_and_rules.specs.RuleReadings.{flow_interval}
+use Rattle.hyd_rule_values.specs.declared.truth_of_rules.RuleOpen.{RuleOpen}
 
 -- the heads of junctions and then of reservoirs are those of a record's vectors with all tanks alike, and the flows of
 -- links are their flow boxes

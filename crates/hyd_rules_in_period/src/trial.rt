@@ -5,11 +5,11 @@ ghost use Rattle.std.specs.Prelude.{◌≡◌, ◌≤◌, ◌+◌, ◌^◌, leng
 ghost use Rattle.std.specs.List.{All};
 ghost use Rattle.hyd_net.specs.Sound.{Sound};
 ghost use Rattle.hyd_spec.specs.NodeNumbers.{nodes_before_tanks, tank_count};
-ghost use Rattle.hyd_spec_certificates.specs.Grid.{Grid};
-ghost use Rattle.hyd_spec_certificates.specs.Record.{Record, Standing};
+ghost use Rattle.hyd_spec_certificates.specs.PeriodNetwork.{Grid};
+ghost use Rattle.hyd_spec_certificates.specs.RecordAndStanding.{Record, Standing};
 ghost use Rattle.hyd_spec_certificates.specs.Decided.{IsOpenRule};
-ghost use Rattle.hyd_controls_and_rules.specs.Instants.{IsBounded};
-ghost use Rattle.hyd_watched_levels.specs.FactsAtStart.{HaveTanks, AreStarted};
+ghost use Rattle.hyd_controls_and_rules.specs.RuleReadings.{IsBounded};
+ghost use Rattle.hyd_watched_levels.specs.FactsBeforeEnd.{HaveTanks, AreStarted};
 ghost use Rattle.hyd_rules_in_period.specs.Trial.{AreRead, AreDecided, open_rule};
 
 use hyd_carried_levels::put_carried;

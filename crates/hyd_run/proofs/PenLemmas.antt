@@ -7,7 +7,7 @@ use Rattle.hyd_io.specs.declared.desk.Openings.{Openings}
 use Rattle.hyd_io.specs.declared.output.OutFault.{OutFault}
 use Rattle.hyd_io.specs.declared.output.Channel.{Channel}
 use Rattle.hyd_io.specs.declared.output.Channel.TheVariants.{Cert, Report}
-use Rattle.hyd_io.specs.ToldBytes.{Files, Moves, PutOut, append_known}
+use Rattle.hyd_io.specs.DeskBytes.{Files, Moves, PutOut, append_known}
 use Rattle.hyd_io.specs.Output.{by_channel, OnCert, OnReport, HasOutCause, PenState}
 use Rattle.hyd_io.proofs.ToldLemmas.{moves_then, put_out_then, put_out_nothing, moves_all}
 use Rattle.hyd_report.specs.Putting.{Puts}

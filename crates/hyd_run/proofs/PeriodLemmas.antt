@@ -11,22 +11,22 @@ use Rattle.hyd_spec_certificates.specs.declared.Problem.TheVariants.{Main, Pinne
 use Rattle.hyd_spec_certificates.specs.declared.Side.{Side}
 use Rattle.hyd_spec_certificates.specs.declared.Side.TheVariants.{Upper, Lower}
 use Rattle.hyd_spec_certificates.specs.Interval.{Interval}
-use Rattle.hyd_spec_certificates.specs.Grid.{Grid}
+use Rattle.hyd_spec_certificates.specs.PeriodNetwork.{Grid}
 use Rattle.hyd_spec_certificates.specs.Certificate.{IsCertificate}
-use Rattle.hyd_spec_certificates.specs.Record.{Record, Standing, Vectors, no_vectors}
+use Rattle.hyd_spec_certificates.specs.RecordAndStanding.{Record, Standing, Vectors, no_vectors}
 use Rattle.hyd_spec_certificates.specs.Valid.{AreCertificates, IsValid, LeadsOn, continues, finishes}
 use Rattle.hyd_spec_reports.specs.CertificateText.{IsRow, IsVector as IsRowVector}
-use Rattle.hyd_theorems_on_definitions.specs.Laws.{IsSteady}
+use Rattle.hyd_theorems_on_definitions.specs.TermsOfTheorems.{IsSteady}
 use Rattle.hyd_theorems_on_nesting.proofs.TwoSides.{heads_below_plus}
-use Rattle.hyd_period_network.specs.GridOf.{grid_of}
+use Rattle.hyd_period_network.specs.NetAsPeriodNetwork.{grid_of}
 use Rattle.hyd_period_network.specs.NetView.{NetView}
 use Rattle.hyd_period_network.specs.Periods.{IsNetOf}
 use Rattle.hyd_period_network.proofs.Counts.{junctions_count}
 use Rattle.hyd_period_network.proofs.Sounding.{long_zipped}
-use Rattle.hyd_bounds.specs.Bounds.{TanksInOrder}
+use Rattle.hyd_bounds.specs.VectorsInOrder.{TanksInOrder}
 use Rattle.hyd_period_facts.specs.declared.facts.Facts.{Facts}
 use Rattle.hyd_report.specs.PeriodLines.{AreBounds, AreTankFacts}
-use Rattle.hyd_watched_levels.specs.FactsAtStart.{HaveTanks}
+use Rattle.hyd_watched_levels.specs.FactsBeforeEnd.{HaveTanks}
 use Rattle.hyd_sim.specs.View.{SimView, IsSim, standing_of}
 
 -- ---- bounds

@@ -4,16 +4,16 @@ use Rattle.std.proofs.Common.{Some, refl, sym, ap, subst, ◌∙◌, arith}
 use Rattle.std.specs.Prelude.{IfSome}
 use Rattle.std.proofs.lemmas.List.{length-map}
 use Rattle.hyd_spec.specs.ProgramTypes.{Project}
-use Rattle.hyd_spec_certificates.specs.Record.{Standing}
-use Rattle.hyd_spec_reports.specs.Headline.{Found, EndsSo, Finished, Stopped}
+use Rattle.hyd_spec_certificates.specs.RecordAndStanding.{Standing}
+use Rattle.hyd_spec_reports.specs.PromisesOfRunsAndChecks.{Found, EndsSo, Finished, Stopped}
 use Rattle.hyd_spec_reports.specs.Stops.{Stops}
 use Rattle.hyd_spec_reports.specs.declared.StopCause.{StopCause}
 use Rattle.hyd_cert.specs.RecordView.{row_of}
-use Rattle.hyd_period_network.specs.GridOf.{grid_of, states_of}
+use Rattle.hyd_period_network.specs.NetAsPeriodNetwork.{grid_of, states_of}
 use Rattle.hyd_period_network.specs.Periods.{ends_of, IsNetOf}
 use Rattle.hyd_report.specs.PeriodLines.{AreTankFacts, lines_of}
 use Rattle.hyd_report.proofs.ReportLemmas.{length-links_of, lines_are_report}
-use Rattle.hyd_bounds.specs.Bounds.{TanksInOrder}
+use Rattle.hyd_bounds.specs.VectorsInOrder.{TanksInOrder}
 use Rattle.hyd_io.specs.declared.output.OutFault.{OutFault}
 use Rattle.hyd_sim.specs.View.{SimView, IsSim, standing_of}
 use Rattle.hyd_sim.specs.Steps.{IsPeriod}
@@ -24,11 +24,11 @@ use Rattle.hyd_spec_reports.specs.CertificateText.{record_text}
 use Rattle.hyd_cert.specs.declared.record.Record.{Record as Row}
 use Rattle.hyd_period_facts.specs.declared.facts.Facts.{Facts}
 use Rattle.hyd_period_network.specs.NetView.{NetView}
-use Rattle.hyd_period_network.specs.Settings.{AreStates}
-use Rattle.hyd_report.specs.LinesOfParts.{texts}
+use Rattle.hyd_period_network.specs.LawsInSettings.{AreStates}
+use Rattle.hyd_report.specs.NodeAndLinkLines.{texts}
 use Rattle.hyd_run.specs.Pens.{Moment, PutIn, IsCutOff}
 use Rattle.hyd_run.specs.Runs.{sharpness_of, IsStep, IsSoFar, IsCutShort, DidPeriod, LostPeriod, IsOver, periods_left}
-use Rattle.hyd_spec_reports.specs.Headline.{Outcome}
+use Rattle.hyd_spec_reports.specs.PromisesOfRunsAndChecks.{Outcome}
 use Rattle.hyd_run.proofs.PeriodLemmas.{tank-facts-of, few-periods, row-fits, grid-count, number-next}
 use Rattle.hyd_run.proofs.RunLemmas.{so-far-more, so-far-cut}
 

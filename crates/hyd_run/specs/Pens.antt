@@ -5,7 +5,7 @@ use Rattle.hyd_io.specs.declared.desk.Faults.{Faults}
 use Rattle.hyd_io.specs.declared.desk.Openings.{Openings}
 use Rattle.hyd_io.specs.declared.output.Channel.TheVariants.{Cert, Report}
 use Rattle.hyd_io.specs.declared.output.OutFault.{OutFault}
-use Rattle.hyd_io.specs.ToldBytes.{Files, file_at, Moves, PutOut}
+use Rattle.hyd_io.specs.DeskBytes.{Files, file_at, Moves, PutOut}
 use Rattle.hyd_io.specs.Output.{HasOutCause, PenState}
 
 -- All that a desk tells.

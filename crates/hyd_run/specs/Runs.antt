@@ -5,16 +5,17 @@ use Rattle.std.specs.Prelude.{length, All, Option, Some, None, Result, Ok, Err}
 use Rattle.std.specs.List.{AllByRecursion}
 use Rattle.hyd_spec.specs.ProgramTypes.{Project}
 use Rattle.hyd_spec.specs.NodeNumbers.{junction_count, tank_count}
-use Rattle.hyd_spec_certificates.specs.Record.{Standing}
+use Rattle.hyd_spec_certificates.specs.RecordAndStanding.{Standing}
 use Rattle.hyd_spec_reports.specs.CertificateText.{IsRow, record_text, line}
-use Rattle.hyd_spec_reports.specs.Headline.{Found, IsFound, IsRun, Sharpness, IsSharpFound, Outcome, Finished}
-use Rattle.hyd_spec_reports.specs.Headline.{Stopped, EndsSo, RunWrites, RunBreaksOff, rows_of}
-use Rattle.hyd_spec_reports.specs.Headline.{certificate_so_far, report_so_far}
-use Rattle.hyd_report.specs.LinesOfParts.{texts}
+use Rattle.hyd_spec_reports.specs.PromisesOfRunsAndChecks.{Found, IsFound, IsRun, Sharpness, IsSharpFound, Outcome}
+use Rattle.hyd_spec_reports.specs.PromisesOfRunsAndChecks.{Finished}
+use Rattle.hyd_spec_reports.specs.PromisesOfRunsAndChecks.{Stopped, EndsSo, RunWrites, RunBreaksOff, rows_of}
+use Rattle.hyd_spec_reports.specs.PromisesOfRunsAndChecks.{certificate_so_far, report_so_far}
+use Rattle.hyd_report.specs.NodeAndLinkLines.{texts}
 use Rattle.hyd_io.specs.declared.output.Channel.{Channel}
 use Rattle.hyd_io.specs.declared.output.OutFault.{OutFault}
 use Rattle.hyd_io.specs.Output.{PenState}
-use Rattle.hyd_io.specs.ToldBytes.{append_known}
+use Rattle.hyd_io.specs.DeskBytes.{append_known}
 use Rattle.hyd_sim.specs.declared.settings.Settings.{Settings}
 use Rattle.hyd_sim.specs.View.{SimView, standing_of}
 use Rattle.hyd_run.specs.Pens.{Told, Moment, PutIn, IsCutOff}

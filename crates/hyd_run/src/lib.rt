@@ -4,7 +4,7 @@
 
 mod outcome;
 mod pens;
-mod period;
+mod period_and_last_lines;
 mod steps;
 mod whole_run;
 

@@ -3,18 +3,18 @@
 
 ghost use Rattle.std.specs.Prelude.{◌≡◌, IsTrue, IfOk, IfErr, OnOk};
 ghost use Rattle.hyd_io.specs.declared.output.Channel.TheVariants.{Cert, Report};
-ghost use Rattle.hyd_spec_certificates.specs.Record.{initial_standing};
+ghost use Rattle.hyd_spec_certificates.specs.RecordAndStanding.{initial_standing};
 ghost use Rattle.hyd_sim.specs.View.{standing_of};
 ghost use Rattle.hyd_net.specs.Sound.{Sound};
 ghost use Rattle.hyd_spec.specs.ProgramTypes.{Project};
-ghost use Rattle.hyd_spec_reports.specs.Headline.{EndsSo};
+ghost use Rattle.hyd_spec_reports.specs.PromisesOfRunsAndChecks.{EndsSo};
 ghost use Rattle.hyd_sim.specs.declared.settings.Settings.{Settings};
 ghost use Rattle.hyd_run.specs.Pens.{Moment, told, moment, AreOpen, OneRose, LeavesRest};
 ghost use Rattle.hyd_run.specs.Runs.{fresh, outcome_of, sharpness_of, IsSoFar, IsWhole, IsPutOut, IsBrokenOff, RunPuts};
 
 use crate::outcome::RunEnd;
 use crate::pens::{empty_both, put_front};
-use crate::period::put_last;
+use crate::period_and_last_lines::put_last;
 use crate::steps::put_steps;
 use hyd_finders::Finder;
 use hyd_io::{Desk, OutFault, Pen};

@@ -10,8 +10,8 @@ use Rattle.hyd_spec_certificates.specs.declared.Problem.{Problem}
 use Rattle.hyd_spec_certificates.specs.declared.Problem.TheVariants.{Main, Pinned}
 use Rattle.hyd_spec_certificates.specs.declared.Side.{Side}
 use Rattle.hyd_spec_certificates.specs.Interval.{Interval}
-use Rattle.hyd_spec_certificates.specs.Grid.{Grid}
-use Rattle.hyd_spec_certificates.specs.Record.{vector_of}
+use Rattle.hyd_spec_certificates.specs.PeriodNetwork.{Grid}
+use Rattle.hyd_spec_certificates.specs.RecordAndStanding.{vector_of}
 use Rattle.hyd_spec_certificates.specs.Decided.{inflow_of_tank}
 use Rattle.hyd_spec_certificates.specs.Valid.{AreCertificates, AreStates, ControlsAreDecided, IsProblem, LeadsOn}
 use Rattle.hyd_spec_certificates.specs.Valid.{continues, finishes}
@@ -21,18 +21,18 @@ use Rattle.hyd_spec_certificates.specs.Certificate.{IsCertificate}
 use Rattle.hyd_net.specs.ListView.{ListView}
 use Rattle.hyd_cert.specs.RecordView.{row_of, IsProblemOf}
 use Rattle.hyd_cert.specs.declared.record.Record.{Record as Row}
-use Rattle.hyd_tank.specs.Spans.{IsInflow}
-use Rattle.hyd_period_facts.specs.OfPeriod.{levels_of, volumes_of, flows_of}
+use Rattle.hyd_tank.specs.StockIntervals.{IsInflow}
+use Rattle.hyd_period_facts.specs.FactsOfPeriod.{levels_of, volumes_of, flows_of}
 use Rattle.hyd_period_facts.specs.declared.facts.Facts.{Facts}
-use Rattle.hyd_period_network.specs.GridOf.{grid_of}
+use Rattle.hyd_period_network.specs.NetAsPeriodNetwork.{grid_of}
 use Rattle.hyd_period_network.specs.NetView.{NetView}
-use Rattle.hyd_watched_levels.specs.FactsAtStart.{HaveTanks}
+use Rattle.hyd_watched_levels.specs.FactsBeforeEnd.{HaveTanks}
 use Rattle.hyd_period_end.specs.FactsBeforeVectors.{AreBegun, AreReady}
 use Rattle.hyd_period_end.specs.EndOfPeriod.{AreKeptIn, IsClosed}
 use Rattle.hyd_period_end.specs.declared.period_end.PeriodEnd.{PeriodEnd}
 use Rattle.hyd_period_end.proofs.Bounding.{have-tanks}
 use Rattle.hyd_period_vectors.specs.Vectors.{OfEach, IsSought, Comes}
-use Rattle.hyd_sim.specs.Attempts.{AreSought, IsMade, IsOver, IsStarted}
+use Rattle.hyd_sim.specs.PeriodAttempt.{AreSought, IsMade, IsOver, IsStarted}
 use Rattle.hyd_sim.specs.View.{IsStanding, standing_for}
 use Rattle.hyd_sim.specs.declared.standing.Standing.{Standing as Here}
 use Rattle.hyd_sim.proofs.Running.{at-last, at-later}

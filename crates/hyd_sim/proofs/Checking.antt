@@ -5,14 +5,14 @@ use Rattle.std.proofs.lemmas.List.{length-take-le, length-drop}
 use Rattle.hyd_spec_certificates.specs.declared.Problem.{Problem}
 use Rattle.hyd_spec_certificates.specs.declared.Problem.TheVariants.{Main, Pinned}
 use Rattle.hyd_spec_certificates.specs.declared.Side.{Side}
-use Rattle.hyd_spec_certificates.specs.Record.{Record, vector_of}
+use Rattle.hyd_spec_certificates.specs.RecordAndStanding.{Record, vector_of}
 use Rattle.hyd_spec_reports.specs.Stops.{turn}
 use Rattle.hyd_cert.specs.RecordView.{row_of, IsProblemOf}
 use Rattle.hyd_cert.specs.Vectors.{place_in}
 use Rattle.hyd_cert.specs.declared.record.Record.{Record as Row}
 use Rattle.hyd_cert.proofs.VectorLemmas.{vector_at, vector_within}
 use Rattle.hyd_period_network.specs.NetView.{NetView}
-use Rattle.hyd_period_network.specs.Nets.{HasProblem}
+use Rattle.hyd_period_network.specs.NetInvariant.{HasProblem}
 use Rattle.hyd_period_vectors.specs.Vectors.{EachBefore}
 use Rattle.hyd_period_vectors.proofs.Turning.{own-turn}
 

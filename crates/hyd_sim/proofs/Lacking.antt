@@ -5,18 +5,18 @@ use Rattle.hyd_spec_certificates.specs.declared.Problem.{Problem}
 use Rattle.hyd_spec_certificates.specs.declared.Problem.TheVariants.{Main}
 use Rattle.hyd_spec_certificates.specs.declared.Side.{Side}
 use Rattle.hyd_spec_certificates.specs.declared.Side.TheVariants.{Upper}
-use Rattle.hyd_spec_certificates.specs.Grid.{Grid}
+use Rattle.hyd_spec_certificates.specs.PeriodNetwork.{Grid}
 use Rattle.hyd_spec_certificates.specs.Certificate.{IsCertificate}
-use Rattle.hyd_spec_certificates.specs.Record.{Record, vector_of}
-use Rattle.hyd_theorems_on_definitions.specs.Laws.{IsSteady}
+use Rattle.hyd_spec_certificates.specs.RecordAndStanding.{Record, vector_of}
+use Rattle.hyd_theorems_on_definitions.specs.TermsOfTheorems.{IsSteady}
 use Rattle.hyd_theorems_on_definitions.proofs.OneStanding.{one_vector}
 use Rattle.hyd_period_vectors.specs.Vectors.{IsAtHand, IsFound, IsReached, IsSought, IsTold}
 use Rattle.hyd_period_vectors.specs.Vectors.{InOrder, Comes, Tells, Lacks}
 use Rattle.hyd_period_vectors.specs.Vectors.{AreTold, HaveSame, LacksFirst, OfEach}
-use Rattle.hyd_period_vectors.specs.declared.lack.Lack.{Lack}
-use Rattle.hyd_period_vectors.specs.declared.lack.Lack.TheVariants.{NoCertificate, RoundsSpent}
-use Rattle.hyd_sim.specs.Attempts.{AreSought}
-use Rattle.hyd_sim.specs.Sharp.{LacksOne}
+use Rattle.hyd_period_vectors.specs.declared.missing_vector.Lack.{Lack}
+use Rattle.hyd_period_vectors.specs.declared.missing_vector.Lack.TheVariants.{NoCertificate, RoundsSpent}
+use Rattle.hyd_sim.specs.PeriodAttempt.{AreSought}
+use Rattle.hyd_sim.specs.NarrowRecordsAndStops.{LacksOne}
 use Rattle.hyd_sim.specs.Steps.{IsLeftToRounds, AreToldOrLeft}
 use Rattle.hyd_sim.proofs.Reached.{tight-reached}
 

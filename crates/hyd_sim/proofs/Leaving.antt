@@ -2,8 +2,8 @@
 use Rattle.std.proofs.Common.{◌≡◌, ℕ, ℤ, Bool, List, refl}
 use Rattle.std.specs.Prelude.{Some, None, position, slice_get}
 use Rattle.hyd_spec.specs.ProgramTypes.{Project, LinkState, Control, AtLevel}
-use Rattle.hyd_spec_certificates.specs.Grid.{Grid}
-use Rattle.hyd_spec_certificates.specs.Record.{Record, Standing}
+use Rattle.hyd_spec_certificates.specs.PeriodNetwork.{Grid}
+use Rattle.hyd_spec_certificates.specs.RecordAndStanding.{Record, Standing}
 use Rattle.hyd_spec_certificates.specs.Decided.{EndsBy, RuleIsOpen, EventIsOpen}
 use Rattle.hyd_spec_certificates.specs.Valid.{LeavesLinks, levels_next}
 use Rattle.hyd_spec_reports.specs.declared.StopCause.TheVariants.{RuleOpen, EventOpen, TankOpen, ControlOpen}

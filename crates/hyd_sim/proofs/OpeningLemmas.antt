@@ -2,12 +2,12 @@
 use Rattle.std.proofs.Common.{◌≡◌, false, sym, subst, arith, map}
 use Rattle.hyd_net.specs.Sound.{Sound}
 use Rattle.hyd_spec.specs.ProgramTypes.{Project}
-use Rattle.hyd_spec_certificates.specs.Record.{initial_standing}
+use Rattle.hyd_spec_certificates.specs.RecordAndStanding.{initial_standing}
 use Rattle.hyd_theorems_on_histories.specs.Agreement.{IsKept}
 use Rattle.hyd_theorems_on_histories.proofs.Stepping.{kept_at_start}
 use Rattle.hyd_theorems_on_nesting.specs.Nesting.{IsTidy}
 use Rattle.hyd_theorems_on_nesting.proofs.Holding.{tidy_at_start}
-use Rattle.hyd_period_facts.specs.OfPeriod.{levels_of, volumes_of}
+use Rattle.hyd_period_facts.specs.FactsOfPeriod.{levels_of, volumes_of}
 use Rattle.hyd_period_stocks.specs.ReservedMemory.{HasRoom}
 use Rattle.hyd_period_end.specs.EndOfPeriod.{AreKeptIn}
 use Rattle.hyd_sim.specs.View.{IsStanding, standing_for}

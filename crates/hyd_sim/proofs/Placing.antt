@@ -7,17 +7,17 @@ use Rattle.std.proofs.lemmas.List.{length-map}
 use Rattle.hyd_spec.specs.ProgramTypes.{Project, Tank}
 use Rattle.hyd_spec.specs.Tank.{level_bounds}
 use Rattle.hyd_spec_certificates.specs.Interval.{Interval}
-use Rattle.hyd_spec_certificates.specs.Grid.{Grid, tank_intervals}
-use Rattle.hyd_spec_certificates.specs.Record.{Standing}
+use Rattle.hyd_spec_certificates.specs.PeriodNetwork.{Grid, tank_intervals}
+use Rattle.hyd_spec_certificates.specs.RecordAndStanding.{Standing}
 use Rattle.hyd_spec_certificates.specs.Decided.{nowhere, level_of_tank}
 use Rattle.hyd_spec_certificates.specs.Valid.{IsGridAt}
 use Rattle.hyd_spec_certificates.specs.declared.LevelSpan.{LevelSpan}
-use Rattle.hyd_theorems_on_definitions.specs.Laws.{IsWithin}
+use Rattle.hyd_theorems_on_definitions.specs.TermsOfTheorems.{IsWithin}
 use Rattle.hyd_theorems_on_histories.specs.Agreement.{IsKept}
 use Rattle.hyd_theorems_on_nesting.specs.Nesting.{IsTidy}
-use Rattle.hyd_period_facts.specs.OfPeriod.{levels_of}
+use Rattle.hyd_period_facts.specs.FactsOfPeriod.{levels_of}
 use Rattle.hyd_period_network.specs.Periods.{AreLevels, IsSpanOf}
-use Rattle.hyd_bounds.specs.Bounds.{TanksInOrder}
+use Rattle.hyd_bounds.specs.VectorsInOrder.{TanksInOrder}
 use Rattle.hyd_tank_inflows.proofs.Numbered.{item_there, item_is}
 
 mapped-at : (levels : List LevelSpan) (k : ℕ) (d : LevelSpan) → k < length levels

@@ -9,9 +9,9 @@ use Rattle.hyd_spec.specs.Lists.{map_from}
 use Rattle.hyd_spec.specs.declared.TankState.{TankState}
 use Rattle.hyd_spec_certificates.specs.Interval.{Interval}
 use Rattle.hyd_spec_certificates.specs.Stocks.{state_of}
-use Rattle.hyd_spec_certificates.specs.Verdict.{is_unknown}
-use Rattle.hyd_spec_certificates.specs.Grid.{Grid}
-use Rattle.hyd_spec_certificates.specs.Record.{Record, Standing}
+use Rattle.hyd_spec_certificates.specs.ThreeValuedLogic.{is_unknown}
+use Rattle.hyd_spec_certificates.specs.PeriodNetwork.{Grid}
+use Rattle.hyd_spec_certificates.specs.RecordAndStanding.{Record, Standing}
 use Rattle.hyd_spec_certificates.specs.Decided.{OpenRule, End, ByRules, WithoutRules, EndsBy, RuleIsOpen, EventIsOpen}
 use Rattle.hyd_spec_certificates.specs.Decided.{nowhere, control_truth, by_rules as decided_by_rules, rule_is_open}
 use Rattle.hyd_spec_certificates.specs.Decided.{by_clock as decided_by_clock, event_is_open}

@@ -3,13 +3,13 @@ use Rattle.std.proofs.Common.{ℕ, ℤ, List, sym, subst, inl, inr}
 use Rattle.std.specs.Prelude.{None}
 use Rattle.hyd_spec_certificates.specs.declared.Problem.{Problem}
 use Rattle.hyd_spec_certificates.specs.declared.Side.{Side}
-use Rattle.hyd_spec_certificates.specs.Grid.{Grid}
+use Rattle.hyd_spec_certificates.specs.PeriodNetwork.{Grid}
 use Rattle.hyd_spec_certificates.specs.Certificate.{IsCertificate, IsTight}
 use Rattle.hyd_spec_certificates.specs.SearchSteps.{IsStart}
-use Rattle.hyd_theorems_on_definitions.specs.Laws.{IsSteady}
+use Rattle.hyd_theorems_on_definitions.specs.TermsOfTheorems.{IsSteady}
 use Rattle.hyd_theorems_on_raises.proofs.Beginnings.{start-end}
 use Rattle.hyd_theorems_on_raises.proofs.Raising.{start-tight}
-use Rattle.hyd_sweep.specs.Strides.{AreLeapingRounds, no_round, one_round}
+use Rattle.hyd_sweep.specs.LeapingRounds.{AreLeapingRounds, no_round, one_round}
 use Rattle.hyd_sweep.proofs.Walking.{round-start}
 use Rattle.hyd_period_vectors.specs.Vectors.{InOrder, IsAtHand, IsReached}
 use Rattle.hyd_period_vectors.proofs.Nearing.{start-across}

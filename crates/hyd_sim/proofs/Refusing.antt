@@ -7,15 +7,16 @@ use Rattle.hyd_spec.specs.NodeNumbers.{tank_count}
 use Rattle.hyd_spec_certificates.specs.declared.Problem.{Problem}
 use Rattle.hyd_spec_certificates.specs.declared.Problem.TheVariants.{Main, Pinned}
 use Rattle.hyd_spec_certificates.specs.declared.Side.{Side}
-use Rattle.hyd_spec_certificates.specs.Grid.{Grid}
+use Rattle.hyd_spec_certificates.specs.PeriodNetwork.{Grid}
 use Rattle.hyd_spec_certificates.specs.Certificate.{IsCertificate}
-use Rattle.hyd_spec_certificates.specs.Record.{Record, Standing, Vectors, vector_of, vector_on, no_vectors}
+use Rattle.hyd_spec_certificates.specs.RecordAndStanding.{Record, Standing, Vectors, vector_of, vector_on, no_vectors}
 use Rattle.hyd_spec_certificates.specs.Decided.{ByRules, WithoutRules, RuleIsOpen, EventIsOpen}
 use Rattle.hyd_spec_certificates.specs.Valid.{IsProblem, AreCertificates, LeavesLinks, by_rules, by_clock, LeadsOn}
 use Rattle.hyd_spec_certificates.specs.Valid.{continues, finishes, IsValid, DemandsAreInRange}
 use Rattle.hyd_spec_reports.specs.declared.CertRefused.TheVariants.{Demand, Fails, Open as MatterOpen, Length}
-use Rattle.hyd_spec_reports.specs.Refusals.{IsRefused, IsInPlace, HasItsGrid, LeavesOpen, rule, event, tank, control}
-use Rattle.hyd_spec_reports.specs.Refusals.{HasOtherLength, at_end, before_end}
+use Rattle.hyd_spec_reports.specs.RefusedRecords.{IsRefused, IsInPlace, HasItsGrid, LeavesOpen, rule, event, tank}
+use Rattle.hyd_spec_reports.specs.RefusedRecords.{control}
+use Rattle.hyd_spec_reports.specs.RefusedRecords.{HasOtherLength, at_end, before_end}
 use Rattle.hyd_theorems_on_definitions.proofs.OneLength.{ends_again}
 use Rattle.hyd_theorems_on_definitions.proofs.OneRefusal.{refused_invalid}
 use Rattle.hyd_cert.specs.RecordView.{row_of, IsProblemOf}
@@ -30,7 +31,7 @@ use Rattle.hyd_period_end.specs.declared.period_end.PeriodEnd.{PeriodEnd}
 use Rattle.hyd_period_facts.specs.declared.facts.Facts.{Facts}
 use Rattle.hyd_period_network.specs.NetView.{NetView}
 use Rattle.hyd_sim.specs.Acceptance.{FailsAt, IsTaken}
-use Rattle.hyd_sim.specs.Attempts.{IsMade, next_standing}
+use Rattle.hyd_sim.specs.PeriodAttempt.{IsMade, next_standing}
 use Rattle.hyd_sim.specs.View.{standing_for}
 use Rattle.hyd_sim.specs.declared.standing.Standing.{Standing as Here}
 use Rattle.hyd_sim.specs.declared.given_vectors.Failing.{Failing}

@@ -5,15 +5,15 @@ use Rattle.std.specs.Prelude.{unsigned_abs, if◌then◌else◌}
 use Rattle.std.proofs.Common.{◌≢◌, eq-eqb}
 use Rattle.std.proofs.lemmas.Bool.{ne_eqb}
 use Rattle.std.proofs.lemmas.Option.{slice_get_within, get_or_from_slice_get}
-use Rattle.hyd_spec.specs.Quantity.{demand_of}
+use Rattle.hyd_spec.specs.DemandsReservoirHeadsAndCurves.{demand_of}
 use Rattle.hyd_spec.specs.ProgramTypes.{Project, Junction}
 use Rattle.hyd_spec.specs.NodeNumbers.{junction_count, tank_count}
 use Rattle.hyd_spec_certificates.specs.declared.Problem.{Problem}
 use Rattle.hyd_spec_certificates.specs.declared.Problem.TheVariants.{Main, Pinned}
 use Rattle.hyd_spec_certificates.specs.declared.Side.{Side}
-use Rattle.hyd_spec_certificates.specs.Grid.{Grid}
+use Rattle.hyd_spec_certificates.specs.PeriodNetwork.{Grid}
 use Rattle.hyd_spec_certificates.specs.Certificate.{IsCertificate, IsTight}
-use Rattle.hyd_spec_certificates.specs.Record.{Record, Standing}
+use Rattle.hyd_spec_certificates.specs.RecordAndStanding.{Record, Standing}
 use Rattle.hyd_spec_certificates.specs.Valid.{IsProblem, IsGridAt, DemandsAreInRange, AreCertificates, demand_limit}
 use Rattle.hyd_spec_reports.specs.Stops.{Stops, IsFirstDemand, IsTightRow, EarlierHaveCertificates, HasNoCertificate}
 use Rattle.hyd_spec_reports.specs.Stops.{SpendsRounds}
@@ -23,16 +23,16 @@ use Rattle.hyd_period_network.proofs.Sounding.{long_zipped}
 use Rattle.hyd_period_network.specs.NetView.{NetView}
 use Rattle.hyd_period_network.specs.Periods.{IsNetOf}
 use Rattle.hyd_period_vectors.specs.Vectors.{OfEach, Lacks, HasNone, AreSpent}
-use Rattle.hyd_period_vectors.specs.declared.lack.Lack.{Lack}
-use Rattle.hyd_period_vectors.specs.declared.lack.Lack.TheVariants.{NoCertificate as LacksCertificate}
-use Rattle.hyd_period_vectors.specs.declared.lack.Lack.TheVariants.{RoundsSpent as SpentRounds}
+use Rattle.hyd_period_vectors.specs.declared.missing_vector.Lack.{Lack}
+use Rattle.hyd_period_vectors.specs.declared.missing_vector.Lack.TheVariants.{NoCertificate as LacksCertificate}
+use Rattle.hyd_period_vectors.specs.declared.missing_vector.Lack.TheVariants.{RoundsSpent as SpentRounds}
 use Rattle.hyd_period_end.specs.OpenMatters.{IsOpenAt}
 use Rattle.hyd_period_end.specs.declared.period_end.PeriodEnd.{PeriodEnd}
 use Rattle.hyd_period_end.specs.declared.undecided.Open.{Open}
 use Rattle.hyd_period_end.specs.declared.undecided.Open.TheVariants.{Rule as RuleIsFound, Event as EventIsFound}
 use Rattle.hyd_period_end.specs.declared.undecided.Open.TheVariants.{Tank as TankIsFound, Control as ControlIsFound}
-use Rattle.hyd_sim.specs.Sharp.{LacksOne, stop_of, open_stop_of}
-use Rattle.hyd_sim.specs.Attempts.{next_standing, last_standing, later_standing}
+use Rattle.hyd_sim.specs.NarrowRecordsAndStops.{LacksOne, stop_of, open_stop_of}
+use Rattle.hyd_sim.specs.PeriodAttempt.{next_standing, last_standing, later_standing}
 use Rattle.hyd_sim.specs.Steps.{AreTight}
 use Rattle.hyd_sim.specs.declared.standing.Standing.{Standing as Here}
 use Rattle.hyd_sim.proofs.Leaving.{rule-stops, event-stops, tank-stops, control-stops}

@@ -13,14 +13,14 @@ use Rattle.hyd_theorems_on_histories.specs.Agreement.{IsOwnState}
 use Rattle.hyd_spec.specs.Tank.{walls_of}
 use Rattle.hyd_spec_certificates.specs.Valid.{ControlsAreDecided}
 use Rattle.hyd_spec_certificates.specs.declared.LevelSpan.{LevelSpan}
-use Rattle.hyd_tank.specs.Spans.{AreHeld}
-use Rattle.hyd_tank.specs.declared.spans.VolumeSpan.{VolumeSpan}
-use Rattle.hyd_controls_and_rules.specs.Starts.{IsFirstOpen}
-use Rattle.hyd_controls_and_rules.specs.declared.period_start.LevelOpen.{LevelOpen}
-use Rattle.hyd_period_facts.specs.OfPeriod.{levels_of, volumes_of}
+use Rattle.hyd_tank.specs.StockIntervals.{AreHeld}
+use Rattle.hyd_tank.specs.declared.stock_intervals.VolumeSpan.{VolumeSpan}
+use Rattle.hyd_controls_and_rules.specs.PumpPatternsAndSimpleControls.{IsFirstOpen}
+use Rattle.hyd_controls_and_rules.specs.declared.pump_patterns_and_simple_controls.LevelOpen.{LevelOpen}
+use Rattle.hyd_period_facts.specs.FactsOfPeriod.{levels_of, volumes_of}
 use Rattle.hyd_period_facts.specs.ReservedMemory.{HasRoom}
 use Rattle.hyd_period_facts.specs.declared.facts.Facts.{Facts}
-use Rattle.hyd_period_network.specs.Settings.{AreStates}
+use Rattle.hyd_period_network.specs.LawsInSettings.{AreStates}
 use Rattle.hyd_period_stocks.specs.TankStart.{stocks_among}
 use Rattle.hyd_period_end.specs.FactsBeforeVectors.{AreReady}
 use Rattle.hyd_sim.specs.View.{IsStanding}

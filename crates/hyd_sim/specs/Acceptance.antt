@@ -2,20 +2,20 @@
 -- Source: this program's.
 use Rattle.std.specs.Prelude.{◌≡◌, ℕ, None}
 use Rattle.hyd_spec.specs.ProgramTypes.{Project}
-use Rattle.hyd_spec_certificates.specs.Grid.{Grid}
+use Rattle.hyd_spec_certificates.specs.PeriodNetwork.{Grid}
 use Rattle.hyd_spec_certificates.specs.Certificate.{IsCertificate, FailsFirst}
-use Rattle.hyd_spec_certificates.specs.Record.{Record, Standing, vector_of}
+use Rattle.hyd_spec_certificates.specs.RecordAndStanding.{Record, Standing, vector_of}
 use Rattle.hyd_spec_certificates.specs.Valid.{IsValid}
 use Rattle.hyd_spec_reports.specs.Stops.{turn}
 use Rattle.hyd_cert.specs.RecordView.{row_of, IsProblemOf}
 use Rattle.hyd_cert.specs.declared.record.Record.{Record as Row}
-use Rattle.hyd_period_facts.specs.OfPeriod.{AreFacts}
+use Rattle.hyd_period_facts.specs.FactsOfPeriod.{AreFacts}
 use Rattle.hyd_period_facts.specs.declared.facts.Facts.{Facts}
-use Rattle.hyd_period_network.specs.GridOf.{grid_of, states_of}
+use Rattle.hyd_period_network.specs.NetAsPeriodNetwork.{grid_of, states_of}
 use Rattle.hyd_period_network.specs.NetView.{NetView}
-use Rattle.hyd_period_network.specs.Settings.{AreStates}
-use Rattle.hyd_bounds.specs.Bounds.{TanksInOrder}
-use Rattle.hyd_watched_levels.specs.FactsAtStart.{HaveTanks}
+use Rattle.hyd_period_network.specs.LawsInSettings.{AreStates}
+use Rattle.hyd_bounds.specs.VectorsInOrder.{TanksInOrder}
+use Rattle.hyd_watched_levels.specs.FactsBeforeEnd.{HaveTanks}
 use Rattle.hyd_period_vectors.specs.Vectors.{EachBefore}
 use Rattle.hyd_sim.specs.View.{SimView, standing_of}
 use Rattle.hyd_sim.specs.declared.given_vectors.Failing.{Failing}

@@ -1,5 +1,5 @@
-pub mod Attempts
-pub mod Sharp
+pub mod PeriodAttempt
+pub mod NarrowRecordsAndStops
 pub mod View
 pub mod Steps
 pub mod Acceptance

@@ -5,24 +5,24 @@ use Rattle.hyd_spec.specs.ProgramTypes.{Project}
 use Rattle.hyd_spec.specs.NodeNumbers.{tank_count}
 use Rattle.hyd_spec_certificates.specs.declared.Problem.{Problem}
 use Rattle.hyd_spec_certificates.specs.declared.Side.{Side}
-use Rattle.hyd_spec_certificates.specs.Grid.{Grid}
+use Rattle.hyd_spec_certificates.specs.PeriodNetwork.{Grid}
 use Rattle.hyd_spec_certificates.specs.Certificate.{IsTight}
 use Rattle.hyd_spec_certificates.specs.Narrow.{IsNarrow}
-use Rattle.hyd_spec_certificates.specs.Record.{Record, Standing, vector_of}
+use Rattle.hyd_spec_certificates.specs.RecordAndStanding.{Record, Standing, vector_of}
 use Rattle.hyd_spec_certificates.specs.Valid.{IsProblem, IsGridAt, IsValid}
 use Rattle.hyd_spec_reports.specs.Stops.{Stops}
 use Rattle.hyd_cert.specs.RecordView.{row_of}
 use Rattle.hyd_cert.specs.declared.record.Record.{Record as Row}
-use Rattle.hyd_period_facts.specs.OfPeriod.{AreFacts}
+use Rattle.hyd_period_facts.specs.FactsOfPeriod.{AreFacts}
 use Rattle.hyd_period_facts.specs.declared.facts.Facts.{Facts}
-use Rattle.hyd_period_network.specs.GridOf.{grid_of, states_of}
+use Rattle.hyd_period_network.specs.NetAsPeriodNetwork.{grid_of, states_of}
 use Rattle.hyd_period_network.specs.NetView.{NetView}
-use Rattle.hyd_period_network.specs.Settings.{AreStates}
-use Rattle.hyd_bounds.specs.Bounds.{TanksInOrder}
-use Rattle.hyd_watched_levels.specs.FactsAtStart.{HaveTanks}
+use Rattle.hyd_period_network.specs.LawsInSettings.{AreStates}
+use Rattle.hyd_bounds.specs.VectorsInOrder.{TanksInOrder}
+use Rattle.hyd_watched_levels.specs.FactsBeforeEnd.{HaveTanks}
 use Rattle.hyd_period_end.specs.declared.period_end.PeriodEnd.{PeriodEnd}
 use Rattle.hyd_period_vectors.specs.Vectors.{IsTold, Tells, AreSpent, OfEach}
-use Rattle.hyd_sim.specs.Attempts.{next_standing, IsMade, AreSought}
+use Rattle.hyd_sim.specs.PeriodAttempt.{next_standing, IsMade, AreSought}
 use Rattle.hyd_sim.specs.View.{SimView, standing_for, standing_of}
 use Rattle.hyd_sim.specs.declared.settings.Settings.{Settings}
 use Rattle.hyd_sim.specs.declared.standing.Standing.{Standing as Here}

@@ -5,20 +5,20 @@ ghost use Rattle.std.specs.Prelude.{◌≡◌, Err, None, length, IfErr, OnErr, 
 ghost use Rattle.hyd_net.specs.Sound.{Sound};
 ghost use Rattle.hyd_spec.specs.NodeNumbers.{tank_count};
 ghost use Rattle.hyd_spec_certificates.specs.Valid.{AreCertificates};
-ghost use Rattle.hyd_spec_reports.specs.Refusals.{HasItsGrid, IsInPlace, IsRefused};
+ghost use Rattle.hyd_spec_reports.specs.RefusedRecords.{HasItsGrid, IsInPlace, IsRefused};
 ghost use Rattle.hyd_cert.specs.RecordView.{header_of, row_of};
 ghost use Rattle.hyd_period_facts.specs.ReservedMemory.{HasRoom};
-ghost use Rattle.hyd_period_network.specs.GridOf.{grid_of};
+ghost use Rattle.hyd_period_network.specs.NetAsPeriodNetwork.{grid_of};
 ghost use Rattle.hyd_period_network.specs.Periods.{IsNetOf};
 ghost use Rattle.hyd_period_end.specs.EndOfPeriod.{HasRoom as HasCloseRoom};
 ghost use Rattle.hyd_period_end.specs.OpenMatters.{SharesVectors};
 ghost use Rattle.hyd_period_vectors.specs.Vectors.{Stays};
 ghost use Rattle.hyd_sim.specs.Acceptance.{IsAccepted, IsTaken};
-ghost use Rattle.hyd_sim.specs.Attempts.{IsMade, IsStarted};
+ghost use Rattle.hyd_sim.specs.PeriodAttempt.{IsMade, IsStarted};
 ghost use Rattle.hyd_sim.specs.View.{IsStanding, header_for, standing_for, standing_of};
 
 use crate::attempt::end_period;
-use crate::found_period::start_period;
+use crate::due_period::start_period;
 use crate::given_vectors::{check_vectors, take_vectors};
 use crate::sim::Sim;
 use crate::standing::Standing;

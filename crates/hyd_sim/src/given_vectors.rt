@@ -6,8 +6,8 @@ ghost use Rattle.hyd_spec_certificates.specs.declared.Side.TheVariants.{Upper};
 ghost use Rattle.hyd_spec_certificates.specs.Certificate.{IsCertificate};
 ghost use Rattle.hyd_spec_reports.specs.Stops.{turn};
 ghost use Rattle.hyd_cert.specs.RecordView.{header_of, row_of};
-ghost use Rattle.hyd_period_network.specs.GridOf.{grid_of};
-ghost use Rattle.hyd_period_network.specs.Nets.{HasProblem};
+ghost use Rattle.hyd_period_network.specs.NetAsPeriodNetwork.{grid_of};
+ghost use Rattle.hyd_period_network.specs.NetInvariant.{HasProblem};
 ghost use Rattle.hyd_period_vectors.specs.Vectors.{EachBefore, OfEach, Fits, Stays};
 ghost use Rattle.hyd_sim.specs.Acceptance.{FailsAt};
 

@@ -3,11 +3,12 @@
 
 mod accept;
 mod attempt;
-mod found_period;
+mod closing;
+mod due_period;
+mod facts_and_links_at_start;
 mod given_vectors;
-mod narrow;
+mod narrow_records;
 mod opening;
-mod period_start;
 mod settings;
 mod sim;
 mod standing;

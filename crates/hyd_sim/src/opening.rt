@@ -3,7 +3,7 @@
 
 ghost use Rattle.std.specs.Prelude.{◌≡◌, length, map, None, IfOk};
 ghost use Rattle.hyd_net.specs.Sound.{Sound};
-ghost use Rattle.hyd_spec_certificates.specs.Record.{initial_standing};
+ghost use Rattle.hyd_spec_certificates.specs.RecordAndStanding.{initial_standing};
 ghost use Rattle.hyd_cert.specs.RecordView.{header_of};
 ghost use Rattle.hyd_period_end.specs.EndOfPeriod.{HasRoom as HasCloseRoom};
 ghost use Rattle.hyd_period_facts.specs.ReservedMemory.{HasRoom};

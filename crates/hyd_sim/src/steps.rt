@@ -3,15 +3,15 @@
 
 ghost use Rattle.std.specs.Prelude.{◌≡◌, Some, None, true, false, IfErr, IsOk, OnOk, OnErr};
 ghost use Rattle.hyd_spec.specs.NodeNumbers.{tank_count};
-ghost use Rattle.hyd_spec_certificates.specs.Record.{Record as Row};
+ghost use Rattle.hyd_spec_certificates.specs.RecordAndStanding.{Record as Row};
 ghost use Rattle.hyd_spec_reports.specs.Stops.{Stops};
 ghost use Rattle.hyd_cert.specs.RecordView.{row_of};
-ghost use Rattle.hyd_period_network.specs.GridOf.{grid_of};
+ghost use Rattle.hyd_period_network.specs.NetAsPeriodNetwork.{grid_of};
 ghost use Rattle.hyd_period_vectors.specs.Vectors.{HaveSame};
 ghost use Rattle.hyd_sim.specs.Steps.{StepGives, IsPeriod, IsProposal, IsSharpAsSought};
 ghost use Rattle.hyd_sim.specs.View.{standing_of};
 
-use crate::found_period::advance;
+use crate::due_period::advance;
 use crate::sim::Sim;
 use hyd_finders::Finder;
 use hyd_spec_reports::StopCause;

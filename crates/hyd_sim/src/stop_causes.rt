@@ -2,7 +2,7 @@
 #![tactic(auto)]
 
 ghost use Rattle.std.specs.Prelude.{◌≡◌, false, IfErr, IfOk};
-ghost use Rattle.hyd_sim.specs.Sharp.{SaysNone, stop_of, open_stop_of};
+ghost use Rattle.hyd_sim.specs.NarrowRecordsAndStops.{SaysNone, stop_of, open_stop_of};
 
 use hyd_period_end::Open;
 use hyd_period_network::PeriodDemand;

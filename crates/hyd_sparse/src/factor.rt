@@ -1,7 +1,7 @@
 //! `Factor`, the factor of a matrix.
 ghost use Rattle.std.specs.Prelude.{◌≡◌, length, IfOk};
 
-use crate::elimination::eliminate;
+use crate::numeric_factorization::eliminate;
 use crate::pattern::Pattern;
 use crate::pattern_making::make_pattern;
 use crate::solution::solve;

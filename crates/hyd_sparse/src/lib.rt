@@ -3,8 +3,8 @@
 //! them checks what they lead to.
 #![tactic(auto)]
 
-mod elimination;
 mod factor;
+mod numeric_factorization;
 mod ordering;
 mod pattern;
 mod pattern_making;

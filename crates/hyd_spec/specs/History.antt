@@ -8,7 +8,7 @@ use Rattle.hyd_spec.specs.Scale.{at_scale}
 use Rattle.hyd_spec.specs.NodeNumbers.{tank_count}
 use Rattle.hyd_spec.specs.Assignment.{IsAssignment}
 use Rattle.hyd_spec.specs.Tank.{IsNextStock, walls_of, kept_volume, tank_state, tank_inflow}
-use Rattle.hyd_spec.specs.PeriodStart.{started, acts_at}
+use Rattle.hyd_spec.specs.PumpPatternsAndSimpleControls.{started, acts_at}
 use Rattle.hyd_spec.specs.Rules.{acted}
 use Rattle.hyd_spec.specs.PeriodLength.{Period, HasItsLength, stock_at_start, values_at}
 

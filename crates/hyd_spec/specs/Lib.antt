@@ -2,7 +2,7 @@ pub mod ProgramTypes
 pub mod Lists
 pub mod Scale
 pub mod NodeNumbers
-pub mod Quantity
+pub mod DemandsReservoirHeadsAndCurves
 pub mod Loss
 pub mod Law
 pub mod LinkLaw
@@ -10,7 +10,7 @@ pub mod Outflow
 pub mod Assignment
 pub mod AssignmentWithDraw
 pub mod Tank
-pub mod PeriodStart
+pub mod PumpPatternsAndSimpleControls
 pub mod Rules
 pub mod PeriodLength
 pub mod History

@@ -9,7 +9,7 @@ use Rattle.hyd_num.specs.Rational.{Rational, whole}
 use Rattle.hyd_spec.specs.Assignment.{Assignment, node_heads}
 use Rattle.hyd_spec.specs.Tank.{Stock, walls_of, content_bounds, exact_content, carried_level, watched_level}
 use Rattle.hyd_spec.specs.Tank.{has_reached, reaches, is_at_maximum, is_at_minimum, tank_inflow}
-use Rattle.hyd_spec.specs.PeriodStart.{clock_at}
+use Rattle.hyd_spec.specs.PumpPatternsAndSimpleControls.{clock_at}
 use Rattle.hyd_spec.specs.Rules.{Readings, rule_values, rule_changes}
 
 -- A period of a history: when it begins, how long it lasts (seconds), and what holds throughout it. Levels and volumes

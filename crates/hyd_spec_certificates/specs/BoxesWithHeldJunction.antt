@@ -9,7 +9,7 @@ use Rattle.hyd_spec_certificates.specs.declared.Side.TheVariants.{Upper, Lower}
 use Rattle.hyd_spec_certificates.specs.declared.HeldJunction.{HeldJunction}
 use Rattle.hyd_spec_certificates.specs.Interval.{Interval, widened}
 use Rattle.hyd_spec_certificates.specs.EnclosingFunctions.{low, high}
-use Rattle.hyd_spec_certificates.specs.Grid.{Grid, GridLink, GridJunction}
+use Rattle.hyd_spec_certificates.specs.PeriodNetwork.{Grid, GridLink, GridJunction}
 use Rattle.hyd_spec_certificates.specs.NetOutflow.{net_low, net_high, margin}
 
 -- A junction held at its head in a vector.

@@ -19,15 +19,16 @@ use Rattle.hyd_spec_certificates.specs.Interval.{Interval, exactly}
 use Rattle.hyd_spec.specs.NodeNumbers.{tank_node}
 use Rattle.hyd_spec.specs.Tank.{Walls, walls_of, reaches}
 use Rattle.hyd_spec.specs.LinkLaw.{is_full, is_empty}
-use Rattle.hyd_spec.specs.PeriodStart.{started}
+use Rattle.hyd_spec.specs.PumpPatternsAndSimpleControls.{started}
 use Rattle.hyd_spec.specs.Rules.{Readings, clause_holds, groups_of, rule_changes, measured}
 use Rattle.hyd_spec.specs.PeriodLength.{IsLeast, EndsByClock}
-use Rattle.hyd_spec_certificates.specs.Grid.{Grid, all_heads}
-use Rattle.hyd_spec_certificates.specs.Boxes.{flow_box, inflow_box}
-use Rattle.hyd_spec_certificates.specs.Record.{Record, Standing}
+use Rattle.hyd_spec_certificates.specs.PeriodNetwork.{Grid, all_heads}
+use Rattle.hyd_spec_certificates.specs.FlowIntervals.{flow_box, inflow_box}
+use Rattle.hyd_spec_certificates.specs.RecordAndStanding.{Record, Standing}
 use Rattle.hyd_spec_certificates.specs.Stocks.{Stocks, carried_levels, may_reach, must_reach}
-use Rattle.hyd_spec_certificates.specs.Verdict.{Verdict, Yes, No, Unknown, at_both_ends, is_yes, is_unknown, some_holds}
-use Rattle.hyd_spec_certificates.specs.Verdict.{all_hold}
+use Rattle.hyd_spec_certificates.specs.ThreeValuedLogic.{Verdict, Yes, No, Unknown, at_both_ends, is_yes, is_unknown}
+use Rattle.hyd_spec_certificates.specs.ThreeValuedLogic.{some_holds}
+use Rattle.hyd_spec_certificates.specs.ThreeValuedLogic.{all_hold}
 
 -- ---- intervals of a period
 

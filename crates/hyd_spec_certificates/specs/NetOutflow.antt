@@ -8,7 +8,7 @@ use Rattle.hyd_spec.specs.Assignment.{head_at, where_so}
 use Rattle.hyd_spec.specs.Law.{Law}
 use Rattle.hyd_spec_certificates.specs.EnclosingFunctions.{low, high, demand_low, demand_high, emitter_low}
 use Rattle.hyd_spec_certificates.specs.EnclosingFunctions.{emitter_high}
-use Rattle.hyd_spec_certificates.specs.Grid.{Grid, GridLink, GridJunction, all_heads}
+use Rattle.hyd_spec_certificates.specs.PeriodNetwork.{Grid, GridLink, GridJunction, all_heads}
 
 -- The flows out of a node by one function of a law, less those into it by another, over a list of links.
 abbrev pub net : (Law → ℤ → ℤ) → (Law → ℤ → ℤ) → List ℤ → ℕ → List GridLink → ℤ

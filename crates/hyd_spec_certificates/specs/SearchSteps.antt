@@ -7,7 +7,7 @@ use Rattle.hyd_spec_certificates.specs.declared.Side.{Side}
 use Rattle.hyd_spec_certificates.specs.declared.HeldJunction.{HeldJunction}
 use Rattle.hyd_spec.specs.Lists.{Each}
 use Rattle.hyd_spec.specs.Assignment.{head_at}
-use Rattle.hyd_spec_certificates.specs.Grid.{Grid, GridJunction, GridLink}
+use Rattle.hyd_spec_certificates.specs.PeriodNetwork.{Grid, GridJunction, GridLink}
 use Rattle.hyd_spec_certificates.specs.Certificate.{IsInBox, Passes, IsBeyond, IsCertificateHolding, IsRaisedHolding}
 use Rattle.hyd_spec_certificates.specs.Certificate.{AreRoundsHolding}
 

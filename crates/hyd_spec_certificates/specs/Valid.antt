@@ -10,14 +10,14 @@ use Rattle.hyd_spec_certificates.specs.declared.Side.{Side}
 use Rattle.hyd_spec.specs.Lists.{map_from}
 use Rattle.hyd_spec_certificates.specs.Interval.{Interval}
 use Rattle.hyd_spec.specs.NodeNumbers.{tank_count}
-use Rattle.hyd_spec.specs.Quantity.{demand_of}
+use Rattle.hyd_spec.specs.DemandsReservoirHeadsAndCurves.{demand_of}
 use Rattle.hyd_spec.specs.Rules.{acted}
-use Rattle.hyd_spec_certificates.specs.Grid.{Grid, IsGrid}
+use Rattle.hyd_spec_certificates.specs.PeriodNetwork.{Grid, IsGrid}
 use Rattle.hyd_spec_certificates.specs.Certificate.{IsCertificate}
-use Rattle.hyd_spec_certificates.specs.Record.{Record, Standing, vector_of, initial_standing}
+use Rattle.hyd_spec_certificates.specs.RecordAndStanding.{Record, Standing, vector_of, initial_standing}
 use Rattle.hyd_spec.specs.Tank.{walls_of}
 use Rattle.hyd_spec_certificates.specs.Stocks.{Stocks, next_stocks, state_of}
-use Rattle.hyd_spec_certificates.specs.Verdict.{is_yes, is_unknown}
+use Rattle.hyd_spec_certificates.specs.ThreeValuedLogic.{is_yes, is_unknown}
 use Rattle.hyd_spec_certificates.specs.Decided.{links_at, stocks_of_tank, inflow_of_tank, nowhere, control_truth}
 use Rattle.hyd_spec_certificates.specs.Decided.{rule_truths, EndsBy, ByRules, WithoutRules}
 

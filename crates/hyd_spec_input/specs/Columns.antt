@@ -5,7 +5,7 @@ use Rattle.std.specs.Prelude.{Some, None, slice_get, if◌then◌else◌, ℤ, p
 use Rattle.std.specs.Ordering.{int_eq}
 use lib.Signed.{le_z}
 use Rattle.hyd_num.specs.Numeral.{is_numeral, magnitude_of, nano_of}
-use Rattle.hyd_spec_lines.specs.Bytes.{is_keyword}
+use Rattle.hyd_spec_lines.specs.WordsOfLines.{is_keyword}
 use Rattle.hyd_spec_lines.specs.Headings.{is_one_of}
 use Rattle.hyd_net.specs.declared.refusal_cause.Cause.{Cause}
 use Rattle.hyd_net.specs.declared.refusal_cause.Cause.TheVariants.{Syntax, Number, Range, Unsupported, Limit}

@@ -13,7 +13,7 @@ use Rattle.hyd_spec_input.specs.SingleRows.{IsWrongByItself}
 use Rattle.hyd_spec_input.specs.Tables.{rows_of}
 use Rattle.hyd_spec_input.specs.InForce.{names_head_loss}
 use Rattle.hyd_spec_input.specs.RowsTogether.{row_fault}
-use Rattle.hyd_spec_input.specs.Capacities.{IsRefusedRow}
+use Rattle.hyd_spec_input.specs.CapacitiesOutOfRange.{IsRefusedRow}
 use Rattle.hyd_net.specs.declared.refusal_cause.Cause.{Cause}
 use Rattle.hyd_net.specs.declared.refusal_cause.Cause.TheVariants.{Syntax, Unsupported, Limit, Missing}
 

@@ -1,7 +1,7 @@
 -- The keywords that stand for something.
 -- Source: EPANET 2.2 User Manual, appendix C.
 use Rattle.std.specs.Prelude.{ℕ, List, [], ◌∷◌, codes, Option, Some, None, if◌then◌else◌}
-use Rattle.hyd_spec_lines.specs.Bytes.{is_keyword}
+use Rattle.hyd_spec_lines.specs.WordsOfLines.{is_keyword}
 use Rattle.hyd_spec_lines.specs.Headings.{is_one_of}
 use Rattle.hyd_num.specs.declared.flow_units.FlowUnit.{FlowUnit}
 use Rattle.hyd_num.specs.declared.flow_units.FlowUnit.TheVariants.{Cfs, Gpm, Mgd, Imgd, Afd, Lps, Lpm, Mld, Cmh, Cmd}

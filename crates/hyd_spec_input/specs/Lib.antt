@@ -11,7 +11,7 @@ pub mod SingleRows
 pub mod InForce
 pub mod Curves
 pub mod RowsTogether
-pub mod Capacities
+pub mod CapacitiesOutOfRange
 pub mod Faults
 pub mod MeaningsAcrossRows
 pub mod Project

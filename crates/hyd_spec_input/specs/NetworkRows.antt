@@ -5,7 +5,7 @@ use Rattle.std.specs.Prelude.{Some, None, slice_get, if◌then◌else◌, ℤ, p
 use Rattle.std.specs.Str.{bytes_eq}
 use lib.Signed.{le_z}
 use Rattle.hyd_num.specs.Numeral.{nano_of}
-use Rattle.hyd_spec_lines.specs.Bytes.{is_keyword}
+use Rattle.hyd_spec_lines.specs.WordsOfLines.{is_keyword}
 use Rattle.hyd_spec_input.specs.Columns.{Column, id, one_of, number, number_where, number_within, not_negative, up_to}
 use Rattle.hyd_spec_input.specs.Columns.{above_0_to, supported, or_else, first, unless, is_there, needed, optional}
 use Rattle.hyd_spec_input.specs.Columns.{ends, word, amount_or, amount, word_is, word_is_of, units}

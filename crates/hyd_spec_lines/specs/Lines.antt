@@ -5,7 +5,7 @@ use Rattle.std.specs.Prelude.{ℕ, Bool, true, false, ◌≡◌, ◌⊎◌, ◌+
 use Rattle.std.specs.Prelude.{◌∷◌, ◌++◌, length, Option, Some, None, Result, Ok, Err, if◌then◌else◌, slice_index}
 use Rattle.std.specs.Prelude.{slice_range, ◌≤◌}
 use Rattle.std.specs.List.{list_all, before_first}
-use Rattle.hyd_spec_lines.specs.Bytes.{text_lines, body, words_in, is_plain, is_line_feed}
+use Rattle.hyd_spec_lines.specs.WordsOfLines.{text_lines, body, words_in, is_plain, is_line_feed}
 use Rattle.hyd_spec_lines.specs.Headings.{heading_kind}
 use Rattle.hyd_spec_lines.specs.declared.section.Section.{Section}
 use Rattle.hyd_spec_lines.specs.declared.section.Region.{Region}

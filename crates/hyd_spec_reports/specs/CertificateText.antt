@@ -7,7 +7,7 @@ use Rattle.std.specs.List.{list_any}
 use Rattle.hyd_spec.specs.ProgramTypes.{Project, Tank}
 use Rattle.hyd_spec.specs.Lists.{joined}
 use Rattle.hyd_spec_certificates.specs.Certificate.{IsInBox}
-use Rattle.hyd_spec_certificates.specs.Record.{Record, Vectors}
+use Rattle.hyd_spec_certificates.specs.RecordAndStanding.{Record, Vectors}
 
 -- A line: its words parted by single spaces.
 abbrev pub words : List (List ℕ) → List ℕ

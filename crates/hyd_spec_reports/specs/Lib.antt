@@ -1,7 +1,7 @@
 pub mod CertificateText
 pub mod Stops
 pub mod ReportLine
-pub mod Refusals
+pub mod RefusedRecords
 pub mod Report
 pub mod Claims
-pub mod Headline
+pub mod PromisesOfRunsAndChecks

@@ -25,16 +25,16 @@ use Rattle.hyd_spec_reports.specs.declared.StatusWord.TheVariants.{Open as WordO
 use Rattle.hyd_spec_reports.specs.declared.StatusWord.TheVariants.{Active as WordActive, Unsure as WordUnsure}
 use Rattle.hyd_spec.specs.Lists.{map_from, present}
 use Rattle.hyd_spec_certificates.specs.Interval.{Interval, exactly, shifted}
-use Rattle.hyd_spec.specs.Quantity.{is_us, lift_of, points_of, pump_knots}
+use Rattle.hyd_spec.specs.DemandsReservoirHeadsAndCurves.{is_us, lift_of, points_of, pump_knots}
 use Rattle.hyd_spec.specs.Assignment.{head_at}
 use Rattle.hyd_spec.specs.LinkLaw.{valve_law, is_full, is_empty}
-use Rattle.hyd_spec.specs.PeriodStart.{patterned, control_acts}
+use Rattle.hyd_spec.specs.PumpPatternsAndSimpleControls.{patterned, control_acts}
 use Rattle.hyd_spec.specs.Rules.{is_same_state, state_of_link}
 use Rattle.hyd_spec_certificates.specs.EnclosingFunctions.{low, high}
-use Rattle.hyd_spec_certificates.specs.Grid.{Grid, GridLink, GridJunction}
-use Rattle.hyd_spec_certificates.specs.Boxes.{difference, out_box}
-use Rattle.hyd_spec_certificates.specs.Record.{Record, Standing}
-use Rattle.hyd_spec_certificates.specs.Verdict.{is_yes}
+use Rattle.hyd_spec_certificates.specs.PeriodNetwork.{Grid, GridLink, GridJunction}
+use Rattle.hyd_spec_certificates.specs.FlowIntervals.{difference, out_box}
+use Rattle.hyd_spec_certificates.specs.RecordAndStanding.{Record, Standing}
+use Rattle.hyd_spec_certificates.specs.ThreeValuedLogic.{is_yes}
 use Rattle.hyd_spec_certificates.specs.Decided.{heads_below, heads_above, flow_boxes, carried_at, level_of_tank}
 use Rattle.hyd_spec_certificates.specs.Decided.{inflow_of_tank, links_at, acts_on, control_truth, nowhere}
 use Rattle.hyd_spec_certificates.specs.Decided.{decided_changes, EndsBy, ByRules, WithoutRules}

@@ -14,12 +14,12 @@ use Rattle.hyd_spec_reports.specs.declared.StopCause.TheVariants.{ControlOpen}
 use Rattle.hyd_spec.specs.Lists.{map_from}
 use Rattle.hyd_spec_certificates.specs.Interval.{Interval}
 use Rattle.hyd_spec.specs.NodeNumbers.{junction_count}
-use Rattle.hyd_spec.specs.Quantity.{demand_of}
-use Rattle.hyd_spec_certificates.specs.Grid.{Grid}
+use Rattle.hyd_spec.specs.DemandsReservoirHeadsAndCurves.{demand_of}
+use Rattle.hyd_spec_certificates.specs.PeriodNetwork.{Grid}
 use Rattle.hyd_spec_certificates.specs.Certificate.{box_limit, IsCertificate, AreRounds, IsTight}
-use Rattle.hyd_spec_certificates.specs.Record.{Record, Standing, vector_of}
+use Rattle.hyd_spec_certificates.specs.RecordAndStanding.{Record, Standing, vector_of}
 use Rattle.hyd_spec_certificates.specs.Stocks.{state_of}
-use Rattle.hyd_spec_certificates.specs.Verdict.{is_unknown}
+use Rattle.hyd_spec_certificates.specs.ThreeValuedLogic.{is_unknown}
 use Rattle.hyd_spec_certificates.specs.Decided.{OpenRule, EndsBy, RuleIsOpen, EventIsOpen, nowhere, control_truth}
 use Rattle.hyd_spec_certificates.specs.Valid.{IsProblem, IsGridAt, DemandsAreInRange, demand_limit, LeavesLinks}
 use Rattle.hyd_spec_certificates.specs.Valid.{levels_next}

@@ -8,11 +8,12 @@ use Rattle.std.specs.List.{AllByRecursion}
 use Rattle.std.specs.Option.{option_map_or}
 use Rattle.hyd_spec.specs.ProgramTypes.{Project}
 use Rattle.hyd_spec.specs.NodeNumbers.{junction_count}
-use Rattle.hyd_spec_certificates.specs.Record.{Standing}
+use Rattle.hyd_spec_certificates.specs.RecordAndStanding.{Standing}
 use Rattle.hyd_spec_reports.specs.CertificateText.{line}
 use Rattle.hyd_spec_reports.specs.ReportLine.{ReportLine, FilledLine, EmptiedLine, ReachedLine}
-use Rattle.hyd_spec_reports.specs.Headline.{Found, IsRun, Sharpness, IsSharpFound, Outcome, EndsSo, RunWrites}
-use Rattle.hyd_spec_reports.specs.Headline.{EveryHistoryAgrees, lines_of, last_line, certificate_so_far}
+use Rattle.hyd_spec_reports.specs.PromisesOfRunsAndChecks.{Found, IsRun, Sharpness, IsSharpFound, Outcome, EndsSo}
+use Rattle.hyd_spec_reports.specs.PromisesOfRunsAndChecks.{RunWrites}
+use Rattle.hyd_spec_reports.specs.PromisesOfRunsAndChecks.{EveryHistoryAgrees, lines_of, last_line, certificate_so_far}
 
 -- ---- what is counted
 

@@ -2,7 +2,7 @@
 -- Source: EPANET 2.2 User Manual, chapter 3 (extended period simulation: when the next hydraulic time step ends).
 use Rattle.std.specs.Prelude.{◌≡◌, ◌⊎◌, ℕ, ◌+◌, ◌-◌, ◌%◌, ◌<◌, ◌≤◌, List, Contains}
 use Rattle.hyd_spec.specs.ProgramTypes.{Project, Control, When, AtLevel, AtTime, AtClock}
-use Rattle.hyd_spec.specs.PeriodStart.{clock_at}
+use Rattle.hyd_spec.specs.PumpPatternsAndSimpleControls.{clock_at}
 use Rattle.hyd_spec.specs.PeriodLength.{IsLeast}
 
 -- the least number of seconds, at least 1, to a multiple of a step

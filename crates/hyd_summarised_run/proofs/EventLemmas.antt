@@ -8,8 +8,8 @@ use Rattle.hyd_spec.specs.Lists.{map_from}
 use Rattle.hyd_spec.specs.declared.Change.{Change}
 use Rattle.hyd_spec.specs.declared.Source.{Source}
 use Rattle.hyd_spec.specs.declared.Source.TheVariants.{Control as ByControl, Rule as ByRule}
-use Rattle.hyd_spec_certificates.specs.Grid.{Grid}
-use Rattle.hyd_spec_certificates.specs.Record.{Record}
+use Rattle.hyd_spec_certificates.specs.PeriodNetwork.{Grid}
+use Rattle.hyd_spec_certificates.specs.RecordAndStanding.{Record}
 use Rattle.hyd_spec_reports.specs.declared.Event.{Event}
 use Rattle.hyd_spec_reports.specs.declared.EventKind.{EventKind}
 use Rattle.hyd_spec_reports.specs.declared.EventKind.TheVariants.{Full as BecomesFull, Empty as BecomesEmpty}
@@ -19,8 +19,8 @@ use Rattle.hyd_spec_reports.specs.ReportLine.{ReportLine, TimeLine}
 use Rattle.hyd_spec_summary.specs.Summary.{is_event, event_count}
 use Rattle.hyd_period_facts.specs.declared.facts.Facts.{Facts}
 use Rattle.hyd_spec_certificates.specs.Decided.{heads_below, heads_above}
-use Rattle.hyd_report.specs.LinesOfParts.{junction_line, reservoir_line, tank_line, link_line}
-use Rattle.hyd_report.specs.Words.{before_rules}
+use Rattle.hyd_report.specs.NodeAndLinkLines.{junction_line, reservoir_line, tank_line, link_line}
+use Rattle.hyd_report.specs.EventTextsAndChangesByRules.{before_rules}
 use Rattle.hyd_report.specs.PeriodLines.{lines_of, state_lines, start_lines, middle_lines, end_lines}
 
 pub events-append : (xs ys : List ReportLine) → event_count (xs ++ ys) ≡ event_count xs + event_count ys

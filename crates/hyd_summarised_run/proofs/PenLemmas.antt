@@ -4,7 +4,7 @@ use Rattle.std.specs.Prelude.{Result, Ok, Err}
 use Rattle.hyd_io.specs.declared.desk.Faults.{Faults}
 use Rattle.hyd_io.specs.declared.desk.Openings.{Openings}
 use Rattle.hyd_io.specs.declared.output.OutFault.{OutFault}
-use Rattle.hyd_io.specs.ToldBytes.{Files}
+use Rattle.hyd_io.specs.DeskBytes.{Files}
 use Rattle.hyd_io.specs.Output.{PenState}
 use Rattle.hyd_report.specs.Putting.{Puts}
 use Rattle.hyd_report.proofs.PutLemmas.{puts_nothing}

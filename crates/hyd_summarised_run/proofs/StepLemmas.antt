@@ -1,11 +1,11 @@
 -- What a step finds.
 use Rattle.std.proofs.Common.{◌≡◌, suc, ◌<◌, ◌^◌, [], length, refl, sym, ap, ◌∙◌, arith}
 use Rattle.std.proofs.lemmas.List.{length-map}
-use Rattle.hyd_spec_reports.specs.Headline.{Found}
+use Rattle.hyd_spec_reports.specs.PromisesOfRunsAndChecks.{Found}
 use Rattle.hyd_cert.specs.RecordView.{row_of}
 use Rattle.hyd_cert.specs.declared.record.Record.{Record as Row}
 use Rattle.hyd_period_facts.specs.declared.facts.Facts.{Facts}
-use Rattle.hyd_period_network.specs.GridOf.{grid_of, states_of}
+use Rattle.hyd_period_network.specs.NetAsPeriodNetwork.{grid_of, states_of}
 use Rattle.hyd_period_network.specs.Periods.{ends_of}
 use Rattle.hyd_report.specs.PeriodLines.{lines_of}
 use Rattle.hyd_report.proofs.ReportLemmas.{length-links_of, lines_are_report}

@@ -9,12 +9,12 @@ use Rattle.hyd_net.specs.Sound.{Sound}
 use Rattle.hyd_spec.specs.ProgramTypes.{Project}
 use Rattle.hyd_spec.specs.Lists.{joined}
 use Rattle.hyd_spec.specs.NodeNumbers.{junction_count, tank_count}
-use Rattle.hyd_spec_certificates.specs.Record.{Standing, initial_standing}
+use Rattle.hyd_spec_certificates.specs.RecordAndStanding.{Standing, initial_standing}
 use Rattle.hyd_spec_reports.specs.CertificateText.{IsRow, IsCertificateText, record_text, end_line, header_line}
 use Rattle.hyd_spec_reports.specs.CertificateText.{version_of}
-use Rattle.hyd_spec_reports.specs.Headline.{Found, IsRun, IsRunFrom, Sharpness, IsSharpFound, Outcome}
-use Rattle.hyd_spec_reports.specs.Headline.{EndsSo, rows_of, lines_of, last_line, report_so_far}
-use Rattle.hyd_spec_reports.specs.Headline.{is_finished, certificate_so_far}
+use Rattle.hyd_spec_reports.specs.PromisesOfRunsAndChecks.{Found, IsRun, IsRunFrom, Sharpness, IsSharpFound, Outcome}
+use Rattle.hyd_spec_reports.specs.PromisesOfRunsAndChecks.{EndsSo, rows_of, lines_of, last_line, report_so_far}
+use Rattle.hyd_spec_reports.specs.PromisesOfRunsAndChecks.{is_finished, certificate_so_far}
 use Rattle.hyd_spec_summary.specs.Summary.{event_count, summary_line, summary_text}
 use Rattle.hyd_theorems_on_definitions.proofs.Appending.{run_more}
 use Rattle.hyd_theorems_on_histories.proofs.Running.{every_history}
@@ -25,7 +25,7 @@ use Rattle.hyd_report.proofs.Joining.{map-append}
 use Rattle.hyd_io.specs.declared.output.OutFault.{OutFault}
 use Rattle.hyd_io.specs.declared.output.Channel.TheVariants.{Cert, Report}
 use Rattle.hyd_io.specs.Output.{PenState}
-use Rattle.hyd_io.specs.ToldBytes.{append_known, Moves, PutOut}
+use Rattle.hyd_io.specs.DeskBytes.{append_known, Moves, PutOut}
 use Rattle.hyd_io.proofs.ToldLemmas.{append_known-nil, moves_whole, put_out_more}
 use Rattle.hyd_sim.specs.View.{SimView, standing_of, header_for}
 use Rattle.hyd_sim.specs.declared.settings.Settings.{Settings}

@@ -2,7 +2,7 @@
 use Rattle.std.proofs.Common.{◌≡◌, ◌∙◌, ℕ, List, [], ◌∷◌, ◌++◌, codes, refl, append_assoc}
 use Rattle.std.specs.Prelude.{false}
 use Rattle.std.specs.Fmt.{decimal}
-use Rattle.hyd_spec_certificates.specs.Record.{Standing}
+use Rattle.hyd_spec_certificates.specs.RecordAndStanding.{Standing}
 use Rattle.hyd_spec_reports.specs.CertificateText.{line}
 use Rattle.hyd_spec_summary.specs.Summary.{summary_line}
 

@@ -7,15 +7,16 @@ use Rattle.std.specs.Option.{option_map_or}
 use Rattle.std.specs.List.{AllByRecursion}
 use Rattle.hyd_spec.specs.ProgramTypes.{Project}
 use Rattle.hyd_spec.specs.NodeNumbers.{junction_count, tank_count}
-use Rattle.hyd_spec_certificates.specs.Record.{Standing}
+use Rattle.hyd_spec_certificates.specs.RecordAndStanding.{Standing}
 use Rattle.hyd_spec_reports.specs.CertificateText.{IsRow, record_text}
-use Rattle.hyd_spec_reports.specs.Headline.{Found, IsRun, Sharpness, IsSharpFound, Outcome, EndsSo, rows_of}
-use Rattle.hyd_spec_reports.specs.Headline.{lines_of, certificate_so_far}
+use Rattle.hyd_spec_reports.specs.PromisesOfRunsAndChecks.{Found, IsRun, Sharpness, IsSharpFound, Outcome, EndsSo}
+use Rattle.hyd_spec_reports.specs.PromisesOfRunsAndChecks.{rows_of}
+use Rattle.hyd_spec_reports.specs.PromisesOfRunsAndChecks.{lines_of, certificate_so_far}
 use Rattle.hyd_spec_summary.specs.Summary.{event_count, summary_text, RunSums, SumsBreakOff}
 use Rattle.hyd_io.specs.declared.output.Channel.TheVariants.{Report}
 use Rattle.hyd_io.specs.declared.output.OutFault.{OutFault}
 use Rattle.hyd_io.specs.Output.{PenState}
-use Rattle.hyd_io.specs.ToldBytes.{append_known, Moves}
+use Rattle.hyd_io.specs.DeskBytes.{append_known, Moves}
 use Rattle.hyd_sim.specs.declared.settings.Settings.{Settings}
 use Rattle.hyd_sim.specs.View.{SimView, standing_of}
 use Rattle.hyd_run.specs.Pens.{Told, Moment, moment, PutIn, IsCutOff}

@@ -3,8 +3,8 @@
 ghost use Rattle.std.specs.Prelude.{◌≡◌, ◌++◌, IsTrue, codes, decimal};
 ghost use Rattle.hyd_io.specs.Output.{OnCert};
 ghost use Rattle.hyd_net.specs.Sound.{Sound};
-ghost use Rattle.hyd_spec_certificates.specs.Record.{Standing};
-ghost use Rattle.hyd_spec_reports.specs.Headline.{last_line};
+ghost use Rattle.hyd_spec_certificates.specs.RecordAndStanding.{Standing};
+ghost use Rattle.hyd_spec_reports.specs.PromisesOfRunsAndChecks.{last_line};
 ghost use Rattle.hyd_spec_summary.specs.Summary.{summary_line};
 ghost use Rattle.hyd_report.specs.Putting.{Puts};
 ghost use Rattle.hyd_run.specs.Runs.{outcome_of};

@@ -10,12 +10,12 @@ use Rattle.hyd_spec_certificates.specs.declared.Side.TheVariants.{Upper, Lower}
 use Rattle.hyd_spec_certificates.specs.declared.Problem.{Problem}
 use Rattle.hyd_spec_certificates.specs.declared.HeldJunction.{HeldJunction}
 use Rattle.hyd_spec.specs.Assignment.{head_at}
-use Rattle.hyd_spec_certificates.specs.Grid.{Grid, GridJunction}
+use Rattle.hyd_spec_certificates.specs.PeriodNetwork.{Grid, GridJunction}
 use Rattle.hyd_spec_certificates.specs.Certificate.{box_limit, IsInBox, Passes, Suits, IsBeyond, IsCandidateHolding}
-use Rattle.hyd_theorems_on_definitions.specs.Laws.{IsSteady}
+use Rattle.hyd_theorems_on_definitions.specs.TermsOfTheorems.{IsSteady}
 use Rattle.hyd_spec_certificates.specs.SearchSteps.{Fails}
 use Rattle.hyd_theorems_on_definitions.specs.Sides.{along}
-use Rattle.hyd_vector_check.specs.Sides.{PassesWith}
+use Rattle.hyd_vector_check.specs.NetOutflowBySide.{PassesWith}
 use Rattle.hyd_theorems_on_raises.proofs.Leading.{beyond-is, is-beyond, lead, IsLeading, passes-leading}
 use Rattle.hyd_theorems_on_raises.proofs.Raising.{set-here, set-there, along-one, along-ceiling, beyond-self}
 use Rattle.hyd_sweep.specs.Sweeps.{IsFree, further, RaisesTo, HasNoValue}

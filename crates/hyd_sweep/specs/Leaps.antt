@@ -7,7 +7,7 @@ use Rattle.hyd_spec_certificates.specs.declared.Problem.{Problem}
 use Rattle.hyd_spec_certificates.specs.declared.Side.{Side}
 use Rattle.hyd_spec_certificates.specs.declared.Side.TheVariants.{Upper, Lower}
 use Rattle.hyd_spec_certificates.specs.declared.HeldJunction.{HeldJunction}
-use Rattle.hyd_spec_certificates.specs.Grid.{Grid, GridJunction}
+use Rattle.hyd_spec_certificates.specs.PeriodNetwork.{Grid, GridJunction}
 use Rattle.hyd_spec_certificates.specs.Certificate.{IsInBox}
 use Rattle.hyd_spec_certificates.specs.SearchSteps.{LiesBeyond, IsStart, Fails}
 

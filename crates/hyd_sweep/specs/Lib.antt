@@ -1,3 +1,4 @@
 pub mod Sweeps
 pub mod Leaps
 pub mod Strides
+pub mod LeapingRounds

@@ -1,18 +1,11 @@
 -- Strides: how far leaps go on along the way that a round went.
 -- Source: this program's.
 use Rattle.std.specs.Prelude.{ℕ, ◌+◌, ◌-◌, ◌*◌, ◌^◌, ◌<◌, ◌≤◌, ℤ, pos, ◌-ℤ◌, ◌≤ℤ◌, unsigned_abs, Bool, true, false}
-use Rattle.std.specs.Prelude.{List, length, Option, Some, suc}
+use Rattle.std.specs.Prelude.{List, length}
 use Rattle.hyd_spec.specs.Assignment.{head_at}
-use Rattle.hyd_spec_certificates.specs.declared.Problem.{Problem}
 use Rattle.hyd_spec_certificates.specs.declared.Side.{Side}
-use Rattle.hyd_spec_certificates.specs.declared.HeldJunction.{HeldJunction}
-use Rattle.hyd_spec_certificates.specs.Grid.{Grid}
 use Rattle.hyd_theorems_on_definitions.specs.Sides.{along}
 use Rattle.hyd_sweep.specs.declared.strides.Stride.{Stride}
-use Rattle.hyd_sweep.specs.declared.answers.Swept.{Swept}
-use Rattle.hyd_sweep.specs.declared.answers.Swept.TheVariants.{Least, NoCertificate, RoundsSpent}
-use Rattle.hyd_sweep.specs.Sweeps.{AreRaises, RoundGives, numbers}
-use Rattle.hyd_sweep.specs.Leaps.{LeadsOn}
 
 -- ---- one stride
 
@@ -44,23 +37,3 @@ abbrev pub GoesOnWithin : Side → List ℤ → List ℤ → List ℤ → Type 0
 GoesOnWithin side u w v = (i : ℕ) → i < length w
     → (along side (head_at v i) -ℤ along side (head_at w i))
     ≤ℤ pos ((2 ^ 20 - 1) * unsigned_abs (head_at w i -ℤ head_at u i))
-
--- ---- rounds with leaps
-
--- so many rounds in file order, each with leaps after it, lead from the first vector to the last
-pub data AreLeapingRounds (held : Option HeldJunction) (grid : Grid) (problem : Problem) (side : Side)
-    : ℕ → List ℤ → List ℤ → Type 0 where
-  no_round : {u : List ℤ} → AreLeapingRounds held grid problem side 0 u u
-  one_round : {n : ℕ} {u v w x : List ℤ} → AreLeapingRounds held grid problem side n u v
-      → AreRaises held grid problem side (numbers (length grid.junctions)) v w
-      → LeadsOn held grid problem side w x → GoesOnWithin side v w x
-      → AreLeapingRounds held grid problem side (suc n) u x
-
--- how a sweep with leaps goes: some of the rounds, or all of them; where a junction has no value, a part of one more
-abbrev pub SweepGoes : Option HeldJunction → Grid → Problem → Side → ℕ → List ℤ → List ℤ → Swept → Type 0
-SweepGoes held grid problem side rounds old new Least =
-    (n : ℕ) × ((n ≤ rounds) × AreLeapingRounds held grid problem side n old new)
-SweepGoes held grid problem side rounds old new (NoCertificate j) =
-    (n : ℕ) × ((n < rounds) × ((v : List ℤ) × (AreLeapingRounds held grid problem side n old v
-    × RoundGives held grid problem side v new (Some j))))
-SweepGoes held grid problem side rounds old new RoundsSpent = AreLeapingRounds held grid problem side rounds old new

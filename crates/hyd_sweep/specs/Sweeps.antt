@@ -10,7 +10,7 @@ use Rattle.hyd_spec_certificates.specs.declared.Problem.{Problem}
 use Rattle.hyd_spec_certificates.specs.declared.Side.{Side}
 use Rattle.hyd_spec_certificates.specs.declared.Side.TheVariants.{Upper, Lower}
 use Rattle.hyd_spec_certificates.specs.declared.HeldJunction.{HeldJunction}
-use Rattle.hyd_spec_certificates.specs.Grid.{Grid, GridJunction}
+use Rattle.hyd_spec_certificates.specs.PeriodNetwork.{Grid, GridJunction}
 use Rattle.hyd_spec_certificates.specs.Certificate.{box_limit, IsInBox, Suits, IsCertificateHolding, IsCandidateHolding}
 use Rattle.hyd_spec_certificates.specs.Certificate.{IsRaisedHolding, AreRoundsHolding, IsTightHolding}
 use Rattle.hyd_spec_certificates.specs.SearchSteps.{IsStart, LiesBeyond, HasParts, HasRounds, JoinsNone}

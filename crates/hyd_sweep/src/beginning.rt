@@ -4,12 +4,12 @@
 ghost use Rattle.std.specs.Prelude.{◌≡◌, length, Option};
 ghost use Rattle.hyd_spec_certificates.specs.declared.Problem.{Problem};
 ghost use Rattle.hyd_spec_certificates.specs.declared.HeldJunction.{HeldJunction};
-ghost use Rattle.hyd_spec_certificates.specs.Grid.{Grid};
+ghost use Rattle.hyd_spec_certificates.specs.PeriodNetwork.{Grid};
 ghost use Rattle.hyd_spec_certificates.specs.SearchSteps.{IsStart};
 ghost use Rattle.hyd_spec_reports.specs.Stops.{beginning};
 ghost use Rattle.hyd_sweep.specs.Sweeps.{near_end};
 
-use crate::ticks::BOX_LIMIT;
+use crate::heads_along_side::BOX_LIMIT;
 use hyd_spec_certificates::Side;
 
 fn near_end(side: Side) -> i64

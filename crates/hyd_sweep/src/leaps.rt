@@ -5,13 +5,13 @@ ghost use Rattle.std.specs.Prelude.{◌≡◌, ◌≢◌, ◌<◌, ◌↔◌, le
 ghost use Rattle.hyd_spec.specs.Assignment.{head_at};
 ghost use Rattle.hyd_spec_certificates.specs.Certificate.{IsInBox, IsBeyond};
 ghost use Rattle.hyd_spec_certificates.specs.SearchSteps.{IsStart, IsLeap, LiesBeyond};
-ghost use Rattle.hyd_period_network.specs.GridOf.{grid_of};
-ghost use Rattle.hyd_period_network.specs.Nets.{HasProblem};
+ghost use Rattle.hyd_period_network.specs.NetAsPeriodNetwork.{grid_of};
+ghost use Rattle.hyd_period_network.specs.NetInvariant.{HasProblem};
 ghost use Rattle.hyd_sweep.specs.Sweeps.{HoldsInBox};
 ghost use Rattle.hyd_sweep.specs.Leaps.{nearer, IsTurn, MayMove, IsLeapInTurn};
 
+use crate::heads_along_side::{is_beyond, is_same, nearer};
 use crate::raising::held_head;
-use crate::ticks::{is_beyond, is_same, nearer};
 use hyd_period_network::Net;
 use hyd_spec_certificates::{HeldJunction, Problem, Side};
 use hyd_vector_check::{head_of, is_in_box, passes};

@@ -3,14 +3,14 @@
 
 mod answers;
 mod beginning;
+mod heads_along_side;
 mod leaps;
-mod next_head;
+mod next_trial_head;
 mod raises_in_order;
 mod raising;
 mod rounds;
 mod strides;
 mod sweeper;
-mod ticks;
 
 pub use answers::{Raised, Swept};
 pub use beginning::begin;

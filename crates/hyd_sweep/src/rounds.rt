@@ -5,13 +5,13 @@ ghost use Rattle.std.specs.Prelude.{◌≡◌, ◌<◌, ◌↔◌, length, All, 
 ghost use Rattle.hyd_spec.specs.Lists.{Each};
 ghost use Rattle.hyd_spec_certificates.specs.Certificate.{IsInBox, Suits};
 ghost use Rattle.hyd_spec_certificates.specs.SearchSteps.{IsStart};
-ghost use Rattle.hyd_period_network.specs.GridOf.{grid_of};
-ghost use Rattle.hyd_period_network.specs.Nets.{HasProblem};
+ghost use Rattle.hyd_period_network.specs.NetAsPeriodNetwork.{grid_of};
+ghost use Rattle.hyd_period_network.specs.NetInvariant.{HasProblem};
 ghost use Rattle.hyd_sweep.specs.Sweeps.{SuitsAt, RoundGives, SweepGives, RoundsGo, EndsWhereApart, HoldsInBox};
 
 use crate::answers::{Raised, Swept};
+use crate::heads_along_side::is_same;
 use crate::raising::{held_head, raise};
-use crate::ticks::is_same;
 use hyd_period_network::Net;
 use hyd_spec_certificates::{HeldJunction, Problem, Side};
 use hyd_vector_check::{head_of, passes};

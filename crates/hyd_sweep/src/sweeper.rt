@@ -4,10 +4,10 @@
 ghost use Rattle.std.specs.Prelude.{◌≡◌, length, None, IfOk};
 ghost use Rattle.hyd_spec_certificates.specs.declared.Side.TheVariants.{Upper, Lower};
 ghost use Rattle.hyd_spec_certificates.specs.SearchSteps.{IsStart};
-ghost use Rattle.hyd_period_network.specs.GridOf.{grid_of};
-ghost use Rattle.hyd_period_network.specs.Nets.{HasProblem};
+ghost use Rattle.hyd_period_network.specs.NetAsPeriodNetwork.{grid_of};
+ghost use Rattle.hyd_period_network.specs.NetInvariant.{HasProblem};
 ghost use Rattle.hyd_sweep.specs.Sweeps.{SweepGives, EndsWhereApart, HoldsInBox};
-ghost use Rattle.hyd_sweep.specs.Strides.{SweepGoes};
+ghost use Rattle.hyd_sweep.specs.LeapingRounds.{SweepGoes};
 
 use crate::answers::Swept;
 use crate::rounds::{round, suits_everywhere};

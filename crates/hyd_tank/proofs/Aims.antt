@@ -15,7 +15,7 @@ use Rattle.hyd_spec.specs.ProgramTypes.{Tank, VolumePoint}
 use Rattle.hyd_spec.specs.Tank.{Stock, Curve, Bounds, level_bounds, content_bounds, exact_content, level_on_curve}
 use Rattle.hyd_spec.specs.Tank.{level_at_volume, carried_level, reaches, has_reached}
 use Rattle.hyd_lemmas.proofs.Integers.{exchanged, floor_low, floor_greatest, ceiling_high, ceiling_least}
-use Rattle.hyd_theorems_on_definitions.specs.Laws.{IsVessel, in_parts}
+use Rattle.hyd_theorems_on_definitions.specs.TermsOfTheorems.{IsVessel, in_parts}
 use Rattle.hyd_theorems_on_definitions.proofs.Leading.{one_times, one-within}
 use Rattle.hyd_theorems_on_definitions.proofs.Levelling.{level-fits-at, carried-some, curve-some}
 use Rattle.hyd_theorems_on_definitions.proofs.Outflows.{le-yes}
@@ -26,14 +26,14 @@ use Rattle.hyd_theorems_on_definitions.proofs.Targets.{falling_target, at_maximu
 use Rattle.hyd_spec_certificates.specs.FirstSeconds.{IsFirstSecond}
 use Rattle.hyd_tank.specs.declared.content.Bounds.{Bounds as Limits}
 use Rattle.hyd_tank.specs.declared.volume_curve.Mixed.{Mixed}
-use Rattle.hyd_tank.specs.declared.seconds.Target.{Target}
+use Rattle.hyd_tank.specs.declared.first_second_at_target.Target.{Target}
 use Rattle.hyd_tank.specs.Contents.{IsFirstMeeting}
 use Rattle.hyd_tank.specs.Curve.{value_of, times_value}
 use Rattle.hyd_tank.proofs.Values.{start_is}
 use Rattle.hyd_tank.proofs.Meeting.{first_like}
-use Rattle.hyd_tank.specs.Spans.{IsBasin}
+use Rattle.hyd_tank.specs.StockIntervals.{IsBasin}
 use Rattle.hyd_tank.specs.Targets.{AreVolumes, StandsFor, Meets, IsFirstMet}
-use Rattle.hyd_tank.specs.declared.seconds.Target.TheVariants.{Always, Never, Parts}
+use Rattle.hyd_tank.specs.declared.first_second_at_target.Target.TheVariants.{Always, Never, Parts}
 
 not-le : (a b : ℤ) → b <ℤ a → int_le a b ≡ false
 not-le a b h = grind (arith, ints)

@@ -20,7 +20,7 @@ use Rattle.hyd_tank.specs.declared.volume_curve.Known.TheVariants.{Level, Volume
 use Rattle.hyd_tank.specs.declared.volume_curve.Mixed.{Mixed}
 use Rattle.hyd_tank.specs.Contents.{bounds_of, in_ticks, IsBetween}
 use Rattle.hyd_tank.specs.Curve.{knots_by, value_of, times_value, value_in, IsOnCurve, IsAtLeast, IsAtMost}
-use Rattle.hyd_tank.specs.Spans.{IsBasin}
+use Rattle.hyd_tank.specs.StockIntervals.{IsBasin}
 use Rattle.hyd_tank.specs.Targets.{AreVolumes}
 use Rattle.hyd_tank.proofs.Values.{floor-is, ceiling-is}
 

@@ -10,7 +10,7 @@ use Rattle.hyd_spec_certificates.specs.Interval.{Interval}
 use Rattle.hyd_spec_certificates.specs.Stocks.{Stocks, end_of, lower_end, upper_end, lower_level, upper_level}
 use Rattle.hyd_tank.specs.declared.content.Bounds.{Bounds as Limits}
 use Rattle.hyd_tank.specs.Contents.{bounds_of, in_ticks, held_in}
-use Rattle.hyd_tank.specs.Spans.{level_stock}
+use Rattle.hyd_tank.specs.StockIntervals.{level_stock}
 use Rattle.hyd_tank.specs.Targets.{AreVolumes}
 use Rattle.hyd_tank.proofs.Contents.{held_end}
 

@@ -9,7 +9,8 @@ use Rattle.hyd_spec_certificates.specs.Stocks.{Stocks, least_stock, greatest_sto
 use Rattle.hyd_spec_certificates.specs.Stocks.{contents_after, carried_stocks, may_reach, must_reach}
 use Rattle.hyd_spec_certificates.specs.FirstSeconds.{IsFirstSecond}
 use Rattle.hyd_spec_certificates.specs.declared.LevelSpan.{LevelSpan}
-use Rattle.hyd_theorems_on_definitions.specs.Laws.{LiesIn, StockLies, IsVessel, IsInside, AreInside, IsWithin, HasStock}
+use Rattle.hyd_theorems_on_definitions.specs.TermsOfTheorems.{LiesIn, StockLies, IsVessel, IsInside, AreInside}
+use Rattle.hyd_theorems_on_definitions.specs.TermsOfTheorems.{IsWithin, HasStock}
 use Rattle.hyd_theorems_on_definitions.proofs.Placing.{Fits, lower-least, lower-most, upper-least, upper-most}
 use Rattle.hyd_theorems_on_definitions.proofs.Placing.{ends-ordered}
 use Rattle.hyd_theorems_on_definitions.proofs.Placing.{lower-rises}
@@ -17,7 +18,7 @@ use Rattle.hyd_theorems_on_definitions.proofs.Levelling.{exact-some, content-lea
 use Rattle.hyd_theorems_on_definitions.proofs.Levelling.{carried_inside}
 use Rattle.hyd_theorems_on_definitions.proofs.Levelling.{carried_ordered, contents_inside}
 use Rattle.hyd_theorems_on_definitions.proofs.Deciding.{seconds_hold}
-use Rattle.hyd_tank.specs.Spans.{levels_of, stocks_at, with_levels, level_stock, AreHeld}
+use Rattle.hyd_tank.specs.StockIntervals.{levels_of, stocks_at, with_levels, level_stock, AreHeld}
 
 -- ---- levels of a tank without a volume curve
 

@@ -6,7 +6,7 @@ use Rattle.std.proofs.Math.IntN.{*ℤ_comm}
 use Rattle.std.proofs.lemmas.Int.{ints, clamps}
 use Rattle.std.proofs.lemmas.Bool.{cases_lt}
 use Rattle.hyd_num.proofs.Integers.{times_one_more, times_rises}
-use Rattle.hyd_num.specs.Roots.{IsCeiling}
+use Rattle.hyd_num.specs.QuotientsAndRoots.{IsCeiling}
 use Rattle.hyd_spec.specs.PeriodLength.{IsLeast}
 use Rattle.hyd_tank.specs.Contents.{IsFirstMeeting}
 

@@ -14,7 +14,7 @@ use Rattle.hyd_net.specs.NumberRanges.{LiesWithin}
 use Rattle.hyd_theorems_on_definitions.proofs.Leading.{one-within}
 use Rattle.hyd_theorems_on_definitions.proofs.Placing.{above-yes, above-from, below-yes, below-from}
 use Rattle.hyd_tank.specs.Contents.{IsFirstMeeting}
-use Rattle.hyd_tank.specs.Spans.{level_stock}
+use Rattle.hyd_tank.specs.StockIntervals.{level_stock}
 use Rattle.hyd_tank.proofs.Contents.{IsNearest, itself, above, below, nearest}
 use Rattle.hyd_tank.proofs.Meeting.{first_like}
 

@@ -8,7 +8,7 @@ use Rattle.std.proofs.lemmas.Option.{same_Some}
 use Rattle.std.proofs.Math.Nat.{mul-le-mul}
 use Rattle.hyd_num.proofs.Integers.{times_rises}
 use Rattle.hyd_num.specs.FileQuantity.{is_us_unit, head_ticks}
-use Rattle.hyd_num.specs.Roots.{IsFloor}
+use Rattle.hyd_num.specs.QuotientsAndRoots.{IsFloor}
 use Rattle.hyd_net.specs.ListView.{ListView}
 use Rattle.hyd_net.specs.NumberRanges.{Lies, Numbers}
 use Rattle.hyd_net.specs.NetworkRanges.{IsTank, IsShapeOf}
@@ -19,10 +19,11 @@ use Rattle.hyd_spec_certificates.specs.Interval.{Interval}
 use Rattle.hyd_spec_certificates.specs.Stocks.{Stocks, next_stocks, carried_stocks, carried_levels}
 use Rattle.hyd_spec_certificates.specs.FirstSeconds.{IsEarliestSecond, IsLatestSecond}
 use Rattle.hyd_theorems_on_definitions.proofs.Levelling.{next_within, volumes_within}
-use Rattle.hyd_theorems_on_definitions.specs.Laws.{IsVessel}
+use Rattle.hyd_theorems_on_definitions.specs.TermsOfTheorems.{IsVessel}
 use Rattle.hyd_theorems_on_definitions.proofs.Vessels.{IsSoundTank, sound_tank, shape_of}
-use Rattle.hyd_tank.specs.declared.spans.Stock.{Stock}
-use Rattle.hyd_tank.specs.Spans.{stocks_of, stocks_at, AreHeld, cylinder, IsTankOfRange, IsCylinder, IsBasin, IsTankOf}
+use Rattle.hyd_tank.specs.declared.stock_intervals.Stock.{Stock}
+use Rattle.hyd_tank.specs.StockIntervals.{stocks_of, stocks_at, AreHeld, cylinder, IsTankOfRange, IsCylinder, IsBasin}
+use Rattle.hyd_tank.specs.StockIntervals.{IsTankOf}
 use Rattle.hyd_tank.proofs.Contents.{some_parts}
 
 pub cylinder_vessel : (tank : Tank) → IsCylinder tank → IsVessel (cylinder tank) tank

@@ -1,4 +1,4 @@
-pub mod Spans
+pub mod StockIntervals
 pub mod Contents
 pub mod Curve
 pub mod Targets

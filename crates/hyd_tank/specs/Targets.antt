@@ -7,8 +7,8 @@ use Rattle.hyd_spec.specs.Tank.{Stock, Curve, content_bounds, has_reached}
 use Rattle.hyd_spec.specs.PeriodLength.{IsLeast}
 use Rattle.hyd_tank.specs.declared.content.Bounds.{Bounds as Limits}
 use Rattle.hyd_tank.specs.Contents.{bounds_of, AreBounds}
-use Rattle.hyd_tank.specs.declared.seconds.Target.{Target}
-use Rattle.hyd_tank.specs.declared.seconds.Target.TheVariants.{Always, Never, Parts}
+use Rattle.hyd_tank.specs.declared.first_second_at_target.Target.{Target}
+use Rattle.hyd_tank.specs.declared.first_second_at_target.Target.TheVariants.{Always, Never, Parts}
 
 -- the volumes at a tank's minimum and maximum, which lie on the curve
 pub record AreVolumes (tank : Tank) (points : List VolumePoint) (volumes : Limits) : Type 0 where

@@ -7,13 +7,14 @@ ghost use Rattle.hyd_spec.specs.Tank.{level_bounds, has_reached, carried_level, 
 ghost use Rattle.hyd_spec_certificates.specs.Interval.{Interval};
 ghost use Rattle.hyd_spec_certificates.specs.Stocks.{contents_after, next_stocks, carried_levels};
 ghost use Rattle.hyd_spec_certificates.specs.FirstSeconds.{IsFirstSecond, IsEarliestSecond, IsLatestSecond};
-ghost use Rattle.hyd_theorems_on_definitions.specs.Laws.{LiesIn, LiesAround, IsInside, IsWithin};
+ghost use Rattle.hyd_theorems_on_definitions.specs.TermsOfTheorems.{LiesIn, LiesAround, IsInside, IsWithin};
 ghost use Rattle.hyd_tank.specs.Contents.{bounds_of, AreBounds, IsMotion};
-ghost use Rattle.hyd_tank.specs.Spans.{levels_of, inflows_of, stocks_at, with_levels, level_stock, cylinder, IsInflow};
-ghost use Rattle.hyd_tank.specs.Spans.{IsTankOfRange, IsCylinder};
+ghost use Rattle.hyd_tank.specs.StockIntervals.{levels_of, inflows_of, stocks_at, with_levels, level_stock, cylinder};
+ghost use Rattle.hyd_tank.specs.StockIntervals.{IsInflow};
+ghost use Rattle.hyd_tank.specs.StockIntervals.{IsTankOfRange, IsCylinder};
 
 use crate::content::{Bounds, Motion, held_after, in_parts, lower_content, upper_content};
-use crate::seconds::first_meeting;
+use crate::first_second_at_target::first_meeting;
 use hyd_net::Tank;
 use hyd_num::Span;
 use hyd_spec_certificates::LevelSpan;

@@ -3,14 +3,14 @@
 
 mod content;
 mod cylinders;
-mod seconds;
-mod spans;
+mod first_second_at_target;
 mod states;
+mod stock_intervals;
 mod stocks;
 mod volume_curve;
 mod volume_curve_tanks;
 
 pub use cylinders::{first_second, level_at, next_level};
-pub use spans::{Stock, VolumeSpan};
 pub use states::state_of;
+pub use stock_intervals::{Stock, VolumeSpan};
 pub use stocks::{first_stock, initial_stock, next_stock, stock_at};

@@ -6,8 +6,8 @@ ghost use Rattle.hyd_spec.specs.Tank.{level_bounds, tank_state};
 ghost use Rattle.hyd_spec.specs.declared.TankState.{TankState};
 ghost use Rattle.hyd_spec_certificates.specs.Interval.{Interval};
 ghost use Rattle.hyd_spec_certificates.specs.Stocks.{state_of};
-ghost use Rattle.hyd_theorems_on_definitions.specs.Laws.{LiesIn, IsInside, IsWithin};
-ghost use Rattle.hyd_tank.specs.Spans.{levels_of, IsTankOfRange};
+ghost use Rattle.hyd_theorems_on_definitions.specs.TermsOfTheorems.{LiesIn, IsInside, IsWithin};
+ghost use Rattle.hyd_tank.specs.StockIntervals.{levels_of, IsTankOfRange};
 
 use hyd_net::Tank;
 use hyd_spec::TankState;

@@ -11,11 +11,13 @@ ghost use Rattle.hyd_spec.specs.Tank.{IsNextStock};
 ghost use Rattle.hyd_spec_certificates.specs.Interval.{Interval};
 ghost use Rattle.hyd_spec_certificates.specs.Stocks.{Stocks, next_stocks, carried_stocks, may_reach, must_reach};
 ghost use Rattle.hyd_spec_certificates.specs.FirstSeconds.{IsFirstSecond, IsEarliestSecond, IsLatestSecond};
-ghost use Rattle.hyd_theorems_on_definitions.specs.Laws.{LiesIn, LiesAround, StockLies, IsInside, AreInside, HasStock};
-ghost use Rattle.hyd_tank.specs.Spans.{initial_stocks, inflows_of, levels_of, stocks_of, IsInflow, AreHeld, IsTankOf};
+ghost use Rattle.hyd_theorems_on_definitions.specs.TermsOfTheorems.{LiesIn, LiesAround, StockLies, IsInside, AreInside};
+ghost use Rattle.hyd_theorems_on_definitions.specs.TermsOfTheorems.{HasStock};
+ghost use Rattle.hyd_tank.specs.StockIntervals.{initial_stocks, inflows_of, levels_of, stocks_of, IsInflow, AreHeld};
+ghost use Rattle.hyd_tank.specs.StockIntervals.{IsTankOf};
 
 use crate::cylinders::{first_second, level_at, next_level};
-use crate::spans::{Stock, VolumeSpan};
+use crate::stock_intervals::{Stock, VolumeSpan};
 use crate::volume_curve_tanks::{carried_from, first_from, kept_at, next_from};
 use hyd_net::{Project, Tank, VolumePoint};
 use hyd_num::Span;

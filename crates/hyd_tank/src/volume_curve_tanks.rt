@@ -13,10 +13,10 @@ ghost use Rattle.hyd_spec_certificates.specs.Interval.{Interval};
 ghost use Rattle.hyd_spec_certificates.specs.Stocks.{Stocks, lower_level, upper_level, contents_after, levels_at};
 ghost use Rattle.hyd_spec_certificates.specs.Stocks.{next_stocks, carried_stocks};
 ghost use Rattle.hyd_spec_certificates.specs.FirstSeconds.{IsFirstSecond, IsEarliestSecond, IsLatestSecond};
-ghost use Rattle.hyd_theorems_on_definitions.specs.Laws.{IsWithin};
+ghost use Rattle.hyd_theorems_on_definitions.specs.TermsOfTheorems.{IsWithin};
 ghost use Rattle.hyd_tank.specs.Contents.{bounds_of, AreBounds, in_ticks, held_in, moved};
 ghost use Rattle.hyd_tank.specs.Curve.{value_of, IsMixed, IsAtLeast, IsAtMost};
-ghost use Rattle.hyd_tank.specs.Spans.{levels_of, volumes_of, inflows_of, stocks_of, IsInflow, IsBasin};
+ghost use Rattle.hyd_tank.specs.StockIntervals.{levels_of, volumes_of, inflows_of, stocks_of, IsInflow, IsBasin};
 ghost use Rattle.hyd_tank.specs.Targets.{AreVolumes, IsSmall, IsFirstMet, StandsFor};
 
 use crate::content::{
@@ -24,8 +24,8 @@ use crate::content::{
     upper_content,
 };
 use crate::cylinders::{WIDENING, level_bounds};
-use crate::seconds::{Target, first_meeting};
-use crate::spans::{Stock, VolumeSpan};
+use crate::first_second_at_target::{Target, first_meeting};
+use crate::stock_intervals::{Stock, VolumeSpan};
 use crate::volume_curve::{Known, Mixed, value_at};
 use hyd_net::{Tank, VolumePoint};
 use hyd_num::Span;

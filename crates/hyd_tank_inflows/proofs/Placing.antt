@@ -6,20 +6,20 @@ use Rattle.hyd_spec.specs.ProgramTypes.{Project}
 use Rattle.hyd_spec.specs.NodeNumbers.{tank_node}
 use Rattle.hyd_spec_certificates.specs.declared.Problem.TheVariants.{Pinned}
 use Rattle.hyd_spec_certificates.specs.declared.Side.TheVariants.{Upper, Lower}
-use Rattle.hyd_spec_certificates.specs.Grid.{Grid}
+use Rattle.hyd_spec_certificates.specs.PeriodNetwork.{Grid}
 use Rattle.hyd_spec_certificates.specs.Interval.{Interval}
-use Rattle.hyd_spec_certificates.specs.Boxes.{inflow_box}
-use Rattle.hyd_spec_certificates.specs.Record.{Record, Vectors, no_vectors, vector_of}
+use Rattle.hyd_spec_certificates.specs.FlowIntervals.{inflow_box}
+use Rattle.hyd_spec_certificates.specs.RecordAndStanding.{Record, Vectors, no_vectors, vector_of}
 use Rattle.hyd_spec_certificates.specs.Decided.{inflow_of_tank, nowhere}
 use Rattle.hyd_cert.specs.Vectors.{problems_in, behind_two}
 use Rattle.hyd_cert.specs.RecordView.{row_of}
 use Rattle.hyd_cert.specs.declared.record.Record.{Record as Row}
 use Rattle.hyd_period_network.specs.NetView.{NetView}
-use Rattle.hyd_period_network.specs.GridOf.{grid_of, interval_of}
+use Rattle.hyd_period_network.specs.NetAsPeriodNetwork.{grid_of, interval_of}
 use Rattle.hyd_period_network.specs.Demands.{IsNetJunction}
 use Rattle.hyd_period_network.specs.Periods.{IsNetOf}
-use Rattle.hyd_bounds.specs.Bounds.{IsSpan, tank_node_of}
-use Rattle.hyd_tank.specs.Spans.{inflows_of}
+use Rattle.hyd_bounds.specs.VectorsInOrder.{IsSpan, tank_node_of}
+use Rattle.hyd_tank.specs.StockIntervals.{inflows_of}
 use Rattle.hyd_period_network.proofs.Sounding.{long_zipped}
 use Rattle.hyd_tank_inflows.specs.Inflows.{ArePinned}
 use Rattle.hyd_tank_inflows.proofs.Numbered.{placed_first}

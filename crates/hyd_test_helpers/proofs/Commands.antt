@@ -9,7 +9,7 @@ use Rattle.hyd_net.specs.RoundedFileNumbers.{IsStateMade}
 use Rattle.hyd_spec.specs.ProgramTypes.{Project, Link, LinkKind, PipeLink, CheckPipe, PumpLink, CurvePump, Tcv, Fcv}
 use Rattle.hyd_spec.specs.ProgramTypes.{Gpv}
 use Rattle.hyd_spec.specs.ProgramTypes.{LinkState, Closed}
-use Rattle.hyd_period_network.specs.Settings.{AreStates}
+use Rattle.hyd_period_network.specs.LawsInSettings.{AreStates}
 use Rattle.hyd_period_network.proofs.SettingOne.{same_or, any_default}
 
 abbrev pub start_of : Link → LinkState

@@ -4,11 +4,11 @@ use Rattle.std.specs.Prelude.{Option, Some, slice_get}
 use Rattle.std.proofs.lemmas.Int.{ints}
 use Rattle.hyd_spec.specs.ProgramTypes.{Tank}
 use Rattle.hyd_spec_certificates.specs.Interval.{Interval, shifted}
-use Rattle.hyd_spec_certificates.specs.Grid.{Grid, tank_intervals}
+use Rattle.hyd_spec_certificates.specs.PeriodNetwork.{Grid, tank_intervals}
 use Rattle.hyd_spec_certificates.specs.declared.LevelSpan.{LevelSpan}
-use Rattle.hyd_period_network.specs.GridOf.{interval_of}
+use Rattle.hyd_period_network.specs.NetAsPeriodNetwork.{interval_of}
 use Rattle.hyd_period_network.specs.Periods.{IsSpanOf}
-use Rattle.hyd_bounds.specs.Bounds.{TanksInOrder}
+use Rattle.hyd_bounds.specs.VectorsInOrder.{TanksInOrder}
 
 one : (X : Type 0) (x y : X) → ◌≡◌ {A = Option X} (Some x) (Some y) → x ≡ y
 one X x y e = cc

@@ -3,11 +3,11 @@
 
 ghost use Rattle.std.specs.Prelude.{IfOk, IfSome, IsTrue, OnOk};
 ghost use Rattle.hyd_net.specs.Sound.{Sound};
-ghost use Rattle.hyd_period_network.specs.GridOf.{grid_of};
-ghost use Rattle.hyd_period_network.specs.Nets.{HasProblem};
+ghost use Rattle.hyd_period_network.specs.NetAsPeriodNetwork.{grid_of};
+ghost use Rattle.hyd_period_network.specs.NetInvariant.{HasProblem};
 ghost use Rattle.hyd_period_network.specs.Periods.{AreLevels, IsNetOf, IsSpanOf};
-ghost use Rattle.hyd_period_network.specs.Settings.{AreStates};
-ghost use Rattle.hyd_bounds.specs.Bounds.{TanksInOrder};
+ghost use Rattle.hyd_period_network.specs.LawsInSettings.{AreStates};
+ghost use Rattle.hyd_bounds.specs.VectorsInOrder.{TanksInOrder};
 
 use crate::states::starts;
 use hyd_net::{LinkState, OutOfMemory, Project, Tank};

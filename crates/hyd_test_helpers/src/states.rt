@@ -6,7 +6,7 @@ ghost use Rattle.hyd_num.specs.declared.flow_units.FlowUnit.{FlowUnit};
 ghost use Rattle.hyd_net.specs.RoundedFileNumbers.{IsStateMade};
 ghost use Rattle.hyd_net.specs.Sound.{Sound};
 ghost use Rattle.hyd_net.specs.States.{CanHave};
-ghost use Rattle.hyd_period_network.specs.Settings.{AreStates};
+ghost use Rattle.hyd_period_network.specs.LawsInSettings.{AreStates};
 
 use hyd_net::{LinkKind, LinkState, OutOfMemory, Project};
 use std::alloc::Global;

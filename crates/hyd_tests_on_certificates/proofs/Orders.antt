@@ -8,12 +8,12 @@ use Rattle.hyd_spec_certificates.specs.declared.Problem.TheVariants.{Main}
 use Rattle.hyd_spec_certificates.specs.declared.Side.{Side}
 use Rattle.hyd_spec_certificates.specs.declared.Side.TheVariants.{Upper, Lower}
 use Rattle.hyd_spec_certificates.specs.Interval.{Interval}
-use Rattle.hyd_spec_certificates.specs.Grid.{Grid, end_on, tank_side, all_heads, fixed_heads}
+use Rattle.hyd_spec_certificates.specs.PeriodNetwork.{Grid, end_on, tank_side, all_heads, fixed_heads}
 use Rattle.hyd_spec_certificates.specs.Certificate.{IsCertificate}
-use Rattle.hyd_theorems_on_definitions.specs.Laws.{IsSteady}
+use Rattle.hyd_theorems_on_definitions.specs.TermsOfTheorems.{IsSteady}
 use Rattle.hyd_theorems_on_definitions.proofs.Leading.{one_times}
 use Rattle.hyd_theorems_on_nesting.proofs.TwoSides.{heads_below_plus}
-use Rattle.hyd_bounds.specs.Bounds.{AreInOrder, TanksInOrder}
+use Rattle.hyd_bounds.specs.VectorsInOrder.{AreInOrder, TanksInOrder}
 
 -- the ends of tanks from number k on
 abbrev ends : Side → ℕ → List Interval → List ℤ

@@ -4,9 +4,9 @@
 ghost use Rattle.std.specs.Prelude.{◌≡◌, length, IsTrue};
 ghost use Rattle.hyd_spec_certificates.specs.declared.Side.TheVariants.{Upper, Lower};
 ghost use Rattle.hyd_spec_certificates.specs.Certificate.{IsCertificate};
-ghost use Rattle.hyd_period_network.specs.GridOf.{grid_of};
-ghost use Rattle.hyd_period_network.specs.Nets.{HasProblem};
-ghost use Rattle.hyd_bounds.specs.Bounds.{IsVector, TanksInOrder};
+ghost use Rattle.hyd_period_network.specs.NetAsPeriodNetwork.{grid_of};
+ghost use Rattle.hyd_period_network.specs.NetInvariant.{HasProblem};
+ghost use Rattle.hyd_bounds.specs.VectorsInOrder.{IsVector, TanksInOrder};
 
 use crate::networks::{Flow, Network, Row};
 use hyd_bounds::{flow_box, out_box, pinned_in_order, status_of, tank_inflow};

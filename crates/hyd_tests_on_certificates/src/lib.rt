@@ -3,12 +3,12 @@
 #![tactic(auto)]
 
 #[cfg(test)]
-mod asking;
-#[cfg(test)]
 mod boxes;
 #[cfg(test)]
-mod given;
+mod network_tests;
 #[cfg(test)]
 mod networks;
+#[cfg(test)]
+mod networks_from_texts;
 #[cfg(test)]
 mod tight;

@@ -2,8 +2,8 @@
 
 ghost use Rattle.std.specs.Prelude.{◌≡◌, None};
 
-use crate::offers::IDLE;
-use crate::trials::{Trial, passes};
+use crate::finder_proposals::IDLE;
+use crate::runs_at_start::{Trial, passes};
 use hyd_cert::Record;
 use hyd_sim::{Settings, Sim};
 use hyd_spec_certificates::{Problem, Side};

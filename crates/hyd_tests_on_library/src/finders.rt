@@ -2,7 +2,7 @@
 
 ghost use Rattle.std.specs.Prelude.{◌∷◌, [], None, Some};
 
-use crate::offers::{IDLE, IDLE_TIGHT};
+use crate::finder_proposals::{IDLE, IDLE_TIGHT};
 use crate::vectors::{Vectors, finds};
 use hyd_finders::{Finder, Null};
 use hyd_period_network::Net;

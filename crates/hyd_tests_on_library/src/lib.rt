@@ -5,14 +5,14 @@
 #[cfg(test)]
 mod accepts;
 #[cfg(test)]
-mod calls;
+mod each_public_call;
+#[cfg(test)]
+mod finder_proposals;
 #[cfg(test)]
 mod finders;
 #[cfg(test)]
-mod offers;
+mod printer_in_memory;
 #[cfg(test)]
-mod printed;
-#[cfg(test)]
-mod trials;
+mod runs_at_start;
 #[cfg(test)]
 mod vectors;

@@ -2,7 +2,7 @@
 
 ghost use Rattle.std.specs.Prelude.{◌≡◌, None, length};
 
-use crate::trials::{Trial, passes};
+use crate::runs_at_start::{Trial, passes};
 use hyd_cert::Record;
 use hyd_finders::Finder;
 use hyd_period_network::Net;

@@ -5,6 +5,6 @@
 #[cfg(test)]
 mod four_periods;
 #[cfg(test)]
-mod given;
-#[cfg(test)]
 mod nets;
+#[cfg(test)]
+mod networks_from_texts;

@@ -3,14 +3,14 @@
 
 ghost use Rattle.std.specs.Prelude.{IfSome};
 ghost use Rattle.std.specs.Option.{option_copied};
-ghost use Rattle.hyd_theorems_on_definitions.specs.Laws.{IsSoundCapacity};
+ghost use Rattle.hyd_theorems_on_definitions.specs.TermsOfTheorems.{IsSoundCapacity};
 ghost use Rattle.hyd_net.specs.Sound.{Sound};
-ghost use Rattle.hyd_period_network.specs.GridOf.{capacity_of};
+ghost use Rattle.hyd_period_network.specs.NetAsPeriodNetwork.{capacity_of};
 ghost use Rattle.hyd_period_network.specs.Periods.{IsNetOf};
-ghost use Rattle.hyd_period_network.specs.Settings.{AreStates};
+ghost use Rattle.hyd_period_network.specs.LawsInSettings.{AreStates};
 
 use crate::four_periods::{Part, Row, TEXT, emitters, parts};
-use crate::given::read;
+use crate::networks_from_texts::read;
 use hyd_law::{Law, Quad};
 use hyd_net::{LinkState, OutOfMemory, Project};
 use hyd_period_network::{Net, PeriodDemand};

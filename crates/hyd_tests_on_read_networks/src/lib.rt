@@ -6,8 +6,8 @@ mod sameness;
 #[cfg(test)]
 mod saved;
 #[cfg(test)]
-mod shown;
-#[cfg(test)]
 mod small;
 #[cfg(test)]
 mod town;
+#[cfg(test)]
+mod words_of_network;

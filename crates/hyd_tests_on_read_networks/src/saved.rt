@@ -2,7 +2,7 @@
 #![tactic(auto)]
 
 use crate::sameness::say_the_same;
-use crate::shown::network_in_words;
+use crate::words_of_network::network_in_words;
 use std::alloc::Global;
 use std::test::Fail;
 

@@ -1,7 +1,7 @@
 //! Small texts, and the networks that an independent program reads from them.
 #![tactic(auto)]
 
-use crate::shown::network_in_words;
+use crate::words_of_network::network_in_words;
 use std::alloc::Global;
 use std::process::Abort;
 use std::test::Fail;

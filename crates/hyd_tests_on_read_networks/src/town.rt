@@ -1,7 +1,7 @@
 //! A town with most kinds of rows, and the network that an independent program reads from it.
 #![tactic(auto)]
 
-use crate::shown::network_in_words;
+use crate::words_of_network::network_in_words;
 use hyd_inp::read_project;
 use hyd_net::{Names, Project};
 use std::alloc::Global;

@@ -3,7 +3,7 @@
 
 ghost use Rattle.hyd_net.specs.Sound.{Sound};
 
-use crate::given::{By, To, are_changes, are_states, starts};
+use crate::networks_states_and_changes::{By, To, are_changes, are_states, starts};
 use hyd_controls_and_rules::{Changes, act};
 use hyd_net::{LinkState, OutOfMemory, Project};
 use hyd_spec::Source;

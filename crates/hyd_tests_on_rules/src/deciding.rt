@@ -3,9 +3,9 @@
 
 ghost use Rattle.std.specs.Prelude.{◌≤◌, ◌^◌, unsigned_abs, All, IfSome};
 ghost use Rattle.hyd_net.specs.Sound.{Sound};
-ghost use Rattle.hyd_controls_and_rules.specs.Instants.{IsBounded};
+ghost use Rattle.hyd_controls_and_rules.specs.RuleReadings.{IsBounded};
 
-use crate::given::{levels, starts};
+use crate::networks_states_and_changes::{levels, starts};
 use hyd_controls_and_rules::decide;
 use hyd_net::{LinkState, OutOfMemory, Project};
 use hyd_num::Span;

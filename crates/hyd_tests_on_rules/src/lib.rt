@@ -4,10 +4,10 @@
 #[cfg(test)]
 mod acting;
 #[cfg(test)]
-mod asking;
-#[cfg(test)]
 mod deciding;
 #[cfg(test)]
-mod given;
+mod networks_states_and_changes;
 #[cfg(test)]
 mod starts;
+#[cfg(test)]
+mod table_tests;

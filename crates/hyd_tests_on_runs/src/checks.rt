@@ -1,8 +1,8 @@
 //! The command `check` on a desk in memory: what it answers and prints, to the byte.
 
+use crate::expected_at_one_instant::{OTHERS, PIPES, REFUSALS, Row, VALVES};
 use crate::expected_checks::{ACCEPTED, COUNTS, Check, IDLE, LINES, RECORDS};
 use crate::expected_runs::{CONTROLS, LEVELS, OPTIONS, RULES, Run, STOPS};
-use crate::expected_texts::{OTHERS, PIPES, REFUSALS, Row, VALVES};
 use crate::runs::are;
 use crate::words_and_desks::{owned, status_on};
 use hyd_cli::Status;

@@ -1,6 +1,6 @@
 //! Words of commands, and words that are none.
 
-use crate::expected_texts::VALVES;
+use crate::expected_at_one_instant::VALVES;
 use crate::words_and_desks::{WORDS, owned, status_on};
 use hyd_cli::{Status, start};
 use hyd_io::MemDesk;

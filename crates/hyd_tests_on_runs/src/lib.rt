@@ -6,13 +6,13 @@ mod checks;
 #[cfg(test)]
 mod command_words;
 #[cfg(test)]
+mod expected_at_one_instant;
+#[cfg(test)]
 mod expected_checks;
 #[cfg(test)]
 mod expected_runs;
 #[cfg(test)]
-mod expected_texts;
-#[cfg(test)]
-mod faults;
+mod failing_desk_calls;
 #[cfg(test)]
 mod generated;
 #[cfg(test)]
@@ -20,6 +20,6 @@ mod limits;
 #[cfg(test)]
 mod runs;
 #[cfg(test)]
-mod texts;
+mod runs_at_one_instant;
 #[cfg(test)]
 mod words_and_desks;

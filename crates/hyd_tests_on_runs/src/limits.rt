@@ -1,6 +1,6 @@
 //! Texts at a limit and one beyond it, and what their runs print.
 
-use crate::expected_texts::VALVES;
+use crate::expected_at_one_instant::VALVES;
 use crate::words_and_desks::{WORDS, owned, status_on};
 use hyd_cli::Status;
 use hyd_io::MemDesk;

@@ -12,7 +12,7 @@ use Rattle.hyd_spec_lines.specs.declared.line.Line.{Line}
 use Rattle.hyd_spec_input.specs.Faults.{IsFirst, NoneIs}
 use Rattle.hyd_net.specs.declared.refusal_cause.Cause.{Cause}
 use Rattle.hyd_text_rows.specs.declared.first_wrong.Found.{Found}
-use Rattle.hyd_text_rows.specs.Found.{HasFound, IsFirstAt, IsVerdict, kept, rows_at}
+use Rattle.hyd_text_rows.specs.FirstWrongRow.{HasFound, IsFirstAt, IsVerdict, kept, rows_at}
 
 -- the row of a line
 pub row_at : (text : List ℕ) (lines : List Line) (k : ℕ) (d : Line) → k < length lines

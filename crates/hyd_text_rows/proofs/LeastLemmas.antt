@@ -6,7 +6,7 @@ use Rattle.std.proofs.lemmas.Option.{slice_get_within}
 use Rattle.hyd_spec_lines.specs.Lines.{Row}
 use Rattle.hyd_net.specs.declared.refusal_cause.Cause.{Cause}
 use Rattle.hyd_text_rows.specs.declared.first_wrong.Found.{Found}
-use Rattle.hyd_text_rows.specs.Found.{HasFound, Either, least}
+use Rattle.hyd_text_rows.specs.FirstWrongRow.{HasFound, Either, least}
 
 pub found_least : (rows : List Row) (One Other : ℕ → Cause → Type 0) (n : ℕ) (one other : Option Found)
     → length rows ≤ n

@@ -5,12 +5,12 @@ use Rattle.std.proofs.lemmas.List.{length-map, take_all}
 use Rattle.hyd_spec_lines.specs.Lines.{Row, row_of}
 use Rattle.hyd_spec_lines.specs.declared.line.Line.{Line}
 use Rattle.hyd_spec_lines.specs.declared.section.Section.{Section}
-use Rattle.hyd_spec_input.specs.Capacities.{IsRefusedRow}
+use Rattle.hyd_spec_input.specs.CapacitiesOutOfRange.{IsRefusedRow}
 use Rattle.hyd_spec_input.specs.Tables.{is_of}
 use Rattle.hyd_spec_input.specs.RowsTogether.{row_fault}
 use Rattle.hyd_net.specs.declared.refusal_cause.Cause.{Cause}
-use Rattle.hyd_text_rows.specs.Found.{HasFound, IsVerdict, rows_at}
-use Rattle.hyd_text_rows.specs.Tables.{AreFirsts}
+use Rattle.hyd_text_rows.specs.FirstWrongRow.{HasFound, IsVerdict, rows_at}
+use Rattle.hyd_text_rows.specs.IdTables.{AreFirsts}
 use Rattle.hyd_text_rows.specs.declared.first_wrong.Found.{Found}
 use Rattle.hyd_text_rows.specs.WrongInSection.{IsWrongIn, IsFaultThen}
 

@@ -15,8 +15,8 @@ use Rattle.std.proofs.lemmas.Map.Views.{Contains-from_any, list_any-from_Contain
 use Rattle.hyd_spec_lines.specs.Lines.{Row, row_of, LiesIn}
 use Rattle.hyd_spec_lines.specs.declared.line.Line.{Line}
 use Rattle.hyd_spec_input.specs.Tables.{own_id, row_with, has_id}
-use Rattle.hyd_text_rows.specs.Found.{rows_at}
-use Rattle.hyd_text_rows.specs.Tables.{AreFirsts}
+use Rattle.hyd_text_rows.specs.FirstWrongRow.{rows_at}
+use Rattle.hyd_text_rows.specs.IdTables.{AreFirsts}
 
 abbrev either : Option Row → Option Row → Option Row
 either (Some row) other = Some row

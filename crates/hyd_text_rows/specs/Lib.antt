@@ -1,4 +1,4 @@
-pub mod Found
-pub mod Tables
+pub mod FirstWrongRow
+pub mod IdTables
 pub mod WrongInSection
 pub mod QuantityRanges

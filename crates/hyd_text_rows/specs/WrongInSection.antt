@@ -6,7 +6,7 @@ use Rattle.hyd_spec_input.specs.Faults.{IsWrongWithOthers}
 use Rattle.hyd_spec_input.specs.Tables.{is_of}
 use Rattle.hyd_net.specs.declared.refusal_cause.Cause.{Cause}
 use Rattle.hyd_net.specs.declared.refusal_cause.Cause.TheVariants.{Limit}
-use Rattle.hyd_text_rows.specs.Found.{IsWrongAmong}
+use Rattle.hyd_text_rows.specs.FirstWrongRow.{IsWrongAmong}
 
 abbrev pub IsWrongIn : Section → List Row → ℕ → Cause → Type 0
 IsWrongIn section rows = IsWrongAmong (is_of section) (IsWrongWithOthers rows) rows

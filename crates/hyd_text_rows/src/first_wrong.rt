@@ -2,7 +2,7 @@
 #![tactic(auto)]
 
 ghost use Rattle.std.specs.Prelude.{◌≡◌};
-ghost use Rattle.hyd_text_rows.specs.Found as faults;
+ghost use Rattle.hyd_text_rows.specs.FirstWrongRow as faults;
 
 use hyd_net::Cause;
 

@@ -3,16 +3,16 @@
 #![tactic(auto)]
 
 mod first_wrong;
+mod id_table;
 mod limits;
 mod quantity_ranges;
-mod table;
 mod text;
 mod unknown_names;
 
 pub use first_wrong::{Found, kept, least};
+pub use id_table::{Table, own_id};
 pub use limits::{count_words, limit};
 pub use quantity_ranges::{flow_fault, head_fault};
-pub use table::{Table, own_id};
 pub use text::{Gathered, gather};
 pub use unknown_names::{
     has, is_junctions, unknown_curve, unknown_junction, unknown_node, unknown_pattern,

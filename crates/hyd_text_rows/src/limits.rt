@@ -2,7 +2,7 @@
 #![tactic(auto)]
 
 ghost use Rattle.std.specs.Prelude.{◌≡◌, ◌≤◌, ◌+◌, min, length};
-ghost use Rattle.hyd_spec_lines.specs.Bytes.{words_in};
+ghost use Rattle.hyd_spec_lines.specs.WordsOfLines.{words_in};
 ghost use Rattle.hyd_spec_input.specs.RowsTogether as others;
 
 use hyd_lex::split_word;

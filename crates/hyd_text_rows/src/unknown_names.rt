@@ -2,14 +2,14 @@
 #![tactic(auto)]
 
 ghost use Rattle.std.specs.Prelude.{◌≡◌, ◌==◌, List, ℕ};
-ghost use Rattle.hyd_spec_lines.specs.Bytes.{text_of};
+ghost use Rattle.hyd_spec_lines.specs.WordsOfLines.{text_of};
 ghost use Rattle.hyd_spec_lines.specs.Lines.{Row};
 ghost use Rattle.hyd_spec_lines.specs.declared.section.Section.TheVariants.{Curves, Patterns};
 ghost use Rattle.hyd_spec_input.specs.Tables.{place as section_place, has_id, rows_of, node_rows};
 ghost use Rattle.hyd_spec_input.specs.RowsTogether as others;
-ghost use Rattle.hyd_text_rows.specs.Tables.{IsTable, IsEven};
+ghost use Rattle.hyd_text_rows.specs.IdTables.{IsTable, IsEven};
 
-use crate::table::Table;
+use crate::id_table::Table;
 use hyd_lex::{Lines, Section};
 use hyd_net::Cause;
 

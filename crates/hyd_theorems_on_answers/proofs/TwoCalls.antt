@@ -7,8 +7,8 @@ use Rattle.hyd_spec.specs.ProgramTypes.{Project}
 use Rattle.hyd_spec_reports.specs.declared.StopCause.TheVariants.{Demand as DemandOutOfRange, NoCertificate}
 use Rattle.hyd_spec_reports.specs.declared.StopCause.TheVariants.{RoundsSpent as SpentRounds, RuleOpen, EventOpen}
 use Rattle.hyd_spec_reports.specs.declared.StopCause.TheVariants.{TankOpen, ControlOpen}
-use Rattle.hyd_spec_reports.specs.Headline.{Outcome, Finished, Stopped, RunWrites, outcome_number}
-use Rattle.hyd_io.specs.ToldBytes.{Files, where_told, append_known}
+use Rattle.hyd_spec_reports.specs.PromisesOfRunsAndChecks.{Outcome, Finished, Stopped, RunWrites, outcome_number}
+use Rattle.hyd_io.specs.DeskBytes.{Files, where_told, append_known}
 use Rattle.hyd_run.specs.Runs.{sharpness_of}
 use Rattle.hyd_sim.specs.declared.settings.Settings.{Settings}
 use Rattle.hyd_cert_check.specs.declared.outcome.CheckEnd.TheVariants.{Accepted}

@@ -3,7 +3,7 @@
 #![tactic(auto)]
 
 ghost use Rattle.std.specs.Prelude.{◌≡◌, ◌≢◌, List, ℕ, Some};
-ghost use Rattle.hyd_io.specs.ToldBytes.{append_known};
+ghost use Rattle.hyd_io.specs.DeskBytes.{append_known};
 ghost use Rattle.hyd_sim.specs.declared.settings.Settings.{Settings};
 ghost use Rattle.hyd_cli.specs.declared.status.Status.{Status};
 ghost use Rattle.hyd_cli.specs.declared.status.Status.TheVariants.{Done, CertificateRefused};

@@ -6,13 +6,13 @@ use Rattle.hyd_net.specs.Sound.{Sound}
 use Rattle.hyd_spec.specs.ProgramTypes.{Project}
 use Rattle.hyd_spec.specs.Lists.{joined}
 use Rattle.hyd_spec.specs.NodeNumbers.{junction_count, tank_count}
-use Rattle.hyd_spec_certificates.specs.Record.{Record, Standing, initial_standing}
+use Rattle.hyd_spec_certificates.specs.RecordAndStanding.{Record, Standing, initial_standing}
 use Rattle.hyd_spec_reports.specs.CertificateText.{line, version_of}
 use Rattle.hyd_spec_reports.specs.CertificateText.{IsCertificateText}
 use Rattle.hyd_spec_reports.specs.ReportLine.{ReportLine, report_text, line_text}
 use Rattle.hyd_spec_reports.specs.declared.CertRefused.{CertRefused}
-use Rattle.hyd_spec_reports.specs.Headline.{Found, IsRun, rows_of, lines_of, CheckAccepts, CheckRefuses}
-use Rattle.hyd_spec_reports.specs.Headline.{CheckRefusesEnd}
+use Rattle.hyd_spec_reports.specs.PromisesOfRunsAndChecks.{Found, IsRun, rows_of, lines_of, CheckAccepts, CheckRefuses}
+use Rattle.hyd_spec_reports.specs.PromisesOfRunsAndChecks.{CheckRefusesEnd}
 use Rattle.hyd_cert_check.specs.Checks.{refused_counts_line, BeginsWithFound}
 use Rattle.hyd_cert_check.specs.Checks.{CheckRefusesGrammar, CheckRefusesCounts, CheckRefusal, CheckEnds, CheckFinds}
 use Rattle.hyd_cert_check.specs.Checks.{grammar, counts, record_refused, other_end, CheckBreaksOff, in_last_line}

@@ -2,10 +2,10 @@
 use Rattle.std.proofs.Common.{◌≡◌, ℕ, List, [], ◌∷◌, ◌++◌, ◌∙◌, append_assoc}
 use Rattle.hyd_spec.specs.ProgramTypes.{Project}
 use Rattle.hyd_spec.specs.NodeNumbers.{junction_count, tank_count}
-use Rattle.hyd_spec_certificates.specs.Record.{initial_standing}
+use Rattle.hyd_spec_certificates.specs.RecordAndStanding.{initial_standing}
 use Rattle.hyd_spec_reports.specs.CertificateText.{version_of}
 use Rattle.hyd_spec_reports.specs.declared.CertRefused.{CertRefused}
-use Rattle.hyd_spec_reports.specs.Headline.{rows_of, CheckRefuses}
+use Rattle.hyd_spec_reports.specs.PromisesOfRunsAndChecks.{rows_of, CheckRefuses}
 use Rattle.hyd_theorems_on_definitions.proofs.OneRefusal.{refused_invalid}
 use Rattle.hyd_theorems_on_checks.specs.CertificateOfRun.{IsCertificateOfRun}
 use Rattle.hyd_theorems_on_checks.proofs.FirstRecords.{first_rows}

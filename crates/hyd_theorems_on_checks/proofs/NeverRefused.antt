@@ -2,7 +2,7 @@
 use Rattle.std.proofs.Common.{◌≡◌, ℕ, List, length, refl}
 use Rattle.hyd_spec.specs.ProgramTypes.{Project}
 use Rattle.hyd_spec_reports.specs.ReportLine.{report_text}
-use Rattle.hyd_spec_reports.specs.Headline.{rows_of, lines_of, accepted_line}
+use Rattle.hyd_spec_reports.specs.PromisesOfRunsAndChecks.{rows_of, lines_of, accepted_line}
 use Rattle.hyd_cert.specs.FaultyLine.{IsCertificate}
 use Rattle.hyd_cert.proofs.SentenceLemmas.{fault_no_certificate, no_certificate_of_others}
 use Rattle.hyd_sim.specs.View.{header_for}

@@ -1,7 +1,7 @@
 -- What a run writes, and what a check accepts, is the certificate of a run.
 use Rattle.std.proofs.Common.{ℕ, List}
 use Rattle.hyd_spec.specs.ProgramTypes.{Project}
-use Rattle.hyd_spec_reports.specs.Headline.{Sharpness, Outcome, RunWrites, CheckAccepts}
+use Rattle.hyd_spec_reports.specs.PromisesOfRunsAndChecks.{Sharpness, Outcome, RunWrites, CheckAccepts}
 use Rattle.hyd_theorems_on_definitions.proofs.RunRecords.{accepts}
 use Rattle.hyd_theorems_on_checks.specs.CertificateOfRun.{IsCertificateOfRun}
 

@@ -6,14 +6,14 @@ use Rattle.hyd_net.specs.Sound.{Sound}
 use Rattle.hyd_spec.specs.ProgramTypes.{Project}
 use Rattle.hyd_spec.specs.Lists.{joined}
 use Rattle.hyd_spec.specs.NodeNumbers.{junction_count, tank_count}
-use Rattle.hyd_spec_certificates.specs.Record.{Record, Standing, initial_standing}
+use Rattle.hyd_spec_certificates.specs.RecordAndStanding.{Record, Standing, initial_standing}
 use Rattle.hyd_spec_reports.specs.CertificateText.{IsRow, version_of, line_feeds, header_line}
 use Rattle.hyd_spec_reports.specs.CertificateText.{record_text}
 use Rattle.hyd_spec_reports.specs.ReportLine.{report_text, refused_line, refused_end_line}
 use Rattle.hyd_spec_reports.specs.declared.CertRefused.{CertRefused}
-use Rattle.hyd_spec_reports.specs.Refusals.{IsRefused}
-use Rattle.hyd_spec_reports.specs.Headline.{Found, IsRun, rows_of, lines_of, CheckAccepts, CheckRefuses}
-use Rattle.hyd_spec_reports.specs.Headline.{CheckRefusesEnd}
+use Rattle.hyd_spec_reports.specs.RefusedRecords.{IsRefused}
+use Rattle.hyd_spec_reports.specs.PromisesOfRunsAndChecks.{Found, IsRun, rows_of, lines_of, CheckAccepts, CheckRefuses}
+use Rattle.hyd_spec_reports.specs.PromisesOfRunsAndChecks.{CheckRefusesEnd}
 use Rattle.hyd_theorems_on_definitions.proofs.CertificateLines.{contents-same}
 use Rattle.hyd_theorems_on_definitions.proofs.OneRefusal.{refused_invalid, one_refusal}
 use Rattle.hyd_theorems_on_definitions.proofs.OneRun.{one_left}

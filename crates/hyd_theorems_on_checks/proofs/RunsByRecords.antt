@@ -1,11 +1,11 @@
 -- A run is the only one with its records, and a record that stands behind them in another run is valid where it ends.
 use Rattle.std.proofs.Common.{◌≡◌, List, [], ◌∷◌, ◌++◌, refl, sym, ap, subst, ◌∙◌}
 use Rattle.hyd_spec.specs.ProgramTypes.{Project}
-use Rattle.hyd_spec_certificates.specs.Grid.{Grid}
-use Rattle.hyd_spec_certificates.specs.Record.{Record, Standing}
+use Rattle.hyd_spec_certificates.specs.PeriodNetwork.{Grid}
+use Rattle.hyd_spec_certificates.specs.RecordAndStanding.{Record, Standing}
 use Rattle.hyd_spec_certificates.specs.Valid.{IsValid}
 use Rattle.hyd_spec_reports.specs.Report.{IsReport}
-use Rattle.hyd_spec_reports.specs.Headline.{Found, IsFound, IsRunFrom, none, more, rows_of}
+use Rattle.hyd_spec_reports.specs.PromisesOfRunsAndChecks.{Found, IsFound, IsRunFrom, none, more, rows_of}
 use Rattle.hyd_theorems_on_definitions.proofs.OneReport.{one_report}
 use Rattle.hyd_theorems_on_definitions.proofs.OneRun.{one_grid}
 use Rattle.hyd_theorems_on_definitions.proofs.OneStanding.{one_standing}

@@ -4,11 +4,11 @@ use Rattle.std.proofs.Common.{append-nil}
 use Rattle.hyd_net.specs.Sound.{Sound}
 use Rattle.hyd_spec.specs.ProgramTypes.{Project}
 use Rattle.hyd_spec.specs.NodeNumbers.{junction_count, tank_count}
-use Rattle.hyd_spec_certificates.specs.Grid.{Grid}
-use Rattle.hyd_spec_certificates.specs.Record.{Record, Standing}
+use Rattle.hyd_spec_certificates.specs.PeriodNetwork.{Grid}
+use Rattle.hyd_spec_certificates.specs.RecordAndStanding.{Record, Standing}
 use Rattle.hyd_spec_certificates.specs.Valid.{IsValid, AreValidFrom, AreValid, none as no_record, more as more_records}
 use Rattle.hyd_spec_reports.specs.CertificateText.{IsCertificateText, version_of}
-use Rattle.hyd_spec_reports.specs.Headline.{Found, IsRun, none as no_period, rows_of}
+use Rattle.hyd_spec_reports.specs.PromisesOfRunsAndChecks.{Found, IsRun, none as no_period, rows_of}
 use Rattle.hyd_theorems_on_definitions.proofs.Appending.{run_more}
 use Rattle.hyd_theorems_on_nesting.proofs.Extending.{run_keeps}
 use Rattle.hyd_theorems_on_nesting.proofs.Reporting.{report_is}

@@ -3,9 +3,9 @@
 use Rattle.std.specs.Prelude.{◌≡◌, ℕ, List, length}
 use Rattle.hyd_spec.specs.ProgramTypes.{Project}
 use Rattle.hyd_spec.specs.NodeNumbers.{junction_count, tank_count}
-use Rattle.hyd_spec_certificates.specs.Record.{Record, Standing}
+use Rattle.hyd_spec_certificates.specs.RecordAndStanding.{Record, Standing}
 use Rattle.hyd_spec_reports.specs.CertificateText.{IsCertificateText, version_of}
-use Rattle.hyd_spec_reports.specs.Headline.{Found, IsRun, rows_of}
+use Rattle.hyd_spec_reports.specs.PromisesOfRunsAndChecks.{Found, IsRun, rows_of}
 
 -- The text is the certificate of a run of the network, whole or as far as it went, with an END line that says what is
 -- so: how many records stand before it, and whether the run is finished.

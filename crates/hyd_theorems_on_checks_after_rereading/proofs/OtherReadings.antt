@@ -6,11 +6,13 @@ use Rattle.hyd_spec_lines.specs.Lines.{Row}
 use Rattle.hyd_spec_input.specs.Project.{IsProject}
 use Rattle.hyd_spec.specs.ProgramTypes.{Project}
 use Rattle.hyd_spec.specs.NodeNumbers.{junction_count, tank_count}
-use Rattle.hyd_spec_certificates.specs.Record.{Record, Standing}
+use Rattle.hyd_spec_certificates.specs.RecordAndStanding.{Record, Standing}
 use Rattle.hyd_spec_certificates.specs.Valid.{AreValid}
 use Rattle.hyd_spec_reports.specs.CertificateText.{IsCertificateText, version_of}
 use Rattle.hyd_spec_reports.specs.ReportLine.{report_text}
-use Rattle.hyd_spec_reports.specs.Headline.{rows_of, lines_of, Sharpness, Outcome, Finished, accepted_line, RunWrites}
+use Rattle.hyd_spec_reports.specs.PromisesOfRunsAndChecks.{rows_of, lines_of, Sharpness, Outcome, Finished}
+use Rattle.hyd_spec_reports.specs.PromisesOfRunsAndChecks.{accepted_line}
+use Rattle.hyd_spec_reports.specs.PromisesOfRunsAndChecks.{RunWrites}
 use Rattle.hyd_cert_check.specs.Checks.{CheckRefusal, CheckEnds}
 use Rattle.hyd_cert_check.specs.declared.outcome.CheckEnd.{CheckEnd}
 use Rattle.hyd_cert_check.specs.declared.outcome.CheckEnd.TheVariants.{Accepted}

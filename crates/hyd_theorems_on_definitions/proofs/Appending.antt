@@ -5,10 +5,11 @@ use Rattle.hyd_spec.specs.PeriodLength.{Period, EndsByClock, step, duration, pat
 use Rattle.hyd_spec.specs.PeriodLength.{control_clock}
 use Rattle.hyd_spec.specs.PeriodLength.{MayEnd, by_clock, by_level, by_rules, HasItsLength, at_end, before_end}
 use Rattle.hyd_spec.specs.History.{IsPeriod, ComesAfter, GoesOn, IsHistory}
-use Rattle.hyd_spec_certificates.specs.Grid.{Grid}
-use Rattle.hyd_spec_certificates.specs.Record.{Record, Standing, initial_standing}
+use Rattle.hyd_spec_certificates.specs.PeriodNetwork.{Grid}
+use Rattle.hyd_spec_certificates.specs.RecordAndStanding.{Record, Standing, initial_standing}
 use Rattle.hyd_spec_certificates.specs.Valid.{IsValid, AreValidFrom, none as none_valid, more as more_valid}
-use Rattle.hyd_spec_reports.specs.Headline.{Found, IsFound, IsRunFrom, none as none_run, more as more_run}
+use Rattle.hyd_spec_reports.specs.PromisesOfRunsAndChecks.{Found, IsFound, IsRunFrom, none as none_run}
+use Rattle.hyd_spec_reports.specs.PromisesOfRunsAndChecks.{more as more_run}
 
 -- ---- histories
 

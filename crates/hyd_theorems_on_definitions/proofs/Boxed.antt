@@ -12,16 +12,17 @@ use Rattle.hyd_spec.specs.declared.TankState.{TankState}
 use Rattle.hyd_spec_certificates.specs.declared.Side.TheVariants.{Upper, Lower}
 use Rattle.hyd_spec_certificates.specs.declared.Problem.TheVariants.{Main}
 use Rattle.hyd_spec_certificates.specs.Interval.{Interval}
-use Rattle.hyd_spec.specs.Quantity.{demand_of}
+use Rattle.hyd_spec.specs.DemandsReservoirHeadsAndCurves.{demand_of}
 use Rattle.hyd_spec.specs.LinkLaw.{law_of}
 use Rattle.hyd_spec.specs.Law.{QuadraticLaw, Follows}
 use Rattle.hyd_spec_certificates.specs.EnclosingFunctions.{demand_low, demand_high}
 use Rattle.hyd_spec.specs.Outflow.{FollowsEmitter}
 use Rattle.hyd_spec.specs.Assignment.{Assignment, JunctionObeys, LinksFollow, more, head_at, flow_at, node_heads}
-use Rattle.hyd_spec_certificates.specs.Grid.{Grid, GridLink, GridJunction, IsJunctionOf, grid_links, all_heads}
-use Rattle.hyd_spec_certificates.specs.Boxes.{flow_box, out_box, emitter_box}
+use Rattle.hyd_spec_certificates.specs.PeriodNetwork.{Grid, GridLink, GridJunction, IsJunctionOf, grid_links, all_heads}
+use Rattle.hyd_spec_certificates.specs.FlowIntervals.{flow_box, out_box, emitter_box}
 use Rattle.hyd_spec_certificates.specs.Certificate.{IsCertificate}
-use Rattle.hyd_theorems_on_definitions.specs.Laws.{IsSoundLaw, IsSoundCapacity, LiesIn, IsCompared, LieBetween}
+use Rattle.hyd_theorems_on_definitions.specs.TermsOfTheorems.{IsSoundLaw, IsSoundCapacity, LiesIn, IsCompared}
+use Rattle.hyd_theorems_on_definitions.specs.TermsOfTheorems.{LieBetween}
 use Rattle.hyd_theorems_on_definitions.proofs.Nodes.{excess, lack, excess_after, lack_after}
 use Rattle.hyd_theorems_on_definitions.proofs.Sums.{flow-below, flow-above}
 use Rattle.hyd_theorems_on_definitions.proofs.Outflows.{demand-below, demand-above}

@@ -12,7 +12,7 @@ use Rattle.std.proofs.lemmas.List.Elements.{All-head, All-tail}
 use lib.Signed.{mag}
 use Rattle.hyd_spec.specs.Lists.{joined}
 use Rattle.hyd_spec_certificates.specs.Certificate.{IsInBox}
-use Rattle.hyd_spec_certificates.specs.Record.{Record, Vectors}
+use Rattle.hyd_spec_certificates.specs.RecordAndStanding.{Record, Vectors}
 use Rattle.hyd_spec_reports.specs.CertificateText.{words, line, header_line, period_line, head_lines, vectors_text}
 use Rattle.hyd_spec_reports.specs.CertificateText.{record_text, end_line, IsVector, IsRow, IsCertificateText}
 use Rattle.hyd_theorems_on_definitions.proofs.Pieces.{IsWord, AreWords, line-same}

@@ -16,14 +16,15 @@ use Rattle.hyd_spec_certificates.specs.declared.Side.{Side}
 use Rattle.hyd_spec.specs.Lists.{Each}
 use Rattle.hyd_spec_certificates.specs.Interval.{Interval}
 use Rattle.hyd_spec.specs.Scale.{at_scale}
-use Rattle.hyd_spec.specs.Quantity.{reservoir_head, demand_of}
+use Rattle.hyd_spec.specs.DemandsReservoirHeadsAndCurves.{reservoir_head, demand_of}
 use Rattle.hyd_spec.specs.Outflow.{FollowsDemand, FollowsEmitter}
 use Rattle.hyd_spec_certificates.specs.EnclosingFunctions.{low, high}
 use Rattle.hyd_spec.specs.Assignment.{Assignment, JunctionObeys, head_at, flow_at, net_outflow, node_heads, tank_heads}
-use Rattle.hyd_spec_certificates.specs.Grid.{Grid, GridLink, GridJunction, IsGrid, IsJunctionOf, all_heads, fixed_heads}
+use Rattle.hyd_spec_certificates.specs.PeriodNetwork.{Grid, GridLink, GridJunction, IsGrid, IsJunctionOf, all_heads}
+use Rattle.hyd_spec_certificates.specs.PeriodNetwork.{fixed_heads}
 use Rattle.hyd_spec_certificates.specs.NetOutflow.{net, outflow_low, outflow_high, link_ends}
 use Rattle.hyd_spec_certificates.specs.Certificate.{IsCertificate}
-use Rattle.hyd_theorems_on_definitions.specs.Laws.{IsSoundLaw, IsSoundCapacity, LevelsLie, IsCompared}
+use Rattle.hyd_theorems_on_definitions.specs.TermsOfTheorems.{IsSoundLaw, IsSoundCapacity, LevelsLie, IsCompared}
 use Rattle.hyd_theorems_on_definitions.proofs.Nodes.{excess, lack, excess_after, lack_after, head_front, tanks_below}
 use Rattle.hyd_theorems_on_definitions.proofs.Nodes.{tanks_above}
 use Rattle.hyd_theorems_on_definitions.proofs.Nodes.{reservoirs_below, reservoirs_above, IsGreatestBelow}

@@ -15,12 +15,14 @@ use Rattle.hyd_spec.specs.Tank.{is_bound, has_reached}
 use Rattle.hyd_spec.specs.Rules.{compares}
 use Rattle.hyd_spec_certificates.specs.Stocks.{Stocks, least_stock, greatest_stock, may_reach, must_reach}
 use Rattle.hyd_spec_certificates.specs.FirstSeconds.{IsFirstSecond}
-use Rattle.hyd_spec_certificates.specs.Verdict.{Verdict, Yes, No, Unknown, at_both_ends, either, both, some_holds}
-use Rattle.hyd_spec_certificates.specs.Verdict.{all_hold}
+use Rattle.hyd_spec_certificates.specs.ThreeValuedLogic.{Verdict, Yes, No, Unknown, at_both_ends, either, both}
+use Rattle.hyd_spec_certificates.specs.ThreeValuedLogic.{some_holds}
+use Rattle.hyd_spec_certificates.specs.ThreeValuedLogic.{all_hold}
 use Rattle.hyd_spec_certificates.specs.Decided.{control_truth}
-use Rattle.hyd_theorems_on_definitions.specs.Laws.{LiesIn, IsVessel, StockLies, AreInside, IsInside, HasStock, IsAtMost}
-use Rattle.hyd_theorems_on_definitions.specs.Laws.{IsOneWay}
-use Rattle.hyd_theorems_on_definitions.specs.Laws.{Tells, TellEach}
+use Rattle.hyd_theorems_on_definitions.specs.TermsOfTheorems.{LiesIn, IsVessel, StockLies, AreInside, IsInside}
+use Rattle.hyd_theorems_on_definitions.specs.TermsOfTheorems.{HasStock, IsAtMost}
+use Rattle.hyd_theorems_on_definitions.specs.TermsOfTheorems.{IsOneWay}
+use Rattle.hyd_theorems_on_definitions.specs.TermsOfTheorems.{Tells, TellEach}
 use Rattle.hyd_lemmas.proofs.Integers.{exchanged}
 use Rattle.hyd_theorems_on_definitions.proofs.Outflows.{le-yes}
 use Rattle.hyd_net.specs.Curves.{volume_at}

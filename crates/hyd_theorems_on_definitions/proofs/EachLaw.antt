@@ -18,7 +18,8 @@ use Rattle.hyd_spec_certificates.specs.EnclosingFunctions.{quadratic_low, quadra
 use Rattle.hyd_spec.specs.Law.{Law, Shut, QuadraticLaw, LinearLaw, Lifted, ForwardOnly, ReverseOnly, Capped, Bent, Held}
 use Rattle.hyd_spec.specs.Law.{odd_at_least, odd_at_most, flow_at_least, flow_at_most, loss_at_most, loss_at_least}
 use Rattle.hyd_lemmas.proofs.Enclosing.{numerator_above, denominator_above}
-use Rattle.hyd_theorems_on_definitions.specs.Laws.{IsLaw, IsSoundCapacity, IsSoundLaw, AreInOrder, HasPositiveNumbers}
+use Rattle.hyd_theorems_on_definitions.specs.TermsOfTheorems.{IsLaw, IsSoundCapacity, IsSoundLaw, AreInOrder}
+use Rattle.hyd_theorems_on_definitions.specs.TermsOfTheorems.{HasPositiveNumbers}
 use Rattle.hyd_lemmas.proofs.Integers.{exchanged, floor_low, ceiling_high, floor_greatest, ceiling_least}
 use Rattle.hyd_lemmas.proofs.Integers.{floor_at_most_ceiling}
 use Rattle.hyd_theorems_on_definitions.proofs.LossLaws.{IsLossLaw-origin}

@@ -10,18 +10,18 @@ use Rattle.hyd_num.proofs.Integers.{times_plus, times_rises, times_neg, times_on
 use Rattle.hyd_spec.specs.ProgramTypes.{Project, LinkState}
 use Rattle.hyd_spec.specs.declared.TankState.{TankState}
 use Rattle.hyd_spec.specs.Scale.{at_scale}
-use Rattle.hyd_spec.specs.Quantity.{reservoir_head}
+use Rattle.hyd_spec.specs.DemandsReservoirHeadsAndCurves.{reservoir_head}
 use Rattle.hyd_spec.specs.Assignment.{Assignment, head_at, flow_at, where_so, net_outflow, node_heads, tank_heads}
 use Rattle.hyd_spec_certificates.specs.declared.Side.{Side}
 use Rattle.hyd_spec_certificates.specs.declared.Side.TheVariants.{Upper, Lower}
 use Rattle.hyd_spec_certificates.specs.declared.Problem.TheVariants.{Main}
 use Rattle.hyd_spec_certificates.specs.Interval.{Interval}
 use Rattle.hyd_spec_certificates.specs.EnclosingFunctions.{low, high}
-use Rattle.hyd_spec_certificates.specs.Grid.{Grid, GridLink, GridJunction, IsJunctionOf, grid_links, all_heads}
-use Rattle.hyd_spec_certificates.specs.Grid.{fixed_heads}
+use Rattle.hyd_spec_certificates.specs.PeriodNetwork.{Grid, GridLink, GridJunction, IsJunctionOf, grid_links, all_heads}
+use Rattle.hyd_spec_certificates.specs.PeriodNetwork.{fixed_heads}
 use Rattle.hyd_spec_certificates.specs.NetOutflow.{net, net_low, net_high, margin, outflow_low, outflow_high, link_ends}
 use Rattle.hyd_spec_certificates.specs.Certificate.{Passes, IsCertificateHolding}
-use Rattle.hyd_theorems_on_definitions.specs.Laws.{IsSoundLaw, IsComparedDrawing}
+use Rattle.hyd_theorems_on_definitions.specs.TermsOfTheorems.{IsSoundLaw, IsComparedDrawing}
 use Rattle.hyd_theorems_on_definitions.specs.Sides.{along}
 use Rattle.hyd_theorems_on_definitions.proofs.Nodes.{lack, head_front, IsGreatestBelow, greatest_below}
 use Rattle.hyd_theorems_on_definitions.proofs.Sums.{IsDip, sum-upper, sum-lower}

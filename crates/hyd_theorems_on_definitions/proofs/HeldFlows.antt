@@ -15,11 +15,11 @@ use Rattle.hyd_spec_certificates.specs.declared.Side.{Side}
 use Rattle.hyd_spec_certificates.specs.declared.Side.TheVariants.{Upper, Lower}
 use Rattle.hyd_spec_certificates.specs.declared.Problem.TheVariants.{Main}
 use Rattle.hyd_spec_certificates.specs.Interval.{Interval}
-use Rattle.hyd_spec_certificates.specs.Grid.{Grid, GridLink, GridJunction, IsJunctionOf, fixed_heads}
+use Rattle.hyd_spec_certificates.specs.PeriodNetwork.{Grid, GridLink, GridJunction, IsJunctionOf, fixed_heads}
 use Rattle.hyd_spec_certificates.specs.NetOutflow.{margin}
 use Rattle.hyd_spec_certificates.specs.Certificate.{Passes, IsCertificate, IsCertificateHolding}
 use Rattle.hyd_spec_certificates.specs.BoxesWithHeldJunction.{held_in, held_flow_box, passing_draw}
-use Rattle.hyd_theorems_on_definitions.specs.Laws.{IsSoundLaw, LiesIn, IsCompared, IsComparedDrawing}
+use Rattle.hyd_theorems_on_definitions.specs.TermsOfTheorems.{IsSoundLaw, LiesIn, IsCompared, IsComparedDrawing}
 use Rattle.hyd_theorems_on_definitions.specs.Sides.{along}
 use Rattle.hyd_theorems_on_definitions.proofs.Nodes.{head_front}
 use Rattle.hyd_theorems_on_definitions.proofs.Sums.{flow-below, flow-above}

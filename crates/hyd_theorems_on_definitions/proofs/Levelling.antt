@@ -17,10 +17,11 @@ use Rattle.hyd_spec_certificates.specs.Interval.{Interval}
 use Rattle.hyd_spec_certificates.specs.Stocks.{Stocks, least_stock, greatest_stock, exact_least, exact_greatest}
 use Rattle.hyd_spec_certificates.specs.Stocks.{lower_level, upper_level, contents_after, carried_levels, levels_at}
 use Rattle.hyd_spec_certificates.specs.Stocks.{next_stocks, shared_state, state_of}
-use Rattle.hyd_theorems_on_definitions.specs.Laws.{LiesIn, LiesAround, IsVessel, HoldWater, StockLies, AreInside}
-use Rattle.hyd_theorems_on_definitions.specs.Laws.{IsInside}
-use Rattle.hyd_theorems_on_definitions.specs.Laws.{IsWithin}
-use Rattle.hyd_theorems_on_definitions.specs.Laws.{HasStock}
+use Rattle.hyd_theorems_on_definitions.specs.TermsOfTheorems.{LiesIn, LiesAround, IsVessel, HoldWater, StockLies}
+use Rattle.hyd_theorems_on_definitions.specs.TermsOfTheorems.{AreInside}
+use Rattle.hyd_theorems_on_definitions.specs.TermsOfTheorems.{IsInside}
+use Rattle.hyd_theorems_on_definitions.specs.TermsOfTheorems.{IsWithin}
+use Rattle.hyd_theorems_on_definitions.specs.TermsOfTheorems.{HasStock}
 use Rattle.hyd_lemmas.proofs.Integers.{exchanged}
 use Rattle.hyd_theorems_on_definitions.proofs.Outflows.{le-yes}
 use Rattle.hyd_theorems_on_definitions.proofs.Leading.{Leads, one_times}

@@ -16,7 +16,7 @@ use Rattle.hyd_num.specs.FileQuantity.{pressure_fraction}
 use Rattle.hyd_spec.specs.ProgramTypes.{Origin, Pipe, Valve, Pump, Emitter, PressureDemand}
 use Rattle.hyd_spec.specs.Law.{loss_at_most, loss_at_least, pump_resistance, emitter_resistance, pressure_resistance}
 use Rattle.hyd_lemmas.proofs.Fractions.{AtMost-along, times-rises, power-rises, AtMost-itself}
-use Rattle.hyd_theorems_on_definitions.specs.Laws.{IsLossLaw, HasPositiveNumbers}
+use Rattle.hyd_theorems_on_definitions.specs.TermsOfTheorems.{IsLossLaw, HasPositiveNumbers}
 use Rattle.hyd_theorems_on_definitions.proofs.Roots.{square_reflects}
 use Rattle.hyd_spec.specs.Loss.{SquareLossAtMost, SquareLossAtLeast, ValveLossAtMost, ValveLossAtLeast, PipeLossAtMost}
 use Rattle.hyd_spec.specs.Loss.{PipeLossAtLeast, head_in_feet, flow_in_cfs, friction, minor_loss}

@@ -1,8 +1,8 @@
 -- The length that a record gives matters to none of its other matters, so a valid record has one length.
 use Rattle.std.proofs.Common.{◌≡◌, ℕ, ◌≤◌, ◌⊎◌, inl, inr, List, sym, ◌∙◌}
 use Rattle.hyd_spec.specs.ProgramTypes.{Project, LinkState}
-use Rattle.hyd_spec_certificates.specs.Grid.{Grid}
-use Rattle.hyd_spec_certificates.specs.Record.{Record, Standing}
+use Rattle.hyd_spec_certificates.specs.PeriodNetwork.{Grid}
+use Rattle.hyd_spec_certificates.specs.RecordAndStanding.{Record, Standing}
 use Rattle.hyd_spec_certificates.specs.Decided.{SomeMayReach, SomeMustReach, IsClockLength, IsEarliestEnd, IsLatestEnd}
 use Rattle.hyd_spec_certificates.specs.Decided.{RulesMatter, OpenRule, IsOpenRule, IsFirstMatter, NoRuleMatters, End}
 use Rattle.hyd_spec_certificates.specs.Decided.{ByRules, WithoutRules, EndsBy, by_rules, rule_is_open, by_clock}

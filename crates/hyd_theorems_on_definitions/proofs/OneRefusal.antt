@@ -12,10 +12,10 @@ use Rattle.hyd_spec_certificates.specs.declared.Problem.TheVariants.{Main, Pinne
 use Rattle.hyd_spec_certificates.specs.declared.Side.{Side}
 use Rattle.hyd_spec_certificates.specs.declared.Side.TheVariants.{Upper, Lower}
 use Rattle.hyd_spec_certificates.specs.Interval.{Interval}
-use Rattle.hyd_spec_certificates.specs.Grid.{Grid}
+use Rattle.hyd_spec_certificates.specs.PeriodNetwork.{Grid}
 use Rattle.hyd_spec_certificates.specs.Certificate.{IsCertificate}
-use Rattle.hyd_spec_certificates.specs.Record.{Record, Standing, vector_of}
-use Rattle.hyd_spec_certificates.specs.Verdict.{is_unknown}
+use Rattle.hyd_spec_certificates.specs.RecordAndStanding.{Record, Standing, vector_of}
+use Rattle.hyd_spec_certificates.specs.ThreeValuedLogic.{is_unknown}
 use Rattle.hyd_spec_certificates.specs.Stocks.{state_of}
 use Rattle.hyd_spec_certificates.specs.Decided.{End, ByRules, WithoutRules, RuleIsOpen, EventIsOpen, EndsBy, OpenRule}
 use Rattle.hyd_spec_certificates.specs.Decided.{control_truth, nowhere, by_rules, rule_is_open, by_clock, event_is_open}
@@ -27,8 +27,9 @@ use Rattle.hyd_spec_reports.specs.declared.CertRefused.TheVariants.{Place, Deman
 use Rattle.hyd_spec_reports.specs.declared.CertRefused.TheVariants.{After}
 use Rattle.hyd_spec_reports.specs.ReportLine.{refused_period}
 use Rattle.hyd_spec_reports.specs.Stops.{turn, open_states, is_open_control}
-use Rattle.hyd_spec_reports.specs.Refusals.{IsRefused, IsRefusedBy, IsDue, HasItsGrid, IsCertified, IsFirstToFail}
-use Rattle.hyd_spec_reports.specs.Refusals.{LeavesOpen, rule, event, tank, control, HasOtherLength, at_end, before_end}
+use Rattle.hyd_spec_reports.specs.RefusedRecords.{IsRefused, IsRefusedBy, IsDue, HasItsGrid, IsCertified, IsFirstToFail}
+use Rattle.hyd_spec_reports.specs.RefusedRecords.{LeavesOpen, rule, event, tank, control, HasOtherLength, at_end}
+use Rattle.hyd_spec_reports.specs.RefusedRecords.{before_end}
 use Rattle.hyd_theorems_on_definitions.proofs.OneAnswer.{one_end}
 use Rattle.hyd_theorems_on_definitions.proofs.Failing.{fails-no-certificate, one-failure}
 use Rattle.hyd_theorems_on_definitions.proofs.OneRun.{one_grid}

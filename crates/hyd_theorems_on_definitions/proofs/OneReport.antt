@@ -3,15 +3,15 @@ use Rattle.std.proofs.Common.{◌≡◌, ◌≢◌, ℕ, suc, ℤ, ◌-ℤ◌, B
 use Rattle.std.proofs.Common.{ap, subst, ◌∙◌, ◌+◌, map, arith}
 use Rattle.std.proofs.lemmas.Int.{ints}
 use Rattle.hyd_num.specs.Rational.{Rational}
-use Rattle.hyd_num.specs.Roots.{IsFloor, IsCeiling}
+use Rattle.hyd_num.specs.QuotientsAndRoots.{IsFloor, IsCeiling}
 use Rattle.hyd_num.specs.PrintedDecimals.{head_quantity, pressure_quantity, flow_quantity}
 use Rattle.hyd_spec.specs.ProgramTypes.{Project, Tank, Link}
 use Rattle.hyd_spec_certificates.specs.Interval.{Interval}
-use Rattle.hyd_spec.specs.Quantity.{is_us}
+use Rattle.hyd_spec.specs.DemandsReservoirHeadsAndCurves.{is_us}
 use Rattle.hyd_spec.specs.Rules.{state_of_link}
-use Rattle.hyd_spec_certificates.specs.Grid.{Grid, GridLink, GridJunction}
-use Rattle.hyd_spec_certificates.specs.Boxes.{difference, out_box}
-use Rattle.hyd_spec_certificates.specs.Record.{Record, Standing}
+use Rattle.hyd_spec_certificates.specs.PeriodNetwork.{Grid, GridLink, GridJunction}
+use Rattle.hyd_spec_certificates.specs.FlowIntervals.{difference, out_box}
+use Rattle.hyd_spec_certificates.specs.RecordAndStanding.{Record, Standing}
 use Rattle.hyd_spec_certificates.specs.Decided.{heads_below, heads_above, links_at, End, EndsBy, ByRules, WithoutRules}
 use Rattle.hyd_spec_certificates.specs.Decided.{by_rules, rule_is_open, by_clock, event_is_open}
 use Rattle.hyd_spec.specs.declared.Change.{Change}

@@ -8,16 +8,16 @@ use Rattle.hyd_spec_certificates.specs.declared.Problem.{Problem}
 use Rattle.hyd_spec_certificates.specs.declared.Problem.TheVariants.{Main, Pinned}
 use Rattle.hyd_spec_certificates.specs.declared.Side.{Side}
 use Rattle.hyd_spec_certificates.specs.declared.Side.TheVariants.{Upper, Lower}
-use Rattle.hyd_spec.specs.Quantity.{demand_of, minimum_pressure, required_pressure}
+use Rattle.hyd_spec.specs.DemandsReservoirHeadsAndCurves.{demand_of, minimum_pressure, required_pressure}
 use Rattle.hyd_spec.specs.Outflow.{is_pressure_driven}
 use Rattle.hyd_spec_certificates.specs.EnclosingFunctions.{DemandLaw, Fixed, Driven}
-use Rattle.hyd_spec_certificates.specs.Grid.{Grid, GridJunction, IsDriven, IsDemandLaw, IsJunctionOf}
+use Rattle.hyd_spec_certificates.specs.PeriodNetwork.{Grid, GridJunction, IsDriven, IsDemandLaw, IsJunctionOf}
 use Rattle.hyd_spec_certificates.specs.Certificate.{IsTight}
-use Rattle.hyd_spec_certificates.specs.Record.{Record, Vectors, Standing, no_vectors, vector_of}
+use Rattle.hyd_spec_certificates.specs.RecordAndStanding.{Record, Vectors, Standing, no_vectors, vector_of}
 use Rattle.hyd_spec_certificates.specs.Valid.{IsProblem, IsGridAt, LeadsOn, IsValid}
 use Rattle.hyd_spec_reports.specs.ReportLine.{ReportLine}
 use Rattle.hyd_spec_reports.specs.Report.{IsReport}
-use Rattle.hyd_spec_reports.specs.Headline.{Found, IsFound, IsRunFrom, none, more, IsTightThroughout}
+use Rattle.hyd_spec_reports.specs.PromisesOfRunsAndChecks.{Found, IsFound, IsRunFrom, none, more, IsTightThroughout}
 use Rattle.hyd_theorems_on_definitions.proofs.OneLength.{one_length}
 use Rattle.hyd_theorems_on_definitions.proofs.OneStanding.{one_standing, one_vector}
 use Rattle.hyd_theorems_on_definitions.proofs.OneReport.{one_report}

@@ -15,15 +15,16 @@ use Rattle.hyd_spec.specs.Lists.{map_from}
 use Rattle.hyd_spec_certificates.specs.Interval.{Interval, shifted}
 use Rattle.hyd_spec.specs.Scale.{at_scale}
 use Rattle.hyd_spec.specs.NodeNumbers.{tank_node, junction_count, reservoir_count}
-use Rattle.hyd_spec.specs.Quantity.{reservoir_head}
+use Rattle.hyd_spec.specs.DemandsReservoirHeadsAndCurves.{reservoir_head}
 use Rattle.hyd_spec.specs.Tank.{tank_inflow}
 use Rattle.hyd_spec_certificates.specs.EnclosingFunctions.{low, high}
 use Rattle.hyd_spec.specs.Assignment.{Assignment, net_outflow, node_heads, tank_heads}
-use Rattle.hyd_spec_certificates.specs.Grid.{Grid, GridLink, tank_intervals, all_heads, fixed_heads, end_on, tank_side}
+use Rattle.hyd_spec_certificates.specs.PeriodNetwork.{Grid, GridLink, tank_intervals, all_heads, fixed_heads, end_on}
+use Rattle.hyd_spec_certificates.specs.PeriodNetwork.{tank_side}
 use Rattle.hyd_spec_certificates.specs.NetOutflow.{net, link_ends}
-use Rattle.hyd_spec_certificates.specs.Boxes.{inflow_box}
+use Rattle.hyd_spec_certificates.specs.FlowIntervals.{inflow_box}
 use Rattle.hyd_spec_certificates.specs.Certificate.{IsCertificate}
-use Rattle.hyd_theorems_on_definitions.specs.Laws.{IsSoundLaw, LevelsLie, LiesIn, IsCompared}
+use Rattle.hyd_theorems_on_definitions.specs.TermsOfTheorems.{IsSoundLaw, LevelsLie, LiesIn, IsCompared}
 use Rattle.hyd_theorems_on_definitions.proofs.Nodes.{excess, lack, excess_after, lack_after, head_front}
 use Rattle.hyd_theorems_on_definitions.proofs.Nodes.{reservoirs_below}
 use Rattle.hyd_theorems_on_definitions.proofs.Nodes.{reservoirs_above, IsGreatestBelow, greatest_below}

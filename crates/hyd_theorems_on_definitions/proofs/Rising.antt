@@ -11,7 +11,7 @@ use Rattle.hyd_spec_certificates.specs.EnclosingFunctions.{DemandLaw, Fixed, Dri
 use Rattle.hyd_spec_certificates.specs.EnclosingFunctions.{emitter_low}
 use Rattle.hyd_spec_certificates.specs.EnclosingFunctions.{emitter_high, quadratic_low, quadratic_high}
 use Rattle.hyd_lemmas.proofs.Enclosing.{denominator_above}
-use Rattle.hyd_theorems_on_definitions.specs.Laws.{AreRising, IsSoundDemand}
+use Rattle.hyd_theorems_on_definitions.specs.TermsOfTheorems.{AreRising, IsSoundDemand}
 use Rattle.hyd_lemmas.proofs.Integers.{floor_at_most_ceiling, min_left, min_rises, min_is}
 use Rattle.hyd_theorems_on_definitions.proofs.LinkLaws.{low-rises, high-rises, roots-ordered}
 use Rattle.hyd_theorems_on_definitions.proofs.EachLaw.{low_is, high_is}

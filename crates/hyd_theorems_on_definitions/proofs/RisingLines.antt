@@ -10,7 +10,7 @@ use Rattle.hyd_num.proofs.Integers.{times_plus, times_minus, times_rises, times_
 use Rattle.hyd_num.specs.Rational.{Rational, whole}
 use Rattle.hyd_net.specs.Curves.{Knot, on_line, between, value_from, value_at}
 use Rattle.hyd_lemmas.proofs.Integers.{exchanged}
-use Rattle.hyd_theorems_on_definitions.specs.Laws.{AreInOrder}
+use Rattle.hyd_theorems_on_definitions.specs.TermsOfTheorems.{AreInOrder}
 use Rattle.hyd_theorems_on_definitions.proofs.Leading.{Leads, UpTo, From, through, one_times, one-within}
 
 -- ---- one line

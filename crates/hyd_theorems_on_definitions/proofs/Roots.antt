@@ -5,7 +5,7 @@ use Rattle.std.specs.Prelude.{nat_le}
 use Rattle.std.proofs.Math.Nat.{mul-le-mul_right, le_of_mul-le-mul_right}
 use Rattle.std.proofs.lemmas.Bool.{cases_lt, cases_eq, cond_both, and_parts, leb-true, leb-false, eqb-true, eqb-false}
 use Rattle.std.proofs.lemmas.Nat.{mul-le}
-use Rattle.hyd_num.specs.Roots.{IsSquareRootDown, IsSquareRootUp}
+use Rattle.hyd_num.specs.QuotientsAndRoots.{IsSquareRootDown, IsSquareRootUp}
 use Rattle.hyd_spec_certificates.specs.EnclosingFunctions.{greatest_root, root_down, root_up}
 
 record IsGreatest (bound p q r : ℕ) : Type 0 where

@@ -3,13 +3,15 @@ use Rattle.std.proofs.Common.{◌≡◌, ℕ, Bool, List, [], ◌∷◌, ◌++�
 use Rattle.std.specs.Prelude.{Some}
 use Rattle.hyd_spec.specs.ProgramTypes.{Project}
 use Rattle.hyd_spec.specs.NodeNumbers.{junction_count, tank_count}
-use Rattle.hyd_spec_certificates.specs.Record.{Standing}
+use Rattle.hyd_spec_certificates.specs.RecordAndStanding.{Standing}
 use Rattle.hyd_spec_reports.specs.CertificateText.{IsCertificateText, version_of}
 use Rattle.hyd_spec_reports.specs.ReportLine.{report_text}
 use Rattle.hyd_spec_certificates.specs.Valid.{AreValidFrom, none as no_record, more as more_records}
-use Rattle.hyd_spec_reports.specs.Headline.{Found, IsRunFrom, none, more, rows_of, lines_of, Sharpness, Outcome}
-use Rattle.hyd_spec_reports.specs.Headline.{Finished, Stopped, is_finished, EndsSo, RunWrites, RunBreaksOff}
-use Rattle.hyd_spec_reports.specs.Headline.{CheckAccepts, accepted_line}
+use Rattle.hyd_spec_reports.specs.PromisesOfRunsAndChecks.{Found, IsRunFrom, none, more, rows_of, lines_of, Sharpness}
+use Rattle.hyd_spec_reports.specs.PromisesOfRunsAndChecks.{Outcome}
+use Rattle.hyd_spec_reports.specs.PromisesOfRunsAndChecks.{Finished, Stopped, is_finished, EndsSo, RunWrites}
+use Rattle.hyd_spec_reports.specs.PromisesOfRunsAndChecks.{RunBreaksOff}
+use Rattle.hyd_spec_reports.specs.PromisesOfRunsAndChecks.{CheckAccepts, accepted_line}
 
 pub valid_from : (network : Project) (start : Standing) (founds : List Found) (last : Standing)
     → IsRunFrom network start founds last

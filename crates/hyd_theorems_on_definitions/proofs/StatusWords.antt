@@ -14,7 +14,7 @@ use Rattle.hyd_spec.specs.ProgramTypes.{HeadPoint, Pattern, LinkKind, PipeLink, 
 use Rattle.hyd_spec.specs.ProgramTypes.{Fcv, Gpv}
 use Rattle.hyd_spec.specs.ProgramTypes.{LinkState, Open, Closed, Speed, Throttle, Limit, OpenValve}
 use Rattle.hyd_spec.specs.Scale.{at_scale}
-use Rattle.hyd_spec.specs.Quantity.{lift_of, points_of, pump_knots}
+use Rattle.hyd_spec.specs.DemandsReservoirHeadsAndCurves.{lift_of, points_of, pump_knots}
 use Rattle.hyd_spec.specs.LinkLaw.{valve_law}
 use Rattle.hyd_spec_certificates.specs.Interval.{Interval}
 use Rattle.hyd_spec_certificates.specs.EnclosingFunctions.{low, high}
@@ -23,7 +23,7 @@ use Rattle.hyd_spec_reports.specs.declared.StatusWord.TheVariants.{Active as Wor
 use Rattle.hyd_spec_reports.specs.Report.{by_drive, by_knots, by_setting, status_of}
 use Rattle.hyd_spec_reports.specs.Claims.{DriveIs, drive_of, SettingIs, StatusHolds}
 use Rattle.hyd_lemmas.proofs.Integers.{exchanged, floor_low, ceiling_high}
-use Rattle.hyd_theorems_on_definitions.specs.Laws.{LiesIn, AreInOrder}
+use Rattle.hyd_theorems_on_definitions.specs.TermsOfTheorems.{LiesIn, AreInOrder}
 use Rattle.hyd_theorems_on_definitions.proofs.EachLaw.{IsLaw-each}
 use Rattle.hyd_theorems_on_definitions.proofs.Grids.{valve-sound, bend-sound, lift-above}
 use Rattle.hyd_theorems_on_definitions.proofs.CurveKnots.{pump_knots-in_order}

@@ -11,9 +11,9 @@ use Rattle.hyd_spec.specs.Law.{Law, Follows}
 use Rattle.hyd_spec.specs.LinkLaw.{law_of}
 use Rattle.hyd_spec_certificates.specs.EnclosingFunctions.{low, high}
 use Rattle.hyd_spec.specs.Assignment.{head_at, where_so, net_outflow, LinksFollow, more}
-use Rattle.hyd_spec_certificates.specs.Grid.{GridLink, grid_links}
+use Rattle.hyd_spec_certificates.specs.PeriodNetwork.{GridLink, grid_links}
 use Rattle.hyd_spec_certificates.specs.NetOutflow.{net, one_if, link_ends}
-use Rattle.hyd_theorems_on_definitions.specs.Laws.{IsSoundLaw}
+use Rattle.hyd_theorems_on_definitions.specs.TermsOfTheorems.{IsSoundLaw}
 use Rattle.hyd_theorems_on_definitions.proofs.EachLaw.{IsLaw-each}
 use Rattle.hyd_theorems_on_definitions.proofs.Nodes.{excess, lack}
 

@@ -11,7 +11,7 @@ use Rattle.hyd_net.specs.Curves.{value_at, volume_knots, volume_at, AreRising, I
 use Rattle.hyd_spec.specs.ProgramTypes.{Tank, VolumePoint}
 use Rattle.hyd_spec.specs.Tank.{Curve, Stock, level_bounds, content_bounds, level_knots, level_on_curve}
 use Rattle.hyd_spec.specs.Tank.{level_at_volume, carried_level, exact_content, reaches, is_bound, has_reached}
-use Rattle.hyd_theorems_on_definitions.specs.Laws.{in_parts}
+use Rattle.hyd_theorems_on_definitions.specs.TermsOfTheorems.{in_parts}
 use Rattle.hyd_lemmas.proofs.Integers.{exchanged, floor_low}
 use Rattle.hyd_theorems_on_definitions.proofs.RisingLines.{some-den}
 use Rattle.hyd_theorems_on_definitions.proofs.CurveLevels.{AreAlike, same, above, below, AreRisingPoints, at-level}

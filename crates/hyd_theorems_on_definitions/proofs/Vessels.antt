@@ -15,7 +15,7 @@ use Rattle.hyd_net.specs.Sound.{Sound}
 use Rattle.hyd_spec.specs.ProgramTypes.{Project, Tank, VolumePoint}
 use Rattle.hyd_spec.specs.Lists.{Each}
 use Rattle.hyd_spec.specs.Tank.{Cylinder, Curve, shape_points, walls_of}
-use Rattle.hyd_theorems_on_definitions.specs.Laws.{IsVessel}
+use Rattle.hyd_theorems_on_definitions.specs.TermsOfTheorems.{IsVessel}
 use Rattle.hyd_theorems_on_definitions.proofs.OneStanding.{there}
 use Rattle.hyd_theorems_on_definitions.proofs.Leading.{one_times}
 

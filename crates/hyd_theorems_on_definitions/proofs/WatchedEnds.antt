@@ -5,10 +5,10 @@ use Rattle.hyd_spec.specs.Tank.{Walls, walls_of}
 use Rattle.hyd_spec.specs.PeriodLength.{IsLeast}
 use Rattle.hyd_spec_certificates.specs.Interval.{Interval}
 use Rattle.hyd_spec_certificates.specs.Stocks.{Stocks}
-use Rattle.hyd_spec_certificates.specs.Grid.{Grid}
-use Rattle.hyd_spec_certificates.specs.Record.{Record, Standing}
+use Rattle.hyd_spec_certificates.specs.PeriodNetwork.{Grid}
+use Rattle.hyd_spec_certificates.specs.RecordAndStanding.{Record, Standing}
 use Rattle.hyd_spec_certificates.specs.Decided.{SomeReaches, IsClockLength, stocks_of_tank, inflow_of_tank}
-use Rattle.hyd_theorems_on_definitions.specs.Laws.{SomeReachesFirst, NoneReachesBefore}
+use Rattle.hyd_theorems_on_definitions.specs.TermsOfTheorems.{SomeReachesFirst, NoneReachesBefore}
 
 module _ (test : Walls → Tank → Stocks → Interval → ℤ → Bool → ℕ → Bool) (network : Project) (grid : Grid)
     (standing : Standing) (row : Record) (cap : ℕ) (clock : IsClockLength network standing.time cap) where

@@ -1,3 +1,3 @@
-pub mod Laws
+pub mod TermsOfTheorems
 pub mod Sides
 pub mod PressureDrivenDemand

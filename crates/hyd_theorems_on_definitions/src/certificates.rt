@@ -10,16 +10,16 @@ ghost use Rattle.hyd_spec.specs.Lists.{Each};
 ghost use Rattle.hyd_spec_certificates.specs.Interval.{Interval};
 ghost use Rattle.hyd_spec.specs.Scale.{at_scale};
 ghost use Rattle.hyd_spec.specs.Assignment.{Assignment, head_at, flow_at, node_heads};
-ghost use Rattle.hyd_spec_certificates.specs.Grid.{Grid, GridLink, GridJunction, IsGrid, all_heads};
+ghost use Rattle.hyd_spec_certificates.specs.PeriodNetwork.{Grid, GridLink, GridJunction, IsGrid, all_heads};
 ghost use Rattle.hyd_spec.specs.NodeNumbers.{tank_node};
 ghost use Rattle.hyd_spec.specs.Tank.{tank_inflow};
-ghost use Rattle.hyd_spec_certificates.specs.Boxes.{flow_box, out_box, inflow_box};
+ghost use Rattle.hyd_spec_certificates.specs.FlowIntervals.{flow_box, out_box, inflow_box};
 ghost use Rattle.hyd_spec_certificates.specs.declared.HeldJunction.{HeldJunction};
 ghost use Rattle.hyd_spec_certificates.specs.Certificate.{IsCertificate, IsCertificateHolding};
 ghost use Rattle.hyd_spec_certificates.specs.BoxesWithHeldJunction.{held_in, held_flow_box, passing_draw};
-ghost use Rattle.hyd_theorems_on_definitions.specs.Laws.{IsCompared, IsComparedDrawing, LiesIn, LieBetween};
-ghost use Rattle.hyd_theorems_on_definitions.specs.Laws.{IsSoundGrid};
-ghost use Rattle.hyd_theorems_on_definitions.specs.Laws.{AreCapacitiesMade};
+ghost use Rattle.hyd_theorems_on_definitions.specs.TermsOfTheorems.{IsCompared, IsComparedDrawing, LiesIn, LieBetween};
+ghost use Rattle.hyd_theorems_on_definitions.specs.TermsOfTheorems.{IsSoundGrid};
+ghost use Rattle.hyd_theorems_on_definitions.specs.TermsOfTheorems.{AreCapacitiesMade};
 
 /// At every scale a certificate with all tanks alike lies strictly on its side of the heads of
 /// each assignment whose tank levels lie in the intervals (supersolutions and subsolutions of

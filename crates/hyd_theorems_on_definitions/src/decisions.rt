@@ -8,16 +8,16 @@ ghost use Rattle.hyd_spec.specs.ProgramTypes.{Project, Tank, Clause, Relation};
 ghost use Rattle.hyd_spec_certificates.specs.Interval.{Interval};
 ghost use Rattle.hyd_spec.specs.Tank.{Walls, Stock, reaches, has_reached};
 ghost use Rattle.hyd_spec.specs.PeriodLength.{IsLeast};
-ghost use Rattle.hyd_spec_certificates.specs.Grid.{Grid};
-ghost use Rattle.hyd_spec_certificates.specs.Record.{Record, Standing};
+ghost use Rattle.hyd_spec_certificates.specs.PeriodNetwork.{Grid};
+ghost use Rattle.hyd_spec_certificates.specs.RecordAndStanding.{Record, Standing};
 ghost use Rattle.hyd_spec.specs.Rules.{compares};
 ghost use Rattle.hyd_spec_certificates.specs.Stocks.{Stocks, may_reach, must_reach};
-ghost use Rattle.hyd_spec_certificates.specs.Verdict.{Verdict, at_both_ends, some_holds, all_hold};
+ghost use Rattle.hyd_spec_certificates.specs.ThreeValuedLogic.{Verdict, at_both_ends, some_holds, all_hold};
 ghost use Rattle.hyd_spec_certificates.specs.Decided.{control_truth, SomeReaches, IsClockLength};
-ghost use Rattle.hyd_theorems_on_definitions.specs.Laws.{LiesIn, StockLies, IsVessel, SomeReachesFirst};
-ghost use Rattle.hyd_theorems_on_definitions.specs.Laws.{NoneReachesBefore};
-ghost use Rattle.hyd_theorems_on_definitions.specs.Laws.{IsAtMost};
-ghost use Rattle.hyd_theorems_on_definitions.specs.Laws.{IsOneWay, Tells};
+ghost use Rattle.hyd_theorems_on_definitions.specs.TermsOfTheorems.{LiesIn, StockLies, IsVessel, SomeReachesFirst};
+ghost use Rattle.hyd_theorems_on_definitions.specs.TermsOfTheorems.{NoneReachesBefore};
+ghost use Rattle.hyd_theorems_on_definitions.specs.TermsOfTheorems.{IsAtMost};
+ghost use Rattle.hyd_theorems_on_definitions.specs.TermsOfTheorems.{IsOneWay, Tells};
 
 /// A comparison or a level control that both ends of an interval decide is decided so at each
 /// point between them.

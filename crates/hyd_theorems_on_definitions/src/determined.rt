@@ -9,16 +9,16 @@ ghost use Rattle.hyd_num.specs.CapacityPairs.{IsMade};
 ghost use Rattle.hyd_spec.specs.ProgramTypes.{Project, Capacity};
 ghost use Rattle.hyd_spec_certificates.specs.declared.Problem.{Problem};
 ghost use Rattle.hyd_spec_certificates.specs.declared.Side.{Side};
-ghost use Rattle.hyd_spec_certificates.specs.Grid.{Grid};
+ghost use Rattle.hyd_spec_certificates.specs.PeriodNetwork.{Grid};
 ghost use Rattle.hyd_spec_certificates.specs.Certificate.{IsTight};
-ghost use Rattle.hyd_spec_certificates.specs.Record.{Record, Standing};
+ghost use Rattle.hyd_spec_certificates.specs.RecordAndStanding.{Record, Standing};
 ghost use Rattle.hyd_spec_certificates.specs.Decided.{End, EndsBy};
 ghost use Rattle.hyd_spec_certificates.specs.Valid.{LeadsOn, IsGridAt, IsValid};
 ghost use Rattle.hyd_spec_reports.specs.declared.CertRefused.{CertRefused};
-ghost use Rattle.hyd_spec_reports.specs.Refusals.{IsRefused};
+ghost use Rattle.hyd_spec_reports.specs.RefusedRecords.{IsRefused};
 ghost use Rattle.hyd_spec_reports.specs.ReportLine.{ReportLine};
 ghost use Rattle.hyd_spec_reports.specs.Report.{IsReport};
-ghost use Rattle.hyd_spec_reports.specs.Headline.{Found, IsRun, IsTightThroughout};
+ghost use Rattle.hyd_spec_reports.specs.PromisesOfRunsAndChecks.{Found, IsRun, IsTightThroughout};
 
 /// A period ends in one way.
 pub fn ends()

@@ -5,12 +5,13 @@ ghost use Rattle.std.specs.Prelude.{◌≡◌, ◌≢◌, ℕ, ◌<◌, ◌≤�
 ghost use Rattle.hyd_spec.specs.ProgramTypes.{Project};
 ghost use Rattle.hyd_spec.specs.PeriodLength.{Period, EndsByClock, HasItsLength};
 ghost use Rattle.hyd_spec.specs.History.{IsPeriod, ComesAfter, IsHistory};
-ghost use Rattle.hyd_spec_certificates.specs.Grid.{Grid};
-ghost use Rattle.hyd_spec_certificates.specs.Record.{Record, Standing};
+ghost use Rattle.hyd_spec_certificates.specs.PeriodNetwork.{Grid};
+ghost use Rattle.hyd_spec_certificates.specs.RecordAndStanding.{Record, Standing};
 ghost use Rattle.hyd_spec_certificates.specs.Valid.{IsValid, AreValid};
 ghost use Rattle.hyd_spec_reports.specs.ReportLine.{report_text};
-ghost use Rattle.hyd_spec_reports.specs.Headline.{Found, IsFound, IsRun, rows_of, lines_of, Sharpness, Outcome};
-ghost use Rattle.hyd_spec_reports.specs.Headline.{RunWrites, RunBreaksOff, CheckAccepts, accepted_line};
+ghost use Rattle.hyd_spec_reports.specs.PromisesOfRunsAndChecks.{Found, IsFound, IsRun, rows_of, lines_of, Sharpness};
+ghost use Rattle.hyd_spec_reports.specs.PromisesOfRunsAndChecks.{Outcome};
+ghost use Rattle.hyd_spec_reports.specs.PromisesOfRunsAndChecks.{RunWrites, RunBreaksOff, CheckAccepts, accepted_line};
 
 /// The records of a run are valid one after another, from its start to the standing that it leaves.
 pub fn records()

@@ -2,7 +2,7 @@
 #![tactic(auto)]
 
 ghost use Rattle.std.specs.Prelude.{◌≡◌, ℕ, Bool, List};
-ghost use Rattle.hyd_spec_certificates.specs.Record.{Record};
+ghost use Rattle.hyd_spec_certificates.specs.RecordAndStanding.{Record};
 ghost use Rattle.hyd_spec_reports.specs.CertificateText.{IsCertificateText};
 
 /// A text is a certificate text of one version, one pair of counts and one list of records at most,

@@ -11,14 +11,14 @@ use Rattle.hyd_spec.specs.Lists.{map_from}
 use Rattle.hyd_spec.specs.Scale.{at_scale}
 use Rattle.hyd_spec_certificates.specs.Interval.{Interval, exactly}
 use Rattle.hyd_spec.specs.Tank.{walls_of, kept_volume, tank_state, reaches}
-use Rattle.hyd_spec.specs.PeriodStart.{started, patterned, control_acts, acts_at}
+use Rattle.hyd_spec.specs.PumpPatternsAndSimpleControls.{started, patterned, control_acts, acts_at}
 use Rattle.hyd_spec.specs.History.{tank_states, initial_levels, initial_volumes, initial_links}
 use Rattle.hyd_spec_certificates.specs.Stocks.{state_of, shared_state}
-use Rattle.hyd_spec_certificates.specs.Verdict.{at_both_ends, is_unknown}
-use Rattle.hyd_spec_certificates.specs.Record.{Standing, initial_standing}
+use Rattle.hyd_spec_certificates.specs.ThreeValuedLogic.{at_both_ends, is_unknown}
+use Rattle.hyd_spec_certificates.specs.RecordAndStanding.{Standing, initial_standing}
 use Rattle.hyd_spec_certificates.specs.Decided.{acts_on, control_truth, links_at, nowhere}
 use Rattle.hyd_spec_certificates.specs.Valid.{ControlsAreDecided}
-use Rattle.hyd_theorems_on_definitions.specs.Laws.{LiesIn, LevelsLie}
+use Rattle.hyd_theorems_on_definitions.specs.TermsOfTheorems.{LiesIn, LevelsLie}
 use Rattle.hyd_theorems_on_definitions.proofs.Deciding.{control_tells}
 use Rattle.hyd_theorems_on_definitions.proofs.Levelling.{state_holds}
 use Rattle.hyd_theorems_on_histories.specs.Agreement.{AgreesWith}

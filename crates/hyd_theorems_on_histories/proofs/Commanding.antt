@@ -19,9 +19,10 @@ use Rattle.hyd_spec.specs.ProgramTypes.{LinkState, Closed, Speed, Control, Rule,
 use Rattle.hyd_spec.specs.declared.Change.{Change}
 use Rattle.hyd_spec.specs.declared.Source.TheVariants.{Rule as ByRule}
 use Rattle.hyd_spec.specs.Lists.{map_from}
-use Rattle.hyd_spec.specs.Quantity.{multipliers_of, multiplier_at}
-use Rattle.hyd_spec.specs.PeriodStart.{speed_state, is_pattern_boundary, patterned_state, after_patterns, patterned}
-use Rattle.hyd_spec.specs.PeriodStart.{control_acts, started}
+use Rattle.hyd_spec.specs.DemandsReservoirHeadsAndCurves.{multipliers_of, multiplier_at}
+use Rattle.hyd_spec.specs.PumpPatternsAndSimpleControls.{speed_state, is_pattern_boundary, patterned_state}
+use Rattle.hyd_spec.specs.PumpPatternsAndSimpleControls.{after_patterns, patterned}
+use Rattle.hyd_spec.specs.PumpPatternsAndSimpleControls.{control_acts, started}
 use Rattle.hyd_spec.specs.Rules.{Offer, offer_of, offers_of, offers_from, is_above, higher, best_offer, change_by}
 use Rattle.hyd_spec.specs.Rules.{change_of, acted, is_same_state}
 use Rattle.hyd_spec.specs.History.{initial_links}

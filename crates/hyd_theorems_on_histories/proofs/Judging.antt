@@ -9,11 +9,12 @@ use Rattle.hyd_spec.specs.ProgramTypes.{Project, Rule, RuleClause, Joined, And, 
 use Rattle.hyd_spec.specs.Rules.{Readings, Parts, put_before, parts_of, groups_in, groups_of, clause_holds, rule_holds}
 use Rattle.hyd_spec.specs.Rules.{rule_values, rule_changes}
 use Rattle.hyd_spec.specs.PeriodLength.{Period, readings_after, values_at}
-use Rattle.hyd_spec_certificates.specs.Verdict.{Verdict, Yes, No, Unknown, is_yes, is_unknown, some_holds, all_hold}
-use Rattle.hyd_spec_certificates.specs.Grid.{Grid}
-use Rattle.hyd_spec_certificates.specs.Record.{Record, Standing}
+use Rattle.hyd_spec_certificates.specs.ThreeValuedLogic.{Verdict, Yes, No, Unknown, is_yes, is_unknown, some_holds}
+use Rattle.hyd_spec_certificates.specs.ThreeValuedLogic.{all_hold}
+use Rattle.hyd_spec_certificates.specs.PeriodNetwork.{Grid}
+use Rattle.hyd_spec_certificates.specs.RecordAndStanding.{Record, Standing}
 use Rattle.hyd_spec_certificates.specs.Decided.{clause_truth, rule_truths, decided_changes}
-use Rattle.hyd_theorems_on_definitions.specs.Laws.{Tells, TellEach}
+use Rattle.hyd_theorems_on_definitions.specs.TermsOfTheorems.{Tells, TellEach}
 use Rattle.hyd_theorems_on_definitions.proofs.Deciding.{rule_tells}
 use Rattle.hyd_theorems_on_histories.specs.Agreement.{AreBetween, IsUnder}
 use Rattle.hyd_theorems_on_histories.proofs.Clauses.{clause_tells}

@@ -14,9 +14,9 @@ use Rattle.hyd_spec.specs.PeriodLength.{Period, IsLeast, EndsByClock, step, dura
 use Rattle.hyd_spec.specs.PeriodLength.{control_clock, EndsByRules, MayEnd, by_clock, by_level, by_rules, HasItsLength}
 use Rattle.hyd_spec.specs.PeriodLength.{at_end, before_end, values_at}
 use Rattle.hyd_spec.specs.History.{commanded_after}
-use Rattle.hyd_spec_certificates.specs.Verdict.{is_yes, is_unknown}
-use Rattle.hyd_spec_certificates.specs.Grid.{Grid}
-use Rattle.hyd_spec_certificates.specs.Record.{Record, Standing}
+use Rattle.hyd_spec_certificates.specs.ThreeValuedLogic.{is_yes, is_unknown}
+use Rattle.hyd_spec_certificates.specs.PeriodNetwork.{Grid}
+use Rattle.hyd_spec_certificates.specs.RecordAndStanding.{Record, Standing}
 use Rattle.hyd_spec_certificates.specs.Decided.{links_at, SomeMayReach, SomeMustReach, IsClockLength, IsEarliestEnd}
 use Rattle.hyd_spec_certificates.specs.Decided.{IsLatestEnd, IsTried, RulesMatter, rule_truths, decided_changes, EndsBy}
 use Rattle.hyd_spec_certificates.specs.Decided.{ByRules, WithoutRules, by_rules as decided_by_rules}

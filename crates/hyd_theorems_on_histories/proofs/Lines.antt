@@ -21,11 +21,11 @@ use Rattle.hyd_spec_certificates.specs.declared.Side.TheVariants.{Upper, Lower}
 use Rattle.hyd_spec.specs.Lists.{map_from, present}
 use Rattle.hyd_spec.specs.Scale.{at_scale}
 use Rattle.hyd_spec_certificates.specs.Interval.{Interval, shifted}
-use Rattle.hyd_spec.specs.Quantity.{is_us}
+use Rattle.hyd_spec.specs.DemandsReservoirHeadsAndCurves.{is_us}
 use Rattle.hyd_spec.specs.LinkLaw.{law_of, is_full, is_empty}
 use Rattle.hyd_spec.specs.Assignment.{head_at, node_heads}
 use Rattle.hyd_spec.specs.Tank.{walls_of, reaches, tank_inflow}
-use Rattle.hyd_spec.specs.PeriodStart.{acts_at, control_acts, patterned}
+use Rattle.hyd_spec.specs.PumpPatternsAndSimpleControls.{acts_at, control_acts, patterned}
 use Rattle.std.specs.Option.{option_and_then}
 use Rattle.hyd_spec.specs.declared.Change.{Change}
 use Rattle.hyd_spec.specs.declared.Source.{Source}
@@ -37,10 +37,10 @@ use Rattle.hyd_spec.specs.Rules.{Offer, is_same_state, state_of_link, best_offer
 use Rattle.hyd_spec.specs.Rules.{rule_changes}
 use Rattle.hyd_spec.specs.PeriodLength.{Period, level_at_start, stock_at_start, watched_after, values_at}
 use Rattle.hyd_spec_certificates.specs.Stocks.{carried_levels}
-use Rattle.hyd_spec_certificates.specs.Verdict.{at_both_ends, is_yes}
-use Rattle.hyd_spec_certificates.specs.Grid.{Grid, GridLink, grid_links}
-use Rattle.hyd_spec_certificates.specs.Boxes.{difference}
-use Rattle.hyd_spec_certificates.specs.Record.{Record, Standing}
+use Rattle.hyd_spec_certificates.specs.ThreeValuedLogic.{at_both_ends, is_yes}
+use Rattle.hyd_spec_certificates.specs.PeriodNetwork.{Grid, GridLink, grid_links}
+use Rattle.hyd_spec_certificates.specs.FlowIntervals.{difference}
+use Rattle.hyd_spec_certificates.specs.RecordAndStanding.{Record, Standing}
 use Rattle.hyd_spec_certificates.specs.Decided.{links_at, acts_on, control_truth, nowhere, level_of_tank}
 use Rattle.hyd_spec_certificates.specs.Decided.{stocks_of_tank, inflow_of_tank, carried_at, heads_below, heads_above}
 use Rattle.hyd_spec_certificates.specs.Decided.{decided_changes, rule_truths, EndsBy, ByRules}
@@ -51,7 +51,7 @@ use Rattle.hyd_spec_reports.specs.Report.{change_line, control_lines, tank_event
 use Rattle.hyd_spec_reports.specs.Report.{event_line, status_of, EndBrings, at_end as brings_last}
 use Rattle.hyd_spec_reports.specs.Report.{by_rules as brings_by_rules, by_clock as brings_by_clock, AreEndLines}
 use Rattle.hyd_spec_reports.specs.Claims.{LineHolds, ReachesControl, ReachesAtEnd, StatusHolds, difference_along}
-use Rattle.hyd_theorems_on_definitions.specs.Laws.{LiesIn}
+use Rattle.hyd_theorems_on_definitions.specs.TermsOfTheorems.{LiesIn}
 use Rattle.hyd_theorems_on_definitions.proofs.Boxed.{heads_between}
 use Rattle.hyd_theorems_on_definitions.proofs.Deciding.{control_tells}
 use Rattle.hyd_theorems_on_definitions.proofs.Placing.{le-from}

@@ -19,13 +19,13 @@ use Rattle.hyd_spec.specs.Assignment.{flow_at, LinksFollow, more}
 use Rattle.hyd_spec.specs.Tank.{walls_of, tank_inflow, carried_level}
 use Rattle.hyd_spec_certificates.specs.Stocks.{carried_levels}
 use Rattle.hyd_spec.specs.PeriodLength.{Period, level_at_start, stock_at_start, readings_after}
-use Rattle.hyd_spec_certificates.specs.Grid.{Grid, GridLink, grid_links}
-use Rattle.hyd_spec_certificates.specs.Boxes.{flow_box, inflow_box}
-use Rattle.hyd_spec_certificates.specs.Record.{Record, Standing, Vectors, no_vectors}
+use Rattle.hyd_spec_certificates.specs.PeriodNetwork.{Grid, GridLink, grid_links}
+use Rattle.hyd_spec_certificates.specs.FlowIntervals.{flow_box, inflow_box}
+use Rattle.hyd_spec_certificates.specs.RecordAndStanding.{Record, Standing, Vectors, no_vectors}
 use Rattle.hyd_spec_certificates.specs.Decided.{level_of_tank, stocks_of_tank, inflow_of_tank, nowhere, least_magnitude}
 use Rattle.hyd_spec_certificates.specs.Decided.{greatest_magnitude, readings_below, readings_above, heads_below}
 use Rattle.hyd_spec_certificates.specs.Decided.{heads_above}
-use Rattle.hyd_theorems_on_definitions.specs.Laws.{LiesIn, LiesAround, StockLies}
+use Rattle.hyd_theorems_on_definitions.specs.TermsOfTheorems.{LiesIn, LiesAround, StockLies}
 use Rattle.hyd_lemmas.proofs.Integers.{max_left, max_right}
 use Rattle.hyd_theorems_on_definitions.proofs.Outflows.{le-yes}
 use Rattle.hyd_theorems_on_definitions.proofs.Leading.{one_times}

@@ -10,7 +10,7 @@ use Rattle.hyd_num.specs.declared.flow_units.FlowUnit.{FlowUnit}
 use Rattle.hyd_spec_certificates.specs.Interval.{Interval}
 use Rattle.hyd_spec_reports.specs.Report.{Prints}
 use Rattle.hyd_spec_reports.specs.Claims.{LiesBetween, at_part}
-use Rattle.hyd_theorems_on_definitions.specs.Laws.{LiesIn}
+use Rattle.hyd_theorems_on_definitions.specs.TermsOfTheorems.{LiesIn}
 use Rattle.hyd_theorems_on_definitions.proofs.Leading.{one_times}
 use Rattle.hyd_theorems_on_definitions.proofs.Placing.{le-from}
 

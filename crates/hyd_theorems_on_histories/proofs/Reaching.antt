@@ -12,7 +12,7 @@ use Rattle.hyd_spec.specs.Tank.{Walls, Cylinder, Curve, Stock, level_bounds, con
 use Rattle.hyd_spec.specs.Tank.{is_at_maximum, is_at_minimum, reaches, watched_level, carried_level, has_reached}
 use Rattle.hyd_spec_certificates.specs.Interval.{Interval}
 use Rattle.hyd_spec_certificates.specs.Stocks.{Stocks, least_stock, greatest_stock, carried_levels, must_reach}
-use Rattle.hyd_theorems_on_definitions.specs.Laws.{LiesIn, StockLies, IsVessel}
+use Rattle.hyd_theorems_on_definitions.specs.TermsOfTheorems.{LiesIn, StockLies, IsVessel}
 use Rattle.hyd_lemmas.proofs.Integers.{floor_low, ceiling_high, max_is, min_is}
 use Rattle.hyd_theorems_on_definitions.proofs.Placing.{le-from, above-from, below-from, lower-is, upper-is}
 use Rattle.hyd_theorems_on_definitions.proofs.Leading.{one_times}

@@ -6,18 +6,19 @@ use Rattle.hyd_net.specs.Sound.{Sound}
 use Rattle.hyd_spec.specs.ProgramTypes.{Project, LinkState}
 use Rattle.hyd_spec_certificates.specs.declared.Problem.TheVariants.{Main}
 use Rattle.hyd_spec_certificates.specs.declared.Side.TheVariants.{Upper, Lower}
-use Rattle.hyd_spec.specs.PeriodStart.{acts_at, patterned}
+use Rattle.hyd_spec.specs.PumpPatternsAndSimpleControls.{acts_at, patterned}
 use Rattle.hyd_spec.specs.PeriodLength.{Period, HasItsLength, at_end, before_end}
 use Rattle.hyd_spec.specs.History.{Begins, IsPeriod, GoesOn, IsHistory, initial_levels, initial_volumes, initial_links}
 use Rattle.hyd_spec.specs.History.{commanded_after}
-use Rattle.hyd_spec_certificates.specs.Record.{Standing, initial_standing}
+use Rattle.hyd_spec_certificates.specs.RecordAndStanding.{Standing, initial_standing}
 use Rattle.hyd_spec_certificates.specs.Decided.{acts_on}
 use Rattle.hyd_spec_certificates.specs.Valid.{LeadsOn, continues, finishes}
 use Rattle.hyd_spec_reports.specs.ReportLine.{ReportLine}
 use Rattle.hyd_spec_reports.specs.Report.{IsReport, AreStateLines, is_report_time, start_changes}
 use Rattle.hyd_spec_reports.specs.Claims.{LineHolds}
-use Rattle.hyd_spec_reports.specs.Headline.{Found, IsFound, IsRunFrom, none, more, IsRun, Agrees, AllAgree}
-use Rattle.hyd_spec_reports.specs.Headline.{EveryHistoryAgrees}
+use Rattle.hyd_spec_reports.specs.PromisesOfRunsAndChecks.{Found, IsFound, IsRunFrom, none, more, IsRun, Agrees}
+use Rattle.hyd_spec_reports.specs.PromisesOfRunsAndChecks.{AllAgree}
+use Rattle.hyd_spec_reports.specs.PromisesOfRunsAndChecks.{EveryHistoryAgrees}
 use Rattle.hyd_theorems_on_definitions.proofs.Comparison.{below_main, above_main}
 use Rattle.hyd_theorems_on_histories.specs.Agreement.{IsUnder, AgreesWith, IsKept}
 use Rattle.hyd_theorems_on_histories.proofs.Beginning.{same_acts, agrees_at_start}

@@ -12,13 +12,13 @@ use Rattle.hyd_spec_certificates.specs.Interval.{Interval, exactly}
 use Rattle.hyd_spec.specs.Tank.{Stock, walls_of, level_bounds, tank_inflow, IsNextStock}
 use Rattle.hyd_spec.specs.PeriodLength.{Period, stock_at_start}
 use Rattle.hyd_spec.specs.History.{Begins, IsPeriod, AreNextStocks, commanded_after}
-use Rattle.hyd_spec_certificates.specs.Grid.{Grid, IsGrid}
-use Rattle.hyd_spec_certificates.specs.Verdict.{is_yes}
-use Rattle.hyd_spec_certificates.specs.Record.{Record, Standing, initial_standing}
+use Rattle.hyd_spec_certificates.specs.PeriodNetwork.{Grid, IsGrid}
+use Rattle.hyd_spec_certificates.specs.ThreeValuedLogic.{is_yes}
+use Rattle.hyd_spec_certificates.specs.RecordAndStanding.{Record, Standing, initial_standing}
 use Rattle.hyd_spec_certificates.specs.Decided.{links_at, acts_on, level_of_tank, stocks_of_tank, inflow_of_tank}
 use Rattle.hyd_spec_certificates.specs.Decided.{nowhere, rule_truths}
 use Rattle.hyd_spec_certificates.specs.Valid.{IsValid, Continues, LeavesLinks, by_rules, by_clock, stocks_next}
-use Rattle.hyd_theorems_on_definitions.specs.Laws.{LiesIn, LevelsLie, StockLies, IsWithin, IsSoundGrid}
+use Rattle.hyd_theorems_on_definitions.specs.TermsOfTheorems.{LiesIn, LevelsLie, StockLies, IsWithin, IsSoundGrid}
 use Rattle.hyd_theorems_on_definitions.proofs.Grids.{IsSoundGrid-made}
 use Rattle.hyd_theorems_on_definitions.proofs.Levelling.{next_lies, next_within}
 use Rattle.hyd_theorems_on_histories.specs.Agreement.{IsUnder, VolumesLie, AgreesWith, IsOwnState, IsKept}

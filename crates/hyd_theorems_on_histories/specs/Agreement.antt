@@ -14,11 +14,11 @@ use Rattle.hyd_spec.specs.Rules.{Readings, level_of}
 use Rattle.hyd_spec.specs.PeriodLength.{Period}
 use Rattle.hyd_spec.specs.History.{tank_states}
 use Rattle.hyd_spec_certificates.specs.Interval.{Interval}
-use Rattle.hyd_spec_certificates.specs.Grid.{Grid}
-use Rattle.hyd_spec_certificates.specs.Record.{Record, Standing}
+use Rattle.hyd_spec_certificates.specs.PeriodNetwork.{Grid}
+use Rattle.hyd_spec_certificates.specs.RecordAndStanding.{Record, Standing}
 use Rattle.hyd_spec_certificates.specs.Decided.{links_at, level_of_tank}
 use Rattle.hyd_spec_certificates.specs.Valid.{AreCertificates, ControlsAreDecided}
-use Rattle.hyd_theorems_on_definitions.specs.Laws.{LiesIn, LevelsLie, IsCompared, IsVessel, IsWithin}
+use Rattle.hyd_theorems_on_definitions.specs.TermsOfTheorems.{LiesIn, LevelsLie, IsCompared, IsVessel, IsWithin}
 
 -- ---- what rules look at
 

@@ -5,7 +5,7 @@ use Rattle.std.specs.Prelude.{slice_get, not, All, codes, if◌then◌else◌}
 use Rattle.std.proofs.lemmas.Bool.{cases_Bool, and_parts, and_from, not-true}
 use Rattle.std.proofs.lemmas.List.{length-map}
 use Rattle.hyd_spec_lines.specs.Lines.{Row}
-use Rattle.hyd_spec_lines.specs.Bytes.{is_keyword}
+use Rattle.hyd_spec_lines.specs.WordsOfLines.{is_keyword}
 use Rattle.hyd_spec_lines.specs.declared.section.Section.TheVariants.{Pipes, Pumps, Tanks, Controls as ControlsSection}
 use Rattle.hyd_net.specs.NumberRanges.{IsHead}
 use Rattle.hyd_net.specs.States.{CanHave, CanBeSet}

@@ -8,8 +8,8 @@ use Rattle.std.proofs.lemmas.Int.{ints}
 use Rattle.std.proofs.Math.IntN.{*ℤ_comm}
 use Rattle.hyd_num.proofs.Integers.{times_reflects}
 use Rattle.hyd_num.specs.Numeral.{is_numeral, magnitude_of, nano_of}
-use Rattle.hyd_num.specs.Roots.{IsFloor, IsCeiling}
-use Rattle.hyd_spec_lines.specs.Bytes.{words_in, is_keyword}
+use Rattle.hyd_num.specs.QuotientsAndRoots.{IsFloor, IsCeiling}
+use Rattle.hyd_spec_lines.specs.WordsOfLines.{words_in, is_keyword}
 use Rattle.hyd_spec_lines.specs.Headings.{read_section, is_passed_over, heading_kind}
 use Rattle.hyd_spec_lines.specs.Lines.{Row, items_of, rows_in, fault_in, kind_of}
 use Rattle.hyd_spec_lines.specs.declared.section.Section.TheVariants.{Junctions, Reservoirs, Tanks, Pumps, Valves}
@@ -22,7 +22,7 @@ use Rattle.hyd_spec_input.specs.Moments.{unit_seconds}
 use Rattle.hyd_spec_input.specs.SingleRows as itself
 use Rattle.hyd_spec_input.specs.SingleRows.{IsWrongByItself}
 use Rattle.hyd_spec_input.specs.RowsTogether as others
-use Rattle.hyd_spec_input.specs.Capacities.{IsRefusedIn, IsRefusedRow}
+use Rattle.hyd_spec_input.specs.CapacitiesOutOfRange.{IsRefusedIn, IsRefusedRow}
 use Rattle.hyd_spec_input.specs.Faults.{IsWrongWithOthers, NoneIs, HasNoFault, lack}
 use Rattle.hyd_spec_input.specs.Project.{IsProject}
 use Rattle.hyd_theorems_on_input.specs.Example.{text, network}

@@ -15,7 +15,7 @@ use Rattle.hyd_num.specs.Numeral.{nano_of}
 use Rattle.hyd_num.specs.declared.flow_units.FlowUnit.{FlowUnit}
 use Rattle.hyd_num.specs.declared.link_capacities.Origin.{Origin}
 use Rattle.hyd_spec_lines.specs.Lines.{Row}
-use Rattle.hyd_spec_lines.specs.Bytes.{is_keyword}
+use Rattle.hyd_spec_lines.specs.WordsOfLines.{is_keyword}
 use Rattle.hyd_spec_lines.specs.declared.section.Section.TheVariants.{Pipes, Pumps, Valves, Status as StatusSection}
 use Rattle.hyd_net.specs.NumberRanges.{Lies, IsUpTo}
 use Rattle.hyd_net.specs.States.{IsSpeed, IsFlowSetting, CanHave}

@@ -6,7 +6,7 @@ use Rattle.std.proofs.lemmas.Bool.{and_parts, leb-true, cond_both}
 use Rattle.std.proofs.lemmas.Int.{ints}
 use lib.Signed.{le_z, lt_z}
 use Rattle.hyd_spec_lines.specs.Lines.{Row}
-use Rattle.hyd_spec_lines.specs.Bytes.{is_keyword}
+use Rattle.hyd_spec_lines.specs.WordsOfLines.{is_keyword}
 use Rattle.hyd_spec_lines.specs.declared.section.Section.TheVariants.{Times as TimesSection}
 use Rattle.hyd_net.specs.Sound.{AreTimes}
 use Rattle.hyd_net.specs.declared.options.Times.{Times}

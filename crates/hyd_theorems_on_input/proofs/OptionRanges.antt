@@ -8,7 +8,7 @@ use lib.Signed.{le_z}
 use Rattle.hyd_num.specs.FileQuantity.{pressure_numerator, pressure_denominator}
 use Rattle.hyd_num.specs.declared.decimals.Decimal.{Decimal}
 use Rattle.hyd_spec_lines.specs.Lines.{Row}
-use Rattle.hyd_spec_lines.specs.Bytes.{is_keyword}
+use Rattle.hyd_spec_lines.specs.WordsOfLines.{is_keyword}
 use Rattle.hyd_spec_lines.specs.Headings.{is_one_of}
 use Rattle.hyd_spec_lines.specs.declared.section.Section.TheVariants.{Options as OptionsSection}
 use Rattle.hyd_net.specs.NumberRanges.{IsUpTo}

@@ -14,16 +14,17 @@ use Rattle.hyd_spec_certificates.specs.declared.Problem.TheVariants.{Main, Pinne
 use Rattle.hyd_spec.specs.Lists.{map_from}
 use Rattle.hyd_spec_certificates.specs.Interval.{Interval, shifted}
 use Rattle.hyd_spec.specs.NodeNumbers.{tank_node, tank_count, junction_count, reservoir_count}
-use Rattle.hyd_spec.specs.Quantity.{reservoir_head}
+use Rattle.hyd_spec.specs.DemandsReservoirHeadsAndCurves.{reservoir_head}
 use Rattle.hyd_spec.specs.Assignment.{head_at}
-use Rattle.hyd_spec_certificates.specs.Grid.{Grid, GridLink, IsJunctionOf, all_heads, fixed_heads, end_on, opposite}
-use Rattle.hyd_spec_certificates.specs.Grid.{tank_side, tank_intervals}
-use Rattle.hyd_spec_certificates.specs.Boxes.{flow_box, inflow_box}
+use Rattle.hyd_spec_certificates.specs.PeriodNetwork.{Grid, GridLink, IsJunctionOf, all_heads, fixed_heads, end_on}
+use Rattle.hyd_spec_certificates.specs.PeriodNetwork.{opposite}
+use Rattle.hyd_spec_certificates.specs.PeriodNetwork.{tank_side, tank_intervals}
+use Rattle.hyd_spec_certificates.specs.FlowIntervals.{flow_box, inflow_box}
 use Rattle.hyd_spec_certificates.specs.Certificate.{IsCertificate}
-use Rattle.hyd_spec_certificates.specs.Record.{Record, Standing, Vectors, no_vectors, vector_of}
+use Rattle.hyd_spec_certificates.specs.RecordAndStanding.{Record, Standing, Vectors, no_vectors, vector_of}
 use Rattle.hyd_spec_certificates.specs.Decided.{level_of_tank, inflow_of_tank, heads_below, heads_above, nowhere}
 use Rattle.hyd_spec_certificates.specs.Valid.{IsProblem}
-use Rattle.hyd_theorems_on_definitions.specs.Laws.{IsSoundLaw, IsInside}
+use Rattle.hyd_theorems_on_definitions.specs.TermsOfTheorems.{IsSoundLaw, IsInside}
 use Rattle.hyd_theorems_on_definitions.proofs.EachLaw.{IsLaw-each}
 use Rattle.hyd_theorems_on_definitions.proofs.Leading.{one_times}
 use Rattle.hyd_theorems_on_definitions.proofs.Nodes.{excess}

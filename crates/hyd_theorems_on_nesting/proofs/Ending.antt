@@ -7,10 +7,11 @@ use Rattle.hyd_num.specs.Rational.{floor, ceiling}
 use Rattle.hyd_spec.specs.ProgramTypes.{Project, Rule, RuleClause, Clause}
 use Rattle.hyd_spec.specs.declared.Change.{Change}
 use Rattle.hyd_spec.specs.Rules.{groups_of, measured}
-use Rattle.hyd_spec_certificates.specs.Grid.{Grid}
-use Rattle.hyd_spec_certificates.specs.Record.{Record, Standing}
-use Rattle.hyd_spec_certificates.specs.Verdict.{Verdict, Yes, No, Unknown, is_unknown, either, both, some_holds}
-use Rattle.hyd_spec_certificates.specs.Verdict.{all_hold}
+use Rattle.hyd_spec_certificates.specs.PeriodNetwork.{Grid}
+use Rattle.hyd_spec_certificates.specs.RecordAndStanding.{Record, Standing}
+use Rattle.hyd_spec_certificates.specs.ThreeValuedLogic.{Verdict, Yes, No, Unknown, is_unknown, either, both}
+use Rattle.hyd_spec_certificates.specs.ThreeValuedLogic.{some_holds}
+use Rattle.hyd_spec_certificates.specs.ThreeValuedLogic.{all_hold}
 use Rattle.hyd_spec_certificates.specs.Decided.{readings_below, readings_above, clause_between, rule_truth, rule_truths}
 use Rattle.hyd_spec_certificates.specs.Decided.{decided_changes, IsTried, RulesMatter, OpenRule, IsOpenRule, End}
 use Rattle.hyd_spec_certificates.specs.Decided.{ByRules, WithoutRules, RuleIsOpen, EventIsOpen, IsEarliestEnd}

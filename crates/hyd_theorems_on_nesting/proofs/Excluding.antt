@@ -12,10 +12,10 @@ use Rattle.hyd_spec_certificates.specs.declared.Side.{Side}
 use Rattle.hyd_spec.specs.Lists.{map_from}
 use Rattle.hyd_spec_certificates.specs.Interval.{Interval}
 use Rattle.hyd_spec_certificates.specs.Stocks.{state_of}
-use Rattle.hyd_spec_certificates.specs.Verdict.{is_unknown}
-use Rattle.hyd_spec.specs.Quantity.{demand_of}
-use Rattle.hyd_spec_certificates.specs.Grid.{Grid}
-use Rattle.hyd_spec_certificates.specs.Record.{Record, Standing, vector_of}
+use Rattle.hyd_spec_certificates.specs.ThreeValuedLogic.{is_unknown}
+use Rattle.hyd_spec.specs.DemandsReservoirHeadsAndCurves.{demand_of}
+use Rattle.hyd_spec_certificates.specs.PeriodNetwork.{Grid}
+use Rattle.hyd_spec_certificates.specs.RecordAndStanding.{Record, Standing, vector_of}
 use Rattle.hyd_spec_certificates.specs.Decided.{nowhere, control_truth, OpenRule, End, ByRules, WithoutRules}
 use Rattle.hyd_spec_certificates.specs.Decided.{RuleIsOpen, EventIsOpen, EndsBy, by_rules as decided_by_rules}
 use Rattle.hyd_spec_certificates.specs.Decided.{rule_is_open, by_clock as decided_by_clock, event_is_open}

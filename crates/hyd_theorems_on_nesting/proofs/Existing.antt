@@ -6,13 +6,13 @@ use Rattle.std.specs.List.{list_any}
 use Rattle.std.specs.Option.{option_map_or}
 use Rattle.std.proofs.lemmas.Bool.{cases_Bool, cases_lt, eqb-true, eq-eqb}
 use Rattle.hyd_spec.specs.ProgramTypes.{Project, Tank, Control, When, AtLevel, AtTime, AtClock}
-use Rattle.hyd_spec.specs.PeriodStart.{clock_at}
+use Rattle.hyd_spec.specs.PumpPatternsAndSimpleControls.{clock_at}
 use Rattle.hyd_spec.specs.Tank.{walls_of}
 use Rattle.hyd_spec_certificates.specs.Stocks.{may_reach, must_reach}
 use Rattle.hyd_spec.specs.PeriodLength.{IsLeast, EndsByClock, step, duration, pattern, report, control_time}
 use Rattle.hyd_spec.specs.PeriodLength.{control_clock}
-use Rattle.hyd_spec_certificates.specs.Grid.{Grid}
-use Rattle.hyd_spec_certificates.specs.Record.{Record, Standing}
+use Rattle.hyd_spec_certificates.specs.PeriodNetwork.{Grid}
+use Rattle.hyd_spec_certificates.specs.RecordAndStanding.{Record, Standing}
 use Rattle.hyd_spec_certificates.specs.Decided.{Watch, watches, stocks_of_tank, inflow_of_tank, SomeReaches}
 use Rattle.hyd_spec_certificates.specs.Decided.{IsClockLength, IsEarliestEnd, IsLatestEnd}
 use Rattle.hyd_theorems_on_nesting.specs.Nesting.{ReachTest, watch_passes}

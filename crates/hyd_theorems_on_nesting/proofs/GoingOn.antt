@@ -11,7 +11,7 @@ use Rattle.hyd_spec.specs.ProgramTypes.{Project, Junction, Tank, LinkState, Cont
 use Rattle.hyd_spec.specs.declared.TankState.{TankState}
 use Rattle.hyd_spec.specs.Lists.{map_from}
 use Rattle.hyd_spec.specs.NodeNumbers.{tank_count, junction_count}
-use Rattle.hyd_spec.specs.Quantity.{demand_of}
+use Rattle.hyd_spec.specs.DemandsReservoirHeadsAndCurves.{demand_of}
 use Rattle.hyd_spec.specs.Rules.{acted}
 use Rattle.hyd_spec_certificates.specs.declared.Problem.{Problem}
 use Rattle.hyd_spec_certificates.specs.declared.Problem.TheVariants.{Main, Pinned}
@@ -19,10 +19,10 @@ use Rattle.hyd_spec_certificates.specs.declared.Side.{Side}
 use Rattle.hyd_spec_certificates.specs.declared.Side.TheVariants.{Upper, Lower}
 use Rattle.hyd_spec_certificates.specs.Interval.{Interval}
 use Rattle.hyd_spec_certificates.specs.Stocks.{state_of}
-use Rattle.hyd_spec_certificates.specs.Verdict.{is_yes, is_unknown}
-use Rattle.hyd_spec_certificates.specs.Grid.{Grid, IsJunctionOf}
+use Rattle.hyd_spec_certificates.specs.ThreeValuedLogic.{is_yes, is_unknown}
+use Rattle.hyd_spec_certificates.specs.PeriodNetwork.{Grid, IsJunctionOf}
 use Rattle.hyd_spec_certificates.specs.Certificate.{IsCertificate, IsTight}
-use Rattle.hyd_spec_certificates.specs.Record.{Record, Standing, Vectors, no_vectors, vector_of}
+use Rattle.hyd_spec_certificates.specs.RecordAndStanding.{Record, Standing, Vectors, no_vectors, vector_of}
 use Rattle.hyd_spec_certificates.specs.Decided.{links_at, nowhere, control_truth, rule_truths, End, ByRules}
 use Rattle.hyd_spec_certificates.specs.Decided.{WithoutRules, RuleIsOpen, EventIsOpen, EndsBy}
 use Rattle.hyd_spec_certificates.specs.Valid.{IsProblem, IsGridAt, DemandsAreInRange, demand_limit, AreCertificates}
@@ -33,7 +33,7 @@ use Rattle.hyd_spec_reports.specs.declared.StopCause.TheVariants.{Demand as Dema
 use Rattle.hyd_spec_reports.specs.declared.StopCause.TheVariants.{EventOpen, TankOpen, ControlOpen}
 use Rattle.hyd_spec_reports.specs.Stops.{EarlierHaveCertificates, beginning, IsTightRow, open_states, is_open_control}
 use Rattle.hyd_spec_reports.specs.Stops.{Stops}
-use Rattle.hyd_theorems_on_definitions.specs.Laws.{IsSteady}
+use Rattle.hyd_theorems_on_definitions.specs.TermsOfTheorems.{IsSteady}
 use Rattle.hyd_theorems_on_definitions.proofs.Comparison.{place_long}
 use Rattle.hyd_theorems_on_definitions.proofs.OneLength.{ends_again}
 use Rattle.hyd_theorems_on_definitions.proofs.OneStanding.{there}

@@ -11,11 +11,13 @@ use Rattle.hyd_num.specs.Fraction.{AtMost, whole}
 use Rattle.hyd_net.specs.Sound.{Sound}
 use Rattle.hyd_lemmas.proofs.PressurePairs.{IsInReach, pressure_capacity_of}
 use Rattle.hyd_spec.specs.ProgramTypes.{Project, Junction}
-use Rattle.hyd_spec.specs.Quantity.{is_us, demand_of, reservoir_head, minimum_pressure, required_pressure}
+use Rattle.hyd_spec.specs.DemandsReservoirHeadsAndCurves.{is_us, demand_of, reservoir_head, minimum_pressure}
+use Rattle.hyd_spec.specs.DemandsReservoirHeadsAndCurves.{required_pressure}
 use Rattle.hyd_spec_certificates.specs.EnclosingFunctions.{DemandLaw, Fixed, Driven}
-use Rattle.hyd_spec_certificates.specs.Grid.{Grid, GridJunction, IsJunctionOf, IsDemandLaw, IsDriven, grid_links}
-use Rattle.hyd_spec_certificates.specs.Grid.{tank_intervals}
-use Rattle.hyd_spec_certificates.specs.Record.{Standing}
+use Rattle.hyd_spec_certificates.specs.PeriodNetwork.{Grid, GridJunction, IsJunctionOf, IsDemandLaw, IsDriven}
+use Rattle.hyd_spec_certificates.specs.PeriodNetwork.{grid_links}
+use Rattle.hyd_spec_certificates.specs.PeriodNetwork.{tank_intervals}
+use Rattle.hyd_spec_certificates.specs.RecordAndStanding.{Standing}
 use Rattle.hyd_spec_certificates.specs.Decided.{links_at}
 use Rattle.hyd_spec_certificates.specs.Valid.{IsGridAt, DemandsAreInRange, demand_limit}
 use Rattle.hyd_theorems_on_definitions.proofs.Outflows.{le-no}

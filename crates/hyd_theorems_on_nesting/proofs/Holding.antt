@@ -9,22 +9,22 @@ use Rattle.hyd_net.specs.Sound.{Sound}
 use Rattle.hyd_spec.specs.ProgramTypes.{Project, Tank, Junction, LinkState}
 use Rattle.hyd_spec.specs.declared.TankState.{TankState}
 use Rattle.hyd_spec.specs.Lists.{map_from}
-use Rattle.hyd_spec.specs.Quantity.{is_us, demand_of, pressure_value}
+use Rattle.hyd_spec.specs.DemandsReservoirHeadsAndCurves.{is_us, demand_of, pressure_value}
 use Rattle.hyd_spec.specs.PeriodLength.{duration}
 use Rattle.hyd_spec.specs.Tank.{walls_of, kept_volume, tank_state}
 use Rattle.hyd_spec_certificates.specs.declared.Side.TheVariants.{Upper, Lower}
 use Rattle.hyd_spec_certificates.specs.Interval.{Interval, exactly}
 use Rattle.hyd_spec_certificates.specs.EnclosingFunctions.{DemandLaw, Fixed}
 use Rattle.hyd_spec_certificates.specs.Stocks.{state_of}
-use Rattle.hyd_spec_certificates.specs.Verdict.{is_unknown}
-use Rattle.hyd_spec_certificates.specs.Grid.{Grid, GridJunction, IsJunctionOf, IsDemandLaw, IsDriven}
-use Rattle.hyd_spec_certificates.specs.Record.{Record, Standing, initial_standing, vector_of}
+use Rattle.hyd_spec_certificates.specs.ThreeValuedLogic.{is_unknown}
+use Rattle.hyd_spec_certificates.specs.PeriodNetwork.{Grid, GridJunction, IsJunctionOf, IsDemandLaw, IsDriven}
+use Rattle.hyd_spec_certificates.specs.RecordAndStanding.{Record, Standing, initial_standing, vector_of}
 use Rattle.hyd_spec_certificates.specs.Decided.{links_at, acts_on, nowhere, control_truth, IsClockLength}
 use Rattle.hyd_spec_certificates.specs.Decided.{by_rules as decided_by_rules, by_clock as decided_by_clock}
 use Rattle.hyd_spec_certificates.specs.Valid.{IsGridAt, IsValid, Continues, continues, LeavesLinks}
 use Rattle.hyd_spec_certificates.specs.Valid.{by_rules as left_by_rules, by_clock as left_by_clock, AreStates}
 use Rattle.hyd_spec_certificates.specs.Valid.{ControlsAreDecided, stocks_next, levels_next, volumes_next}
-use Rattle.hyd_theorems_on_definitions.specs.Laws.{IsInside, IsSoundDemand, IsSteady}
+use Rattle.hyd_theorems_on_definitions.specs.TermsOfTheorems.{IsInside, IsSoundDemand, IsSteady}
 use Rattle.hyd_theorems_on_definitions.proofs.Grids.{IsSoundGrid-made}
 use Rattle.hyd_theorems_on_definitions.proofs.Levelling.{state_nests}
 use Rattle.hyd_theorems_on_definitions.proofs.Deciding.{control_tells}

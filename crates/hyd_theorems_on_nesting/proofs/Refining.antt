@@ -14,11 +14,12 @@ use Rattle.hyd_spec_certificates.specs.Interval.{Interval}
 use Rattle.hyd_spec.specs.Tank.{walls_of}
 use Rattle.hyd_spec.specs.Rules.{groups_of, rule_changes, acted}
 use Rattle.hyd_spec_certificates.specs.Stocks.{carried_levels}
-use Rattle.hyd_spec_certificates.specs.Verdict.{Verdict, Yes, No, Unknown, at_both_ends, is_yes, is_unknown, either}
-use Rattle.hyd_spec_certificates.specs.Verdict.{both, some_holds, all_hold}
-use Rattle.hyd_spec_certificates.specs.Grid.{Grid, GridLink}
-use Rattle.hyd_spec_certificates.specs.Boxes.{flow_box}
-use Rattle.hyd_spec_certificates.specs.Record.{Record, Standing}
+use Rattle.hyd_spec_certificates.specs.ThreeValuedLogic.{Verdict, Yes, No, Unknown, at_both_ends, is_yes, is_unknown}
+use Rattle.hyd_spec_certificates.specs.ThreeValuedLogic.{either}
+use Rattle.hyd_spec_certificates.specs.ThreeValuedLogic.{both, some_holds, all_hold}
+use Rattle.hyd_spec_certificates.specs.PeriodNetwork.{Grid, GridLink}
+use Rattle.hyd_spec_certificates.specs.FlowIntervals.{flow_box}
+use Rattle.hyd_spec_certificates.specs.RecordAndStanding.{Record, Standing}
 use Rattle.hyd_spec_certificates.specs.Decided.{links_at, stocks_of_tank, inflow_of_tank, least_magnitude}
 use Rattle.hyd_spec_certificates.specs.Decided.{greatest_magnitude, heads_below, heads_above, readings_below}
 use Rattle.hyd_spec_certificates.specs.Decided.{readings_above, clause_truth, rule_truth, rule_truths, decided_changes}
@@ -27,7 +28,7 @@ use Rattle.hyd_spec_certificates.specs.Decided.{EndsBy, ByRules, WithoutRules, b
 use Rattle.hyd_spec_certificates.specs.Decided.{by_clock as decided_by_clock}
 use Rattle.hyd_spec_certificates.specs.Valid.{LeavesLinks, by_rules as left_by_rules, by_clock as left_by_clock}
 use Rattle.hyd_spec_certificates.specs.Valid.{stocks_next}
-use Rattle.hyd_theorems_on_definitions.specs.Laws.{LiesIn, IsInside, AreInside, HasStock, Tells}
+use Rattle.hyd_theorems_on_definitions.specs.TermsOfTheorems.{LiesIn, IsInside, AreInside, HasStock, Tells}
 use Rattle.hyd_lemmas.proofs.Integers.{max_is}
 use Rattle.hyd_theorems_on_definitions.proofs.Outflows.{le-no}
 use Rattle.hyd_theorems_on_definitions.proofs.Leading.{one_times}

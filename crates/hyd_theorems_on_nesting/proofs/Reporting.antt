@@ -14,12 +14,12 @@ use Rattle.hyd_num.proofs.Floors.{floor_is, ceiling_is}
 use Rattle.hyd_net.specs.Sound.{Sound}
 use Rattle.hyd_spec.specs.ProgramTypes.{Project, Tank, Link, LinkState}
 use Rattle.hyd_spec.specs.declared.TankState.{TankState}
-use Rattle.hyd_spec.specs.Quantity.{is_us}
+use Rattle.hyd_spec.specs.DemandsReservoirHeadsAndCurves.{is_us}
 use Rattle.hyd_spec.specs.Assignment.{head_at}
 use Rattle.hyd_spec_certificates.specs.Interval.{Interval, exactly, shifted}
-use Rattle.hyd_spec_certificates.specs.Grid.{Grid, GridLink, GridJunction, grid_links}
-use Rattle.hyd_spec_certificates.specs.Boxes.{flow_box, out_box}
-use Rattle.hyd_spec_certificates.specs.Record.{Record, Standing}
+use Rattle.hyd_spec_certificates.specs.PeriodNetwork.{Grid, GridLink, GridJunction, grid_links}
+use Rattle.hyd_spec_certificates.specs.FlowIntervals.{flow_box, out_box}
+use Rattle.hyd_spec_certificates.specs.RecordAndStanding.{Record, Standing}
 use Rattle.hyd_spec_certificates.specs.Decided.{heads_below, heads_above, links_at, acts_on, level_of_tank}
 use Rattle.hyd_spec_certificates.specs.Decided.{inflow_of_tank, decided_changes}
 use Rattle.hyd_spec_certificates.specs.Valid.{IsGridAt, LeavesLinks, by_rules as left_by_rules}

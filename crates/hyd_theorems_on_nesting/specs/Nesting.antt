@@ -13,9 +13,9 @@ use Rattle.hyd_spec_certificates.specs.declared.Problem.{Problem}
 use Rattle.hyd_spec_certificates.specs.declared.Side.{Side}
 use Rattle.hyd_spec_certificates.specs.declared.Side.TheVariants.{Upper, Lower}
 use Rattle.hyd_spec_certificates.specs.Interval.{Interval}
-use Rattle.hyd_spec_certificates.specs.Grid.{Grid}
+use Rattle.hyd_spec_certificates.specs.PeriodNetwork.{Grid}
 use Rattle.hyd_spec_certificates.specs.Certificate.{IsTight}
-use Rattle.hyd_spec_certificates.specs.Record.{Record, Standing, vector_of}
+use Rattle.hyd_spec_certificates.specs.RecordAndStanding.{Record, Standing, vector_of}
 use Rattle.hyd_spec_certificates.specs.Stocks.{Stocks}
 use Rattle.hyd_spec_certificates.specs.Decided.{Watch, stocks_of_tank, inflow_of_tank, RulesMatter}
 use Rattle.hyd_spec_certificates.specs.Valid.{AreCertificates, IsProblem, IsGridAt, IsValid}
@@ -24,8 +24,8 @@ use Rattle.hyd_spec_reports.specs.declared.StopCause.TheVariants.{Demand as Dema
 use Rattle.hyd_spec_reports.specs.declared.StopCause.TheVariants.{RoundsSpent, RuleOpen, EventOpen, TankOpen}
 use Rattle.hyd_spec_reports.specs.declared.StopCause.TheVariants.{ControlOpen}
 use Rattle.hyd_spec_reports.specs.Stops.{Stops}
-use Rattle.hyd_spec_reports.specs.Headline.{Found, IsRun}
-use Rattle.hyd_theorems_on_definitions.specs.Laws.{HasStock, IsVessel, IsSteady}
+use Rattle.hyd_spec_reports.specs.PromisesOfRunsAndChecks.{Found, IsRun}
+use Rattle.hyd_theorems_on_definitions.specs.TermsOfTheorems.{HasStock, IsVessel, IsSteady}
 
 -- ---- records
 

@@ -14,7 +14,7 @@ use Rattle.hyd_spec_certificates.specs.declared.Problem.{Problem}
 use Rattle.hyd_spec_certificates.specs.declared.HeldJunction.{HeldJunction}
 use Rattle.hyd_spec.specs.Assignment.{head_at, where_so}
 use Rattle.hyd_spec_certificates.specs.EnclosingFunctions.{low, high}
-use Rattle.hyd_spec_certificates.specs.Grid.{Grid, GridLink, GridJunction, all_heads, fixed_heads}
+use Rattle.hyd_spec_certificates.specs.PeriodNetwork.{Grid, GridLink, GridJunction, all_heads, fixed_heads}
 use Rattle.hyd_spec_certificates.specs.NetOutflow.{net, outflow_low, outflow_high}
 use Rattle.hyd_spec_certificates.specs.Certificate.{IsInBox, Passes, Suits, IsCertificateHolding, IsRoundHolding}
 use Rattle.hyd_theorems_on_definitions.proofs.Nodes.{head_front}

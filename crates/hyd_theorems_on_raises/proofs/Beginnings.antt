@@ -13,14 +13,15 @@ use Rattle.hyd_spec_certificates.specs.declared.Problem.TheVariants.{Main, Pinne
 use Rattle.hyd_spec.specs.Lists.{map_from}
 use Rattle.hyd_spec_certificates.specs.Interval.{Interval}
 use Rattle.hyd_spec.specs.Assignment.{head_at}
-use Rattle.hyd_spec_certificates.specs.Grid.{Grid, GridJunction, all_heads, fixed_heads, opposite, end_on, tank_side}
+use Rattle.hyd_spec_certificates.specs.PeriodNetwork.{Grid, GridJunction, all_heads, fixed_heads, opposite, end_on}
+use Rattle.hyd_spec_certificates.specs.PeriodNetwork.{tank_side}
 use Rattle.hyd_spec_certificates.specs.EnclosingFunctions.{low, high}
 use Rattle.hyd_spec_reports.specs.Stops.{beginning}
 use Rattle.hyd_spec_certificates.specs.declared.HeldJunction.{HeldJunction}
 use Rattle.hyd_spec_certificates.specs.Certificate.{box_limit, IsInBox, Passes, Suits, IsBeyond, IsCertificate}
 use Rattle.hyd_spec_certificates.specs.Certificate.{IsCertificateHolding}
 use Rattle.hyd_theorems_on_definitions.proofs.Nodes.{head_front, IsGreatestBelow, greatest_below}
-use Rattle.hyd_theorems_on_definitions.specs.Laws.{IsSteady}
+use Rattle.hyd_theorems_on_definitions.specs.TermsOfTheorems.{IsSteady}
 use Rattle.hyd_theorems_on_definitions.proofs.NetRising.{item-at, IsTop, net-rises, low-rises, high-rises, net-ordered}
 use Rattle.hyd_theorems_on_definitions.proofs.NetRising.{outflow-rises}
 use Rattle.hyd_theorems_on_definitions.proofs.NetRising.{demand-at}

@@ -8,7 +8,7 @@ use Rattle.hyd_spec.specs.Assignment.{head_at}
 use Rattle.hyd_spec_certificates.specs.declared.Problem.{Problem}
 use Rattle.hyd_spec_certificates.specs.declared.Side.{Side}
 use Rattle.hyd_spec_certificates.specs.declared.HeldJunction.{HeldJunction}
-use Rattle.hyd_spec_certificates.specs.Grid.{Grid}
+use Rattle.hyd_spec_certificates.specs.PeriodNetwork.{Grid}
 use Rattle.hyd_spec_certificates.specs.Certificate.{IsInBox, Suits, IsCertificateHolding, FailsFirst, outside, fails}
 use Rattle.hyd_theorems_on_raises.proofs.Searching.{Lacks, each-or-lacks}
 use Rattle.hyd_theorems_on_raises.proofs.Raising.{box-or-not, suits-or-not}

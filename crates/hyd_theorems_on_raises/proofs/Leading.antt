@@ -9,10 +9,10 @@ use Rattle.hyd_spec_certificates.specs.declared.Problem.{Problem}
 use Rattle.hyd_spec_certificates.specs.declared.HeldJunction.{HeldJunction}
 use Rattle.hyd_spec.specs.Assignment.{head_at}
 use Rattle.hyd_spec_certificates.specs.EnclosingFunctions.{low, high}
-use Rattle.hyd_spec_certificates.specs.Grid.{Grid, GridJunction, all_heads, fixed_heads}
+use Rattle.hyd_spec_certificates.specs.PeriodNetwork.{Grid, GridJunction, all_heads, fixed_heads}
 use Rattle.hyd_spec_certificates.specs.Certificate.{Passes, Suits, IsBeyond}
 use Rattle.hyd_spec_certificates.specs.SearchSteps.{LiesBeyond, Fails}
-use Rattle.hyd_theorems_on_definitions.specs.Laws.{IsSteady}
+use Rattle.hyd_theorems_on_definitions.specs.TermsOfTheorems.{IsSteady}
 use Rattle.hyd_theorems_on_definitions.proofs.Nodes.{head_front}
 use Rattle.hyd_theorems_on_definitions.proofs.NetRising.{IsTop, net-rises, low-rises, high-rises, outflow-low-rises}
 use Rattle.hyd_theorems_on_definitions.proofs.NetRising.{outflow-high-rises, demand-at}

@@ -7,12 +7,12 @@ use Rattle.std.proofs.lemmas.List.{length-set, get_or_default}
 use Rattle.hyd_spec_certificates.specs.declared.Side.{Side}
 use Rattle.hyd_spec_certificates.specs.declared.Problem.{Problem}
 use Rattle.hyd_spec.specs.Assignment.{head_at}
-use Rattle.hyd_spec_certificates.specs.Grid.{Grid, GridJunction}
+use Rattle.hyd_spec_certificates.specs.PeriodNetwork.{Grid, GridJunction}
 use Rattle.hyd_spec_certificates.specs.declared.HeldJunction.{HeldJunction}
 use Rattle.hyd_spec_certificates.specs.Certificate.{IsInBox, IsBeyond, IsCertificateHolding, IsRaisedHolding}
 use Rattle.hyd_spec_certificates.specs.Certificate.{IsRoundHolding, AreRoundsHolding, none, more}
 use Rattle.hyd_theorems_on_definitions.proofs.Nodes.{greatest_below}
-use Rattle.hyd_theorems_on_definitions.specs.Laws.{IsSteady}
+use Rattle.hyd_theorems_on_definitions.specs.TermsOfTheorems.{IsSteady}
 use Rattle.hyd_spec_certificates.specs.SearchSteps.{LiesBeyond, IsStart, IsLeap, Climbs, done, raised, leapt, HasParts}
 use Rattle.hyd_spec_certificates.specs.SearchSteps.{no_more, part, HasRounds}
 use Rattle.hyd_theorems_on_definitions.proofs.NetRising.{item-at}

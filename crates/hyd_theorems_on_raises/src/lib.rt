@@ -11,14 +11,14 @@ ghost use Rattle.hyd_spec_certificates.specs.declared.Problem.TheVariants.{Main}
 ghost use Rattle.hyd_spec_certificates.specs.declared.Side.{Side};
 ghost use Rattle.hyd_spec_certificates.specs.declared.HeldJunction.{HeldJunction};
 ghost use Rattle.hyd_spec_certificates.specs.Interval.{Interval};
-ghost use Rattle.hyd_spec_certificates.specs.Grid.{Grid, GridJunction, opposite};
+ghost use Rattle.hyd_spec_certificates.specs.PeriodNetwork.{Grid, GridJunction, opposite};
 ghost use Rattle.hyd_spec_certificates.specs.Certificate.{Suits, FailsFirst, IsCandidateHolding, IsRaisedHolding};
 ghost use Rattle.hyd_spec_certificates.specs.Certificate.{AreRoundsHolding, IsCertificate, IsCertificateHolding};
 ghost use Rattle.hyd_spec_certificates.specs.Certificate.{IsTightHolding, IsRoundHolding, IsInBox, IsBeyond};
 ghost use Rattle.hyd_spec_certificates.specs.SearchSteps.{LiesBeyond, IsStart, IsLeap, Climbs, HasParts, HasRounds};
 ghost use Rattle.hyd_spec_certificates.specs.SearchSteps.{IsOrderedHolding, JoinsNone};
 ghost use Rattle.hyd_spec_reports.specs.Stops.{beginning};
-ghost use Rattle.hyd_theorems_on_definitions.specs.Laws.{IsSteady};
+ghost use Rattle.hyd_theorems_on_definitions.specs.TermsOfTheorems.{IsSteady};
 
 /// A vector with a head for each junction is a certificate, or fails first at a junction; not both, and at one
 /// junction.

@@ -8,10 +8,10 @@ use Rattle.hyd_spec.specs.Tank.{Walls, walls_of}
 use Rattle.hyd_spec.specs.PeriodLength.{IsLeast, EndsByClock, step, duration, pattern, report, control_time}
 use Rattle.hyd_spec.specs.PeriodLength.{control_clock}
 use Rattle.hyd_spec_certificates.specs.Interval.{Interval}
-use Rattle.hyd_spec_certificates.specs.Grid.{Grid}
-use Rattle.hyd_spec_certificates.specs.Record.{Record, Standing}
+use Rattle.hyd_spec_certificates.specs.PeriodNetwork.{Grid}
+use Rattle.hyd_spec_certificates.specs.RecordAndStanding.{Record, Standing}
 use Rattle.hyd_spec_certificates.specs.Stocks.{Stocks, may_reach, must_reach}
-use Rattle.hyd_spec_certificates.specs.Verdict.{Verdict, is_unknown}
+use Rattle.hyd_spec_certificates.specs.ThreeValuedLogic.{Verdict, is_unknown}
 use Rattle.hyd_spec_certificates.specs.Decided.{stocks_of_tank, inflow_of_tank, SomeReaches, IsClockLength}
 use Rattle.hyd_spec_certificates.specs.Decided.{IsEarliestEnd, IsLatestEnd, rule_truths, decided_changes, IsTried}
 use Rattle.hyd_spec_certificates.specs.Decided.{RulesMatter, IsFirstMatter, NoRuleMatters, EndsBy, ByRules}

@@ -4,13 +4,14 @@ use Rattle.std.proofs.Common.{ap, subst, ◌∙◌, arith}
 use Rattle.std.specs.Prelude.{slice_index_or, unsigned_abs}
 use Rattle.std.specs.List.{AllZip}
 use Rattle.hyd_spec.specs.ProgramTypes.{Project, Junction, LinkState}
-use Rattle.hyd_spec.specs.Quantity.{demand_of, reservoir_head}
+use Rattle.hyd_spec.specs.DemandsReservoirHeadsAndCurves.{demand_of, reservoir_head}
 use Rattle.hyd_spec.specs.Outflow.{is_pressure_driven}
 use Rattle.hyd_spec_certificates.specs.declared.Problem.{Problem}
 use Rattle.hyd_spec_certificates.specs.declared.Problem.TheVariants.{Main, Pinned}
 use Rattle.hyd_spec_certificates.specs.EnclosingFunctions.{DemandLaw, Fixed}
-use Rattle.hyd_spec_certificates.specs.Grid.{Grid, GridJunction, IsDriven, IsDemandLaw, IsJunctionOf, grid_links}
-use Rattle.hyd_spec_certificates.specs.Record.{Record, Standing}
+use Rattle.hyd_spec_certificates.specs.PeriodNetwork.{Grid, GridJunction, IsDriven, IsDemandLaw, IsJunctionOf}
+use Rattle.hyd_spec_certificates.specs.PeriodNetwork.{grid_links}
+use Rattle.hyd_spec_certificates.specs.RecordAndStanding.{Record, Standing}
 use Rattle.hyd_spec_certificates.specs.Decided.{links_at}
 use Rattle.hyd_spec_certificates.specs.Valid.{IsProblem, IsGridAt, demand_limit, DemandsAreInRange, AreCertificates}
 use Rattle.hyd_theorems_on_rereading.proofs.Inner.{Inner, with_inner, IsLikeJunction, AreAlike}

@@ -4,7 +4,7 @@ use Rattle.std.specs.Prelude.{◌==◌, if◌then◌else◌, slice_index_or}
 use Rattle.hyd_spec.specs.ProgramTypes.{Project, Tank, LinkState}
 use Rattle.hyd_spec.specs.Scale.{at_scale}
 use Rattle.hyd_spec.specs.Tank.{Walls, Stock, IsNextStock, walls_of, kept_volume, tank_inflow}
-use Rattle.hyd_spec.specs.PeriodStart.{acts_at}
+use Rattle.hyd_spec.specs.PumpPatternsAndSimpleControls.{acts_at}
 use Rattle.hyd_spec.specs.PeriodLength.{Period, stock_at_start}
 use Rattle.hyd_spec.specs.History.{Begins, IsPeriod, AreNextStocks, commanded_after, ComesAfter, GoesOn}
 use Rattle.hyd_spec.specs.History.{initial_levels, initial_volumes, initial_links, IsHistory}

@@ -5,10 +5,10 @@ use Rattle.hyd_net.specs.ListView.{ListView}
 use Rattle.hyd_spec.specs.ProgramTypes.{Project, Link, HeadPoint, LinkKind, PipeLink, CheckPipe, PumpLink, CurvePump}
 use Rattle.hyd_spec.specs.ProgramTypes.{Tcv, Fcv, Gpv, LinkState, Open, Closed, Speed, Throttle, Limit}
 use Rattle.hyd_spec.specs.declared.TankState.{TankState}
-use Rattle.hyd_spec.specs.Quantity.{points_of, pump_knots, valve_knots, is_us}
+use Rattle.hyd_spec.specs.DemandsReservoirHeadsAndCurves.{points_of, pump_knots, valve_knots, is_us}
 use Rattle.hyd_spec.specs.Law.{Law, Held, Bent}
 use Rattle.hyd_spec.specs.LinkLaw.{own_law, greatest_flow, law_of}
-use Rattle.hyd_spec_certificates.specs.Grid.{GridLink, grid_links}
+use Rattle.hyd_spec_certificates.specs.PeriodNetwork.{GridLink, grid_links}
 use Rattle.hyd_theorems_on_rereading.proofs.Inner.{Inner, with_inner, AreAlike}
 use Rattle.hyd_theorems_on_rereading.proofs.Quantities.{same_count}
 

@@ -3,8 +3,8 @@ use Rattle.std.proofs.Common.{◌≡◌, ℕ, List, sym, ap, subst, ◌∙◌}
 use Rattle.hyd_spec.specs.ProgramTypes.{Project, Tank, LinkState}
 use Rattle.hyd_spec.specs.Tank.{Walls, kept_volume, walls_of}
 use Rattle.hyd_spec_certificates.specs.Interval.{Interval, exactly}
-use Rattle.hyd_spec_certificates.specs.Grid.{Grid}
-use Rattle.hyd_spec_certificates.specs.Record.{Record, Standing, initial_standing}
+use Rattle.hyd_spec_certificates.specs.PeriodNetwork.{Grid}
+use Rattle.hyd_spec_certificates.specs.RecordAndStanding.{Record, Standing, initial_standing}
 use Rattle.hyd_spec_certificates.specs.Valid.{LeavesLinks, by_rules, by_clock, Continues, Finishes, LeadsOn, continues}
 use Rattle.hyd_spec_certificates.specs.Valid.{finishes, IsValid, AreValidFrom, none, more, AreValid}
 use Rattle.hyd_theorems_on_rereading.proofs.Inner.{Inner, with_inner, AreAlike}

@@ -9,11 +9,11 @@ use Rattle.hyd_spec.specs.NodeNumbers.{tank_node}
 use Rattle.hyd_spec.specs.Tank.{Walls, walls_of}
 use Rattle.hyd_spec.specs.Rules.{Readings, rule_changes, acted}
 use Rattle.hyd_spec_certificates.specs.Interval.{Interval}
-use Rattle.hyd_spec_certificates.specs.Grid.{Grid}
-use Rattle.hyd_spec_certificates.specs.Boxes.{inflow_box}
-use Rattle.hyd_spec_certificates.specs.Record.{Record, Vectors, Standing}
+use Rattle.hyd_spec_certificates.specs.PeriodNetwork.{Grid}
+use Rattle.hyd_spec_certificates.specs.FlowIntervals.{inflow_box}
+use Rattle.hyd_spec_certificates.specs.RecordAndStanding.{Record, Vectors, Standing}
 use Rattle.hyd_spec_certificates.specs.Stocks.{Stocks, carried_levels, next_stocks}
-use Rattle.hyd_spec_certificates.specs.Verdict.{Verdict, is_yes}
+use Rattle.hyd_spec_certificates.specs.ThreeValuedLogic.{Verdict, is_yes}
 use Rattle.hyd_spec_certificates.specs.Decided.{flow_boxes, heads_below, heads_above, inflow_boxes, nowhere}
 use Rattle.hyd_spec_certificates.specs.Decided.{stocks_of_tank, inflow_of_tank, links_at, least_magnitude}
 use Rattle.hyd_spec_certificates.specs.Decided.{greatest_magnitude, carried_at, readings_below, readings_above}

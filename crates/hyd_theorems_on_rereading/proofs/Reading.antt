@@ -1,7 +1,7 @@
 -- Valid records are valid of each project that differs in spares alone.
 use Rattle.std.proofs.Common.{◌≡◌, List, subst}
 use Rattle.hyd_spec.specs.ProgramTypes.{Project}
-use Rattle.hyd_spec_certificates.specs.Record.{Record, Standing}
+use Rattle.hyd_spec_certificates.specs.RecordAndStanding.{Record, Standing}
 use Rattle.hyd_spec_certificates.specs.Valid.{AreValid}
 use Rattle.hyd_theorems_on_rereading.specs.WithoutSpare.{bare_project}
 use Rattle.hyd_theorems_on_rereading.proofs.Inner.{own_inner, bare_inner, bare_alike, turned}

@@ -12,13 +12,13 @@ use Rattle.hyd_spec.specs.ProgramTypes.{Rule}
 use Rattle.hyd_spec.specs.declared.Change.{Change}
 use Rattle.hyd_spec.specs.declared.Source.TheVariants.{Control as ByControl}
 use Rattle.hyd_spec.specs.Lists.{map_from, joined, present}
-use Rattle.hyd_spec.specs.Quantity.{is_us, points_of, pump_knots}
-use Rattle.hyd_spec.specs.PeriodStart.{patterned, control_acts}
+use Rattle.hyd_spec.specs.DemandsReservoirHeadsAndCurves.{is_us, points_of, pump_knots}
+use Rattle.hyd_spec.specs.PumpPatternsAndSimpleControls.{patterned, control_acts}
 use Rattle.hyd_spec.specs.Rules.{is_same_state, state_of_link}
 use Rattle.hyd_spec_certificates.specs.Interval.{Interval}
-use Rattle.hyd_spec_certificates.specs.Grid.{Grid, GridJunction}
-use Rattle.hyd_spec_certificates.specs.Boxes.{difference}
-use Rattle.hyd_spec_certificates.specs.Record.{Record, Standing}
+use Rattle.hyd_spec_certificates.specs.PeriodNetwork.{Grid, GridJunction}
+use Rattle.hyd_spec_certificates.specs.FlowIntervals.{difference}
+use Rattle.hyd_spec_certificates.specs.RecordAndStanding.{Record, Standing}
 use Rattle.hyd_spec_certificates.specs.Decided.{heads_below, heads_above, links_at, acts_on, decided_changes}
 use Rattle.hyd_spec_reports.specs.declared.Event.{Event}
 use Rattle.hyd_spec_reports.specs.declared.StatusWord.{StatusWord}

@@ -11,7 +11,7 @@ use Rattle.hyd_spec.specs.declared.Change.{Change}
 use Rattle.hyd_spec.specs.Lists.{map_from, present}
 use Rattle.hyd_spec.specs.Rules.{Readings, measured, amount, compares, holds_on, clause_holds, parts_of, groups_in}
 use Rattle.hyd_spec.specs.Rules.{groups_of, Offer, offers_of, offers_from, best_offer, change_by, rule_changes, acted}
-use Rattle.hyd_spec_certificates.specs.Verdict.{at_both_ends, all_hold, some_holds}
+use Rattle.hyd_spec_certificates.specs.ThreeValuedLogic.{at_both_ends, all_hold, some_holds}
 use Rattle.hyd_spec_certificates.specs.Decided.{clause_between, rule_between}
 use Rattle.hyd_theorems_on_rereading.proofs.Inner.{Inner, with_inner, IsLikeRule, AreAlike}
 use Rattle.hyd_theorems_on_rereading.proofs.Quantities.{same_map, same_count, same_elevation}

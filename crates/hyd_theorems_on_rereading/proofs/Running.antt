@@ -1,9 +1,9 @@
 -- A run is a run of each project that differs in spares alone, with the same report.
 use Rattle.std.proofs.Common.{◌≡◌, ℕ, List, sym, ap, subst, ◌∙◌}
 use Rattle.hyd_spec.specs.ProgramTypes.{Project}
-use Rattle.hyd_spec_certificates.specs.Record.{Standing, initial_standing}
+use Rattle.hyd_spec_certificates.specs.RecordAndStanding.{Standing, initial_standing}
 use Rattle.hyd_spec_reports.specs.ReportLine.{ReportLine, report_text}
-use Rattle.hyd_spec_reports.specs.Headline.{Found, IsFound, IsRunFrom, IsRun, none, more}
+use Rattle.hyd_spec_reports.specs.PromisesOfRunsAndChecks.{Found, IsFound, IsRunFrom, IsRun, none, more}
 use Rattle.hyd_theorems_on_rereading.specs.WithoutSpare.{bare_project}
 use Rattle.hyd_theorems_on_rereading.proofs.Inner.{Inner, with_inner, AreAlike, own_inner, bare_inner, bare_alike}
 use Rattle.hyd_theorems_on_rereading.proofs.Inner.{turned}

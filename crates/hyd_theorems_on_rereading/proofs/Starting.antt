@@ -4,9 +4,10 @@ use Rattle.std.specs.Prelude.{if◌then◌else◌}
 use Rattle.hyd_spec.specs.ProgramTypes.{Project, Link, LinkKind, PipeLink, CheckPipe, PumpLink, CurvePump, Tcv, Fcv}
 use Rattle.hyd_spec.specs.ProgramTypes.{Gpv}
 use Rattle.hyd_spec.specs.ProgramTypes.{LinkState}
-use Rattle.hyd_spec.specs.PeriodStart.{speed_state, is_pattern_boundary, patterned_state, after_patterns, patterned}
-use Rattle.hyd_spec.specs.PeriodStart.{controlled, started}
-use Rattle.hyd_spec_certificates.specs.Record.{Standing}
+use Rattle.hyd_spec.specs.PumpPatternsAndSimpleControls.{speed_state, is_pattern_boundary, patterned_state}
+use Rattle.hyd_spec.specs.PumpPatternsAndSimpleControls.{after_patterns, patterned}
+use Rattle.hyd_spec.specs.PumpPatternsAndSimpleControls.{controlled, started}
+use Rattle.hyd_spec_certificates.specs.RecordAndStanding.{Standing}
 use Rattle.hyd_spec_certificates.specs.Decided.{acts_on, links_at}
 use Rattle.hyd_theorems_on_rereading.proofs.Inner.{Inner, with_inner, AreAlike}
 use Rattle.hyd_theorems_on_rereading.proofs.Quantities.{same_multiplier}

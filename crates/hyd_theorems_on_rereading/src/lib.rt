@@ -10,11 +10,11 @@ ghost use Rattle.hyd_spec.specs.ProgramTypes.{Project};
 ghost use Rattle.hyd_spec.specs.NodeNumbers.{junction_count, tank_count};
 ghost use Rattle.hyd_spec.specs.PeriodLength.{Period};
 ghost use Rattle.hyd_spec.specs.History.{IsHistory};
-ghost use Rattle.hyd_spec_certificates.specs.Record.{Record, Standing};
+ghost use Rattle.hyd_spec_certificates.specs.RecordAndStanding.{Record, Standing};
 ghost use Rattle.hyd_spec_certificates.specs.Valid.{AreValid};
 ghost use Rattle.hyd_spec_reports.specs.CertificateText.{version_of};
 ghost use Rattle.hyd_spec_reports.specs.ReportLine.{ReportLine, report_text};
-ghost use Rattle.hyd_spec_reports.specs.Headline.{Found, IsRun};
+ghost use Rattle.hyd_spec_reports.specs.PromisesOfRunsAndChecks.{Found, IsRun};
 ghost use Rattle.hyd_theorems_on_rereading.specs.WithoutSpare.{bare_project};
 
 /// Rows describe one network: two projects of the same rows have all their numbers in common, those of the file that

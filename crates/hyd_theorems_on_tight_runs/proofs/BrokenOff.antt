@@ -5,8 +5,9 @@ use Rattle.std.specs.Prelude.{⊤}
 use Rattle.hyd_net.specs.Sound.{Sound}
 use Rattle.hyd_spec.specs.ProgramTypes.{Project}
 use Rattle.hyd_spec_reports.specs.declared.StopCause.{StopCause}
-use Rattle.hyd_spec_reports.specs.Headline.{Found, Outcome, Finished, Stopped, EndsSo, certificate_so_far}
-use Rattle.hyd_spec_reports.specs.Headline.{report_so_far}
+use Rattle.hyd_spec_reports.specs.PromisesOfRunsAndChecks.{Found, Outcome, Finished, Stopped, EndsSo}
+use Rattle.hyd_spec_reports.specs.PromisesOfRunsAndChecks.{certificate_so_far}
+use Rattle.hyd_spec_reports.specs.PromisesOfRunsAndChecks.{report_so_far}
 use Rattle.hyd_theorems_on_nesting.specs.Nesting.{IsReason}
 use Rattle.hyd_theorems_on_tight_runs.specs.TightRuns.{IsFrontOf, IsTightRun, FinishesTight, BreaksOffTight}
 use Rattle.hyd_theorems_on_tight_runs.proofs.TwoRuns.{whole}

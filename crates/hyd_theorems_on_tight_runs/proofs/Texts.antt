@@ -6,14 +6,15 @@ use Rattle.hyd_net.specs.Sound.{Sound}
 use Rattle.hyd_spec.specs.ProgramTypes.{Project}
 use Rattle.hyd_spec.specs.Lists.{joined}
 use Rattle.hyd_spec.specs.NodeNumbers.{junction_count, tank_count}
-use Rattle.hyd_spec_certificates.specs.Record.{Record, Standing}
+use Rattle.hyd_spec_certificates.specs.RecordAndStanding.{Record, Standing}
 use Rattle.hyd_spec_reports.specs.CertificateText.{line, version_of, header_line, record_text, end_line}
 use Rattle.hyd_spec_reports.specs.CertificateText.{certificate_text}
 use Rattle.hyd_spec_reports.specs.ReportLine.{ReportLine, report_text, line_text, done_line}
 use Rattle.hyd_spec_reports.specs.declared.StopCause.{StopCause}
 use Rattle.hyd_spec_reports.specs.Stops.{Stops}
-use Rattle.hyd_spec_reports.specs.Headline.{Found, rows_of, lines_of, Sharpness, IsSharpFound, IsTightThroughout}
-use Rattle.hyd_spec_reports.specs.Headline.{certificate_so_far, report_so_far}
+use Rattle.hyd_spec_reports.specs.PromisesOfRunsAndChecks.{Found, rows_of, lines_of, Sharpness, IsSharpFound}
+use Rattle.hyd_spec_reports.specs.PromisesOfRunsAndChecks.{IsTightThroughout}
+use Rattle.hyd_spec_reports.specs.PromisesOfRunsAndChecks.{certificate_so_far, report_so_far}
 use Rattle.hyd_spec_certificates.specs.Narrow.{IsNarrow}
 use Rattle.hyd_theorems_on_nesting.specs.Nesting.{IsReason}
 use Rattle.hyd_theorems_on_nesting.proofs.Excluding.{no_stop}

@@ -3,9 +3,10 @@ use Rattle.std.proofs.Common.{◌≡◌, true, true≢false, ◌⊎◌, inl, inr
 use Rattle.std.proofs.Common.{append-nil}
 use Rattle.std.specs.List.{AllByRecursion}
 use Rattle.hyd_spec.specs.ProgramTypes.{Project}
-use Rattle.hyd_spec_certificates.specs.Record.{Record, Standing, initial_standing}
+use Rattle.hyd_spec_certificates.specs.RecordAndStanding.{Record, Standing, initial_standing}
 use Rattle.hyd_spec_certificates.specs.Valid.{IsValid}
-use Rattle.hyd_spec_reports.specs.Headline.{Found, IsRunFrom, IsRun, none, more, IsTightThroughout, rows_of}
+use Rattle.hyd_spec_reports.specs.PromisesOfRunsAndChecks.{Found, IsRunFrom, IsRun, none, more, IsTightThroughout}
+use Rattle.hyd_spec_reports.specs.PromisesOfRunsAndChecks.{rows_of}
 use Rattle.hyd_theorems_on_definitions.proofs.OneRun.{one_run, one_left}
 use Rattle.hyd_theorems_on_tight_runs.specs.TightRuns.{IsFrontOf, IsTightRun}
 

@@ -3,10 +3,12 @@
 use Rattle.std.specs.Prelude.{◌≡◌, ℕ, true, List, ◌++◌, Some}
 use Rattle.std.specs.List.{AllByRecursion}
 use Rattle.hyd_spec.specs.ProgramTypes.{Project}
-use Rattle.hyd_spec_certificates.specs.Record.{Standing}
+use Rattle.hyd_spec_certificates.specs.RecordAndStanding.{Standing}
 use Rattle.hyd_spec_reports.specs.declared.StopCause.{StopCause}
-use Rattle.hyd_spec_reports.specs.Headline.{Found, IsRun, Sharpness, IsTightThroughout, Finished, Stopped, RunWrites}
-use Rattle.hyd_spec_reports.specs.Headline.{RunBreaksOff}
+use Rattle.hyd_spec_reports.specs.PromisesOfRunsAndChecks.{Found, IsRun, Sharpness, IsTightThroughout, Finished}
+use Rattle.hyd_spec_reports.specs.PromisesOfRunsAndChecks.{Stopped}
+use Rattle.hyd_spec_reports.specs.PromisesOfRunsAndChecks.{RunWrites}
+use Rattle.hyd_spec_reports.specs.PromisesOfRunsAndChecks.{RunBreaksOff}
 use Rattle.hyd_theorems_on_nesting.specs.Nesting.{IsReason}
 
 -- A list or a text goes on with some more, or with nothing, to make the whole one.

@@ -6,10 +6,10 @@
 ghost use Rattle.std.specs.Prelude.{◌≡◌, ◌⊎◌, ℕ, false, List, None};
 ghost use Rattle.hyd_net.specs.Sound.{Sound};
 ghost use Rattle.hyd_spec.specs.ProgramTypes.{Project};
-ghost use Rattle.hyd_spec_certificates.specs.Record.{Standing};
+ghost use Rattle.hyd_spec_certificates.specs.RecordAndStanding.{Standing};
 ghost use Rattle.hyd_spec_reports.specs.declared.StopCause.{StopCause};
 ghost use Rattle.hyd_spec_reports.specs.Stops.{Stops};
-ghost use Rattle.hyd_spec_reports.specs.Headline.{Found, rows_of, certificate_so_far, report_so_far};
+ghost use Rattle.hyd_spec_reports.specs.PromisesOfRunsAndChecks.{Found, rows_of, certificate_so_far, report_so_far};
 ghost use Rattle.hyd_theorems_on_nesting.specs.Nesting.{IsReason};
 ghost use Rattle.hyd_theorems_on_tight_runs.specs.TightRuns.{IsFrontOf, IsTightRun, FinishesTight, BreaksOffTight};
 

@@ -2,7 +2,7 @@
 use Rattle.std.proofs.Common.{◌≡◌, ◌<◌, ℤ, pos, neg_ℤ, ◌≤ℤ◌, ◌<ℤ◌, refl, arith}
 use Rattle.std.proofs.lemmas.Int.{ints}
 use Rattle.hyd_num.specs.Rational.{Rational, negated, floor, ceiling}
-use Rattle.hyd_num.specs.Roots.{IsFloor, IsCeiling}
+use Rattle.hyd_num.specs.QuotientsAndRoots.{IsFloor, IsCeiling}
 use Rattle.hyd_num.proofs.Floors.{floor_is, ceiling_is}
 
 pub IsFloor-unique : (n c a b : ℤ) → IsFloor n c a → IsFloor n c b → a ≡ b

@@ -1,7 +1,7 @@
 -- What a call that prints a decimal says of the text.
 use Rattle.std.specs.Prelude.{◌≡◌, List, ℕ, ℤ}
 use Rattle.hyd_num.specs.Rational.{Rational}
-use Rattle.hyd_num.specs.Roots.{IsFloor, IsCeiling}
+use Rattle.hyd_num.specs.QuotientsAndRoots.{IsFloor, IsCeiling}
 use Rattle.hyd_units.specs.declared.printing.Way.{Way}
 use Rattle.hyd_units.specs.declared.printing.Way.TheVariants.{Down, Up}
 use Rattle.hyd_num.specs.PrintedDecimals.{IsRoundedDown, IsRoundedUp, decimal_text}

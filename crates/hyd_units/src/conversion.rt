@@ -1,7 +1,7 @@
 // From the numbers of a file to ticks.
 ghost use Rattle.hyd_num.specs.FileQuantity as quantity;
 ghost use Rattle.hyd_num.specs.FileQuantity.{pressure_denominator, pressure_numerator};
-ghost use Rattle.hyd_num.specs.Roots.{IsCeiling, IsFloor};
+ghost use Rattle.hyd_num.specs.QuotientsAndRoots.{IsCeiling, IsFloor};
 ghost use Rattle.std.specs.Prelude.{◌≡◌, pos};
 
 use hyd_num::{Decimal, FlowUnit, Span, mul_div_ceil, mul_div_floor};

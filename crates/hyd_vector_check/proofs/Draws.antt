@@ -9,9 +9,9 @@ use Rattle.hyd_spec_certificates.specs.declared.Side.{Side}
 use Rattle.hyd_spec_certificates.specs.declared.Side.TheVariants.{Upper, Lower}
 use Rattle.hyd_spec_certificates.specs.EnclosingFunctions.{DemandLaw, demand_low, demand_high, emitter_low}
 use Rattle.hyd_spec_certificates.specs.EnclosingFunctions.{emitter_high}
-use Rattle.hyd_spec_certificates.specs.Grid.{Grid, GridJunction, all_heads}
+use Rattle.hyd_spec_certificates.specs.PeriodNetwork.{Grid, GridJunction, all_heads}
 use Rattle.hyd_spec_certificates.specs.NetOutflow.{outflow_low, outflow_high}
-use Rattle.hyd_vector_check.specs.Sides.{is_lower, flows_out, outflow, net_outflow}
+use Rattle.hyd_vector_check.specs.NetOutflowBySide.{is_lower, flows_out, outflow, net_outflow}
 
 pub outflow-is : (side : Side) (junction : GridJunction) (h p d e : ℤ) (demand : DemandLaw) (emitter : Option Capacity)
     → p ≡ h -ℤ junction.elevation → junction.demand ≡ demand → junction.emitter ≡ emitter

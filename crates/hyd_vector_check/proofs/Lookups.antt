@@ -5,7 +5,7 @@ use Rattle.std.proofs.lemmas.List.{length-set, get_or-set_same, get_or-set_other
 use Rattle.hyd_spec.specs.Assignment.{head_at}
 use Rattle.hyd_spec_certificates.specs.declared.Problem.{Problem}
 use Rattle.hyd_spec_certificates.specs.declared.Side.{Side}
-use Rattle.hyd_spec_certificates.specs.Grid.{Grid, GridJunction, all_heads, fixed_heads}
+use Rattle.hyd_spec_certificates.specs.PeriodNetwork.{Grid, GridJunction, all_heads, fixed_heads}
 use Rattle.hyd_theorems_on_definitions.proofs.Nodes.{head_front}
 use Rattle.std.proofs.Common.{pos}
 

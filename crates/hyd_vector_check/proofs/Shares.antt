@@ -5,10 +5,10 @@ use Rattle.std.specs.Prelude.{slice_get, Some}
 use Rattle.std.specs.Option.{IfSome}
 use Rattle.hyd_spec.specs.Law.{Law}
 use Rattle.hyd_spec.specs.Assignment.{head_at}
-use Rattle.hyd_spec_certificates.specs.Grid.{GridLink}
+use Rattle.hyd_spec_certificates.specs.PeriodNetwork.{GridLink}
 use Rattle.hyd_law.specs.declared.link_law.LinkLaw.{LinkLaw}
-use Rattle.hyd_period_network.specs.declared.junctions_ties_and_settings.Tie.{Tie}
-use Rattle.hyd_period_network.specs.Settings.{Stands}
+use Rattle.hyd_period_network.specs.declared.net_types.Tie.{Tie}
+use Rattle.hyd_period_network.specs.LawsInSettings.{Stands}
 use Rattle.hyd_period_network.specs.LinkEnds.{tie_share}
 
 -- the link that a law stands for

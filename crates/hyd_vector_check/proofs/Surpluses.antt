@@ -5,9 +5,9 @@ use Rattle.std.proofs.lemmas.Int.{ints}
 use Rattle.hyd_spec_certificates.specs.declared.Problem.{Problem}
 use Rattle.hyd_spec_certificates.specs.declared.Side.{Side}
 use Rattle.hyd_spec_certificates.specs.declared.Side.TheVariants.{Upper, Lower}
-use Rattle.hyd_spec_certificates.specs.Grid.{Grid, GridJunction}
+use Rattle.hyd_spec_certificates.specs.PeriodNetwork.{Grid, GridJunction}
 use Rattle.hyd_spec_certificates.specs.NetOutflow.{margin}
-use Rattle.hyd_vector_check.specs.Sides.{net_outflow, surplus, PassesWith}
+use Rattle.hyd_vector_check.specs.NetOutflowBySide.{net_outflow, surplus, PassesWith}
 use Rattle.hyd_vector_check.proofs.Lookups.{junction-there}
 
 -- q is the net outflow of junction i with the head h in place of its own

@@ -1,2 +1,2 @@
-pub mod Sides
-pub mod Comparing
+pub mod NetOutflowBySide
+pub mod ComparisonPrinciple

@@ -5,11 +5,11 @@
 mod checks;
 mod flows;
 mod heads;
+mod junction_test;
 mod outflows;
-mod passing;
 
 pub use checks::{Fails, check, check_sub, check_super};
 pub use flows::flows_out;
 pub use heads::{head_of, is_in_box};
+pub use junction_test::{net_high, net_low, passes, surplus};
 pub use outflows::outflow;
-pub use passing::{net_high, net_low, passes, surplus};

@@ -7,8 +7,8 @@ use Rattle.hyd_spec.specs.ProgramTypes.{Project, Tank}
 use Rattle.hyd_spec.specs.Lists.{map_from}
 use Rattle.hyd_spec.specs.Tank.{walls_of}
 use Rattle.hyd_spec_certificates.specs.Interval.{Interval}
-use Rattle.hyd_spec_certificates.specs.Grid.{Grid}
-use Rattle.hyd_spec_certificates.specs.Record.{Record, Standing}
+use Rattle.hyd_spec_certificates.specs.PeriodNetwork.{Grid}
+use Rattle.hyd_spec_certificates.specs.RecordAndStanding.{Record, Standing}
 use Rattle.hyd_spec_certificates.specs.Stocks.{Stocks}
 use Rattle.hyd_spec_certificates.specs.FirstSeconds.{IsFirstSecond}
 use Rattle.hyd_spec_certificates.specs.Decided.{Watch, stocks_of_tank, inflow_of_tank, nowhere}
@@ -16,7 +16,7 @@ use Rattle.hyd_theorems_on_nesting.specs.Nesting.{ReachTest, IsFirstAmong}
 use Rattle.hyd_theorems_on_nesting.proofs.Watched.{one_watched, one_more}
 use Rattle.hyd_theorems_on_histories.proofs.Watching.{contains-here, contains-later, contains-cons}
 use Rattle.hyd_period_facts.specs.declared.facts.Facts.{Facts}
-use Rattle.hyd_watched_levels.specs.FactsAtStart.{AreStarted, stocks_in, inflow_in}
+use Rattle.hyd_watched_levels.specs.FactsBeforeEnd.{AreStarted, stocks_in, inflow_in}
 use Rattle.hyd_watched_levels.specs.Watched.{IsReachedFirst, IsReachedAmong}
 
 -- ---- items of lists

@@ -1,2 +1,2 @@
-pub mod FactsAtStart
+pub mod FactsBeforeEnd
 pub mod Watched

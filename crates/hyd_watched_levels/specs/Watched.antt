@@ -4,8 +4,8 @@ use Rattle.std.specs.Prelude.{ℕ, ◌<◌, ◌≤◌, ◌*◌, ◌^◌, true, f
 use Rattle.hyd_spec.specs.ProgramTypes.{Project, Tank}
 use Rattle.hyd_spec.specs.declared.TankState.{TankState}
 use Rattle.hyd_spec.specs.LinkLaw.{is_full, is_empty}
-use Rattle.hyd_spec_certificates.specs.Grid.{Grid}
-use Rattle.hyd_spec_certificates.specs.Record.{Record, Standing}
+use Rattle.hyd_spec_certificates.specs.PeriodNetwork.{Grid}
+use Rattle.hyd_spec_certificates.specs.RecordAndStanding.{Record, Standing}
 use Rattle.hyd_spec_certificates.specs.Stocks.{may_reach, must_reach}
 use Rattle.hyd_spec_certificates.specs.FirstSeconds.{IsFirstSecond}
 use Rattle.hyd_spec_certificates.specs.Decided.{Watch}
@@ -13,7 +13,7 @@ use Rattle.hyd_theorems_on_nesting.specs.Nesting.{ReachTest, watch_passes, IsFir
 use Rattle.hyd_period_facts.specs.declared.facts.Facts.{Facts}
 use Rattle.hyd_watched_levels.specs.declared.watch.Watch.{Watch as Here}
 use Rattle.hyd_watched_levels.specs.declared.watch.Ends.{Ends}
-use Rattle.hyd_watched_levels.specs.FactsAtStart.{AreStarted}
+use Rattle.hyd_watched_levels.specs.FactsBeforeEnd.{AreStarted}
 
 -- the watched level that one of the program stands for
 abbrev pub watch_for : Here → Watch

@@ -6,10 +6,10 @@ ghost use Rattle.std.specs.Option.{option_map};
 ghost use Rattle.hyd_net.specs.Sound.{Sound};
 ghost use Rattle.hyd_net.specs.ControlsAndRules.{IsControl};
 ghost use Rattle.hyd_spec.specs.Lists.{present};
-ghost use Rattle.hyd_spec_certificates.specs.Verdict.{is_yes};
+ghost use Rattle.hyd_spec_certificates.specs.ThreeValuedLogic.{is_yes};
 ghost use Rattle.hyd_spec_certificates.specs.Decided as decided;
-ghost use Rattle.hyd_period_facts.specs.OfPeriod.{levels_of};
-ghost use Rattle.hyd_watched_levels.specs.FactsAtStart.{HaveTanks};
+ghost use Rattle.hyd_period_facts.specs.FactsOfPeriod.{levels_of};
+ghost use Rattle.hyd_watched_levels.specs.FactsBeforeEnd.{HaveTanks};
 ghost use Rattle.hyd_watched_levels.specs.Watched.{IsWatch, AreEnds, watch_for};
 
 use crate::facts_of_tanks::level_at;

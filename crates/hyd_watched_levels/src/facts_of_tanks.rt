@@ -4,9 +4,9 @@
 ghost use Rattle.std.specs.Prelude.{◌≡◌, ◌<◌, length, map, slice_index_or};
 ghost use Rattle.std.specs.List.{All};
 ghost use Rattle.hyd_spec_certificates.specs.Decided.{nowhere};
-ghost use Rattle.hyd_tank.specs.Spans.{stocks_of, inflows_of, IsInflow};
-ghost use Rattle.hyd_period_facts.specs.OfPeriod.{levels_of};
-ghost use Rattle.hyd_watched_levels.specs.FactsAtStart.{stocks_in, inflow_in};
+ghost use Rattle.hyd_tank.specs.StockIntervals.{stocks_of, inflows_of, IsInflow};
+ghost use Rattle.hyd_period_facts.specs.FactsOfPeriod.{levels_of};
+ghost use Rattle.hyd_watched_levels.specs.FactsBeforeEnd.{stocks_in, inflow_in};
 
 use hyd_num::Span;
 use hyd_period_facts::Facts;

@@ -5,7 +5,7 @@ ghost use Rattle.std.specs.Prelude.{◌<◌, ◌≤◌, ◌++◌, ◌∷◌, [],
 ghost use Rattle.hyd_net.specs.Sound.{Sound};
 ghost use Rattle.hyd_spec_certificates.specs.Stocks.{may_reach, must_reach};
 ghost use Rattle.hyd_spec_certificates.specs.Decided as decided;
-ghost use Rattle.hyd_watched_levels.specs.FactsAtStart.{HaveTanks};
+ghost use Rattle.hyd_watched_levels.specs.FactsBeforeEnd.{HaveTanks};
 ghost use Rattle.hyd_watched_levels.specs.Watched.{IsWatch, IsReachedFirst, AreEnds, watch_for};
 
 use crate::facts_of_tanks::{inflow_at, stock_at};

@@ -4,9 +4,9 @@ use Rattle.hyd_num.specs.FileQuantity.{is_us_unit}
 use Rattle.hyd_spec_lines.specs.Lines.{row_of}
 use Rattle.hyd_option_and_rule_lines.specs.Meanings.{IsAsked}
 use Rattle.hyd_option_and_rule_lines.specs.declared.controls.Asked.TheVariants.{Number}
-use Rattle.hyd_spec_input.specs.Capacities.{IsRefusedValve}
+use Rattle.hyd_spec_input.specs.CapacitiesOutOfRange.{IsRefusedValve}
 use Rattle.hyd_asked_link_states.specs.AskedLinks.{IsType}
-use Rattle.hyd_asked_link_states.specs.declared.types.LinkType.TheVariants.{Tcv}
+use Rattle.hyd_asked_link_states.specs.declared.link_types.LinkType.TheVariants.{Tcv}
 use Rattle.hyd_asked_link_states.proofs.SettingLemmas.{setting_refused}
 use Rattle.hyd_asked_link_states.proofs.settings.is_refused.Goals as goal
 

@@ -3,8 +3,8 @@ use Rattle.std.proofs.lemmas.Int.{ints}
 use Rattle.hyd_spec.specs.Assignment.{head_at}
 use Rattle.hyd_spec_certificates.specs.declared.Problem.TheVariants.{Main}
 use Rattle.hyd_spec_certificates.specs.declared.Side.TheVariants.{Upper, Lower}
-use Rattle.hyd_spec_certificates.specs.Grid.{all_heads}
-use Rattle.hyd_period_network.specs.GridOf.{grid_of}
+use Rattle.hyd_spec_certificates.specs.PeriodNetwork.{all_heads}
+use Rattle.hyd_period_network.specs.NetAsPeriodNetwork.{grid_of}
 use Rattle.hyd_vector_check.proofs.Shares.{StandsFor, stands-for}
 use Rattle.hyd_bounds.proofs.Flowing.{flow-box-is}
 use Rattle.hyd_bounds.proofs.Holding.{holds-flow}

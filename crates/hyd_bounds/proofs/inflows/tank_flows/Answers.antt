@@ -2,9 +2,9 @@ use Rattle.std.proofs.Common.{◌≡◌, ◌∙◌, ap, to_z, of_z, arith, ℤ, 
 use Rattle.std.specs.Int.{w128}
 use Rattle.std.proofs.lemmas.Int.{ints}
 use Rattle.hyd_spec_certificates.specs.declared.Problem.TheVariants.{Pinned}
-use Rattle.hyd_spec_certificates.specs.Grid.{all_heads}
-use Rattle.hyd_period_network.specs.GridOf.{grid_of}
-use Rattle.hyd_vector_check.specs.Sides.{flows_out}
+use Rattle.hyd_spec_certificates.specs.PeriodNetwork.{all_heads}
+use Rattle.hyd_period_network.specs.NetAsPeriodNetwork.{grid_of}
+use Rattle.hyd_vector_check.specs.NetOutflowBySide.{flows_out}
 use Rattle.hyd_bounds.proofs.Flowing.{set-beyond}
 use Rattle.hyd_bounds.proofs.inflows.tank_flows.Goals as goal
 

@@ -3,10 +3,10 @@ use Rattle.std.proofs.lemmas.Int.{ints}
 use Rattle.hyd_spec_certificates.specs.declared.Problem.TheVariants.{Pinned}
 use Rattle.hyd_spec_certificates.specs.declared.Side.TheVariants.{Upper, Lower}
 use Rattle.hyd_spec_certificates.specs.EnclosingFunctions.{low, high}
-use Rattle.hyd_spec_certificates.specs.Grid.{all_heads}
+use Rattle.hyd_spec_certificates.specs.PeriodNetwork.{all_heads}
 use Rattle.hyd_spec_certificates.specs.NetOutflow.{net, link_ends}
-use Rattle.hyd_period_network.specs.GridOf.{grid_of}
-use Rattle.hyd_bounds.specs.Bounds.{tank_node_of}
+use Rattle.hyd_period_network.specs.NetAsPeriodNetwork.{grid_of}
+use Rattle.hyd_bounds.specs.VectorsInOrder.{tank_node_of}
 use Rattle.hyd_bounds.proofs.Holding.{holds-inflow}
 use Rattle.hyd_bounds.proofs.Inflowing.{flows-in-order}
 use Rattle.hyd_bounds.proofs.inflows.tank_inflow.Goals as goal

@@ -3,7 +3,7 @@ use Rattle.std.specs.Int.{w128}
 use Rattle.std.specs.Option.{option_map, option_copied}
 use Rattle.std.proofs.lemmas.Int.{ints}
 use Rattle.hyd_spec_certificates.specs.NetOutflow.{outflow_low, outflow_high}
-use Rattle.hyd_period_network.specs.GridOf.{grid_of, capacity_of}
+use Rattle.hyd_period_network.specs.NetAsPeriodNetwork.{grid_of, capacity_of}
 use Rattle.hyd_bounds.proofs.Holding.{holds-outflow}
 use Rattle.hyd_bounds.proofs.Leaving.{out-box-at, outflows-in-order}
 use Rattle.hyd_bounds.proofs.outflows.out_box.Goals as goal

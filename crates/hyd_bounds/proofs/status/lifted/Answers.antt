@@ -2,7 +2,7 @@ use Rattle.std.proofs.Common.{◌≡◌, ◌∙◌, ap₂, to_z, of_z, arith, �
 use Rattle.std.specs.Int.{w128}
 use Rattle.std.proofs.lemmas.Int.{ints}
 use Rattle.hyd_num.specs.Rational.{floor, ceiling}
-use Rattle.hyd_spec.specs.Quantity.{lift_of}
+use Rattle.hyd_spec.specs.DemandsReservoirHeadsAndCurves.{lift_of}
 use Rattle.hyd_spec_reports.specs.Report.{by_drive}
 use Rattle.hyd_bounds.proofs.status.lifted.Goals as goal
 

@@ -3,10 +3,10 @@ use Rattle.std.proofs.lemmas.Int.{ints}
 use Rattle.hyd_spec.specs.Assignment.{head_at}
 use Rattle.hyd_spec_certificates.specs.declared.Problem.TheVariants.{Main}
 use Rattle.hyd_spec_certificates.specs.declared.Side.TheVariants.{Upper, Lower}
-use Rattle.hyd_spec_certificates.specs.Grid.{all_heads}
-use Rattle.hyd_spec_certificates.specs.Boxes.{difference}
+use Rattle.hyd_spec_certificates.specs.PeriodNetwork.{all_heads}
+use Rattle.hyd_spec_certificates.specs.FlowIntervals.{difference}
 use Rattle.hyd_period_network.specs.ExactLaw.{exact_law}
-use Rattle.hyd_period_network.specs.GridOf.{grid_of}
+use Rattle.hyd_period_network.specs.NetAsPeriodNetwork.{grid_of}
 use Rattle.hyd_bounds.proofs.Flowing.{placed-ends, some-same, law-at}
 use Rattle.hyd_bounds.proofs.Holding.{holds-status}
 use Rattle.hyd_bounds.proofs.Wording.{status-is}

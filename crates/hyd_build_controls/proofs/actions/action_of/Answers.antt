@@ -2,7 +2,7 @@ use Rattle.std.proofs.Common.{◌≡◌, None, Some, get_or, subst}
 use Rattle.hyd_spec_lines.specs.Lines.{Row, row_of}
 use Rattle.hyd_spec_lines.specs.declared.line.Line.{Line}
 use Rattle.hyd_spec_lines.specs.declared.section.Section.TheVariants.{Junctions}
-use Rattle.hyd_spec_input.specs.Capacities.{IsRefusedSetting}
+use Rattle.hyd_spec_input.specs.CapacitiesOutOfRange.{IsRefusedSetting}
 use Rattle.hyd_spec_input.specs.Columns.{asked, needed, word}
 use Rattle.hyd_spec_input.specs.MeaningsAcrossRows.{number_in, link_ids}
 use Rattle.hyd_spec_input.specs.Project.{IsAction}
@@ -11,7 +11,7 @@ use Rattle.hyd_spec_input.specs.RowsTogether as others
 use Rattle.hyd_asked_link_states.proofs.RightLinks.{right_link}
 use Rattle.hyd_asked_link_states.proofs.StateLemmas.{settable}
 use Rattle.hyd_judge_controls.proofs.PartLemmas.{action_asks}
-use Rattle.hyd_text_rows.specs.Found.{rows_at}
+use Rattle.hyd_text_rows.specs.FirstWrongRow.{rows_at}
 use Rattle.hyd_text_rows.proofs.FoundLemmas.{row_at}
 use Rattle.hyd_build_controls.proofs.NumberLemmas.{link_numbered}
 use Rattle.hyd_build_controls.proofs.actions.action_of.Goals as goal

@@ -5,9 +5,9 @@ use Rattle.hyd_spec_lines.specs.declared.line.Line.{Line}
 use Rattle.hyd_spec_lines.specs.declared.section.Section.TheVariants.{Junctions}
 use Rattle.hyd_spec_input.specs.Project.{IsAction}
 use Rattle.hyd_spec_input.specs.RuleRows.{begins_with, is_rule, stage_by}
-use Rattle.hyd_text_rows.specs.Found.{rows_at}
+use Rattle.hyd_text_rows.specs.FirstWrongRow.{rows_at}
 use Rattle.hyd_text_rows.proofs.FoundLemmas.{row_at}
-use Rattle.hyd_build_controls.specs.Rows.{IsRightAction}
+use Rattle.hyd_build_controls.specs.CheckedRows.{IsRightAction}
 use Rattle.hyd_build_controls.specs.Rules.{is_of_branch, stage_at}
 use Rattle.hyd_build_controls.proofs.RightParts.{right_branch}
 use Rattle.hyd_build_controls.proofs.RuleLists.{parts_skip, parts_less, parts_more, parts_before_rule, parts_at_end}

@@ -1,6 +1,6 @@
 use Rattle.std.proofs.Common.{◌≡◌, ◌++◌, ◌^◌, None, map, length}
 use Rattle.hyd_num.specs.Numeral.{nano_of}
-use Rattle.hyd_spec_lines.specs.Bytes.{words_in}
+use Rattle.hyd_spec_lines.specs.WordsOfLines.{words_in}
 use Rattle.hyd_spec_input.specs.Columns.{within}
 use Rattle.hyd_spec_input.specs.DemandCurveAndStatusRows.{each}
 use Rattle.hyd_build_ids_and_options.proofs.patterns.append.Given as goal

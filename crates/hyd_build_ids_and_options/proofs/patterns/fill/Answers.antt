@@ -1,6 +1,6 @@
 use Rattle.std.proofs.Common.{map}
 use Rattle.hyd_num.specs.Numeral.{nano_of}
-use Rattle.hyd_spec_lines.specs.Bytes.{words_in}
+use Rattle.hyd_spec_lines.specs.WordsOfLines.{words_in}
 use Rattle.hyd_build_ids_and_options.proofs.PatternLemmas.{filled}
 use Rattle.hyd_build_ids_and_options.proofs.patterns.fill.Goals as goal
 

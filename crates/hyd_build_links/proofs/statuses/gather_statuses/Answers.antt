@@ -1,5 +1,5 @@
 use Rattle.std.proofs.Common.{ℕ, sym, ap, ◌∙◌, length, subst}
-use Rattle.hyd_text_rows.specs.Found.{rows_at}
+use Rattle.hyd_text_rows.specs.FirstWrongRow.{rows_at}
 use Rattle.hyd_build_links.specs.Statuses.{AreNone}
 use Rattle.hyd_build_links.proofs.StatusLemmas.{before_rows, after_rows}
 use Rattle.hyd_build_links.proofs.statuses.gather_statuses.Goals as goal

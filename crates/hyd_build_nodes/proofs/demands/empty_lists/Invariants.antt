@@ -1,4 +1,4 @@
-use Rattle.hyd_build_nodes.specs.Gathered.{AreEmpty}
+use Rattle.hyd_build_nodes.specs.DemandsAndEmitters.{AreEmpty}
 use Rattle.hyd_build_nodes.proofs.demands.empty_lists.Given as goal
 
 abbrev pub invariant-loop : goal.invariant-loop

@@ -1,6 +1,6 @@
 use Rattle.std.proofs.Common.{ℕ, ap, length, subst}
-use Rattle.hyd_text_rows.specs.Found.{rows_at}
-use Rattle.hyd_build_nodes.specs.Gathered.{AreEmpty, each}
+use Rattle.hyd_text_rows.specs.FirstWrongRow.{rows_at}
+use Rattle.hyd_build_nodes.specs.DemandsAndEmitters.{AreEmpty, each}
 use Rattle.hyd_build_nodes.proofs.DemandLemmas.{before_rows, after_rows}
 use Rattle.hyd_build_nodes.proofs.demands.gather_demands.Goals as goal
 

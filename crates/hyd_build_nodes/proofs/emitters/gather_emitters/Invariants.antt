@@ -1,5 +1,5 @@
-use Rattle.hyd_text_rows.specs.Found.{rows_at}
-use Rattle.hyd_build_nodes.specs.Gathered.{AreEmitters}
+use Rattle.hyd_text_rows.specs.FirstWrongRow.{rows_at}
+use Rattle.hyd_build_nodes.specs.DemandsAndEmitters.{AreEmitters}
 use Rattle.hyd_build_nodes.proofs.emitters.gather_emitters.Given as goal
 
 abbrev pub invariant-loop-place : goal.invariant-loop-place

@@ -1,4 +1,4 @@
-use Rattle.hyd_build_nodes.specs.Gathered.{AreNone}
+use Rattle.hyd_build_nodes.specs.DemandsAndEmitters.{AreNone}
 use Rattle.hyd_build_nodes.proofs.emitters.none_each.Given as goal
 
 abbrev pub invariant-loop : goal.invariant-loop

@@ -2,8 +2,8 @@ use Rattle.std.proofs.Common.{◌∙◌, ap, sym, subst}
 use Rattle.hyd_spec.specs.Tank.{walls_of}
 use Rattle.hyd_spec_certificates.specs.Interval.{Interval}
 use Rattle.hyd_spec_certificates.specs.Stocks.{Stocks, carried_levels}
-use Rattle.hyd_tank.specs.Spans.{stocks_of, inflows_of, AreHeld}
-use Rattle.hyd_watched_levels.specs.FactsAtStart.{stocks_in}
+use Rattle.hyd_tank.specs.StockIntervals.{stocks_of, inflows_of, AreHeld}
+use Rattle.hyd_watched_levels.specs.FactsBeforeEnd.{stocks_in}
 use Rattle.hyd_carried_levels.proofs.Carrying.{level_of}
 use Rattle.hyd_carried_levels.proofs.carried.carried_of.Goals as goal
 

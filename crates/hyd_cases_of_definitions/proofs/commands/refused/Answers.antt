@@ -1,6 +1,6 @@
 use Rattle.std.proofs.Common.{refl}
 use Rattle.hyd_num.specs.Numeral.{is_numeral, nano_of, magnitude_of}
-use Rattle.hyd_command_words.specs.SaidWords.{kind_of}
+use Rattle.hyd_command_words.specs.OptionsAndNames.{kind_of}
 use Rattle.hyd_cases_of_definitions.proofs.commands.refused.Goals as goal
 
 pub returns-clause-names : goal.returns-clause-names

@@ -2,8 +2,8 @@ use Rattle.std.proofs.Common.{ap}
 use Rattle.hyd_cases_of_runs.proofs.town_ends.grids.Goals as goal
 use Rattle.hyd_cases_of_runs.proofs.TownIs.{town_is}
 use Rattle.std.specs.Prelude.{map}
-use Rattle.hyd_spec.specs.Quantity.{demand_of, reservoir_head}
-use Rattle.hyd_spec_certificates.specs.Grid.{grid_links, tank_intervals}
+use Rattle.hyd_spec.specs.DemandsReservoirHeadsAndCurves.{demand_of, reservoir_head}
+use Rattle.hyd_spec_certificates.specs.PeriodNetwork.{grid_links, tank_intervals}
 use Rattle.hyd_spec_certificates.specs.Decided.{links_at}
 use Rattle.hyd_cases_of_runs.specs.TownPeriods.{standing_at_two, standing_when_full}
 

@@ -1,7 +1,7 @@
 use Rattle.std.proofs.Common.{ap}
 use Rattle.hyd_cases_of_runs.proofs.town_history.states.Goals as goal
 use Rattle.hyd_cases_of_runs.proofs.TownIs.{town_is}
-use Rattle.hyd_spec.specs.PeriodStart.{started, acts_at}
+use Rattle.hyd_spec.specs.PumpPatternsAndSimpleControls.{started, acts_at}
 use Rattle.hyd_spec.specs.History.{tank_states}
 use Rattle.hyd_cases_of_runs.specs.TownPeriods.{standing_at_two, standing_when_full}
 use Rattle.hyd_cases_of_runs.specs.TownHistory.{period_at_two, period_when_full}

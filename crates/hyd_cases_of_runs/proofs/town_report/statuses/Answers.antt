@@ -3,9 +3,9 @@ use Rattle.hyd_cases_of_runs.proofs.town_report.statuses.Goals as goal
 use Rattle.hyd_cases_of_runs.proofs.TownIs.{town_is}
 use Rattle.std.specs.Prelude.{slice_index_or}
 use Rattle.hyd_spec.specs.Lists.{map_from}
-use Rattle.hyd_spec.specs.Quantity.{is_us}
+use Rattle.hyd_spec.specs.DemandsReservoirHeadsAndCurves.{is_us}
 use Rattle.hyd_spec.specs.Rules.{state_of_link}
-use Rattle.hyd_spec_certificates.specs.Boxes.{difference}
+use Rattle.hyd_spec_certificates.specs.FlowIntervals.{difference}
 use Rattle.hyd_spec_certificates.specs.Decided.{links_at, heads_below, heads_above}
 use Rattle.hyd_spec_reports.specs.Report.{status_of}
 use Rattle.hyd_cases_of_runs.specs.TownPeriods.{standing_at_two, standing_when_full, grid_at_two, grid_when_full}

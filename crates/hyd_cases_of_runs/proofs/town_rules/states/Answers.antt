@@ -2,7 +2,7 @@ use Rattle.std.proofs.Common.{ap}
 use Rattle.hyd_cases_of_runs.proofs.town_rules.states.Goals as goal
 use Rattle.hyd_cases_of_runs.proofs.TownIs.{town_is}
 use Rattle.std.specs.Prelude.{map}
-use Rattle.hyd_spec_certificates.specs.Verdict.{is_yes}
+use Rattle.hyd_spec_certificates.specs.ThreeValuedLogic.{is_yes}
 use Rattle.hyd_spec.specs.Rules.{acted}
 use Rattle.hyd_spec_certificates.specs.Decided.{links_at, rule_truths}
 use Rattle.hyd_cases_of_runs.specs.TownPeriods.{standing_when_full, grid_when_full, row_when_full}

@@ -2,7 +2,7 @@ use Rattle.std.proofs.Common.{ap}
 use Rattle.hyd_cases_of_runs.proofs.town_starts.histories.Goals as goal
 use Rattle.hyd_cases_of_runs.proofs.TownIs.{town_is}
 use Rattle.std.specs.Prelude.{pos, [], ◌∷◌}
-use Rattle.hyd_spec.specs.PeriodStart.{started, acts_at}
+use Rattle.hyd_spec.specs.PumpPatternsAndSimpleControls.{started, acts_at}
 use Rattle.hyd_cases_of_runs.specs.TownPeriods.{standing_when_full}
 
 pub returns-clause-reached : goal.returns-clause-reached

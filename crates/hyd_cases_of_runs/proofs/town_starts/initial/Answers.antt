@@ -2,7 +2,7 @@ use Rattle.std.proofs.Common.{ap}
 use Rattle.hyd_cases_of_runs.proofs.town_starts.initial.Goals as goal
 use Rattle.hyd_cases_of_runs.proofs.TownIs.{town_is}
 use Rattle.hyd_spec.specs.History.{initial_links, initial_levels}
-use Rattle.hyd_spec_certificates.specs.Record.{initial_standing}
+use Rattle.hyd_spec_certificates.specs.RecordAndStanding.{initial_standing}
 
 pub returns-clause-standing : goal.returns-clause-standing
 returns-clause-standing c = λ network town. ap (λ network. initial_standing network) (town_is town)

@@ -1,6 +1,6 @@
 use Rattle.std.proofs.Common.{◌≡◌, ◌≢◌, ℕ, List, ◌++◌, take, Some, None}
 use Rattle.std.specs.Prelude.{is_some}
-use Rattle.hyd_io.specs.ToldBytes.{file_at, Moves}
+use Rattle.hyd_io.specs.DeskBytes.{file_at, Moves}
 use Rattle.hyd_io.specs.Output.{by_channel, OnCert, OnReport}
 use Rattle.hyd_cert.specs.PlacesOfLines.{head_text}
 use Rattle.hyd_cert.proofs.writing.put_heads.Given as goal

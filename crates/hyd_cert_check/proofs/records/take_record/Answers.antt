@@ -2,7 +2,7 @@
 use Rattle.std.proofs.Common.{◌∙◌, refl}
 use Rattle.hyd_sim.specs.View.{header_for}
 use Rattle.hyd_run.specs.Pens.{told}
-use Rattle.hyd_cert_check.specs.Printing.{moment}
+use Rattle.hyd_cert_check.specs.ReaderAndPen.{moment}
 use Rattle.hyd_cert_check.specs.RecordByRecord.{in_reading, in_report}
 use Rattle.hyd_cert_check.specs.declared.outcome.CheckFault.TheVariants.{Read}
 use Rattle.hyd_cert_check.specs.declared.outcome.Verdict.TheVariants.{Grammar, Counts}

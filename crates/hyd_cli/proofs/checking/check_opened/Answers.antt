@@ -1,9 +1,9 @@
 -- What a check prints and leaves, said of the moment before its file was opened.
 use Rattle.std.proofs.Common.{◌≡◌, ◌∙◌, Some, sym, subst, rules}
 use Rattle.hyd_io.specs.declared.desk.Faults.{Faults}
-use Rattle.hyd_io.specs.ToldBytes.{file_at}
+use Rattle.hyd_io.specs.DeskBytes.{file_at}
 use Rattle.hyd_cert_check.specs.Checks.{CheckEnds, CheckBreaksOff}
-use Rattle.hyd_cert_check.specs.Printing.{Rose}
+use Rattle.hyd_cert_check.specs.ReaderAndPen.{Rose}
 use Rattle.hyd_command_words.specs.CommandGrammar.{check}
 use Rattle.hyd_cli.specs.DeskContents.{seen}
 use Rattle.hyd_cli.specs.Answers.{HasCause, Leaves}

@@ -1,7 +1,7 @@
 use Rattle.std.proofs.Common.{map, subst}
 use Rattle.hyd_spec.specs.ProgramTypes.{Rule}
 use Rattle.hyd_spec_certificates.specs.Decided.{IsTruthBetween}
-use Rattle.hyd_controls_and_rules.specs.Instants.{flow_interval, level_interval, lower_readings, upper_readings}
+use Rattle.hyd_controls_and_rules.specs.RuleReadings.{flow_interval, level_interval, lower_readings, upper_readings}
 use Rattle.hyd_controls_and_rules.proofs.Opening.{sound_rule, rule_is}
 use Rattle.hyd_controls_and_rules.proofs.Truths.{truth_holds, truth_stays}
 use Rattle.hyd_controls_and_rules.proofs.rules.decide.Goals as goal

@@ -1,6 +1,6 @@
 use Rattle.std.proofs.Common.{◌≡◌, ℕ, ◌<◌, true, false, length, slice_index_or, ap, sym, ◌∙◌, arith}
 use Rattle.hyd_spec.specs.ProgramTypes.{RuleClause}
-use Rattle.hyd_spec_certificates.specs.Verdict.{is_unknown}
+use Rattle.hyd_spec_certificates.specs.ThreeValuedLogic.{is_unknown}
 use Rattle.hyd_controls_and_rules.specs.KnownOfRules.{is_open}
 use Rattle.hyd_controls_and_rules.proofs.Positions.{found_at, found_none, one_more}
 use Rattle.hyd_controls_and_rules.proofs.rules.first_open.Goals as goal

@@ -1,5 +1,5 @@
 use Rattle.std.proofs.Common.{◌≡◌, drop}
-use Rattle.hyd_controls_and_rules.specs.Instants.{verdict_there}
+use Rattle.hyd_controls_and_rules.specs.RuleReadings.{verdict_there}
 use Rattle.hyd_controls_and_rules.specs.KnownOfRules.{rule_there, premise_of}
 use Rattle.hyd_controls_and_rules.proofs.rules.rule_verdict.Given as goal
 

@@ -1,7 +1,7 @@
 use Rattle.std.proofs.Common.{FitsSigned, ◌^◌, ◌-ℤ◌, ◌*ℤ◌, pos, refl, arith}
 use Rattle.std.specs.Int.{w128}
 use Rattle.std.proofs.lemmas.Int.{ints, to_z-of_z}
-use Rattle.hyd_curves.specs.Interpolation.{knot_of}
+use Rattle.hyd_curves.specs.PointsAsKnots.{knot_of}
 use Rattle.hyd_curves.proofs.LineLemmas.{above, low_is, high_is}
 use Rattle.hyd_curves.proofs.pumps.begins_low.Goals as goal
 

@@ -1,6 +1,6 @@
 use Rattle.std.proofs.Common.{◌≡◌, arith}
 use Rattle.std.proofs.lemmas.Int.{ints}
-use Rattle.hyd_demand.specs.Numbered.{junction_demand}
+use Rattle.hyd_demand.specs.DemandsAndHeadsByNumber.{junction_demand}
 use Rattle.hyd_demand.proofs.Reading.{demand_is}
 use Rattle.hyd_demand.proofs.demands.demand_at.Goals as goal
 

@@ -3,7 +3,7 @@ use Rattle.std.proofs.lemmas.Int.{ints}
 use Rattle.std.proofs.lemmas.List.{at_drop_more}
 use Rattle.hyd_net.specs.declared.nodes.Demand.{Demand}
 use Rattle.hyd_spec.specs.Scale.{total}
-use Rattle.hyd_spec.specs.Quantity.{category_demand}
+use Rattle.hyd_spec.specs.DemandsReservoirHeadsAndCurves.{category_demand}
 use Rattle.hyd_demand.proofs.demands.total_demand.Goals as goal
 
 pub loop-category-preserved : goal.loop-category-preserved

@@ -1,7 +1,7 @@
 use Rattle.std.proofs.Common.{◌≡◌, pos, None, slice_index_or, to_z, of_z, w64, arith}
 use Rattle.std.proofs.lemmas.Int.{ints}
 use Rattle.hyd_net.specs.declared.nodes.Reservoir.{Reservoir}
-use Rattle.hyd_demand.specs.Numbered.{head_of_reservoir}
+use Rattle.hyd_demand.specs.DemandsAndHeadsByNumber.{head_of_reservoir}
 use Rattle.hyd_demand.proofs.Reading.{head_by_pattern, head_alone}
 use Rattle.hyd_demand.proofs.reservoirs.head_at.Goals as goal
 

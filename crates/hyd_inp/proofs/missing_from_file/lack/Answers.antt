@@ -1,5 +1,5 @@
 use Rattle.std.proofs.Common.{sym, ◌∙◌}
-use Rattle.hyd_text_rows.specs.Found.{rows_at}
+use Rattle.hyd_text_rows.specs.FirstWrongRow.{rows_at}
 use Rattle.hyd_inp.proofs.Whole.{some_sources, lacks_sources, lacks_nothing}
 use Rattle.hyd_inp.proofs.missing_from_file.lack.Goals as goal
 

@@ -1,5 +1,5 @@
 use Rattle.std.proofs.Common.{◌≡◌, ◌≤◌, ◌-◌, length}
-use Rattle.hyd_io.specs.ToldBytes.{prepend_known}
+use Rattle.hyd_io.specs.DeskBytes.{prepend_known}
 use Rattle.hyd_io.proofs.input.read_all.Given as goal
 
 -- the bytes so far are the front of the rest at entry, and the desk is else as it was

@@ -1,5 +1,5 @@
 use Rattle.std.proofs.Common.{◌≡◌, ◌≢◌, ℕ, List, length, Some, is_some}
-use Rattle.hyd_io.specs.ToldBytes.{file_at, Moves}
+use Rattle.hyd_io.specs.DeskBytes.{file_at, Moves}
 use Rattle.hyd_io.specs.Output.{by_channel, OnCert, OnReport}
 use Rattle.hyd_io.proofs.output.put_all.Given as goal
 

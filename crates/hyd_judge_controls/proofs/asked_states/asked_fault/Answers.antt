@@ -1,6 +1,6 @@
 use Rattle.std.proofs.Common.{Some, None, sym, ◌∙◌}
 use Rattle.hyd_spec_lines.specs.Lines.{row_of}
-use Rattle.hyd_spec_input.specs.Capacities.{IsRefusedSetting}
+use Rattle.hyd_spec_input.specs.CapacitiesOutOfRange.{IsRefusedSetting}
 use Rattle.hyd_spec_input.specs.RowsTogether.{set_link}
 use Rattle.hyd_judge_controls.proofs.CommandLemmas.{then_capacity}
 use Rattle.hyd_judge_controls.proofs.asked_states.asked_fault.Goals as goal

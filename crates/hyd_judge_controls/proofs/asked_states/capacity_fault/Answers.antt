@@ -1,6 +1,6 @@
 use Rattle.std.proofs.Common.{Some}
 use Rattle.hyd_spec_lines.specs.Lines.{row_of}
-use Rattle.hyd_spec_input.specs.Capacities.{IsRefusedSetting}
+use Rattle.hyd_spec_input.specs.CapacitiesOutOfRange.{IsRefusedSetting}
 use Rattle.hyd_judge_controls.proofs.CommandLemmas.{capacity_there, capacity_not_there}
 use Rattle.hyd_judge_controls.proofs.asked_states.capacity_fault.Goals as goal
 

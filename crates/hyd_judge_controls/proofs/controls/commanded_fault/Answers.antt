@@ -1,6 +1,6 @@
 use Rattle.std.proofs.Common.{Some, sym, ◌∙◌}
 use Rattle.hyd_spec_lines.specs.Lines.{row_of}
-use Rattle.hyd_spec_input.specs.Capacities.{IsRefusedSetting}
+use Rattle.hyd_spec_input.specs.CapacitiesOutOfRange.{IsRefusedSetting}
 use Rattle.hyd_spec_input.specs.Columns.{word}
 use Rattle.hyd_judge_controls.specs.Controls.{commanded_fault}
 use Rattle.hyd_judge_controls.proofs.CommandLemmas.{then_capacity}

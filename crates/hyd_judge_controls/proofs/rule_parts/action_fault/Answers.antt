@@ -2,11 +2,11 @@ use Rattle.std.proofs.Common.{◌≡◌, None, Some, get_or, ap, ◌∙◌, subs
 use Rattle.hyd_spec_lines.specs.Lines.{Row, row_of}
 use Rattle.hyd_spec_lines.specs.declared.line.Line.{Line}
 use Rattle.hyd_spec_lines.specs.declared.section.Section.TheVariants.{Junctions}
-use Rattle.hyd_spec_input.specs.Capacities.{IsRefusedSetting}
+use Rattle.hyd_spec_input.specs.CapacitiesOutOfRange.{IsRefusedSetting}
 use Rattle.hyd_spec_input.specs.Columns.{asked, needed, word}
 use Rattle.hyd_spec_input.specs.Tables.{link_named}
 use Rattle.hyd_spec_input.specs.RowsTogether as others
-use Rattle.hyd_text_rows.specs.Found.{rows_at}
+use Rattle.hyd_text_rows.specs.FirstWrongRow.{rows_at}
 use Rattle.hyd_text_rows.specs.WrongInSection.{IsFaultThen}
 use Rattle.hyd_text_rows.proofs.FoundLemmas.{row_at}
 use Rattle.hyd_judge_controls.proofs.PartLemmas.{action_asks, action_unknown, action_known}

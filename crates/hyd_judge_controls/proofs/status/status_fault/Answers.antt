@@ -5,7 +5,7 @@ use Rattle.hyd_spec_lines.specs.declared.section.Section.TheVariants.{Junctions,
 use Rattle.hyd_spec_input.specs.Columns.{word}
 use Rattle.hyd_spec_input.specs.DemandCurveAndStatusRows as row_form
 use Rattle.hyd_spec_input.specs.declared.LinkWord.TheVariants.{Link}
-use Rattle.hyd_text_rows.specs.Found.{rows_at}
+use Rattle.hyd_text_rows.specs.FirstWrongRow.{rows_at}
 use Rattle.hyd_text_rows.proofs.FoundLemmas.{row_at}
 use Rattle.hyd_judge_controls.proofs.CommandLemmas.{command_unknown, command_known, none_elsewhere}
 use Rattle.hyd_judge_controls.proofs.StatusLemmas.{status_is_right, status_verdict}

@@ -1,6 +1,6 @@
 use Rattle.std.proofs.Common.{refl, arith, length, ap}
 use Rattle.hyd_spec_input.specs.Tables.{is_link}
-use Rattle.hyd_text_rows.specs.Found.{rows_at}
+use Rattle.hyd_text_rows.specs.FirstWrongRow.{rows_at}
 use Rattle.hyd_text_rows.proofs.SectionLemmas.{table_of_all, found_fewer}
 use Rattle.hyd_judge_links.specs.LinksSoFar.{IsWrongLink}
 use Rattle.hyd_judge_links.proofs.links.judge_links.Goals as goal

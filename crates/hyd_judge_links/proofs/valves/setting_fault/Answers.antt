@@ -1,6 +1,6 @@
 use Rattle.std.proofs.Common.{subst}
 use Rattle.hyd_num.specs.FileQuantity.{is_us_unit}
-use Rattle.hyd_option_and_rule_lines.specs.FaultOrValue.{words_at}
+use Rattle.hyd_row_words.specs.FaultOrValue.{words_at}
 use Rattle.hyd_network_rows.specs.Rows.{IsValveSetting}
 use Rattle.hyd_network_rows.specs.declared.valves.ValveSetting.{ValveSetting}
 use Rattle.hyd_theorems_on_input.proofs.LinkKinds.{valve_numbers}

@@ -1,6 +1,6 @@
 use Rattle.std.proofs.Common.{length, refl, arith}
 use Rattle.hyd_spec_lines.specs.declared.section.Section.TheVariants.{Demands}
-use Rattle.hyd_text_rows.specs.Found.{rows_at}
+use Rattle.hyd_text_rows.specs.FirstWrongRow.{rows_at}
 use Rattle.hyd_text_rows.specs.WrongInSection.{IsWrongIn}
 use Rattle.hyd_text_rows.proofs.SectionLemmas.{found_fewer}
 use Rattle.hyd_judge_nodes_curves_and_options.proofs.demands.judge_demands.Goals as goal

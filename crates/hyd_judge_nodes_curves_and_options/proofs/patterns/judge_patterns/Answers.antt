@@ -1,5 +1,5 @@
 use Rattle.std.proofs.Common.{arith, length, sym}
-use Rattle.hyd_text_rows.specs.Found.{rows_at}
+use Rattle.hyd_text_rows.specs.FirstWrongRow.{rows_at}
 use Rattle.hyd_text_rows.proofs.SectionLemmas.{all_rows}
 use Rattle.hyd_judge_nodes_curves_and_options.proofs.ExtremeLemmas.{patterns_of}
 use Rattle.hyd_judge_nodes_curves_and_options.proofs.patterns.judge_patterns.Goals as goal

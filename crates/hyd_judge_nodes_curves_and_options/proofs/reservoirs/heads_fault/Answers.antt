@@ -1,5 +1,5 @@
 use Rattle.std.proofs.Common.{sym, ◌∙◌}
-use Rattle.hyd_spec_lines.specs.Bytes.{text_of}
+use Rattle.hyd_spec_lines.specs.WordsOfLines.{text_of}
 use Rattle.hyd_judge_nodes_curves_and_options.specs.Extremes.{bounds}
 use Rattle.hyd_judge_nodes_curves_and_options.proofs.NodeLemmas.{heads_are}
 use Rattle.hyd_judge_nodes_curves_and_options.proofs.reservoirs.heads_fault.Goals as goal

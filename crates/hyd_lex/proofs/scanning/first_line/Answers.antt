@@ -2,7 +2,7 @@ use Rattle.std.proofs.Common.{◌≤◌, ◌≡◌, not, length, take, arith, ap
 use Rattle.std.specs.List.{position_or_len}
 use Rattle.std.proofs.lemmas.List.Sums.{prefix_len-le-length}
 use Rattle.std.proofs.Math.Seq.{take-length}
-use Rattle.hyd_spec_lines.specs.Bytes.{is_line_feed}
+use Rattle.hyd_spec_lines.specs.WordsOfLines.{is_line_feed}
 use Rattle.hyd_lex.proofs.FirstLine.{line_before_feed, line_at_end}
 use Rattle.hyd_lex.proofs.scanning.first_line.Goals as goal
 

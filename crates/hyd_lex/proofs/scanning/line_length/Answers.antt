@@ -1,5 +1,5 @@
 use Rattle.std.proofs.Common.{length, unwrap_or, ap, ◌∙◌}
-use Rattle.hyd_spec_lines.specs.Bytes.{is_line_feed}
+use Rattle.hyd_spec_lines.specs.WordsOfLines.{is_line_feed}
 use Rattle.hyd_lex.proofs.Places.{place_is}
 use Rattle.hyd_lex.proofs.scanning.line_length.Goals as goal
 

@@ -1,7 +1,7 @@
 use Rattle.std.proofs.Common.{length, nat_le, rules, tests}
 use Rattle.std.proofs.lemmas.Iterator.Consumers.{nth_from_yields_List, YieldsList-from_filter, YieldsList-at}
 use Rattle.std.proofs.lemmas.Iterator.Splits.{YieldsList-from_slice_split}
-use Rattle.hyd_spec_lines.specs.Bytes.{words_in, is_blank}
+use Rattle.hyd_spec_lines.specs.WordsOfLines.{words_in, is_blank}
 use Rattle.hyd_lex.proofs.scanning.word.Goals as goal
 
 pub returns : goal.returns

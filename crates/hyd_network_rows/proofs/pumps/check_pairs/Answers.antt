@@ -1,5 +1,5 @@
 use Rattle.std.proofs.Common.{◌∙◌}
-use Rattle.hyd_spec_lines.specs.Bytes.{words_in}
+use Rattle.hyd_spec_lines.specs.WordsOfLines.{words_in}
 use Rattle.hyd_network_rows.proofs.PairLemmas.{pair_more}
 use Rattle.hyd_network_rows.proofs.pumps.check_pairs.Goals as goal
 

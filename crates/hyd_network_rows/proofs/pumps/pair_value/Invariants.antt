@@ -1,5 +1,5 @@
 use Rattle.std.proofs.Common.{◌≡◌, length}
-use Rattle.hyd_spec_lines.specs.Bytes.{words_in}
+use Rattle.hyd_spec_lines.specs.WordsOfLines.{words_in}
 use Rattle.hyd_spec_input.specs.NetworkRows as row
 use Rattle.hyd_network_rows.proofs.pumps.pair_value.Given as goal
 

@@ -1,5 +1,5 @@
 use Rattle.std.proofs.Common.{pos, neg_ℤ, FitsSigned, ◌*ℤ◌, ◌-ℤ◌, ◌≡◌, refl, arith, to_z, of_z, to_z-of_z}
-use Rattle.hyd_num.specs.Roots.{IsFloor}
+use Rattle.hyd_num.specs.QuotientsAndRoots.{IsFloor}
 use mir.Syntax.{w128}
 use Rattle.std.specs.Int.{int_div_euclid}
 use Rattle.std.proofs.lemmas.Int.{ints}

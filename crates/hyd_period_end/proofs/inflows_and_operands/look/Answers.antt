@@ -1,5 +1,5 @@
 use Rattle.hyd_cert.specs.RecordView.{row_of}
-use Rattle.hyd_period_network.specs.GridOf.{grid_of}
+use Rattle.hyd_period_network.specs.NetAsPeriodNetwork.{grid_of}
 use Rattle.hyd_period_end.proofs.Bounding.{lower-is, upper-is, in-order, each-low, each-high, each-flow, pinned-of}
 use Rattle.hyd_period_end.proofs.Bounding.{have-tanks, are-started}
 use Rattle.hyd_period_end.proofs.inflows_and_operands.look.Goals as goal

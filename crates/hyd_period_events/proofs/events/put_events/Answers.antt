@@ -3,7 +3,7 @@ use Rattle.std.specs.Prelude.{map}
 use Rattle.hyd_spec.specs.Lists.{map_from, present}
 use Rattle.hyd_spec_reports.specs.declared.Event.{Event}
 use Rattle.hyd_spec_reports.specs.Report.{tank_events, control_event}
-use Rattle.hyd_period_facts.specs.OfPeriod.{levels_of}
+use Rattle.hyd_period_facts.specs.FactsOfPeriod.{levels_of}
 use Rattle.hyd_period_events.proofs.Listing.{events_are}
 use Rattle.hyd_period_events.proofs.events.put_events.Goals as goal
 

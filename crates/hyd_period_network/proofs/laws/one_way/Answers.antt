@@ -2,7 +2,7 @@ use Rattle.std.proofs.Common.{subst}
 use Rattle.hyd_law.specs.declared.link_law.LinkLaw.{LinkLaw}
 use Rattle.hyd_law.specs.declared.link_law.LinkLaw.TheVariants.{QuadOneWay, LinearOneWay, Pump, LimitOneWay}
 use Rattle.hyd_law.specs.declared.link_law.LinkLaw.TheVariants.{LinearLimitOneWay}
-use Rattle.hyd_period_network.specs.Settings.{Stands}
+use Rattle.hyd_period_network.specs.LawsInSettings.{Stands}
 use Rattle.hyd_period_network.proofs.LawsStand.{still_shut, quad_one_way, linear_one_way, limit_one_way}
 use Rattle.hyd_period_network.proofs.LawsStand.{linear_limit_one_way}
 use Rattle.hyd_period_network.proofs.LawsStand.{quad_again, linear_again, pump_again, limit_again, linear_limit_again}

@@ -1,9 +1,9 @@
 use Rattle.std.proofs.Common.{◌≡◌, ℤ, Bool, to_z, of_z, w64, subst, arith}
 use Rattle.std.proofs.lemmas.Int.{ints}
 use Rattle.hyd_spec.specs.ProgramTypes.{Speed, Limit}
-use Rattle.hyd_spec.specs.Quantity.{is_us}
+use Rattle.hyd_spec.specs.DemandsReservoirHeadsAndCurves.{is_us}
 use Rattle.hyd_spec.specs.LinkLaw.{own_law}
-use Rattle.hyd_period_network.specs.Settings.{Represents}
+use Rattle.hyd_period_network.specs.LawsInSettings.{Represents}
 use Rattle.hyd_period_network.proofs.LawsStand.{shut_represents}
 use Rattle.hyd_period_network.proofs.Ranging.{speed_of, flow_of, shutoff_of, closed_is}
 use Rattle.hyd_period_network.proofs.laws.plain_law.Goals as goal

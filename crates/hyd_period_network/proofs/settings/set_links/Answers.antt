@@ -1,7 +1,7 @@
 use Rattle.std.proofs.Common.{ℕ, ◌<◌, List, length, slice_index_or, subst, sym, ap, ◌∙◌, rules, arith}
 use Rattle.hyd_spec.specs.ProgramTypes.{Link, LinkState}
-use Rattle.hyd_period_network.specs.declared.junctions_ties_and_settings.Setting.{Setting}
-use Rattle.hyd_period_network.specs.Settings.{AreLaws, CanStand}
+use Rattle.hyd_period_network.specs.declared.net_types.Setting.{Setting}
+use Rattle.hyd_period_network.specs.LawsInSettings.{AreLaws, CanStand}
 use Rattle.hyd_period_network.proofs.SettingOne.{laws_set, sets_more}
 use Rattle.hyd_period_network.proofs.Standing.{standing_of}
 use Rattle.hyd_period_network.proofs.settings.set_links.Goals as goal

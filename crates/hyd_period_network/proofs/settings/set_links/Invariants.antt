@@ -1,5 +1,5 @@
 use Rattle.std.proofs.Common.{◌≡◌, length}
-use Rattle.hyd_period_network.specs.Settings.{AreLaws, AreSet}
+use Rattle.hyd_period_network.specs.LawsInSettings.{AreLaws, AreSet}
 use Rattle.hyd_period_network.proofs.settings.set_links.Given as goal
 
 abbrev pub invariant-loop-i : goal.invariant-loop-i

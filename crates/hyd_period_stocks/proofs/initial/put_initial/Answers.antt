@@ -7,9 +7,9 @@ use Rattle.hyd_spec.specs.Tank.{walls_of, kept_volume}
 use Rattle.hyd_spec_certificates.specs.Interval.{exactly}
 use Rattle.hyd_spec_certificates.specs.Stocks.{Stocks}
 use Rattle.hyd_spec_certificates.specs.declared.LevelSpan.{LevelSpan}
-use Rattle.hyd_tank.specs.Spans.{AreHeld}
-use Rattle.hyd_tank.specs.declared.spans.VolumeSpan.{VolumeSpan}
-use Rattle.hyd_period_facts.specs.OfPeriod.{levels_of, volumes_of}
+use Rattle.hyd_tank.specs.StockIntervals.{AreHeld}
+use Rattle.hyd_tank.specs.declared.stock_intervals.VolumeSpan.{VolumeSpan}
+use Rattle.hyd_period_facts.specs.FactsOfPeriod.{levels_of, volumes_of}
 use Rattle.hyd_period_stocks.proofs.Starting.{item_more, all_items, held_further, held_at_start}
 use Rattle.hyd_period_stocks.proofs.initial.put_initial.Goals as goal
 

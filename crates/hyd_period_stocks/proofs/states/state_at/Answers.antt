@@ -1,4 +1,4 @@
-use Rattle.hyd_period_facts.specs.OfPeriod.{levels_of}
+use Rattle.hyd_period_facts.specs.FactsOfPeriod.{levels_of}
 use Rattle.std.specs.Prelude.{map, slice_index_or}
 use Rattle.hyd_spec_certificates.specs.Decided.{nowhere}
 use Rattle.hyd_period_stocks.proofs.Deciding.{range_of, state_is}

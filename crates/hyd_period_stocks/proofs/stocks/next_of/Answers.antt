@@ -2,8 +2,8 @@ use Rattle.std.proofs.Common.{◌∙◌, ap, sym, subst}
 use Rattle.hyd_spec.specs.Tank.{walls_of}
 use Rattle.hyd_spec_certificates.specs.Interval.{Interval}
 use Rattle.hyd_spec_certificates.specs.Stocks.{Stocks, next_stocks}
-use Rattle.hyd_tank.specs.Spans.{inflows_of, AreHeld}
-use Rattle.hyd_watched_levels.specs.FactsAtStart.{stocks_in}
+use Rattle.hyd_tank.specs.StockIntervals.{inflows_of, AreHeld}
+use Rattle.hyd_watched_levels.specs.FactsBeforeEnd.{stocks_in}
 use Rattle.hyd_period_stocks.proofs.stocks.next_of.Goals as goal
 
 pub next_stock-requires-clause-held : goal.next_stock-requires-clause-held

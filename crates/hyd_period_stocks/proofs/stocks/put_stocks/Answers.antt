@@ -4,9 +4,9 @@ use Rattle.std.proofs.lemmas.List.{length_push}
 use Rattle.hyd_spec.specs.ProgramTypes.{Tank}
 use Rattle.hyd_spec_certificates.specs.Stocks.{Stocks}
 use Rattle.hyd_spec_certificates.specs.declared.LevelSpan.{LevelSpan}
-use Rattle.hyd_tank.specs.Spans.{stocks_of}
-use Rattle.hyd_tank.specs.declared.spans.VolumeSpan.{VolumeSpan}
-use Rattle.hyd_period_facts.specs.OfPeriod.{levels_of, volumes_of}
+use Rattle.hyd_tank.specs.StockIntervals.{stocks_of}
+use Rattle.hyd_tank.specs.declared.stock_intervals.VolumeSpan.{VolumeSpan}
+use Rattle.hyd_period_facts.specs.FactsOfPeriod.{levels_of, volumes_of}
 use Rattle.hyd_tank_inflows.proofs.Numbered.{one_more, all_there}
 use Rattle.hyd_period_stocks.specs.TankStart.{next_in}
 use Rattle.hyd_period_stocks.proofs.Stocking.{levels_are, volumes_are, all_held, held_more}

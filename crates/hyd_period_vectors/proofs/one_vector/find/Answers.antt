@@ -1,9 +1,9 @@
-use Rattle.hyd_period_network.specs.GridOf.{grid_of}
+use Rattle.hyd_period_network.specs.NetAsPeriodNetwork.{grid_of}
 use Rattle.hyd_spec_certificates.specs.Certificate.{IsTight}
 use Rattle.std.specs.Prelude.{length}
 use Rattle.std.proofs.Common.{ℕ, ◌≤◌}
 use Rattle.std.specs.Prelude.{None}
-use Rattle.hyd_sweep.specs.Strides.{AreLeapingRounds}
+use Rattle.hyd_sweep.specs.LeapingRounds.{AreLeapingRounds}
 use Rattle.hyd_period_vectors.specs.Vectors.{IsSought, IsAtHand, Comes}
 use Rattle.hyd_period_vectors.proofs.Telling.{on-ok, tight-sought, reached, other-comes}
 use Rattle.hyd_period_vectors.proofs.one_vector.find.Goals as goal

@@ -1,5 +1,5 @@
 use Rattle.std.proofs.Common.{refl}
-use Rattle.hyd_period_network.specs.GridOf.{grid_of}
+use Rattle.hyd_period_network.specs.NetAsPeriodNetwork.{grid_of}
 use Rattle.hyd_period_vectors.proofs.Spending.{spent-anywhere}
 use Rattle.hyd_period_vectors.proofs.one_vector.sweep.Goals as goal
 

@@ -1,5 +1,5 @@
 use Rattle.std.proofs.Common.{◌∙◌, sym}
-use Rattle.hyd_period_network.specs.GridOf.{grid_of}
+use Rattle.hyd_period_network.specs.NetAsPeriodNetwork.{grid_of}
 use Rattle.hyd_period_vectors.proofs.Reaching.{turns-begin, turns-end, turns-come}
 use Rattle.hyd_period_vectors.proofs.starting.are_reached.Goals as goal
 

@@ -2,12 +2,12 @@ use Rattle.std.proofs.Common.{◌∙◌, sym, ap, subst, List, ℤ}
 use Rattle.std.specs.Prelude.{None}
 use Rattle.hyd_spec_certificates.specs.declared.Problem.TheVariants.{Main}
 use Rattle.hyd_spec_certificates.specs.declared.Side.{Side}
-use Rattle.hyd_spec_certificates.specs.Grid.{opposite}
+use Rattle.hyd_spec_certificates.specs.PeriodNetwork.{opposite}
 use Rattle.hyd_spec_certificates.specs.Certificate.{IsCertificate}
 use Rattle.hyd_spec_certificates.specs.SearchSteps.{IsStart}
-use Rattle.hyd_spec_certificates.specs.Record.{vector_of}
+use Rattle.hyd_spec_certificates.specs.RecordAndStanding.{vector_of}
 use Rattle.hyd_cert.specs.RecordView.{row_of}
-use Rattle.hyd_period_network.specs.GridOf.{grid_of}
+use Rattle.hyd_period_network.specs.NetAsPeriodNetwork.{grid_of}
 use Rattle.hyd_period_vectors.proofs.Nearing.{start-across}
 use Rattle.hyd_period_vectors.proofs.starting.begin_near.Goals as goal
 

@@ -4,10 +4,10 @@ use Rattle.std.proofs.lemmas.Int.{ints}
 use Rattle.std.proofs.lemmas.Bool.{false≢true}
 use Rattle.hyd_spec.specs.Assignment.{head_at}
 use Rattle.hyd_spec_certificates.specs.Certificate.{Passes}
-use Rattle.hyd_spec_certificates.specs.Grid.{GridJunction}
-use Rattle.hyd_period_network.specs.GridOf.{grid_of}
+use Rattle.hyd_spec_certificates.specs.PeriodNetwork.{GridJunction}
+use Rattle.hyd_period_network.specs.NetAsPeriodNetwork.{grid_of}
 use Rattle.hyd_vector_check.proofs.Lookups.{junction-there}
-use Rattle.hyd_period_vectors.specs.JunctionTurns.{AreInTurn}
+use Rattle.hyd_period_vectors.specs.TurnsTowardProposedHeads.{AreInTurn}
 use Rattle.hyd_period_vectors.proofs.Reaching.{turns-more}
 use Rattle.hyd_period_vectors.proofs.starting.take_turn.Goals as goal
 

@@ -1,9 +1,9 @@
 -- The line of the junction that is there.
 use Rattle.std.proofs.Common.{◌-ℤ◌, List, ℕ, to_z-of_z, FitsSigned, w64, rules}
 use Rattle.std.specs.Prelude.{slice_get, IfSome}
-use Rattle.hyd_period_network.specs.GridOf.{grid_of}
-use Rattle.hyd_bounds.specs.Bounds.{IsSpan}
-use Rattle.hyd_spec_certificates.specs.Boxes.{out_box}
+use Rattle.hyd_period_network.specs.NetAsPeriodNetwork.{grid_of}
+use Rattle.hyd_bounds.specs.VectorsInOrder.{IsSpan}
+use Rattle.hyd_spec_certificates.specs.FlowIntervals.{out_box}
 use Rattle.hyd_report.specs.Putting.{Puts}
 use Rattle.hyd_report.specs.Printing.{printed, quantity_in, ArePrinted}
 use Rattle.hyd_report.specs.declared.printed_intervals.Quantity.TheVariants.{Head, Pressure}

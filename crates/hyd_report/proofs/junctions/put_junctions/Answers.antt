@@ -1,7 +1,7 @@
 -- One line more, or a line that is cut off.
 use Rattle.std.proofs.Common.{◌<◌, length, arith}
-use Rattle.hyd_period_network.specs.GridOf.{grid_of}
-use Rattle.hyd_report.specs.LinesOfParts.{junction_line}
+use Rattle.hyd_period_network.specs.NetAsPeriodNetwork.{grid_of}
+use Rattle.hyd_report.specs.NodeAndLinkLines.{junction_line}
 use Rattle.hyd_report.proofs.LoopLemmas.{line_put, line_cut}
 use Rattle.hyd_report.proofs.junctions.put_junctions.Goals as goal
 

@@ -2,11 +2,11 @@
 use Rattle.std.proofs.Common.{◌≡◌, ◌<◌, ◌∙◌, ℕ, List, ap, length, arith}
 use Rattle.std.specs.Prelude.{Some, slice_get}
 use Rattle.std.proofs.lemmas.List.{length-map}
-use Rattle.hyd_spec_certificates.specs.Grid.{GridLink, all_heads}
+use Rattle.hyd_spec_certificates.specs.PeriodNetwork.{GridLink, all_heads}
 use Rattle.hyd_spec_certificates.specs.declared.Problem.TheVariants.{Main}
 use Rattle.hyd_spec_certificates.specs.declared.Side.TheVariants.{Upper, Lower}
 use Rattle.hyd_period_network.specs.Periods.{ends_of}
-use Rattle.hyd_period_network.specs.GridOf.{grid_of, states_of}
+use Rattle.hyd_period_network.specs.NetAsPeriodNetwork.{grid_of, states_of}
 use Rattle.hyd_report.specs.Putting.{Puts}
 use Rattle.hyd_report.proofs.LineLemmas.{found, link_put}
 use Rattle.hyd_report.proofs.LinkLemmas.{link_word}

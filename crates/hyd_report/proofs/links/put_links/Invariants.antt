@@ -1,12 +1,12 @@
 use Rattle.std.proofs.Common.{take}
 use Rattle.std.specs.Prelude.{Ok}
 use Rattle.hyd_spec.specs.Lists.{map_from}
-use Rattle.hyd_period_network.specs.GridOf.{grid_of, states_of}
-use Rattle.hyd_spec_certificates.specs.Grid.{all_heads}
+use Rattle.hyd_period_network.specs.NetAsPeriodNetwork.{grid_of, states_of}
+use Rattle.hyd_spec_certificates.specs.PeriodNetwork.{all_heads}
 use Rattle.hyd_spec_certificates.specs.declared.Problem.TheVariants.{Main}
 use Rattle.hyd_spec_certificates.specs.declared.Side.TheVariants.{Upper, Lower}
 use Rattle.hyd_report.specs.Putting.{Puts}
-use Rattle.hyd_report.specs.LinesOfParts.{texts, link_line}
+use Rattle.hyd_report.specs.NodeAndLinkLines.{texts, link_line}
 use Rattle.hyd_report.proofs.links.put_links.Given as goal
 
 -- the lines of the links so far were put

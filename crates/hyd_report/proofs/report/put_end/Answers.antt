@@ -1,7 +1,7 @@
 -- Events, and then the changes by rules.
 use Rattle.std.proofs.Common.{◌+◌, drop, refl}
 use Rattle.hyd_spec_reports.specs.Report.{change_line, event_line}
-use Rattle.hyd_report.specs.Words.{before_rules}
+use Rattle.hyd_report.specs.EventTextsAndChangesByRules.{before_rules}
 use Rattle.hyd_report.proofs.LineLemmas.{end_text}
 use Rattle.hyd_report.proofs.PutLemmas.{puts_then, puts_cut, puts_same}
 use Rattle.hyd_report.proofs.report.put_end.Goals as goal

@@ -3,7 +3,7 @@ use Rattle.std.proofs.Common.{◌≡◌, ◌∙◌, sym, ap, length}
 use Rattle.std.proofs.lemmas.List.{length-map}
 use Rattle.hyd_period_network.specs.Periods.{ends_of}
 use Rattle.hyd_cert.specs.RecordView.{row_of}
-use Rattle.hyd_period_network.specs.GridOf.{grid_of, states_of}
+use Rattle.hyd_period_network.specs.NetAsPeriodNetwork.{grid_of, states_of}
 use Rattle.hyd_report.specs.PeriodLines.{start_lines, middle_lines, end_lines}
 use Rattle.hyd_report.proofs.LineLemmas.{three_text}
 use Rattle.hyd_report.proofs.PutLemmas.{puts_then, puts_cut, puts_same}

@@ -2,14 +2,14 @@
 use Rattle.std.proofs.Common.{◌++◌, ◌∙◌, List, ℤ, pos, sym, subst}
 use Rattle.hyd_spec.specs.Lists.{map_from}
 use Rattle.hyd_spec_certificates.specs.Decided.{heads_below, heads_above}
-use Rattle.hyd_spec_certificates.specs.Grid.{fixed_heads}
+use Rattle.hyd_spec_certificates.specs.PeriodNetwork.{fixed_heads}
 use Rattle.hyd_spec_certificates.specs.declared.Problem.TheVariants.{Main}
 use Rattle.hyd_spec_certificates.specs.declared.Side.TheVariants.{Upper, Lower}
 use Rattle.hyd_spec_reports.specs.ReportLine.{TimeLine}
 use Rattle.hyd_cert.specs.RecordView.{row_of}
-use Rattle.hyd_period_network.specs.GridOf.{grid_of, states_of}
-use Rattle.hyd_bounds.specs.Bounds.{AreInOrder}
-use Rattle.hyd_report.specs.LinesOfParts.{texts, reservoir_line, tank_line, link_line}
+use Rattle.hyd_period_network.specs.NetAsPeriodNetwork.{grid_of, states_of}
+use Rattle.hyd_bounds.specs.VectorsInOrder.{AreInOrder}
+use Rattle.hyd_report.specs.NodeAndLinkLines.{texts, reservoir_line, tank_line, link_line}
 use Rattle.hyd_report.proofs.LineLemmas.{in_order, state_text}
 use Rattle.hyd_report.proofs.PutLemmas.{puts_then, puts_cut, puts_same, puts_ready}
 use Rattle.hyd_report.proofs.report.put_state.Goals as goal

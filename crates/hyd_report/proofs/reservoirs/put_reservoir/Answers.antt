@@ -1,10 +1,10 @@
 -- The head of a reservoir stands behind those of the junctions.
 use Rattle.std.proofs.Common.{◌≡◌, ap, ℕ, ◌+◌, ◌∙◌, ◌++◌, List, length, to_z-of_z, FitsSigned, w64}
 use Rattle.hyd_spec.specs.Assignment.{head_at}
-use Rattle.hyd_spec_certificates.specs.Grid.{fixed_heads}
+use Rattle.hyd_spec_certificates.specs.PeriodNetwork.{fixed_heads}
 use Rattle.hyd_spec_certificates.specs.declared.Problem.TheVariants.{Main}
 use Rattle.hyd_spec_certificates.specs.declared.Side.TheVariants.{Lower}
-use Rattle.hyd_period_network.specs.GridOf.{grid_of}
+use Rattle.hyd_period_network.specs.NetAsPeriodNetwork.{grid_of}
 use Rattle.hyd_report.specs.Putting.{Puts}
 use Rattle.hyd_report.specs.Printing.{printed, quantity_in, ArePrinted}
 use Rattle.hyd_report.specs.declared.printed_intervals.Quantity.TheVariants.{Head}

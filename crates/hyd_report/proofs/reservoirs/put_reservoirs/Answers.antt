@@ -1,6 +1,6 @@
 -- One line more, or a line that is cut off.
 use Rattle.std.proofs.Common.{◌<◌, length, arith}
-use Rattle.hyd_report.specs.LinesOfParts.{reservoir_line}
+use Rattle.hyd_report.specs.NodeAndLinkLines.{reservoir_line}
 use Rattle.hyd_report.proofs.LoopLemmas.{line_put, line_cut}
 use Rattle.hyd_report.proofs.reservoirs.put_reservoirs.Goals as goal
 

@@ -1,9 +1,9 @@
 use Rattle.std.proofs.Common.{take}
 use Rattle.std.specs.Prelude.{Ok}
 use Rattle.hyd_spec.specs.Lists.{map_from}
-use Rattle.hyd_period_network.specs.GridOf.{grid_of}
+use Rattle.hyd_period_network.specs.NetAsPeriodNetwork.{grid_of}
 use Rattle.hyd_report.specs.Putting.{Puts}
-use Rattle.hyd_report.specs.LinesOfParts.{texts, reservoir_line}
+use Rattle.hyd_report.specs.NodeAndLinkLines.{texts, reservoir_line}
 use Rattle.hyd_report.proofs.reservoirs.put_reservoirs.Given as goal
 
 -- the lines of the reservoirs so far were put

@@ -1,7 +1,7 @@
 -- One line more, or a line that is cut off.
 use Rattle.std.proofs.Common.{ℕ, List, ◌<◌, length, arith}
 use Rattle.std.specs.Prelude.{Ok, Err, slice_get}
-use Rattle.hyd_report.specs.LinesOfParts.{tank_line}
+use Rattle.hyd_report.specs.NodeAndLinkLines.{tank_line}
 use Rattle.hyd_report.specs.Putting.{Puts}
 use Rattle.hyd_report.proofs.LineLemmas.{tank_read}
 use Rattle.hyd_report.proofs.LoopLemmas.{line_put, line_cut}

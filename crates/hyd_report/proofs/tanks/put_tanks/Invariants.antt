@@ -2,7 +2,7 @@ use Rattle.std.proofs.Common.{take}
 use Rattle.std.specs.Prelude.{Ok}
 use Rattle.hyd_spec.specs.Lists.{map_from}
 use Rattle.hyd_report.specs.Putting.{Puts}
-use Rattle.hyd_report.specs.LinesOfParts.{texts, tank_line}
+use Rattle.hyd_report.specs.NodeAndLinkLines.{texts, tank_line}
 use Rattle.hyd_report.proofs.tanks.put_tanks.Given as goal
 
 -- the lines of the tanks so far were put

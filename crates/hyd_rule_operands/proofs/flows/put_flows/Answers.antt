@@ -4,8 +4,8 @@ use Rattle.std.specs.List.{All}
 use Rattle.std.proofs.lemmas.List.{length_push}
 use Rattle.std.proofs.lemmas.List.Elements.{All-push}
 use Rattle.hyd_num.specs.declared.decimals.Span.{Span}
-use Rattle.hyd_period_network.specs.GridOf.{grid_of}
-use Rattle.hyd_controls_and_rules.specs.Instants.{flow_interval, IsBounded}
+use Rattle.hyd_period_network.specs.NetAsPeriodNetwork.{grid_of}
+use Rattle.hyd_controls_and_rules.specs.RuleReadings.{flow_interval, IsBounded}
 use Rattle.hyd_rule_operands.specs.FlowBoxes.{box_between}
 use Rattle.hyd_rule_operands.proofs.Reading.{one_more, all_flows}
 use Rattle.hyd_rule_operands.proofs.flows.put_flows.Goals as goal

@@ -1,8 +1,8 @@
 use Rattle.std.proofs.Common.{◌≡◌, ◌≤◌, ◌+◌, length, take}
 use Rattle.std.specs.Prelude.{map}
 use Rattle.std.specs.List.{All}
-use Rattle.hyd_period_network.specs.GridOf.{grid_of}
-use Rattle.hyd_controls_and_rules.specs.Instants.{flow_interval, IsBounded}
+use Rattle.hyd_period_network.specs.NetAsPeriodNetwork.{grid_of}
+use Rattle.hyd_controls_and_rules.specs.RuleReadings.{flow_interval, IsBounded}
 use Rattle.hyd_rule_operands.specs.FlowBoxes.{box_between}
 use Rattle.hyd_rule_operands.proofs.flows.put_flows.Given as goal
 

@@ -1,10 +1,10 @@
 use Rattle.std.proofs.Common.{◌≡◌, ap, ℕ, ◌+◌, ◌∙◌, ◌++◌, length, to_z, of_z, FitsSigned, w64}
 use Rattle.std.proofs.lemmas.Int.{to_z-of_z}
 use Rattle.hyd_spec.specs.Assignment.{head_at}
-use Rattle.hyd_spec_certificates.specs.Grid.{fixed_heads}
+use Rattle.hyd_spec_certificates.specs.PeriodNetwork.{fixed_heads}
 use Rattle.hyd_spec_certificates.specs.declared.Problem.TheVariants.{Main}
 use Rattle.hyd_spec_certificates.specs.declared.Side.TheVariants.{Lower}
-use Rattle.hyd_period_network.specs.GridOf.{grid_of}
+use Rattle.hyd_period_network.specs.NetAsPeriodNetwork.{grid_of}
 use Rattle.hyd_rule_operands.proofs.Reading.{heads_of, heads_of-length, head_behind, head_before, reservoir_is}
 use Rattle.hyd_rule_operands.proofs.heads.reservoir_head.Goals as goal
 

@@ -3,7 +3,7 @@ use Rattle.std.specs.Prelude.{map}
 use Rattle.hyd_spec.specs.ProgramTypes.{LinkState}
 use Rattle.hyd_spec_certificates.specs.declared.LevelSpan.{LevelSpan}
 use Rattle.hyd_spec_certificates.specs.Decided.{carried_at, readings_below, readings_above}
-use Rattle.hyd_controls_and_rules.specs.Instants.{level_interval}
+use Rattle.hyd_controls_and_rules.specs.RuleReadings.{level_interval}
 use Rattle.hyd_rules_in_period.proofs.Reading.{if_ok, if_err, alike_below, alike_above, decided_so, open_so}
 use Rattle.hyd_rules_in_period.proofs.trial.try_rules.Goals as goal
 

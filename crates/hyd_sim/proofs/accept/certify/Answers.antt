@@ -3,7 +3,7 @@ use Rattle.std.specs.Prelude.{length}
 use Rattle.hyd_cert.specs.Lines.{Header}
 use Rattle.hyd_cert.specs.Vectors.{behind_two}
 use Rattle.hyd_cert.specs.RecordView.{row_of}
-use Rattle.hyd_period_network.specs.GridOf.{grid_of}
+use Rattle.hyd_period_network.specs.NetAsPeriodNetwork.{grid_of}
 use Rattle.hyd_sim.specs.View.{standing_for}
 use Rattle.hyd_sim.proofs.Refusing.{shares-taken, fails-refused}
 use Rattle.hyd_sim.proofs.Running.{net-junctions, problems-each, certificates-of}

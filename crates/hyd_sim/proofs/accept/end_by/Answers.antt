@@ -1,8 +1,8 @@
 use Rattle.std.proofs.Common.{◌≡◌, sym, ap, ◌∙◌}
 use Rattle.hyd_cert.specs.RecordView.{row_of}
 use Rattle.hyd_cert.specs.declared.record.Record.{Record as Row}
-use Rattle.hyd_period_network.specs.GridOf.{grid_of}
-use Rattle.hyd_sim.specs.Attempts.{IsMade}
+use Rattle.hyd_period_network.specs.NetAsPeriodNetwork.{grid_of}
+use Rattle.hyd_sim.specs.PeriodAttempt.{IsMade}
 use Rattle.hyd_sim.specs.View.{standing_for}
 use Rattle.hyd_sim.proofs.Attempting.{made-of}
 use Rattle.hyd_sim.proofs.Proposed.{same-record}

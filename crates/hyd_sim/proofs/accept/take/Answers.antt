@@ -1,11 +1,11 @@
 use Rattle.std.proofs.Common.{◌≡◌, subst}
 use Rattle.std.proofs.lemmas.Result.{err_from_is_err_and}
-use Rattle.hyd_spec_certificates.specs.Record.{Record}
+use Rattle.hyd_spec_certificates.specs.RecordAndStanding.{Record}
 use Rattle.hyd_spec_certificates.specs.Valid.{IsValid}
 use Rattle.hyd_theorems_on_definitions.proofs.OneRefusal.{one_refusal, refused_invalid}
 use Rattle.hyd_cert.specs.RecordView.{row_of}
-use Rattle.hyd_period_network.specs.GridOf.{grid_of}
-use Rattle.hyd_sim.specs.Attempts.{next_standing}
+use Rattle.hyd_period_network.specs.NetAsPeriodNetwork.{grid_of}
+use Rattle.hyd_sim.specs.PeriodAttempt.{next_standing}
 use Rattle.hyd_sim.specs.View.{standing_for}
 use Rattle.hyd_sim.proofs.Refusing.{taken-of}
 use Rattle.hyd_sim.proofs.accept.take.Goals as goal

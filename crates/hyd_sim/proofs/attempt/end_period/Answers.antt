@@ -1,8 +1,8 @@
 use Rattle.std.proofs.Common.{ap, arith}
-use Rattle.hyd_spec_certificates.specs.Record.{Record, Standing}
+use Rattle.hyd_spec_certificates.specs.RecordAndStanding.{Record, Standing}
 use Rattle.hyd_cert.specs.Lines.{Header}
 use Rattle.hyd_cert.specs.RecordView.{row_of}
-use Rattle.hyd_period_network.specs.GridOf.{grid_of}
+use Rattle.hyd_period_network.specs.NetAsPeriodNetwork.{grid_of}
 use Rattle.hyd_period_end.specs.FactsBeforeVectors.{AreBegun}
 use Rattle.hyd_period_end.specs.OpenMatters.{IsOpenAt, SharesVectors}
 use Rattle.hyd_period_end.specs.declared.undecided.Open.{Open}

@@ -5,10 +5,10 @@ use Rattle.hyd_cert.specs.Lines.{Header}
 use Rattle.hyd_cert.specs.Vectors.{behind_two}
 use Rattle.hyd_cert.specs.RecordView.{row_of}
 use Rattle.hyd_cert.specs.declared.record.Record.{Record as Row}
-use Rattle.hyd_period_network.specs.GridOf.{grid_of}
+use Rattle.hyd_period_network.specs.NetAsPeriodNetwork.{grid_of}
 use Rattle.hyd_period_end.specs.OpenMatters.{SharesVectors}
 use Rattle.hyd_period_vectors.specs.Vectors.{LacksFirst}
-use Rattle.hyd_sim.specs.Attempts.{AreSought}
+use Rattle.hyd_sim.specs.PeriodAttempt.{AreSought}
 use Rattle.hyd_sim.proofs.Attempting.{certificates-again, sought-again, made-of}
 use Rattle.hyd_sim.proofs.Lacking.{sought-all}
 use Rattle.hyd_sim.proofs.Running.{net-junctions, problems-each, certificates-of}

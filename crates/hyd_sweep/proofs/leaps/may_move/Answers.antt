@@ -7,8 +7,8 @@ use Rattle.std.proofs.lemmas.Bool.{false≢true}
 use Rattle.hyd_spec.specs.Assignment.{head_at}
 use Rattle.hyd_spec_certificates.specs.Certificate.{Passes}
 use Rattle.hyd_spec_certificates.specs.SearchSteps.{Fails}
-use Rattle.hyd_spec_certificates.specs.Grid.{GridJunction}
-use Rattle.hyd_period_network.specs.GridOf.{grid_of}
+use Rattle.hyd_spec_certificates.specs.PeriodNetwork.{GridJunction}
+use Rattle.hyd_period_network.specs.NetAsPeriodNetwork.{grid_of}
 use Rattle.hyd_vector_check.proofs.Lookups.{junction-there}
 use Rattle.hyd_sweep.proofs.Values.{free-fails, fails-free, held-stays}
 use Rattle.hyd_sweep.proofs.Turns.{one-turn}

@@ -1,7 +1,7 @@
 use Rattle.std.proofs.Common.{◌<◌, ℕ}
 use Rattle.std.specs.Prelude.{All}
 use Rattle.hyd_spec_certificates.specs.Certificate.{IsInBox}
-use Rattle.hyd_period_network.specs.GridOf.{grid_of}
+use Rattle.hyd_period_network.specs.NetAsPeriodNetwork.{grid_of}
 use Rattle.hyd_sweep.specs.Leaps.{IsTurn, MayMove}
 use Rattle.hyd_sweep.proofs.leaps.take_turns.Given as goal
 

@@ -1,6 +1,6 @@
 use Rattle.std.proofs.Common.{◌≡◌, ◌+◌, ◌<◌, ◌∙◌, sym, subst, ap, arith, ℕ, List, [], ◌∷◌, ◌++◌, length, slice_index_or}
 use Rattle.std.proofs.Common.{take, suc, Bool}
-use Rattle.hyd_period_network.specs.GridOf.{grid_of}
+use Rattle.hyd_period_network.specs.NetAsPeriodNetwork.{grid_of}
 use Rattle.hyd_sweep.specs.Sweeps.{IsFollowing, RaiseGives}
 use Rattle.hyd_sweep.specs.declared.answers.Raised.{Raised}
 use Rattle.hyd_sweep.proofs.Walking.{following-begins, following-passed, following-moved, take-more}

@@ -3,7 +3,7 @@ use Rattle.std.proofs.lemmas.Int.{ints}
 use Rattle.hyd_spec.specs.Assignment.{head_at}
 use Rattle.hyd_spec_certificates.specs.Certificate.{box_limit}
 use Rattle.hyd_theorems_on_definitions.specs.Sides.{along}
-use Rattle.hyd_period_network.specs.GridOf.{grid_of}
+use Rattle.hyd_period_network.specs.NetAsPeriodNetwork.{grid_of}
 use Rattle.hyd_sweep.specs.Sweeps.{further, RaisesTo}
 use Rattle.hyd_sweep.proofs.Values.{free-raise, free-none}
 use Rattle.hyd_sweep.proofs.raising.free_value.Goals as goal

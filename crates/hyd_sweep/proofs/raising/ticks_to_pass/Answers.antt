@@ -3,8 +3,8 @@ use Rattle.std.specs.Int.{w128}
 use Rattle.std.proofs.lemmas.Bool.{false≢true}
 use Rattle.std.proofs.lemmas.Int.{ints}
 use Rattle.hyd_spec.specs.Assignment.{head_at}
-use Rattle.hyd_period_network.specs.GridOf.{grid_of}
-use Rattle.hyd_vector_check.specs.Sides.{PassesWith}
+use Rattle.hyd_period_network.specs.NetAsPeriodNetwork.{grid_of}
+use Rattle.hyd_vector_check.specs.NetOutflowBySide.{PassesWith}
 use Rattle.hyd_sweep.specs.Sweeps.{further}
 use Rattle.hyd_sweep.proofs.Values.{passes-later}
 use Rattle.hyd_sweep.proofs.raising.ticks_to_pass.Goals as goal

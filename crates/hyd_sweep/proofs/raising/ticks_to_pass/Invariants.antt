@@ -1,7 +1,7 @@
 use Rattle.std.proofs.Common.{ℕ, ◌-◌, ◌+◌, ◌<◌, ◌≤◌}
 use Rattle.hyd_spec.specs.Assignment.{head_at}
-use Rattle.hyd_period_network.specs.GridOf.{grid_of}
-use Rattle.hyd_vector_check.specs.Sides.{PassesWith}
+use Rattle.hyd_period_network.specs.NetAsPeriodNetwork.{grid_of}
+use Rattle.hyd_vector_check.specs.NetOutflowBySide.{PassesWith}
 use Rattle.hyd_sweep.specs.Sweeps.{further}
 use Rattle.hyd_sweep.proofs.raising.ticks_to_pass.Given as goal
 

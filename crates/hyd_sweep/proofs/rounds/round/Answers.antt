@@ -1,5 +1,5 @@
 use Rattle.std.proofs.Common.{◌≡◌, ◌+◌, ◌<◌, ◌∙◌, sym, subst, arith, ℕ, length, suc, false}
-use Rattle.hyd_period_network.specs.GridOf.{grid_of}
+use Rattle.hyd_period_network.specs.NetAsPeriodNetwork.{grid_of}
 use Rattle.hyd_sweep.specs.Sweeps.{IsFollowing, numbers}
 use Rattle.hyd_sweep.proofs.Walking.{following-begins, following-either}
 use Rattle.hyd_sweep.proofs.rounds.round.Goals as goal

@@ -1,7 +1,7 @@
 use Rattle.std.proofs.Common.{◌≡◌, ◌<◌, ◌∙◌, sym, w64, to_z, of_z, arith, length}
 use Rattle.std.proofs.lemmas.Int.{ints}
 use Rattle.hyd_spec.specs.Assignment.{head_at}
-use Rattle.hyd_period_network.specs.GridOf.{grid_of}
+use Rattle.hyd_period_network.specs.NetAsPeriodNetwork.{grid_of}
 use Rattle.hyd_vector_check.proofs.Lookups.{junction-there}
 use Rattle.hyd_sweep.proofs.Values.{suits-there, free-suits, suits-free}
 use Rattle.hyd_sweep.proofs.rounds.suits.Goals as goal

@@ -1,5 +1,5 @@
 use Rattle.std.proofs.Common.{◌≡◌, ◌+◌, ◌-◌, ◌≤◌, ℕ, suc, sym, subst, arith}
-use Rattle.hyd_period_network.specs.GridOf.{grid_of}
+use Rattle.hyd_period_network.specs.NetAsPeriodNetwork.{grid_of}
 use Rattle.hyd_sweep.specs.Strides.{reach}
 use Rattle.hyd_sweep.proofs.Turns.{leads-self, leads-more}
 use Rattle.hyd_sweep.proofs.Striding.{within-self, within-more, strides-more}

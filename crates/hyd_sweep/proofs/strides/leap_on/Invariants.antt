@@ -1,5 +1,5 @@
 use Rattle.std.proofs.Common.{◌+◌, ◌-◌, ◌≤◌, ℕ}
-use Rattle.hyd_period_network.specs.GridOf.{grid_of}
+use Rattle.hyd_period_network.specs.NetAsPeriodNetwork.{grid_of}
 use Rattle.hyd_sweep.specs.Leaps.{LeadsOn}
 use Rattle.hyd_sweep.specs.Strides.{IsStride, reach, LiesWithin}
 use Rattle.hyd_sweep.proofs.strides.leap_on.Given as goal

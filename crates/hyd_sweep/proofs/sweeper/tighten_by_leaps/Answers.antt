@@ -1,10 +1,10 @@
 use Rattle.std.proofs.Common.{◌≡◌, ◌+◌, ◌∙◌, sym, subst, arith, ℕ, suc}
 use Rattle.std.proofs.lemmas.Bool.{false≢true}
-use Rattle.hyd_period_network.specs.GridOf.{grid_of}
+use Rattle.hyd_period_network.specs.NetAsPeriodNetwork.{grid_of}
 use Rattle.hyd_spec_certificates.specs.SearchSteps.{HasRounds}
 use Rattle.hyd_theorems_on_raises.proofs.Sweeping.{has-begins, has-on}
 use Rattle.hyd_sweep.specs.Sweeps.{RoundGives}
-use Rattle.hyd_sweep.specs.Strides.{AreLeapingRounds, no_round, one_round}
+use Rattle.hyd_sweep.specs.LeapingRounds.{AreLeapingRounds, no_round, one_round}
 use Rattle.hyd_sweep.proofs.Striding.{goes-on}
 use Rattle.std.specs.Prelude.{Option}
 use Rattle.hyd_sweep.proofs.Apart.{spent-ends}

@@ -3,7 +3,7 @@ use Rattle.std.proofs.lemmas.Int.{to_z-of_z}
 use Rattle.hyd_spec.specs.ProgramTypes.{VolumePoint}
 use Rattle.hyd_spec.specs.Tank.{Walls, Curve}
 use Rattle.hyd_spec_certificates.specs.FirstSeconds.{IsEarliestSecond, IsLatestSecond}
-use Rattle.hyd_tank.specs.Spans.{cylinder, stocks_at, stocks_of, inflows_of}
+use Rattle.hyd_tank.specs.StockIntervals.{cylinder, stocks_at, stocks_of, inflows_of}
 use Rattle.hyd_tank.proofs.Tanks.{walls_without, walls_with, earliest_without, latest_without}
 use Rattle.hyd_tank.proofs.stocks.first_of.Goals as goal
 

@@ -5,7 +5,7 @@ use Rattle.hyd_spec.specs.Tank.{walls_of}
 use Rattle.hyd_spec_certificates.specs.FirstSeconds.{IsEarliestSecond, IsLatestSecond}
 use Rattle.hyd_theorems_on_definitions.proofs.Deciding.{seconds_hold, seconds_nest}
 use Rattle.hyd_theorems_on_definitions.proofs.Vessels.{vessels}
-use Rattle.hyd_tank.specs.Spans.{stocks_of, inflows_of}
+use Rattle.hyd_tank.specs.StockIntervals.{stocks_of, inflows_of}
 use Rattle.hyd_tank.proofs.Keeping.{seconds_ordered}
 use Rattle.hyd_tank.proofs.Tanks.{tank_of, of_each}
 use Rattle.hyd_tank.proofs.stocks.first_stock.Goals as goal

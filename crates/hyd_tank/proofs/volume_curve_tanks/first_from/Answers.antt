@@ -4,7 +4,7 @@ use Rattle.std.proofs.lemmas.Int.{ints, to_z-of_z}
 use Rattle.hyd_spec.specs.Tank.{Bounds, Curve, has_reached}
 use Rattle.hyd_spec_certificates.specs.FirstSeconds.{IsFirstSecond}
 use Rattle.hyd_spec_certificates.specs.Stocks.{least_stock, greatest_stock}
-use Rattle.hyd_tank.specs.Spans.{stocks_of, inflows_of}
+use Rattle.hyd_tank.specs.StockIntervals.{stocks_of, inflows_of}
 use Rattle.hyd_tank.specs.Targets.{StandsFor, IsFirstMet}
 use Rattle.hyd_tank.proofs.Reaching.{earliest_up, latest_up, earliest_down, latest_down}
 use Rattle.hyd_tank.proofs.Aims.{first_stands}

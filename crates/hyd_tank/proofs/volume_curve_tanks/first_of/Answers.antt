@@ -1,7 +1,7 @@
 use Rattle.std.proofs.Common.{◌≡◌, ◌-ℤ◌, ◌*ℤ◌, pos, Bool, sym, subst, arith, to_z, of_z, true, false}
 use Rattle.std.specs.Int.{w128}
 use Rattle.std.proofs.lemmas.Int.{ints, to_z-of_z}
-use Rattle.hyd_tank.specs.declared.seconds.Target.{Target}
+use Rattle.hyd_tank.specs.declared.first_second_at_target.Target.{Target}
 use Rattle.hyd_tank.specs.Targets.{IsSmall, IsFirstMet}
 use Rattle.hyd_tank.proofs.Values.{start_is}
 use Rattle.hyd_tank.proofs.Aims.{rises_met, falls_met}

@@ -7,8 +7,8 @@ use Rattle.hyd_num.specs.declared.decimals.Span.{Span}
 use Rattle.hyd_spec.specs.ProgramTypes.{Tank}
 use Rattle.hyd_spec_certificates.specs.Decided.{inflow_of_tank}
 use Rattle.hyd_cert.specs.RecordView.{row_of}
-use Rattle.hyd_period_network.specs.GridOf.{grid_of}
-use Rattle.hyd_tank.specs.Spans.{inflows_of, IsInflow}
+use Rattle.hyd_period_network.specs.NetAsPeriodNetwork.{grid_of}
+use Rattle.hyd_tank.specs.StockIntervals.{inflows_of, IsInflow}
 use Rattle.hyd_tank_inflows.proofs.Numbered.{one_more, all_there}
 use Rattle.hyd_tank_inflows.proofs.Placing.{inflow_is, pinned_there}
 use Rattle.hyd_tank_inflows.proofs.inflows.put_inflows.Goals as goal

@@ -4,8 +4,8 @@ use Rattle.std.specs.List.{All}
 use Rattle.hyd_spec.specs.Lists.{map_from}
 use Rattle.hyd_spec_certificates.specs.Decided.{inflow_of_tank}
 use Rattle.hyd_cert.specs.RecordView.{row_of}
-use Rattle.hyd_period_network.specs.GridOf.{grid_of}
-use Rattle.hyd_tank.specs.Spans.{inflows_of, IsInflow}
+use Rattle.hyd_period_network.specs.NetAsPeriodNetwork.{grid_of}
+use Rattle.hyd_tank.specs.StockIntervals.{inflows_of, IsInflow}
 use Rattle.hyd_tank_inflows.proofs.inflows.put_inflows.Given as goal
 
 abbrev pub invariant-loop-tank : goal.invariant-loop-tank

@@ -1,5 +1,5 @@
 use Rattle.std.proofs.lemmas.Result.{on_ok_weaker}
-use Rattle.hyd_period_network.specs.GridOf.{grid_of}
+use Rattle.hyd_period_network.specs.NetAsPeriodNetwork.{grid_of}
 use Rattle.hyd_test_helpers.proofs.Levels.{tanks_in_order}
 use Rattle.hyd_test_helpers.proofs.periods.set.Goals as goal
 

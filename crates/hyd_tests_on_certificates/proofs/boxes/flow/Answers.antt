@@ -1,4 +1,4 @@
-use Rattle.hyd_period_network.specs.GridOf.{grid_of}
+use Rattle.hyd_period_network.specs.NetAsPeriodNetwork.{grid_of}
 use Rattle.hyd_tests_on_certificates.proofs.Orders.{main_order}
 use Rattle.hyd_tests_on_certificates.proofs.boxes.flow.Goals as goal
 

@@ -1,5 +1,5 @@
 use Rattle.std.proofs.Common.{arith}
-use Rattle.hyd_period_network.specs.GridOf.{grid_of}
+use Rattle.hyd_period_network.specs.NetAsPeriodNetwork.{grid_of}
 use Rattle.hyd_tests_on_certificates.proofs.boxes.inflow.Goals as goal
 
 pub tank_inflow-flow-requires-clause-ordered : goal.tank_inflow-flow-requires-clause-ordered

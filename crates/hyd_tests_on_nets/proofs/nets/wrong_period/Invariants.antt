@@ -1,5 +1,5 @@
 use Rattle.hyd_period_network.specs.Periods.{IsNetOf}
-use Rattle.hyd_period_network.specs.Settings.{AreStates}
+use Rattle.hyd_period_network.specs.LawsInSettings.{AreStates}
 use Rattle.hyd_tests_on_nets.proofs.nets.wrong_period.Given as goal
 
 abbrev pub invariant-loop-part : goal.invariant-loop-part

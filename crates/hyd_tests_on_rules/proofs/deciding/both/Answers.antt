@@ -1,6 +1,6 @@
 use Rattle.std.proofs.Common.{[], ◌∷◌}
 use Rattle.std.proofs.lemmas.List.Elements.{All-cons, All-nil}
-use Rattle.hyd_controls_and_rules.specs.Instants.{IsBounded}
+use Rattle.hyd_controls_and_rules.specs.RuleReadings.{IsBounded}
 use Rattle.hyd_tests_on_rules.proofs.deciding.both.Goals as goal
 
 pub returns : goal.returns

@@ -1,5 +1,5 @@
 use Rattle.std.proofs.Common.{◌≡◌, ◌+◌, ◌≤◌, length}
-use Rattle.hyd_spec_lines.specs.Bytes.{words_in}
+use Rattle.hyd_spec_lines.specs.WordsOfLines.{words_in}
 use Rattle.hyd_text_rows.proofs.limits.count_words.Given as goal
 
 abbrev pub invariant-loop-behind : goal.invariant-loop-behind

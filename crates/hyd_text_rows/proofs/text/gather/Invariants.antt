@@ -1,7 +1,7 @@
 use Rattle.std.proofs.Common.{◌≡◌, ◌++◌, ◌+◌, ◌≤◌, length}
 use Rattle.std.specs.List.{All}
 use Rattle.hyd_spec_lines.specs.Lines.{LiesIn, items_of, rows_in, fault_in}
-use Rattle.hyd_text_rows.specs.Found.{rows_at}
+use Rattle.hyd_text_rows.specs.FirstWrongRow.{rows_at}
 use Rattle.hyd_text_rows.proofs.text.gather.Given as goal
 
 abbrev pub invariant-loop-item : goal.invariant-loop-item

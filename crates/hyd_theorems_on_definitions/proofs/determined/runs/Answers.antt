@@ -1,4 +1,4 @@
-use Rattle.hyd_spec_certificates.specs.Record.{initial_standing}
+use Rattle.hyd_spec_certificates.specs.RecordAndStanding.{initial_standing}
 use Rattle.hyd_theorems_on_definitions.proofs.OneRun.{one_run, one_left}
 use Rattle.hyd_theorems_on_definitions.proofs.determined.runs.Goals as goal
 

@@ -1,4 +1,4 @@
-use Rattle.hyd_spec_certificates.specs.Record.{initial_standing}
+use Rattle.hyd_spec_certificates.specs.RecordAndStanding.{initial_standing}
 use Rattle.hyd_theorems_on_definitions.proofs.RunRecords.{valid_from}
 use Rattle.hyd_theorems_on_definitions.proofs.runs.records.Goals as goal
 

@@ -3,7 +3,7 @@ use Rattle.std.proofs.lemmas.Result.{on_ok_weaker}
 use Rattle.hyd_spec_certificates.specs.declared.Problem.{Problem}
 use Rattle.hyd_spec_certificates.specs.declared.Side.TheVariants.{Upper}
 use Rattle.hyd_spec_certificates.specs.Certificate.{IsCertificate}
-use Rattle.hyd_period_network.specs.GridOf.{grid_of}
+use Rattle.hyd_period_network.specs.NetAsPeriodNetwork.{grid_of}
 use Rattle.hyd_vector_check.proofs.Comparing.{above-all, above-pinned, above-lower}
 use Rattle.hyd_vector_check.proofs.checks.check_super.Goals as goal
 

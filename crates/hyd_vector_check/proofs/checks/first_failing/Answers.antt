@@ -2,10 +2,10 @@ use Rattle.std.proofs.Common.{◌≡◌, ◌∙◌, ◌<◌, sym, subst, arith, 
 use Rattle.std.specs.Prelude.{Option}
 use Rattle.std.proofs.lemmas.Bool.{cases_eq, false≢true}
 use Rattle.std.proofs.lemmas.Option.{slice_get_within}
-use Rattle.hyd_spec_certificates.specs.Grid.{GridJunction}
+use Rattle.hyd_spec_certificates.specs.PeriodNetwork.{GridJunction}
 use Rattle.hyd_spec_certificates.specs.Certificate.{Passes, fails}
-use Rattle.hyd_period_network.specs.GridOf.{grid_of}
-use Rattle.hyd_vector_check.specs.Sides.{PassesAt}
+use Rattle.hyd_period_network.specs.NetAsPeriodNetwork.{grid_of}
+use Rattle.hyd_vector_check.specs.NetOutflowBySide.{PassesAt}
 use Rattle.hyd_vector_check.proofs.Lookups.{junction-there}
 use Rattle.hyd_vector_check.proofs.checks.first_failing.Goals as goal
 

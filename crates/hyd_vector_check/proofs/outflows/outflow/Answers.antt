@@ -3,9 +3,9 @@ use Rattle.std.specs.Int.{w128}
 use Rattle.std.specs.Prelude.{Option}
 use Rattle.std.specs.Option.{IfSome, option_map, option_copied}
 use Rattle.std.proofs.lemmas.Int.{ints}
-use Rattle.hyd_spec_certificates.specs.Grid.{GridJunction}
+use Rattle.hyd_spec_certificates.specs.PeriodNetwork.{GridJunction}
 use Rattle.hyd_period_network.specs.Demands.{demand_of_law}
-use Rattle.hyd_period_network.specs.GridOf.{capacity_of}
+use Rattle.hyd_period_network.specs.NetAsPeriodNetwork.{capacity_of}
 use Rattle.hyd_vector_check.proofs.Draws.{outflow-is}
 use Rattle.hyd_vector_check.proofs.outflows.outflow.Goals as goal
 

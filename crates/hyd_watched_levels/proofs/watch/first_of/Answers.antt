@@ -4,7 +4,7 @@ use Rattle.std.proofs.lemmas.Int.{ints}
 use Rattle.hyd_spec.specs.Tank.{walls_of}
 use Rattle.hyd_spec_certificates.specs.Stocks.{Stocks, may_reach, must_reach}
 use Rattle.hyd_spec_certificates.specs.FirstSeconds.{IsFirstSecond}
-use Rattle.hyd_tank.specs.Spans.{stocks_of, inflows_of, AreHeld}
+use Rattle.hyd_tank.specs.StockIntervals.{stocks_of, inflows_of, AreHeld}
 use Rattle.hyd_watched_levels.specs.Watched.{watch_for}
 use Rattle.hyd_watched_levels.proofs.Reaching.{item_there, reached_first}
 use Rattle.hyd_watched_levels.proofs.watch.first_of.Goals as goal

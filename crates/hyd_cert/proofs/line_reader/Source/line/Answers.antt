@@ -1,7 +1,7 @@
 use Rattle.std.proofs.Common.{◌≡◌, ◌≤◌, ◌<◌, List, ℕ, length, take, get_or, ◌∙◌, ap, subst, sym, arith}
 use Rattle.std.proofs.lemmas.List.{take_all}
 use Rattle.hyd_cert.specs.TextsWithoutLine.{HasNo, HasNoLine}
-use Rattle.hyd_io.specs.ToldBytes.{prepend_known}
+use Rattle.hyd_io.specs.DeskBytes.{prepend_known}
 use Rattle.hyd_cert.proofs.Pieces.{line_there, line_free, full_none, end_none}
 use Rattle.hyd_cert.proofs.line_reader.Source.line.Goals as goal
 

@@ -2,7 +2,7 @@ use Rattle.std.proofs.Common.{◌≡◌, ◌≢◌, ◌++◌, sym, ap, ◌∙◌
 use Rattle.std.specs.Fmt.{decimal}
 use Rattle.hyd_cert.specs.Lines.{header_text, IsHeaderLine}
 use Rattle.hyd_spec_reports.specs.CertificateText.{words}
-use Rattle.hyd_io.specs.ToldBytes.{prepend_known}
+use Rattle.hyd_io.specs.DeskBytes.{prepend_known}
 use Rattle.hyd_cert.specs.RecordView.{header_of}
 use Rattle.hyd_cert.proofs.LineLemmas.{header_is_line, other_lacks}
 use Rattle.hyd_cert.proofs.HeadLemmas.{header_fault_of, has_other, line_read}

@@ -1,6 +1,6 @@
 use Rattle.std.proofs.Common.{◌≡◌, ℕ, ◌++◌, ◌∷◌, [], List, length, All, slice_set, sym, ap, ◌∙◌, subst, arith}
 use Rattle.std.specs.Fmt.{signed_decimal}
-use Rattle.hyd_io.specs.ToldBytes.{prepend_known}
+use Rattle.hyd_io.specs.DeskBytes.{prepend_known}
 use Rattle.std.proofs.lemmas.List.{take_all}
 use Rattle.std.proofs.Math.ListN.{length-set}
 use Rattle.hyd_spec_certificates.specs.Certificate.{IsInBox}

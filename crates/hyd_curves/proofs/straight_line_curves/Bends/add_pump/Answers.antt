@@ -6,7 +6,7 @@ use Rattle.hyd_spec_lines.specs.declared.section.Section.TheVariants.{Junctions}
 use Rattle.hyd_spec_input.specs.Curves.{head_points}
 use Rattle.hyd_spec_input.specs.Project.{bend_points}
 use Rattle.hyd_spec_input.specs.Tables.{curve_named}
-use Rattle.hyd_text_rows.specs.Found.{rows_at}
+use Rattle.hyd_text_rows.specs.FirstWrongRow.{rows_at}
 use Rattle.hyd_text_rows.proofs.FoundLemmas.{row_at}
 use Rattle.hyd_curves.specs.NamedStraightLineCurves.{IsSmallHead, pump_names}
 use Rattle.hyd_curves.specs.Points.{points_in}

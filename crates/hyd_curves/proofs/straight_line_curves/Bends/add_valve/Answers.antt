@@ -1,13 +1,13 @@
 use Rattle.std.proofs.Common.{◌≡◌, ◌∷◌, [], All, get_or, take, sym, ap, ◌∙◌, subst, refl, append-nil}
 use Rattle.hyd_num.specs.FileQuantity.{is_us_unit}
-use Rattle.hyd_spec_lines.specs.Bytes.{text_of}
+use Rattle.hyd_spec_lines.specs.WordsOfLines.{text_of}
 use Rattle.hyd_spec_lines.specs.Lines.{row_of}
 use Rattle.hyd_spec_lines.specs.declared.line.Line.{Line}
 use Rattle.hyd_spec_lines.specs.declared.section.Section.TheVariants.{Junctions}
 use Rattle.hyd_spec_input.specs.Curves.{head_points}
 use Rattle.hyd_spec_input.specs.MeaningsAcrossRows.{as_list}
 use Rattle.hyd_spec_input.specs.Project.{bend_points}
-use Rattle.hyd_text_rows.specs.Found.{rows_at}
+use Rattle.hyd_text_rows.specs.FirstWrongRow.{rows_at}
 use Rattle.hyd_text_rows.proofs.FoundLemmas.{row_at}
 use Rattle.hyd_curves.specs.NamedStraightLineCurves.{IsSmallHead, valve_names}
 use Rattle.hyd_curves.specs.Points.{points_in}

@@ -1,11 +1,11 @@
 use Rattle.std.proofs.Common.{◌≡◌, Some, None, All, get_or, sym, ap, ◌∙◌, subst, refl}
-use Rattle.hyd_spec_lines.specs.Bytes.{text_of}
+use Rattle.hyd_spec_lines.specs.WordsOfLines.{text_of}
 use Rattle.hyd_spec_lines.specs.Lines.{row_of}
 use Rattle.hyd_spec_lines.specs.declared.line.Line.{Line}
 use Rattle.hyd_spec_lines.specs.declared.section.Section.TheVariants.{Junctions}
 use Rattle.hyd_spec_input.specs.Curves.{volume_points}
 use Rattle.hyd_spec_input.specs.Project.{shape_points}
-use Rattle.hyd_text_rows.specs.Found.{rows_at}
+use Rattle.hyd_text_rows.specs.FirstWrongRow.{rows_at}
 use Rattle.hyd_text_rows.proofs.FoundLemmas.{row_at}
 use Rattle.hyd_curves.specs.NamedVolumeCurves.{IsSmallVolume}
 use Rattle.hyd_curves.specs.Points.{points_in}

@@ -1,5 +1,5 @@
 use Rattle.std.proofs.Common.{arith}
-use Rattle.hyd_spec_lines.specs.Bytes.{text_lines}
+use Rattle.hyd_spec_lines.specs.WordsOfLines.{text_lines}
 use Rattle.hyd_spec_lines.specs.declared.section.Region.TheVariants.{BeforeHeadings}
 use Rattle.hyd_lex.proofs.Few.{few_lines, few_items}
 use Rattle.hyd_lex.proofs.Sections.{walk_is}

@@ -1,9 +1,9 @@
 use Rattle.std.proofs.Common.{◌≡◌, ◌<◌, ◌-◌, length, to_z, of_z, w64, ◌∙◌, refl, ap, sym, subst, slice_index_or, arith}
 use Rattle.std.proofs.lemmas.Int.{ints}
 use Rattle.std.proofs.lemmas.Option.{slice_get_read}
-use Rattle.hyd_spec_certificates.specs.Grid.{tank_side}
+use Rattle.hyd_spec_certificates.specs.PeriodNetwork.{tank_side}
 use Rattle.hyd_period_network.specs.NetView.{NetView}
-use Rattle.hyd_period_network.specs.Nets.{AreHeads}
+use Rattle.hyd_period_network.specs.NetInvariant.{AreHeads}
 use Rattle.hyd_period_network.proofs.Fixing.{fixed_tank, upper_end, lower_end}
 use Rattle.hyd_period_network.proofs.Reading.{all_at}
 use Rattle.hyd_period_network.proofs.net.Net.fixed.Goals as goal

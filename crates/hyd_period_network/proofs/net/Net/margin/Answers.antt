@@ -1,7 +1,7 @@
 use Rattle.std.proofs.Common.{◌≡◌, ◌≤◌, ◌*◌, ◌^◌, ◌+◌, length, pos, to_z, of_z, w64, ◌+ℤ◌, ◌*ℤ◌, ap, subst, arith, ◌∙◌}
 use Rattle.std.proofs.lemmas.Int.{ints}
 use Rattle.hyd_period_network.specs.NetView.{NetView}
-use Rattle.hyd_period_network.specs.Nets.{IsSoundNet}
+use Rattle.hyd_period_network.specs.NetInvariant.{IsSoundNet}
 use Rattle.hyd_period_network.specs.LinkEnds.{ties_from}
 use Rattle.hyd_period_network.proofs.TieLemmas.{few}
 use Rattle.hyd_period_network.proofs.Reading.{row_at, margin_is}

@@ -1,8 +1,8 @@
 use Rattle.std.proofs.Common.{◌≡◌, length, ◌∙◌, All, ap, subst, arith}
 use Rattle.hyd_spec.specs.Assignment.{head_at}
 use Rattle.hyd_period_network.specs.NetView.{NetView}
-use Rattle.hyd_period_network.specs.Nets.{IsSoundNet}
-use Rattle.hyd_period_network.specs.GridOf.{grid_of, node_count}
+use Rattle.hyd_period_network.specs.NetInvariant.{IsSoundNet}
+use Rattle.hyd_period_network.specs.NetAsPeriodNetwork.{grid_of, node_count}
 use Rattle.hyd_period_network.specs.LinkEnds.{ties_from, ties_share, IsTie}
 use Rattle.hyd_period_network.proofs.Reading.{row_at}
 use Rattle.hyd_period_network.proofs.Summing.{sum_over_ties, count_of_ties}

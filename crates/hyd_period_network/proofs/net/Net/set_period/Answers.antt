@@ -2,8 +2,8 @@ use Rattle.std.proofs.Common.{◌≡◌, ℕ, ◌+◌, ◌++◌, length, take, d
 use Rattle.std.specs.List.{AllZip}
 use Rattle.hyd_period_network.specs.NetView.{NetView}
 use Rattle.hyd_period_network.specs.Demands.{IsNetJunction}
-use Rattle.hyd_period_network.specs.Settings.{AreLaws}
-use Rattle.hyd_period_network.specs.Nets.{IsSoundNet}
+use Rattle.hyd_period_network.specs.LawsInSettings.{AreLaws}
+use Rattle.hyd_period_network.specs.NetInvariant.{IsSoundNet}
 use Rattle.hyd_period_network.specs.LinkEnds.{AreRowsOf}
 use Rattle.hyd_period_network.proofs.Gridding.{IsPut, grid_is, states_set, own_set, shut_set}
 use Rattle.hyd_period_network.proofs.Refilling.{refilled}

@@ -2,7 +2,7 @@ use Rattle.std.proofs.Common.{◌≡◌, ◌+◌, ◌*◌, ℕ, ℤ, List, refl,
 use Rattle.std.specs.Prelude.{Option}
 use Rattle.hyd_cert.specs.Lines.{Header}
 use Rattle.hyd_cert.specs.RecordView.{row_of}
-use Rattle.hyd_period_network.specs.GridOf.{grid_of}
+use Rattle.hyd_period_network.specs.NetAsPeriodNetwork.{grid_of}
 use Rattle.hyd_period_vectors.specs.Vectors.{IsSought, EachBefore, Fits}
 use Rattle.hyd_period_vectors.proofs.Coming.{before-same}
 use Rattle.hyd_period_vectors.proofs.search.Search.find.Goals as goal

@@ -1,11 +1,11 @@
 use Rattle.std.proofs.Common.{◌≡◌, ℕ, ap, subst, sym, ◌∙◌, List, ℤ, drop}
 use Rattle.hyd_period_network.proofs.Refilling.{refilled}
 use Rattle.std.specs.Prelude.{length}
-use Rattle.hyd_period_network.specs.GridOf.{grid_of}
+use Rattle.hyd_period_network.specs.NetAsPeriodNetwork.{grid_of}
 use Rattle.hyd_cert.specs.RecordView.{row_of, IsProblemOf}
 use Rattle.hyd_spec_certificates.specs.declared.Problem.TheVariants.{Main}
-use Rattle.hyd_spec_certificates.specs.Grid.{opposite}
-use Rattle.hyd_spec_certificates.specs.Record.{vector_of}
+use Rattle.hyd_spec_certificates.specs.PeriodNetwork.{opposite}
+use Rattle.hyd_spec_certificates.specs.RecordAndStanding.{vector_of}
 use Rattle.hyd_period_vectors.specs.OpenedSearch.{Room}
 use Rattle.hyd_period_vectors.specs.Vectors.{IsSought, Comes}
 use Rattle.hyd_period_vectors.proofs.Telling.{sought-certificate}

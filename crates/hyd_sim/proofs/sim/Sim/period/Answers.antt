@@ -1,7 +1,7 @@
 use Rattle.std.proofs.Common.{◌≡◌, false, subst}
 use Rattle.std.specs.Prelude.{IsOk}
 use Rattle.hyd_spec.specs.NodeNumbers.{tank_count}
-use Rattle.hyd_spec_certificates.specs.Record.{Record as Row}
+use Rattle.hyd_spec_certificates.specs.RecordAndStanding.{Record as Row}
 use Rattle.hyd_cert.specs.RecordView.{row_of}
 use Rattle.hyd_period_vectors.specs.Vectors.{HaveSame}
 use Rattle.hyd_sim.specs.Steps.{IsProposal}

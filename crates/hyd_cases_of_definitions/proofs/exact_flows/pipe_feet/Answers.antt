@@ -1,0 +1,22 @@
+use Rattle.std.proofs.Common.{refl}
+use Rattle.hyd_cases_of_definitions.proofs.exact_flows.pipe_feet.Goals as goal
+use Rattle.hyd_spec_certificates.specs.EnclosingFunctions.{root_up}
+use Rattle.hyd_theorems_on_definitions.proofs.Roots.{root_down-quick, quick_root}
+
+pub returns-clause-low : goal.returns-clause-low
+unfolding root_up quick_root
+returns-clause-low c = λ capacity ends. rw (
+  ends.low_mantissa_is,
+  ends.low_exponent_is,
+  ends.high_mantissa_is,
+  ends.high_exponent_is,
+) (rw root_down-quick refl)
+
+pub returns-clause-high : goal.returns-clause-high
+unfolding root_up quick_root
+returns-clause-high c = λ capacity ends. rw (
+  ends.low_mantissa_is,
+  ends.low_exponent_is,
+  ends.high_mantissa_is,
+  ends.high_exponent_is,
+) (rw root_down-quick refl)

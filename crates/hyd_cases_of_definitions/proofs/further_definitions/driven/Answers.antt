@@ -1,8 +1,0 @@
-use Rattle.std.proofs.Common.{refl}
-use Rattle.hyd_cases_of_definitions.proofs.further_definitions.driven.Goals as goal
-
-pub returns-clause-by_pressure : goal.returns-clause-by_pressure
-returns-clause-by_pressure c = λ network pda. rw pda refl
-
-pub returns-clause-by_demand : goal.returns-clause-by_demand
-returns-clause-by_demand c = λ network pda. rw pda refl

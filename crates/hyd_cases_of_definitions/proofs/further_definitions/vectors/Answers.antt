@@ -1,8 +1,0 @@
-use Rattle.std.proofs.Common.{refl}
-use Rattle.hyd_cases_of_definitions.proofs.further_definitions.vectors.Goals as goal
-
-pub returns-clause-main : goal.returns-clause-main
-returns-clause-main c = refl
-
-pub returns-clause-pinned : goal.returns-clause-pinned
-returns-clause-pinned c = refl

@@ -1,5 +1,0 @@
-use Rattle.std.proofs.Common.{refl}
-use Rattle.hyd_cases_of_definitions.proofs.quantities.multipliers.Goals as goal
-
-pub returns : goal.returns
-returns c = λ network multipliers step start. rw (multipliers, step, start) refl

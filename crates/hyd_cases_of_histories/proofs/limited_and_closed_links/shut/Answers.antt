@@ -1,0 +1,29 @@
+use Rattle.std.proofs.Common.{refl, arith}
+use Rattle.hyd_lemmas.proofs.Trials.{le-yes}
+use Rattle.hyd_cases_of_histories.specs.Spurs.{shut_spur}
+use Rattle.hyd_cases_of_histories.proofs.Single.{history, link_follows, greater}
+use Rattle.hyd_cases_of_histories.proofs.limited_and_closed_links.shut.Goals as goal
+
+pub returns-clause-most : goal.returns-clause-most
+returns-clause-most c = history shut_spur 1 _ _ _ _ (omega arith) refl refl
+    (record { at_least = le-yes _ _ refl; at_most = le-yes _ _ refl })
+    (record {
+      demand = record { low = le-yes _ _ refl; high = le-yes _ _ refl };
+      emitter = refl;
+      balance = record { low = le-yes _ _ refl; high = le-yes _ _ refl };
+    })
+
+pub returns-clause-least : goal.returns-clause-least
+returns-clause-least c = history shut_spur 1 _ _ _ _ (omega arith) refl refl
+    (record { at_least = le-yes _ _ refl; at_most = le-yes _ _ refl })
+    (record {
+      demand = record { low = le-yes _ _ refl; high = le-yes _ _ refl };
+      emitter = refl;
+      balance = record { low = le-yes _ _ refl; high = le-yes _ _ refl };
+    })
+
+pub returns-clause-no_more : goal.returns-clause-no_more
+returns-clause-no_more c is = greater _ _ refl (link_follows shut_spur 1 _ _ _ _ is).at_least
+
+pub returns-clause-no_less : goal.returns-clause-no_less
+returns-clause-no_less c is = greater _ _ refl (link_follows shut_spur 1 _ _ _ _ is).at_most

@@ -1,0 +1,30 @@
+use Rattle.std.proofs.Common.{refl, inl, inr, arith}
+use Rattle.hyd_lemmas.proofs.Trials.{le-yes}
+use Rattle.hyd_cases_of_histories.specs.Spurs.{idle_pump}
+use Rattle.hyd_cases_of_histories.proofs.Single.{history, link_follows, greater}
+use Rattle.hyd_cases_of_histories.proofs.limited_and_closed_links.too_high.Goals as goal
+
+pub returns-clause-most : goal.returns-clause-most
+returns-clause-most c = history idle_pump 1 _ _ _ _ (omega arith) refl refl
+    (record { at_least = inl (le-yes _ _ refl); at_most = (le-yes _ _ refl, tt) })
+    (record {
+      demand = record { low = le-yes _ _ refl; high = le-yes _ _ refl };
+      emitter = refl;
+      balance = record { low = le-yes _ _ refl; high = le-yes _ _ refl };
+    })
+
+pub returns-clause-least : goal.returns-clause-least
+returns-clause-least c = history idle_pump 1 _ _ _ _ (omega arith) refl refl
+    (record { at_least = inl (le-yes _ _ refl); at_most = (le-yes _ _ refl, tt) })
+    (record {
+      demand = record { low = le-yes _ _ refl; high = le-yes _ _ refl };
+      emitter = refl;
+      balance = record { low = le-yes _ _ refl; high = le-yes _ _ refl };
+    })
+
+pub returns-clause-no_more : goal.returns-clause-no_more
+returns-clause-no_more c is = elim
+    (link_follows idle_pump 1 _ _ _ _ is).at_least [ inl one ↦ greater _ _ refl one | inr other ↦ other ]
+
+pub returns-clause-no_less : goal.returns-clause-no_less
+returns-clause-no_less c is = greater _ _ refl (link_follows idle_pump 1 _ _ _ _ is).at_most.0

@@ -1,0 +1,89 @@
+-- What a command does is what was asked for.
+use Rattle.std.proofs.Common.{◌≡◌, Option, Some, option_map, sym, ap, ◌∙◌, subst}
+use Rattle.hyd_sim.specs.declared.settings.Settings.{Settings}
+use Rattle.hyd_command_words.specs.CommandGrammar.{Order, RunOrder, GenOrder, TwoFiles, check, gen}
+use Rattle.hyd_command_words.specs.CommandView.{order_seen, run_seen, gen_seen, files_seen}
+use Rattle.hyd_command_words.specs.declared.command.Command.{Command}
+use Rattle.hyd_command_words.specs.declared.command.Command.TheVariants.{Run, Check, Gen}
+use Rattle.hyd_cli.specs.DeskContents.{seen}
+use Rattle.hyd_cli.specs.Answers.{Leaves}
+use Rattle.hyd_cli.specs.RunAnswers.{AnswersText}
+use Rattle.hyd_cli.specs.Commands.{DoesRun, DoesCheck, DoesGen}
+use Rattle.hyd_cli.proofs.CommandLemmas.{same_run, same_check, same_gen_order}
+use Rattle.hyd_cli.proofs.whole_command.carry_out.Goals as goal
+
+pub returns-in-Some-Run-clause-runs : goal.returns-in-Some-Run-clause-runs
+returns-in-Some-Run-clause-runs g c order asked =
+    let words = c.in-Some-Run.words in
+    let kind : c.in-Some-Run.field-0 ≡ Run words = rw c.in-Some-Run.is at c.in-Some-Run.field-0-is in
+    let found : c.args.found ≡ Some (Run words) = c.in-Some-Run.is ∙ ap Some kind in
+    let before = seen g.D.Desk.files g.D.Desk.written g.D.Desk.printed c.args.desk.now in
+    let now = seen g.D.Desk.files g.D.Desk.written g.D.Desk.printed c.run.new.desk in
+    subst (λ (o : RunOrder). DoesRun o c.run.result before now (g.D.Desk.openings c.args.desk.now)
+    (g.D.Desk.openings c.run.new.desk)) (sym (same_run words c.args.found order found asked)) (record {
+      refused = c.run.ensures.refused;
+      runs = λ text told none. subst (λ (s : Settings). AnswersText text s (run_seen words).files.cert c.run.result
+          before now) c.settings_of.ensures (c.run.ensures.run text told none);
+      holds = c.run.ensures.holds;
+      others = c.run.ensures.others;
+      once = c.run.ensures.once;
+    })
+
+pub returns-in-Some-Check-clause-leaves : goal.returns-in-Some-Check-clause-leaves
+returns-in-Some-Check-clause-leaves g c =
+    let files = c.in-Some-Check.files in
+    let kind : c.in-Some-Check.field-0 ≡ Check files = rw c.in-Some-Check.is at c.in-Some-Check.field-0-is in
+    let found : c.args.found ≡ Some (Check files) = c.in-Some-Check.is ∙ ap Some kind in
+    let before = seen g.D.Desk.files g.D.Desk.written g.D.Desk.printed c.args.desk.now in
+    let now = seen g.D.Desk.files g.D.Desk.written g.D.Desk.printed c.check_files.new.desk in
+    let known : option_map order_seen c.args.found ≡ Some (check (files_seen files)) =
+    ap (λ (f : Option Command). option_map order_seen f) found in
+    subst (λ (o : Option Order). Leaves o c.check_files.result before now) (sym known)
+    (c.check_files.ensures.leaves (files_seen files))
+
+pub returns-in-Some-Check-clause-checks : goal.returns-in-Some-Check-clause-checks
+returns-in-Some-Check-clause-checks g c asked_files asked =
+    let files = c.in-Some-Check.files in
+    let kind : c.in-Some-Check.field-0 ≡ Check files = rw c.in-Some-Check.is at c.in-Some-Check.field-0-is in
+    let found : c.args.found ≡ Some (Check files) = c.in-Some-Check.is ∙ ap Some kind in
+    let before = seen g.D.Desk.files g.D.Desk.written g.D.Desk.printed c.args.desk.now in
+    let now = seen g.D.Desk.files g.D.Desk.written g.D.Desk.printed c.check_files.new.desk in
+    subst (λ (f : TwoFiles). DoesCheck f c.check_files.result before now (g.D.Desk.openings c.args.desk.now)
+    (g.D.Desk.openings c.check_files.new.desk)) (sym (same_check files c.args.found asked_files found asked)) (record {
+      refused = c.check_files.ensures.refused;
+      checks = c.check_files.ensures.answers;
+      not_refused = c.check_files.ensures.not_refused;
+      only_prints = c.check_files.ensures.only_prints;
+      once = c.check_files.ensures.once;
+    })
+
+pub returns-in-Some-Gen-clause-leaves : goal.returns-in-Some-Gen-clause-leaves
+returns-in-Some-Gen-clause-leaves g c =
+    let words = c.in-Some-Gen.words in
+    let kind : c.in-Some-Gen.field-0 ≡ Gen words = rw c.in-Some-Gen.is at c.in-Some-Gen.field-0-is in
+    let found : c.args.found ≡ Some (Gen words) = c.in-Some-Gen.is ∙ ap Some kind in
+    let before = seen g.D.Desk.files g.D.Desk.written g.D.Desk.printed c.args.desk.now in
+    let now = seen g.D.Desk.files g.D.Desk.written g.D.Desk.printed c.generate_network.new.desk in
+    let known : option_map order_seen c.args.found ≡ Some (gen (gen_seen words)) =
+    ap (λ (f : Option Command). option_map order_seen f) found in
+    subst (λ (o : Option Order). Leaves o c.generate_network.result before now) (sym known)
+    (c.generate_network.ensures.leaves (gen_seen words))
+
+pub returns-in-Some-Gen-clause-generates : goal.returns-in-Some-Gen-clause-generates
+returns-in-Some-Gen-clause-generates g c order asked =
+    let words = c.in-Some-Gen.words in
+    let kind : c.in-Some-Gen.field-0 ≡ Gen words = rw c.in-Some-Gen.is at c.in-Some-Gen.field-0-is in
+    let found : c.args.found ≡ Some (Gen words) = c.in-Some-Gen.is ∙ ap Some kind in
+    let before = seen g.D.Desk.files g.D.Desk.written g.D.Desk.printed c.args.desk.now in
+    let now = seen g.D.Desk.files g.D.Desk.written g.D.Desk.printed c.generate_network.new.desk in
+    subst (λ (o : GenOrder). DoesGen o c.generate_network.result before now (g.D.Desk.openings c.args.desk.now)
+    (g.D.Desk.openings c.generate_network.new.desk) (g.D.Desk.ready c.generate_network.new.desk))
+    (sym (same_gen_order words c.args.found order found asked))
+    (record {
+      refused = c.generate_network.ensures.refused;
+      generates = c.generate_network.ensures.answers;
+      others = c.generate_network.ensures.others;
+      once = c.generate_network.ensures.once;
+      keeps_cert = c.generate_network.ensures.keeps_cert;
+      keeps_net = c.generate_network.ensures.keeps_net;
+    })

@@ -1,0 +1,16 @@
+-- The command of the words is the one that is carried out.
+use Rattle.std.proofs.Common.{sym, ◌∙◌, map}
+use Rattle.std.specs.Prelude.{string_bytes}
+use Rattle.hyd_cli.proofs.CommandLemmas.{names_apart}
+use Rattle.hyd_cli.proofs.whole_command.tool.Goals as goal
+
+pub carry_out-requires-clause-apart : goal.carry_out-requires-clause-apart
+carry_out-requires-clause-apart g c order asked =
+    names_apart (map string_bytes c.args.words.now) order (sym c.in-Ok.ensures.command ∙ asked)
+
+pub returns-in-Ok-clause-runs : goal.returns-in-Ok-clause-runs
+returns-in-Ok-clause-runs g c order asked = c.carry_out.ensures.runs order (c.in-Ok.ensures.command ∙ asked)
+
+pub returns-in-Ok-clause-generates : goal.returns-in-Ok-clause-generates
+returns-in-Ok-clause-generates g c order asked =
+    c.carry_out.ensures.generates order (c.in-Ok.ensures.command ∙ asked)

@@ -1,0 +1,97 @@
+//! What each command does with a network that was read. All memory that the task needs is taken first.
+
+ghost use Rattle.std.specs.Prelude.{◌≡◌, None};
+ghost use Rattle.hyd_net.specs.Sound.{Sound};
+ghost use Rattle.hyd_spec_certificates.specs.RecordAndStanding.{initial_standing};
+ghost use Rattle.hyd_sim.specs.View.{standing_of};
+ghost use Rattle.hyd_cli.specs.DeskContents.{seen};
+ghost use Rattle.hyd_cli.specs.Answers.{HasCause};
+ghost use Rattle.hyd_cli.specs.TaskWithNetwork.{MayDo, settings_for, DoesTask};
+
+use crate::checking::check_by_run;
+use crate::generating::write_and_run;
+use crate::running::run_by_gradient;
+use crate::status::Status;
+use hyd_command_words::Files;
+use hyd_io::Desk;
+use hyd_net::Project;
+use hyd_sim::{Settings, Sim};
+use std::alloc::Global;
+
+/// A check finds no vectors, so it needs no rounds.
+const NO_SEARCH: Settings = Settings {
+    rounds: 0,
+    width: 0,
+    tight: false,
+};
+
+/// What the run of a generated network is asked for.
+const USUAL: Settings = Settings {
+    rounds: 200,
+    width: 100_000_000_000,
+    tight: false,
+};
+
+/// What is to be done with a network.
+#[derive(Clone, Copy, Debug)]
+pub(crate) enum Task<'a> {
+    /// It is run: the certificate goes to CERT, and the report is printed.
+    Run { cert: &'a str, settings: Settings },
+    /// CERT is checked against it, and the report is printed.
+    Check { cert: &'a str },
+    /// Its text goes to NET, and it is run: the certificate goes to CERT, and a summary is printed.
+    Gen { text: &'a [u8], files: Files<'a> },
+}
+
+/// What a task asks a run for.
+fn settings_for(task: Task<'_>) -> Settings
+    ensures { result ≡ settings_for task.entry }
+{
+    match task {
+        Task::Run { settings, .. } => settings,
+        Task::Check { .. } => NO_SEARCH,
+        Task::Gen { .. } => USUAL,
+    }
+}
+
+/// Does a task with the network of a run at its start.
+fn do_by_run<D: Desk>(alloc: Global, sim: &mut Sim, task: Task<'_>, desk: &mut D) -> Status
+    requires start { standing_of sim.old ≡ initial_standing sim.old.project }
+    requires running { sim.old.stopped ≡ None }
+    requires settings { sim.old.settings ≡ settings_for task }
+    requires names { MayDo D.may_open D.may_create task }
+    ensures cause { HasCause result (D.counts desk.old) (D.counts desk.new) }
+    ensures does { DoesTask task.entry sim.old.project result
+        (seen D.files D.written D.printed desk.old) (seen D.files D.written D.printed desk.new)
+        (D.openings desk.old) (D.openings desk.new) (D.ready desk.new) }
+{
+    match task {
+        Task::Run { cert, .. } => run_by_gradient(alloc, sim, cert, desk),
+        Task::Check { cert } => check_by_run(alloc, sim, cert, desk),
+        Task::Gen { text, files } => write_and_run(alloc, sim, text, files, desk),
+    }
+}
+
+/// Opens a run of a network that was read, does a task with it, and closes it.
+pub(crate) fn do_with_network<D: Desk>(
+    alloc: Global,
+    project: Project,
+    task: Task<'_>,
+    desk: &mut D,
+) -> Status
+    requires sound { Sound project }
+    requires names { MayDo D.may_open D.may_create task }
+    ensures cause { HasCause result (D.counts desk.old) (D.counts desk.new) }
+    ensures does { DoesTask task.entry project result
+        (seen D.files D.written D.printed desk.old) (seen D.files D.written D.printed desk.new)
+        (D.openings desk.old) (D.openings desk.new) (D.ready desk.new) }
+{
+    match Sim::open(alloc, project, settings_for(task)) {
+        Ok(mut sim) => {
+            let status = do_by_run(alloc, &mut sim, task, desk);
+            sim.close();
+            status
+        }
+        Err(_) => Status::OutOfMemory,
+    }
+}

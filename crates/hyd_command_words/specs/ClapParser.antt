@@ -1,0 +1,50 @@
+-- The command of clap that reads the words behind a command's name: it takes each option as often as it stands.
+use Rattle.std.specs.Prelude.{List, [], ◌∷◌, length, Some, codes, true, false, unwrap_or}
+use Rattle.clap.specs.Walk.{Row, Rule, Text, all_of}
+use Rattle.clap.specs.Simple.{App, new_app, new_rule, new_shape, with_rule}
+use Rattle.clap.specs.declared.builder.action.ArgAction.TheVariants.{Append}
+use Rattle.hyd_command_words.specs.OptionsAndNames.{Said}
+
+-- `--name` with one value
+abbrev pub valued_rule : Text → Rule
+valued_rule id = record (new_rule id) { long = Some id; action = Some Append }
+
+-- `--tight`, of which each use leaves one empty value
+abbrev pub tight_rule : Rule
+tight_rule = record (new_rule (codes "tight")) {
+  long = Some (codes "tight");
+  action = Some Append;
+  range = Some (record { start_inclusive = 0; end_inclusive = 0 });
+  missing = [] ∷ [];
+}
+
+-- the words that stand by their positions
+abbrev pub names_rule : Rule
+names_rule = record (new_rule (codes "names")) { action = Some Append }
+
+abbrev pub bare : App
+bare = record (new_app (codes "hyd")) {
+  top = record (new_shape (codes "hyd")) {
+    no_binary_name = true;
+    disable_help_flag = true;
+    disable_version_flag = true;
+  };
+}
+
+abbrev pub words_command : App
+words_command = with_rule (with_rule (with_rule (with_rule bare tight_rule) (valued_rule (codes "sweeps")))
+    (valued_rule (codes "width"))) names_rule
+
+-- the values of an argument, of all its uses
+abbrev pub all_values : Text → List Row → List Text
+all_values id rows = unwrap_or (all_of id rows) []
+
+-- what these matches say
+abbrev pub said_of : List Row → Said
+said_of rows = record {
+  sweeps_values = all_values (codes "sweeps") rows;
+  width_values = all_values (codes "width") rows;
+  tight_count = length (all_values (codes "tight") rows);
+  names = all_values (codes "names") rows;
+  has_wrong = false;
+}

@@ -1,8 +1,0 @@
-use Rattle.std.proofs.Common.{length, take}
-use Rattle.hyd_spec.specs.Rules.{offers_from}
-use Rattle.hyd_controls_and_rules.specs.Offers.{AreBest}
-use Rattle.hyd_controls_and_rules.proofs.offers.rank_offers.Given as goal
-
-abbrev pub invariant-loop-number : goal.invariant-loop-number
-invariant-loop-number l =
-    AreBest (length l.project.links.list) (offers_from 0 (take l.number l.rules) (take l.number l.values)) l.best

@@ -1,0 +1,24 @@
+-- Demands and heads by the numbers of junctions and reservoirs.
+-- Source: EPANET 2.2 User Manual, chapter 3 (junctions, reservoirs, time patterns).
+use Rattle.std.specs.Prelude.{ℕ, ℤ, pos, ◌^◌, ◌<◌, ◌≤◌, unsigned_abs, slice_get}
+use Rattle.std.specs.Option.{option_map_or}
+use Rattle.hyd_spec.specs.ProgramTypes.{Project}
+use Rattle.hyd_spec.specs.DemandsReservoirHeadsAndCurves.{demand_of, reservoir_head}
+
+-- the demand of a junction of this number at a time, in flow ticks; none where there is no such junction
+abbrev pub junction_demand : Project → ℕ → ℕ → ℤ
+junction_demand network time junction =
+    option_map_or (λ j. demand_of network time j) (slice_get network.junctions.list junction) (pos 0)
+
+-- the head of a reservoir of this number at a time, in head ticks; 0 where there is no such reservoir
+abbrev pub head_of_reservoir : Project → ℕ → ℕ → ℤ
+head_of_reservoir network time reservoir =
+    option_map_or (λ r. reservoir_head network time r) (slice_get network.reservoirs.list reservoir) (pos 0)
+
+-- a demand of a period: at most 10^8 cubic metres a day either way
+abbrev pub IsInRange : ℤ → Type 0
+IsInRange demand = unsigned_abs demand ≤ 10 ^ 15
+
+-- a demand that is greater
+abbrev pub IsOutOfRange : ℤ → Type 0
+IsOutOfRange demand = 10 ^ 15 < unsigned_abs demand

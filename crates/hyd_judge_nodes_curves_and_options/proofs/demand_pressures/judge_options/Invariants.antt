@@ -1,8 +1,0 @@
-use Rattle.hyd_spec_lines.specs.declared.section.Section.TheVariants.{Options}
-use Rattle.hyd_text_rows.specs.Found.{rows_at, HasFound}
-use Rattle.hyd_text_rows.specs.WrongInSection.{IsWrongIn}
-use Rattle.hyd_judge_nodes_curves_and_options.proofs.demand_pressures.judge_options.Given as goal
-
-abbrev pub invariant-loop-place : goal.invariant-loop-place
-invariant-loop-place l =
-    HasFound (rows_at l.text.text l.lines) (IsWrongIn Options (rows_at l.text.text l.lines)) l.place l.found

@@ -1,0 +1,33 @@
+-- Rows judged by the stage of the rules before them.
+use Rattle.std.specs.Prelude.{ℕ, List, [], ◌∷◌, Option, if◌then◌else◌}
+use Rattle.hyd_spec_lines.specs.Lines.{Row}
+use Rattle.hyd_spec_lines.specs.declared.line.Line.{Line}
+use Rattle.hyd_spec_lines.specs.declared.section.Section.{Section}
+use Rattle.hyd_spec_lines.specs.declared.section.Section.TheVariants.{Rules}
+use Rattle.hyd_spec_input.specs.SingleRows.{section_fault}
+use Rattle.hyd_spec_input.specs.Columns.{first, unless}
+use Rattle.hyd_spec_input.specs.RuleRows.{stage_by, begins_with, in_order, line_words, is_acting, gets_then}
+use Rattle.hyd_spec_input.specs.Tables.{is_of, words_of}
+use Rattle.hyd_spec_input.specs.declared.Stage.{Stage}
+use Rattle.hyd_net.specs.declared.refusal_cause.Cause.{Cause}
+use Rattle.hyd_net.specs.declared.refusal_cause.Cause.TheVariants.{Syntax}
+use Rattle.hyd_text_rows.specs.FirstWrongRow.{rows_at}
+
+-- the stage after one row more
+abbrev pub stage_with : Stage → Row → Stage
+stage_with stage row = if is_of Rules row then stage_by stage (begins_with row.words) else stage
+
+-- the words of the lines of rules among lines of a text
+abbrev pub rule_lines : List ℕ → List Line → List (List (List ℕ))
+rule_lines text lines = words_of Rules (rows_at text lines)
+
+-- what is wrong with a line of a rule at a stage, before later lines
+abbrev pub line_fault : Stage → List (List ℕ) → List (List (List ℕ)) → Option Cause
+line_fault stage words later =
+    first (in_order stage (begins_with words) ∷ line_words (is_acting stage) words
+    ∷ unless (gets_then words later) Syntax ∷ [])
+
+-- what is wrong with the words of a row of a section at a stage, before later lines of rules
+abbrev pub fault_at_stage : Section → Stage → List (List ℕ) → List (List (List ℕ)) → Option Cause
+fault_at_stage Rules stage words later = line_fault stage words later
+fault_at_stage section stage words later = section_fault section [] words later

@@ -1,4 +1,0 @@
-use Rattle.hyd_num.proofs.operations.+pow.Given as goal
-
-abbrev pub decreases-pow : goal.decreases-pow
-decreases-pow l = l.n

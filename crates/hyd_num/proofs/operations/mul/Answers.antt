@@ -1,6 +1,0 @@
-use Rattle.hyd_num.proofs.Ends.{products_ordered}
-use Rattle.hyd_num.proofs.operations.mul.Goals as goal
-
-pub between-requires : goal.between-requires
-between-requires c = products_ordered c.args.x c.args.y c.product_down.result c.product_up.result
-    c.product_down.ensures.down c.product_up.ensures.up

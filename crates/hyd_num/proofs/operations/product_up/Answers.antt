@@ -1,9 +1,0 @@
-use Rattle.std.proofs.Common.{◌*◌, mul-pos}
-use Rattle.hyd_num.specs.BinaryNumbers.{numerator, denominator}
-use Rattle.hyd_num.proofs.Ends.{denominator_positive}
-use Rattle.hyd_num.proofs.operations.product_up.Goals as goal
-
-pub returns-clause-up : goal.returns-clause-up
-returns-clause-up c = c.raised.ensures.up (numerator c.args.a * numerator c.args.b)
-    (denominator c.args.a * denominator c.args.b) (mul-pos (denominator_positive c.args.a)
-    (denominator_positive c.args.b)) c.product.ensures.cut

@@ -1,0 +1,26 @@
+-- The record, and then the report.
+use Rattle.std.proofs.Common.{subst, sym}
+use Rattle.std.specs.Prelude.{IsTrue}
+use Rattle.hyd_cert.specs.RecordView.{row_of}
+use Rattle.hyd_run.proofs.PenLemmas.{on_any, both-put, first-cut}
+use Rattle.hyd_run.proofs.PeriodLemmas.{bounds-of}
+use Rattle.hyd_run.proofs.period_and_last_lines.put_period.Goals as goal
+
+pub put_row-requires : goal.put_row-requires
+put_row-requires g c = on_any _ _ c.requires.unbroken.ready
+
+pub put_report-requires-clause-bounds : goal.put_report-requires-clause-bounds
+put_report-requires-clause-bounds g c =
+    bounds-of c.args.project.now c.args.net.now (row_of c.args.row.now) c.requires.of
+    c.junctions-junctions.ensures.steady c.requires.order
+    c.requires.certificates
+
+pub put_report-requires-clause-ready : goal.put_report-requires-clause-ready
+put_report-requires-clause-ready g c = on_any _ _ (subst IsTrue (sym c.in-Ok.ensures.ready_stays)
+    c.requires.unbroken.ready)
+
+pub returns-in-Err : goal.returns-in-Err
+returns-in-Err g c = first-cut _ _ c.in-Err.fault _ _ _ _ _ c.requires.unbroken c.in-Err.ensures
+
+pub returns : goal.returns
+returns g c = both-put _ _ _ _ _ _ _ _ _ _ c.requires.unbroken c.in-Ok.ensures c.put_report.ensures.puts

@@ -1,0 +1,146 @@
+//! The record and the report of one period, and the last lines of a run.
+#![tactic(auto)]
+
+ghost use Rattle.std.specs.Prelude.{◌≡◌, ◌<◌, ◌^◌};
+ghost use Rattle.hyd_io.specs.Output.{OnCert};
+ghost use Rattle.std.specs.Prelude.{IsTrue};
+ghost use Rattle.hyd_net.specs.Sound.{Sound};
+ghost use Rattle.hyd_spec_certificates.specs.RecordAndStanding.{Standing};
+ghost use Rattle.hyd_spec_certificates.specs.Valid.{AreCertificates};
+ghost use Rattle.hyd_spec_reports.specs.CertificateText.{record_text, end_line};
+ghost use Rattle.hyd_spec_reports.specs.PromisesOfRunsAndChecks.{last_line, is_finished};
+ghost use Rattle.hyd_spec_reports.specs.Report.{IsReport};
+ghost use Rattle.hyd_cert.specs.RecordView.{row_of};
+ghost use Rattle.hyd_period_facts.specs.FactsOfPeriod.{AreFacts};
+ghost use Rattle.hyd_bounds.specs.VectorsInOrder.{TanksInOrder};
+ghost use Rattle.hyd_period_network.specs.NetAsPeriodNetwork.{grid_of, states_of};
+ghost use Rattle.hyd_period_network.specs.Periods.{IsNetOf};
+ghost use Rattle.hyd_period_network.specs.LawsInSettings.{AreStates};
+ghost use Rattle.hyd_report.specs.NodeAndLinkLines.{texts};
+ghost use Rattle.hyd_report.specs.PeriodLines.{AreTankFacts, lines_of};
+ghost use Rattle.hyd_report.specs.Putting.{Puts};
+ghost use Rattle.hyd_run.specs.Pens.{told, moment, AreOpen, PutsIn};
+ghost use Rattle.hyd_run.specs.Runs.{outcome_of};
+
+use crate::outcome::RunEnd;
+use crate::pens::{put_end_line, put_row};
+use hyd_cert::Record;
+use hyd_io::{Desk, OutFault, Pen};
+use hyd_net::Project;
+use hyd_period_facts::Facts;
+use hyd_period_network::Net;
+use hyd_report::{put_done, put_report, put_stop};
+
+// A number is below 2^32.
+fn is_small(number: u32)
+    ensures { number < 2 ^ 32 }
+{
+    let _ = number;
+}
+
+// The numbers of a record are below 2^32.
+pub(crate) fn has_small_numbers(row: &Record)
+    ensures number { row.now.number < 2 ^ 32 }
+    ensures time { row.now.time < 2 ^ 32 }
+    ensures length { row.now.length < 2 ^ 32 }
+{
+    is_small(row.number);
+    is_small(row.time);
+    is_small(row.length);
+}
+
+/// Puts the record of a period and its report. Net, record and facts are those of one period, and the vectors are its
+/// certificates.
+pub(crate) fn put_period<D: Desk>(
+    project: &Project,
+    net: &Net,
+    row: &Record,
+    facts: &Facts,
+    certificate: &mut Pen,
+    report: &mut Pen,
+    desk: &mut D,
+) -> Result<(), OutFault>
+    requires sound { Sound project.now }
+    requires of { IsNetOf project.now net.now }
+    requires states { AreStates project.now (states_of net.now) }
+    requires certificates { AreCertificates project.now (grid_of net.now) (row_of row.now) }
+    requires order { TanksInOrder (grid_of net.now) }
+    requires tanks { AreTankFacts project.now facts.now }
+    requires links { states_of net.now ≡ facts.now.links.list }
+    requires unbroken { AreOpen (moment certificate.old report.old
+        (told D.files D.rest D.written D.printed D.target D.ready D.counts D.openings desk.old)) }
+    ensures { PutsIn (record_text (row_of row.now))
+        (texts project.now (lines_of project.now (grid_of net.now) (states_of net.now) (row_of row.now) facts.now))
+        result
+        (moment certificate.old report.old
+        (told D.files D.rest D.written D.printed D.target D.ready D.counts D.openings desk.old))
+        (moment certificate.new report.new
+        (told D.files D.rest D.written D.printed D.target D.ready D.counts D.openings desk.new)) }
+{
+    // Certificates are ordered where the net is steady.
+    let _junctions = net.junctions();
+    match put_row(row, certificate, desk) {
+        Ok(()) => {}
+        Err(fault) => return Err(fault),
+    }
+    put_report(project, net, row, facts, report, desk)
+}
+
+// Whether a run has finished.
+fn is_finished(end: RunEnd) -> bool
+    ensures { result ≡ is_finished (outcome_of end) }
+{
+    match end {
+        RunEnd::Finished => true,
+        RunEnd::Stopped(_) => false,
+    }
+}
+
+// Puts the last line of a report.
+fn put_last_line<D: Desk>(
+    project: &Project,
+    time: u32,
+    records: u32,
+    end: RunEnd,
+    pen: &mut Pen,
+    desk: &mut D,
+) -> Result<(), OutFault>
+    requires sound { Sound project.now }
+    requires ready { OnCert pen.old.to (IsTrue (D.ready desk.old)) }
+    ensures { (standing : Standing) → standing.time ≡ time
+        → Puts D.files D.rest D.written D.printed D.target D.ready D.counts D.openings
+        (last_line project.now standing records (outcome_of end)) result pen.old pen.new desk.old desk.new }
+{
+    match end {
+        RunEnd::Finished => put_done(records, pen, desk),
+        RunEnd::Stopped(cause) => put_stop(project, time, &cause, pen, desk),
+    }
+}
+
+/// Puts the END line and the last line of a report, with the number of records and the time at which the run stopped.
+pub(crate) fn put_last<D: Desk>(
+    project: &Project,
+    time: u32,
+    records: u32,
+    end: RunEnd,
+    certificate: &mut Pen,
+    report: &mut Pen,
+    desk: &mut D,
+) -> Result<(), OutFault>
+    requires sound { Sound project.now }
+    requires unbroken { AreOpen (moment certificate.old report.old
+        (told D.files D.rest D.written D.printed D.target D.ready D.counts D.openings desk.old)) }
+    ensures { (standing : Standing) → standing.time ≡ time
+        → PutsIn (end_line records (is_finished (outcome_of end)))
+        (last_line project.now standing records (outcome_of end)) result
+        (moment certificate.old report.old
+        (told D.files D.rest D.written D.printed D.target D.ready D.counts D.openings desk.old))
+        (moment certificate.new report.new
+        (told D.files D.rest D.written D.printed D.target D.ready D.counts D.openings desk.new)) }
+{
+    match put_end_line(records, is_finished(end), certificate, desk) {
+        Ok(()) => {}
+        Err(fault) => return Err(fault),
+    }
+    put_last_line(project, time, records, end, report, desk)
+}

@@ -1,0 +1,61 @@
+use Rattle.std.proofs.Common.{◌≡◌, refl, sym, ap, subst, ◌∙◌, List}
+use Rattle.std.specs.Prelude.{length, map}
+use Rattle.hyd_spec.specs.ProgramTypes.{LinkState}
+use Rattle.hyd_spec.specs.declared.TankState.{TankState}
+use Rattle.hyd_spec_certificates.specs.PeriodNetwork.{IsGrid}
+use Rattle.hyd_spec_certificates.specs.Valid.{IsGridAt}
+use Rattle.hyd_spec_certificates.specs.declared.LevelSpan.{LevelSpan}
+use Rattle.hyd_spec_reports.specs.Stops.{Stops}
+use Rattle.hyd_spec_reports.specs.declared.StopCause.{StopCause}
+use Rattle.hyd_period_facts.specs.FactsOfPeriod.{levels_of}
+use Rattle.hyd_period_network.specs.NetAsPeriodNetwork.{grid_of}
+use Rattle.hyd_period_network.specs.Periods.{AreLevels}
+use Rattle.hyd_period_network.specs.LawsInSettings.{AreStates}
+use Rattle.hyd_sim.specs.View.{standing_for}
+use Rattle.hyd_sim.proofs.Placing.{levels-there, order-there}
+use Rattle.hyd_sim.proofs.Running.{no-demand-out}
+use Rattle.hyd_sim.proofs.due_period.start_period.Goals as goal
+
+pub set_period-requires-clause-levels : goal.set_period-requires-clause-levels
+set_period-requires-clause-levels c =
+    subst (AreLevels c.args.project.now) (sym c.as_slice.ensures)
+    (levels-there c.args.project.now (standing_for c.args.standing.now) c.args.standing.now.stocks.levels.list refl
+    c.requires.standing.kept c.requires.standing.tidy)
+
+pub set_period-requires-clause-tanks : goal.set_period-requires-clause-tanks
+set_period-requires-clause-tanks c = ap length c.as_slice-2.ensures ∙ c.requires.standing.tidy.tanks_each
+
+pub returns-in-Ok-clause-started : goal.returns-in-Ok-clause-started
+returns-in-Ok-clause-started c =
+    let network = c.args.project.now in
+    let here = c.args.standing.now in
+    let grid = grid_of c.set_period.new.self in
+    let own : c.begin.new.links ≡ c.begin.new.facts.links.list = sym c.begin.ensures.links in
+    let is : IsGridAt network (standing_for here) grid =
+    subst (λ (ls : List LinkState). IsGrid network here.time (map levels_of here.stocks.levels.list)
+    here.stocks.tanks.list ls grid) (own ∙ c.begin.ensures.begun.links)
+    (subst (λ (ts : List TankState). IsGrid network here.time (map levels_of here.stocks.levels.list) ts
+    c.begin.new.links grid) c.as_slice-2.ensures
+    (subst (λ (xs : List LevelSpan). IsGrid network here.time (map levels_of xs) c.as_slice-2.result.now
+    c.begin.new.links grid) c.as_slice.ensures c.in-Ok.ensures.grid)) in
+    record {
+      in_range = c.in-Ok.ensures.in_range;
+      is_grid = is;
+      states = subst (AreStates network) (sym c.in-Ok.ensures.states) c.begin.ensures.states;
+      links = c.in-Ok.ensures.states ∙ own;
+      begun = c.begin.ensures.begun;
+      ready = c.begin.ensures.ready;
+      number = refl;
+      time = refl;
+      order = order-there network (standing_for here) grid c.requires.standing.tidy is;
+    }
+
+pub returns-in-Err-clause-in_range : goal.returns-in-Err-clause-in_range
+returns-in-Err-clause-in_range c = λ in_range.
+    absurd (no-demand-out c.args.project.now c.args.standing.now.time c.in-Err.fault.junction c.in-Err.fault.value
+    in_range c.in-Err.ensures.refused)
+
+pub returns-in-Err-clause-stops : goal.returns-in-Err-clause-stops
+returns-in-Err-clause-stops c = λ rounds.
+    subst (λ (cause : StopCause). Stops c.args.project.now (standing_for c.args.standing.now) rounds cause)
+    (sym c.demand_stop.ensures) (record { period_is = refl; holds = c.in-Err.ensures.refused })

@@ -1,0 +1,42 @@
+use Rattle.std.proofs.Common.{◌≡◌, ℕ, true, sym, ap, subst, ◌∙◌}
+use Rattle.std.specs.Prelude.{length}
+use Rattle.hyd_spec.specs.NodeNumbers.{junction_count, tank_count}
+use Rattle.hyd_spec_reports.specs.Stops.{Stops}
+use Rattle.hyd_spec_reports.specs.declared.StopCause.{StopCause}
+use Rattle.hyd_cert.specs.Lines.{Header}
+use Rattle.hyd_cert.specs.Vectors.{behind_two}
+use Rattle.hyd_cert.specs.RecordView.{row_of}
+use Rattle.hyd_period_network.specs.NetAsPeriodNetwork.{grid_of}
+use Rattle.hyd_period_vectors.specs.OpenedSearch.{Room}
+use Rattle.hyd_sim.specs.PeriodAttempt.{AreSought, IsFault}
+use Rattle.hyd_sim.specs.View.{standing_for}
+use Rattle.hyd_sim.proofs.Fitting.{fault-stops}
+use Rattle.hyd_sim.proofs.Running.{net-junctions, problems-each, tight-of}
+use Rattle.hyd_sim.proofs.due_period.tighten.Goals as goal
+
+pub returns-in-Ok-clause-tight : goal.returns-in-Ok-clause-tight
+returns-in-Ok-clause-tight g c =
+    tight-of c.args.project.now (grid_of c.args.net.now) (row_of c.try_period.new.row) c.in-Ok.ensures.sought.each
+
+pub returns-in-Ok-clause-sought : goal.returns-in-Ok-clause-sought
+returns-in-Ok-clause-sought g c =
+    subst (λ (n : ℕ). AreSought true (g.F.Finder.told c.args.finder.now) (grid_of c.args.net.now)
+    (tank_count c.args.project.now) n (row_of c.try_period.new.row)) (ap (λ (room : Room). room.rounds)
+    c.requires.search) c.in-Ok.ensures.sought
+
+pub returns-in-Err-clause-stops : goal.returns-in-Err-clause-stops
+returns-in-Err-clause-stops g c =
+    let network = c.args.project.now in
+    let row = c.try_period.new.row in
+    let count : length (grid_of c.args.net.now).junctions ≡ junction_count network =
+    c.junctions-junctions.ensures.each ∙ sym (net-junctions network c.args.net.now c.requires.of) in
+    let pinned : length (row_of row).pinned ≡ tank_count network =
+    problems-each row.junctions row.tanks (behind_two row.junctions row.vectors.list)
+    ∙ ap (λ (h : Header). h.tanks) (c.try_period.ensures.header ∙ c.requires.header) in
+    subst (λ (cause : StopCause). Stops network (standing_for c.args.standing.now) c.args.rounds cause)
+    (sym c.fault_stop.ensures)
+    (fault-stops network c.args.standing.now c.args.net.now c.args.row.now row c.args.facts.now c.args.rounds
+    (g.F.Finder.told c.args.finder.now) c.requires.started count pinned c.in-Err.fault
+    (subst (λ (n : ℕ). IsFault true (g.F.Finder.told c.args.finder.now) network (grid_of c.args.net.now)
+    (standing_for c.args.standing.now) n (row_of row) c.in-Err.fault) (ap (λ (room : Room). room.rounds)
+    c.requires.search) c.in-Err.ensures.fault))

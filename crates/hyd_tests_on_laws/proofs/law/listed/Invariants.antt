@@ -1,5 +1,0 @@
-use Rattle.std.proofs.Common.{◌≡◌, ◌++◌, drop}
-use Rattle.hyd_tests_on_laws.proofs.law.listed.Given as goal
-
-abbrev pub invariant-loop-knot : goal.invariant-loop-knot
-invariant-loop-knot l = l.list.list ++ drop l.knot-index l.knots ≡ l.knots
