@@ -1,5 +1,5 @@
-//! The tests of crates that reckon with networks: laws, demands, periods, certificates, tanks and controls, against
-//! values worked out by an independent program.
+//! The tests of crates that reckon with networks: laws, demands and tanks against values worked out by an independent
+//! program, and on small examples the periods of a net, sweeps, lists, IDs and comparisons of networks.
 #![tactic(auto)]
 
 #[cfg(test)]

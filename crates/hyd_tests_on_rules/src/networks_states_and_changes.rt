@@ -1,4 +1,4 @@
-//! Networks read from texts.
+//! Networks read from texts with levels and states at the start, and how tables write states and changes.
 #![tactic(auto)]
 
 ghost use Rattle.std.specs.Prelude.{IfOk};
